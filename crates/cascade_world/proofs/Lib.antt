@@ -1,0 +1,11 @@
+pub mod Beyond
+pub mod Completing
+pub mod FirstBad
+pub mod Fits
+pub mod GoingOn
+pub mod HeadlineHolds
+pub mod Local
+pub mod Nodes
+pub mod Runs
+pub mod States
+pub mod TextLines

@@ -1,0 +1,10 @@
+pub mod Directory
+pub mod Form
+pub mod Headline
+pub mod Lines
+pub mod Reader
+pub mod Record
+pub mod Report
+pub mod Run
+pub mod Words
+pub mod World

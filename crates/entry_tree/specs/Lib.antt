@@ -1,0 +1,5 @@
+pub mod Attrs
+pub mod Dn
+pub mod Ldif
+pub mod Text
+pub mod Tree

@@ -1,0 +1,46 @@
+//! A source over any reader.
+ghost use Rattle.std.specs.Prelude.{◌≡◌, false};
+
+use crate::faults::count_fault;
+use crate::{Piece, Source};
+use std::io::Read;
+
+/// A source over any reader, as standard input. It counts the reads that fail, and tells the bytes
+/// that the reader tells.
+#[derive(Drop)]
+pub struct Reading<R: Read + Drop> {
+    pub reader: R,
+    pub faults: u64,
+}
+
+impl<R: Read + Drop> Reading<R> {
+    pub fn new(reader: R) -> Reading<R>
+        ensures reader { result.reader ≡ reader }
+        ensures faults { result.faults ≡ 0 }
+    {
+        Reading { reader, faults: 0 }
+    }
+}
+
+impl<R: Read + Drop> Source for Reading<R> {
+    ghost bytes_left = { λ s. R.remaining s.reader };
+
+    ghost waits = { λ _. false };
+
+    ghost read_fault_count = { λ s. s.faults };
+
+    fn read_faults(&self) -> u64 {
+        self.faults
+    }
+
+    fn read(&mut self, buffer: &mut [u8]) -> Piece {
+        match self.reader.read(buffer) {
+            Ok(0) => Piece::End,
+            Ok(count) => Piece::Got(count),
+            Err(_) => {
+                count_fault(&mut self.faults);
+                Piece::Failed
+            }
+        }
+    }
+}

@@ -1,0 +1,74 @@
+//! Bytes that go out.
+ghost use Rattle.std.specs.Prelude.{◌≡◌, ◌<◌, ◌≤◌, List, ℕ, Option, length};
+ghost use Rattle.std.specs.Bool.{OnTrue, OnFalse};
+
+/// What one write did.
+#[derive(Clone, Copy, Debug, PartialEq, Eq)]
+pub enum Put {
+    /// So many bytes from the front of the piece, one at least, were appended.
+    Wrote(usize),
+    /// The write failed, and appended nothing.
+    Failed,
+}
+
+/// Where bytes go, in pieces.
+pub trait Sink {
+    ghost use Rattle.sync_io.specs.Faults.{Rose};
+    ghost use Rattle.sync_io.specs.Sink.{FitsPiece, AppendsPiece};
+    ghost use Rattle.sync_io.specs.declared.sink.Put.TheVariants.{Failed};
+    ghost use Rattle.std.specs.Io.KnownBytes.{Keeps};
+
+    /// The bytes that were written, where the sink tells them.
+    ghost bytes_held: { Self → Option (List ℕ) };
+
+    /// How many writes and flushes have failed.
+    ghost write_fault_count: { Self → ℕ };
+
+    /// How many writes and flushes have failed. The count stops at the greatest number.
+    fn write_faults(&self) -> u64
+        ensures { result ≡ write_fault_count self.now };
+
+    /// Appends bytes from the front of the piece.
+    fn write(&mut self, piece: &[u8]) -> Put
+        requires nonempty { 0 < length piece.now }
+
+        ensures count { FitsPiece result piece.now }
+        ensures bytes { AppendsPiece (bytes_held self.old) (bytes_held self.new) result piece.now }
+
+        ensures failed { result ≡ Failed
+            → Rose (write_fault_count self.old) (write_fault_count self.new) }
+        ensures later { write_fault_count self.old ≤ write_fault_count self.new };
+
+    /// Passes on what was written. It answers false where that failed.
+    fn flush(&mut self) -> bool
+        ensures bytes { Keeps (bytes_held self.old) (bytes_held self.new) }
+
+        ensures failed { OnFalse result
+            (Rose (write_fault_count self.old) (write_fault_count self.new)) }
+        ensures later { write_fault_count self.old ≤ write_fault_count self.new };
+}
+
+ghost use Rattle.sync_io.specs.Faults.{Rose};
+ghost use Rattle.sync_io.specs.Sink.{AppendsFront};
+ghost use Rattle.std.specs.Io.KnownBytes.{Appends};
+
+/// Appends all the bytes, however few the sink takes at a time. It answers false where a write
+/// failed, and then a front of the bytes was appended.
+pub fn write_whole<K: Sink>(sink: &mut K, bytes: &[u8]) -> bool
+    ensures whole { OnTrue result
+        (Appends (K.bytes_held sink.old) (K.bytes_held sink.new) bytes.now) }
+    ensures front { AppendsFront (K.bytes_held sink.old) (K.bytes_held sink.new) bytes.now }
+
+    ensures failed { OnFalse result
+        (Rose (K.write_fault_count sink.old) (K.write_fault_count sink.new)) }
+    ensures later { K.write_fault_count sink.old ≤ K.write_fault_count sink.new }
+{
+    let mut rest = bytes;
+    while !rest.is_empty() {
+        match sink.write(rest) {
+            Put::Wrote(count) => rest = &rest[count..],
+            Put::Failed => return false,
+        }
+    }
+    true
+}

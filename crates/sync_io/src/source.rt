@@ -1,0 +1,51 @@
+//! Bytes that come in.
+ghost use Rattle.std.specs.Prelude.{◌≡◌, ◌<◌, ◌≤◌, List, ℕ, Option, Bool, IsTrue, length};
+
+/// What one read gave.
+#[derive(Clone, Copy, Debug, PartialEq, Eq)]
+pub enum Piece {
+    /// So many bytes, one at least, at the front of the buffer.
+    Got(usize),
+    /// No byte came yet, though more may come.
+    Quiet,
+    /// No byte is left.
+    End,
+    /// The read failed, and took no byte away.
+    Failed,
+}
+
+/// Where bytes come from, in pieces.
+pub trait Source {
+    ghost use Rattle.sync_io.specs.Faults.{Rose};
+    ghost use Rattle.sync_io.specs.Source.{FitsBuffer, GivesNext};
+    ghost use Rattle.sync_io.specs.declared.source.Piece.TheVariants.{Quiet, End, Failed};
+    ghost use Rattle.std.specs.Io.KnownBytes.{IsAtEnd};
+
+    /// The bytes that later reads will give, where the source tells them.
+    ghost bytes_left: { Self → Option (List ℕ) };
+
+    /// Whether a read may answer before a byte has come.
+    ghost waits: { Self → Bool };
+
+    /// How many reads have failed.
+    ghost read_fault_count: { Self → ℕ };
+
+    /// How many reads have failed. The count stops at the greatest number.
+    fn read_faults(&self) -> u64
+        ensures { result ≡ read_fault_count self.now };
+
+    /// Moves the next bytes to the front of the buffer.
+    fn read(&mut self, buffer: &mut [u8]) -> Piece
+        requires room { 0 < length buffer.old }
+
+        ensures count { FitsBuffer result buffer.new }
+        ensures bytes { GivesNext (bytes_left self.old) (bytes_left self.new) result buffer.new }
+        ensures end { result ≡ End → IsAtEnd (bytes_left self.new) }
+
+        ensures quiet { result ≡ Quiet → IsTrue (waits self.old) }
+        ensures waits { waits self.new ≡ waits self.old }
+
+        ensures failed { result ≡ Failed
+            → Rose (read_fault_count self.old) (read_fault_count self.new) }
+        ensures later { read_fault_count self.old ≤ read_fault_count self.new };
+}

@@ -1,0 +1,54 @@
+//! `syncrepl`: an LDAP directory with replication by content synchronisation, driven by a script.
+#![tactic(auto)]
+
+mod run;
+#[cfg(test)]
+mod tests;
+
+use cascade_world::World;
+use run::run;
+use std::alloc::AllocError;
+use std::process::ExitCode;
+use std::{env, io};
+use sync_io::{Reading, Sink, Writing, write_whole};
+
+/// The status for want of memory.
+const NO_MEMORY: u8 = 6;
+
+fn main(rt: HostRuntime) -> ExitCode {
+    let mut input = Reading::new(rt.reader());
+    let mut output = Writing::new(io::writer(&rt));
+    let mut errors = Writing::new(rt.stderr());
+    let (Ok(words), Ok(mut world)) = (words_of(&rt), World::new(rt.alloc())) else {
+        return out_of_memory(&mut errors);
+    };
+    let status = run(
+        &rt,
+        rt.alloc(),
+        words.as_slice(),
+        &mut world,
+        &mut input,
+        &mut output,
+        &mut errors,
+    );
+    match status {
+        Ok(status) => ExitCode::from(status.code),
+        Err(_) => out_of_memory(&mut errors),
+    }
+}
+
+fn out_of_memory<E: Sink>(errors: &mut E) -> ExitCode {
+    let _ = write_whole(errors, b"syncrepl: out of memory\n");
+    ExitCode::from(NO_MEMORY)
+}
+
+/// The words after the program's name. Where they can't be read there are none.
+fn words_of(rt: &HostRuntime) -> Result<Vec<String>, AllocError> {
+    let mut words = Vec::new(rt.alloc());
+    if let Ok(args) = env::args(rt) {
+        for word in args.skip(1) {
+            words.push(word)?;
+        }
+    }
+    Ok(words)
+}

@@ -1,0 +1,272 @@
+ghost use Rattle.std.specs.Prelude.{◌≡◌, ◌↔◌, ◌≤◌, false, IfOk, IfSome, IsTrue, ℕ, []};
+ghost use Rattle.std.specs.Io.KnownBytes.{IsAtEnd, Keeps};
+ghost use Rattle.sync_io.specs.Faults.{Rose};
+ghost use Rattle.cascade_world.specs.Lines.{script_lines};
+ghost use Rattle.cascade_world.specs.Run.{IsScript};
+ghost use Rattle.cascade_world.specs.declared.form.Names.TheVariants.{Nobody};
+ghost use Rattle.cascade_world.specs.declared.fault.Cause.TheVariants.{NotYet};
+ghost use Rattle.syncrepl_tool.specs.Texts.{Says, usage_text, read_fault_text, write_fault_text, refusal_text};
+ghost use Rattle.syncrepl_tool.specs.Cascade.{WritesFront, WritesWhole, WritesUpTo, Ends, RunEnds, IsInput, OnCode, Decides, IsCascade, IsStatus, IsCascadeStatus};
+
+use cascade_world::{Cause, NoMemory, Script, ScriptFault, World, read_event};
+use ldap_ber::Octets;
+use std::alloc::{AllocError, Global};
+use std::sync::Wait;
+use std::thread::Threads;
+use sync_io::{Piece, Sink, Source, write_whole};
+
+/// The most bytes of a script.
+const MOST_BYTES: usize = 65_536;
+
+/// How a run ended.
+#[derive(Clone, Copy, Debug, PartialEq, Eq)]
+pub struct Status {
+    /// 0 done, 2 other words, 3 a refused script, 4 a read fault, 5 a write fault.
+    pub code: u8,
+}
+
+/// Does what the words say. They leave out the program's name.
+pub fn run<R: Threads + Wait + Sync, I: Source, O: Sink, E: Sink>(
+    _rt: &R,
+    alloc: Global,
+    words: &[String],
+    world: &mut World,
+    input: &mut I,
+    output: &mut O,
+    errors: &mut E,
+) -> Result<Status, NoMemory>
+    requires fresh { world.old ≡ [] }
+    requires prompt { I.waits input.old ≡ false }
+
+    // Each `stored` line names a prefix of the provider's accepted writes, no shorter than those before
+    // its settling, and the consumer's entries are exactly what its specification selects from it.
+    ensures headline { IfSome (I.bytes_left input.old) (λ text. WritesFront (script_lines text) (O.bytes_held output.old) (O.bytes_held output.new)) }
+
+    ensures done { IfOk result (OnCode 0 (IfSome (I.bytes_left input.old) (λ text. IsScript text
+        × WritesWhole (script_lines text) (O.bytes_held output.old) (O.bytes_held output.new) world.new))) }
+    ensures read_to_end { IfOk result (OnCode 0 (IsAtEnd (I.bytes_left input.new))) }
+    ensures quiet { IfOk result (OnCode 0 (Keeps (E.bytes_held errors.old) (E.bytes_held errors.new))) }
+
+    ensures usage { IfOk result (λ status. (status.code ≡ 2) ↔ (IsCascade words.now → ⊥)) }
+    ensures usage_told { IfOk result (OnCode 2 (Says usage_text (E.bytes_held errors.old) (E.bytes_held errors.new) (E.write_fault_count errors.old) (E.write_fault_count errors.new))) }
+    ensures usage_alone { IfOk result (OnCode 2 ((world.new ≡ []) × Keeps (O.bytes_held output.old) (O.bytes_held output.new))) }
+
+    ensures refused { IfOk result (OnCode 3 (IfSome (I.bytes_left input.old) (λ text. (line : ℕ)
+        × WritesUpTo (script_lines text) (O.bytes_held output.old) (O.bytes_held output.new) world.new line
+        × Says (refusal_text line) (E.bytes_held errors.old) (E.bytes_held errors.new) (E.write_fault_count errors.old) (E.write_fault_count errors.new)))) }
+    ensures no_script { IfOk result (OnCode 3 (IfSome (I.bytes_left input.old) (λ text. IsScript text → ⊥))) }
+
+    ensures read_fault { IfOk result (OnCode 4 (Rose (I.read_fault_count input.old) (I.read_fault_count input.new))) }
+    ensures read_fault_told { IfOk result (OnCode 4 (Says read_fault_text (E.bytes_held errors.old) (E.bytes_held errors.new) (E.write_fault_count errors.old) (E.write_fault_count errors.new))) }
+    ensures write_fault { IfOk result (OnCode 5 (Rose (O.write_fault_count output.old) (O.write_fault_count output.new))) }
+    ensures write_fault_told { IfOk result (OnCode 5 (Says write_fault_text (E.bytes_held errors.old) (E.bytes_held errors.new) (E.write_fault_count errors.old) (E.write_fault_count errors.new))) }
+
+    ensures codes { IfOk result (λ status. IsStatus status.code) }
+    // Where nothing failed, a script of the form is done and every other text is refused.
+    ensures complete { IfOk result (λ status. IsCascade words.now
+        → (Rose (I.read_fault_count input.old) (I.read_fault_count input.new) → ⊥)
+        → (Rose (O.write_fault_count output.old) (O.write_fault_count output.new) → ⊥)
+        → IfSome (I.bytes_left input.old) (Decides status.code)) }
+{
+    if is_cascade(words) {
+        return run_cascade(alloc, world, input, output, errors);
+    }
+    Ok(usage(errors))
+}
+
+fn is_cascade(words: &[String]) -> bool
+    ensures { IsTrue result ↔ IsCascade words.now }
+{
+    words.len() == 1 && words[0].as_str() == "cascade"
+}
+
+/// Says how the program is called.
+#[tactic(auto, unfolding(crate::specs::Texts::usage_text))]
+fn usage<E: Sink>(errors: &mut E) -> Status
+    ensures code { result.code ≡ 2 }
+    ensures says { Says usage_text (E.bytes_held errors.old) (E.bytes_held errors.new) (E.write_fault_count errors.old) (E.write_fault_count errors.new) }
+{
+    say(
+        errors,
+        b"usage: syncrepl cascade | drill SEED WRITERS CONSUMERS SIZE | serve FILE | search ADDRESS BASE SCOPE FILTER [COUNT]\n",
+    );
+    Status { code: 2 }
+}
+
+/// Writes a text of the program's own. Where that fails nothing else is done.
+fn say<E: Sink>(errors: &mut E, text: &[u8])
+    ensures { Says text.now (E.bytes_held errors.old) (E.bytes_held errors.new) (E.write_fault_count errors.old) (E.write_fault_count errors.new) }
+{
+    let _ = write_whole(errors, text);
+}
+
+/// Runs the script of the input in a world without nodes.
+pub fn run_cascade<I: Source, O: Sink, E: Sink>(
+    alloc: Global,
+    world: &mut World,
+    input: &mut I,
+    output: &mut O,
+    errors: &mut E,
+) -> Result<Status, NoMemory>
+    requires fresh { world.old ≡ [] }
+    requires prompt { I.waits input.old ≡ false }
+
+    // Each `stored` line names a prefix of the provider's accepted writes, no shorter than those before
+    // its settling, and the consumer's entries are exactly what its specification selects from it.
+    ensures headline { IfSome (I.bytes_left input.old) (λ text. WritesFront (script_lines text) (O.bytes_held output.old) (O.bytes_held output.new)) }
+
+    ensures done { IfOk result (OnCode 0 (IfSome (I.bytes_left input.old) (λ text. IsScript text
+        × WritesWhole (script_lines text) (O.bytes_held output.old) (O.bytes_held output.new) world.new))) }
+    ensures read_to_end { IfOk result (OnCode 0 (IsAtEnd (I.bytes_left input.new))) }
+    ensures quiet { IfOk result (OnCode 0 (Keeps (E.bytes_held errors.old) (E.bytes_held errors.new))) }
+
+    ensures refused { IfOk result (OnCode 3 (IfSome (I.bytes_left input.old) (λ text. (line : ℕ)
+        × WritesUpTo (script_lines text) (O.bytes_held output.old) (O.bytes_held output.new) world.new line
+        × Says (refusal_text line) (E.bytes_held errors.old) (E.bytes_held errors.new) (E.write_fault_count errors.old) (E.write_fault_count errors.new)))) }
+    ensures no_script { IfOk result (OnCode 3 (IfSome (I.bytes_left input.old) (λ text. IsScript text → ⊥))) }
+
+    ensures read_fault { IfOk result (OnCode 4 (Rose (I.read_fault_count input.old) (I.read_fault_count input.new))) }
+    ensures read_fault_told { IfOk result (OnCode 4 (Says read_fault_text (E.bytes_held errors.old) (E.bytes_held errors.new) (E.write_fault_count errors.old) (E.write_fault_count errors.new))) }
+    ensures write_fault { IfOk result (OnCode 5 (Rose (O.write_fault_count output.old) (O.write_fault_count output.new))) }
+    ensures write_fault_told { IfOk result (OnCode 5 (Says write_fault_text (E.bytes_held errors.old) (E.bytes_held errors.new) (E.write_fault_count errors.old) (E.write_fault_count errors.new))) }
+
+    ensures codes { IfOk result (λ status. IsCascadeStatus status.code) }
+    // Where nothing failed, a script of the form is done and every other text is refused.
+    ensures complete { IfOk result (λ status.
+        (Rose (I.read_fault_count input.old) (I.read_fault_count input.new) → ⊥)
+        → (Rose (O.write_fault_count output.old) (O.write_fault_count output.new) → ⊥)
+        → IfSome (I.bytes_left input.old) (Decides status.code)) }
+{
+    match read_text(alloc, input)? {
+        Input::Text(text) => run_text(alloc, world, text, output, errors),
+        Input::Failed => Ok(read_fault(errors)),
+    }
+}
+
+#[tactic(auto, unfolding(crate::specs::Texts::read_fault_text))]
+fn read_fault<E: Sink>(errors: &mut E) -> Status
+    ensures code { result.code ≡ 4 }
+    ensures says { Says read_fault_text (E.bytes_held errors.old) (E.bytes_held errors.new) (E.write_fault_count errors.old) (E.write_fault_count errors.new) }
+{
+    say(errors, b"syncrepl: read fault\n");
+    Status { code: 4 }
+}
+
+#[tactic(auto, unfolding(crate::specs::Texts::write_fault_text))]
+fn write_fault<E: Sink>(errors: &mut E) -> Status
+    ensures code { result.code ≡ 5 }
+    ensures says { Says write_fault_text (E.bytes_held errors.old) (E.bytes_held errors.new) (E.write_fault_count errors.old) (E.write_fault_count errors.new) }
+{
+    say(errors, b"syncrepl: write fault\n");
+    Status { code: 5 }
+}
+
+/// Says at which line the script is refused.
+#[tactic(auto, unfolding(crate::specs::Texts::refusal_text))]
+fn refuse<E: Sink>(alloc: Global, errors: &mut E, line: u64) -> Result<Status, NoMemory>
+    ensures { IfOk result (λ status. (status.code ≡ 3)
+        × Says (refusal_text line) (E.bytes_held errors.old) (E.bytes_held errors.new) (E.write_fault_count errors.old) (E.write_fault_count errors.new)) }
+{
+    let text = format!(in alloc; "syncrepl: line {line}: NotYet\n")?;
+    say(errors, text.as_bytes());
+    Ok(Status { code: 3 })
+}
+
+/// How reading the input ended.
+#[derive(Drop)]
+pub enum Input {
+    /// All of it, or, where it is too long, more than the most bytes of a script.
+    Text(Octets),
+    Failed,
+}
+
+fn read_text<I: Source>(alloc: Global, input: &mut I) -> Result<Input, NoMemory>
+    requires { I.waits input.old ≡ false }
+    ensures { IfOk result (IsInput (I.bytes_left input.old) (I.bytes_left input.new) (I.read_fault_count input.old) (I.read_fault_count input.new)) }
+{
+    let mut text = Vec::new(alloc);
+    let mut buffer = [0u8; 4096];
+    while text.len() <= MOST_BYTES {
+        match input.read(&mut buffer) {
+            Piece::Got(count) => text.extend_from_slice(&buffer[..count])?,
+            Piece::Quiet => unreachable!(),
+            Piece::End => return Ok(Input::Text(Octets::from(text))),
+            Piece::Failed => return Ok(Input::Failed),
+        }
+    }
+    Ok(Input::Text(Octets::from(text)))
+}
+
+/// Runs the script of a text.
+fn run_text<O: Sink, E: Sink>(
+    alloc: Global,
+    world: &mut World,
+    text: Octets,
+    output: &mut O,
+    errors: &mut E,
+) -> Result<Status, NoMemory>
+    requires fresh { world.old ≡ [] }
+    ensures front { WritesFront (script_lines text) (O.bytes_held output.old) (O.bytes_held output.new) }
+    ensures ends { IfOk result (λ status. RunEnds (script_lines text) (O.bytes_held output.old) (O.bytes_held output.new) world.new
+        (O.write_fault_count output.old) (O.write_fault_count output.new)
+        (E.bytes_held errors.old) (E.bytes_held errors.new) (E.write_fault_count errors.old) (E.write_fault_count errors.new) status.code) }
+{
+    let mut script = Script::new(text);
+    let outcome = run_events(alloc, world, &mut script, output)?;
+    if !output.flush() {
+        return Ok(write_fault(errors));
+    }
+    match outcome {
+        Outcome::Done => Ok(Status { code: 0 }),
+        Outcome::Refused(line) => refuse(alloc, errors, line),
+        Outcome::WriteFault => Ok(write_fault(errors)),
+    }
+}
+
+/// How the events of a script ended.
+#[derive(Clone, Copy, Debug, PartialEq, Eq)]
+pub enum Outcome {
+    Done,
+    /// The script is refused at that line.
+    Refused(u64),
+    WriteFault,
+}
+
+/// Does and tells the events of a script one after another.
+fn run_events<O: Sink>(
+    alloc: Global,
+    world: &mut World,
+    script: &mut Script,
+    output: &mut O,
+) -> Result<Outcome, NoMemory>
+    requires fresh { world.old ≡ [] }
+    requires first { (script.old.names ≡ Nobody) × (script.old.read ≡ 0) }
+    ensures front { WritesFront script.old.lines (O.bytes_held output.old) (O.bytes_held output.new) }
+    ensures ends { IfOk result (Ends script.old.lines (O.bytes_held output.old) (O.bytes_held output.new) world.new (O.write_fault_count output.old) (O.write_fault_count output.new)) }
+    ensures later { O.write_fault_count output.old ≤ O.write_fault_count output.new }
+{
+    loop {
+        let event = match read_event(alloc, script) {
+            Ok(Some(event)) => event,
+            Ok(None) => return Ok(Outcome::Done),
+            Err(fault) => return refused(fault),
+        };
+        match world.step(event) {
+            Ok(lines) => {
+                if !write_whole(output, lines.as_slice()) {
+                    return Ok(Outcome::WriteFault);
+                }
+            }
+            Err(fault) => return refused(fault),
+        }
+    }
+}
+
+fn refused(fault: ScriptFault) -> Result<Outcome, NoMemory>
+    ensures { IfOk result (λ outcome. (fault.cause ≡ NotYet) × (outcome ≡ Outcome.Refused fault.line)) }
+{
+    match fault.cause {
+        Cause::NotYet => Ok(Outcome::Refused(fault.line)),
+        Cause::NoMemory => Err(AllocError),
+    }
+}
