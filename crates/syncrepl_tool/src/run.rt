@@ -40,7 +40,8 @@ pub fn run<R: Threads + Wait + Sync, I: Source, O: Sink, E: Sink>(
 
     // Each `stored` line names a prefix of the provider's accepted writes, no shorter than those before
     // its settling, and the consumer's entries are exactly what its specification selects from it.
-    ensures headline { IfSome (I.bytes_left input.old) (λ text. WritesFront (script_lines text) (O.bytes_held output.old) (O.bytes_held output.new)) }
+    ensures headline { IfSome (I.bytes_left input.old) (λ text.
+        WritesFront (script_lines text) (O.bytes_held output.old) (O.bytes_held output.new)) }
 
     ensures done { IfOk result (OnCode 0 (IfSome (I.bytes_left input.old) (λ text. IsScript text
         × WritesWhole (script_lines text) (O.bytes_held output.old) (O.bytes_held output.new) world.new))) }
@@ -48,18 +49,30 @@ pub fn run<R: Threads + Wait + Sync, I: Source, O: Sink, E: Sink>(
     ensures quiet { IfOk result (OnCode 0 (Keeps (E.bytes_held errors.old) (E.bytes_held errors.new))) }
 
     ensures usage { IfOk result (λ status. (status.code ≡ 2) ↔ (IsCascade words.now → ⊥)) }
-    ensures usage_told { IfOk result (OnCode 2 (Says usage_text (E.bytes_held errors.old) (E.bytes_held errors.new) (E.write_fault_count errors.old) (E.write_fault_count errors.new))) }
-    ensures usage_alone { IfOk result (OnCode 2 ((world.new ≡ []) × Keeps (O.bytes_held output.old) (O.bytes_held output.new))) }
+    ensures usage_told { IfOk result (OnCode 2 (Says usage_text
+        (E.bytes_held errors.old) (E.bytes_held errors.new)
+        (E.write_fault_count errors.old) (E.write_fault_count errors.new))) }
+    ensures usage_alone { IfOk result (OnCode 2 ((world.new ≡ [])
+        × Keeps (O.bytes_held output.old) (O.bytes_held output.new))) }
 
     ensures refused { IfOk result (OnCode 3 (IfSome (I.bytes_left input.old) (λ text. (line : ℕ)
         × WritesUpTo (script_lines text) (O.bytes_held output.old) (O.bytes_held output.new) world.new line
-        × Says (refusal_text line) (E.bytes_held errors.old) (E.bytes_held errors.new) (E.write_fault_count errors.old) (E.write_fault_count errors.new)))) }
-    ensures no_script { IfOk result (OnCode 3 (IfSome (I.bytes_left input.old) (λ text. IsScript text → ⊥))) }
+        × Says (refusal_text line)
+        (E.bytes_held errors.old) (E.bytes_held errors.new)
+        (E.write_fault_count errors.old) (E.write_fault_count errors.new)))) }
+    ensures no_script { IfOk result (OnCode 3 (IfSome (I.bytes_left input.old)
+        (λ text. IsScript text → ⊥))) }
 
-    ensures read_fault { IfOk result (OnCode 4 (Rose (I.read_fault_count input.old) (I.read_fault_count input.new))) }
-    ensures read_fault_told { IfOk result (OnCode 4 (Says read_fault_text (E.bytes_held errors.old) (E.bytes_held errors.new) (E.write_fault_count errors.old) (E.write_fault_count errors.new))) }
-    ensures write_fault { IfOk result (OnCode 5 (Rose (O.write_fault_count output.old) (O.write_fault_count output.new))) }
-    ensures write_fault_told { IfOk result (OnCode 5 (Says write_fault_text (E.bytes_held errors.old) (E.bytes_held errors.new) (E.write_fault_count errors.old) (E.write_fault_count errors.new))) }
+    ensures read_fault { IfOk result (OnCode 4 (Rose
+        (I.read_fault_count input.old) (I.read_fault_count input.new))) }
+    ensures read_fault_told { IfOk result (OnCode 4 (Says read_fault_text
+        (E.bytes_held errors.old) (E.bytes_held errors.new)
+        (E.write_fault_count errors.old) (E.write_fault_count errors.new))) }
+    ensures write_fault { IfOk result (OnCode 5 (Rose
+        (O.write_fault_count output.old) (O.write_fault_count output.new))) }
+    ensures write_fault_told { IfOk result (OnCode 5 (Says write_fault_text
+        (E.bytes_held errors.old) (E.bytes_held errors.new)
+        (E.write_fault_count errors.old) (E.write_fault_count errors.new))) }
 
     ensures codes { IfOk result (λ status. IsStatus status.code) }
     // Where nothing failed, a script of the form is done and every other text is refused.
@@ -84,7 +97,9 @@ fn is_cascade(words: &[String]) -> bool
 #[tactic(auto, unfolding(crate::specs::Texts::usage_text))]
 fn usage<E: Sink>(errors: &mut E) -> Status
     ensures code { result.code ≡ 2 }
-    ensures says { Says usage_text (E.bytes_held errors.old) (E.bytes_held errors.new) (E.write_fault_count errors.old) (E.write_fault_count errors.new) }
+    ensures says { Says usage_text
+        (E.bytes_held errors.old) (E.bytes_held errors.new)
+        (E.write_fault_count errors.old) (E.write_fault_count errors.new) }
 {
     say(
         errors,
@@ -95,7 +110,9 @@ fn usage<E: Sink>(errors: &mut E) -> Status
 
 /// Writes a text of the program's own. Where that fails nothing else is done.
 fn say<E: Sink>(errors: &mut E, text: &[u8])
-    ensures { Says text.now (E.bytes_held errors.old) (E.bytes_held errors.new) (E.write_fault_count errors.old) (E.write_fault_count errors.new) }
+    ensures { Says text.now
+        (E.bytes_held errors.old) (E.bytes_held errors.new)
+        (E.write_fault_count errors.old) (E.write_fault_count errors.new) }
 {
     let _ = write_whole(errors, text);
 }
@@ -113,7 +130,8 @@ pub fn run_cascade<I: Source, O: Sink, E: Sink>(
 
     // Each `stored` line names a prefix of the provider's accepted writes, no shorter than those before
     // its settling, and the consumer's entries are exactly what its specification selects from it.
-    ensures headline { IfSome (I.bytes_left input.old) (λ text. WritesFront (script_lines text) (O.bytes_held output.old) (O.bytes_held output.new)) }
+    ensures headline { IfSome (I.bytes_left input.old) (λ text.
+        WritesFront (script_lines text) (O.bytes_held output.old) (O.bytes_held output.new)) }
 
     ensures done { IfOk result (OnCode 0 (IfSome (I.bytes_left input.old) (λ text. IsScript text
         × WritesWhole (script_lines text) (O.bytes_held output.old) (O.bytes_held output.new) world.new))) }
@@ -122,13 +140,22 @@ pub fn run_cascade<I: Source, O: Sink, E: Sink>(
 
     ensures refused { IfOk result (OnCode 3 (IfSome (I.bytes_left input.old) (λ text. (line : ℕ)
         × WritesUpTo (script_lines text) (O.bytes_held output.old) (O.bytes_held output.new) world.new line
-        × Says (refusal_text line) (E.bytes_held errors.old) (E.bytes_held errors.new) (E.write_fault_count errors.old) (E.write_fault_count errors.new)))) }
-    ensures no_script { IfOk result (OnCode 3 (IfSome (I.bytes_left input.old) (λ text. IsScript text → ⊥))) }
+        × Says (refusal_text line)
+        (E.bytes_held errors.old) (E.bytes_held errors.new)
+        (E.write_fault_count errors.old) (E.write_fault_count errors.new)))) }
+    ensures no_script { IfOk result (OnCode 3 (IfSome (I.bytes_left input.old)
+        (λ text. IsScript text → ⊥))) }
 
-    ensures read_fault { IfOk result (OnCode 4 (Rose (I.read_fault_count input.old) (I.read_fault_count input.new))) }
-    ensures read_fault_told { IfOk result (OnCode 4 (Says read_fault_text (E.bytes_held errors.old) (E.bytes_held errors.new) (E.write_fault_count errors.old) (E.write_fault_count errors.new))) }
-    ensures write_fault { IfOk result (OnCode 5 (Rose (O.write_fault_count output.old) (O.write_fault_count output.new))) }
-    ensures write_fault_told { IfOk result (OnCode 5 (Says write_fault_text (E.bytes_held errors.old) (E.bytes_held errors.new) (E.write_fault_count errors.old) (E.write_fault_count errors.new))) }
+    ensures read_fault { IfOk result (OnCode 4 (Rose
+        (I.read_fault_count input.old) (I.read_fault_count input.new))) }
+    ensures read_fault_told { IfOk result (OnCode 4 (Says read_fault_text
+        (E.bytes_held errors.old) (E.bytes_held errors.new)
+        (E.write_fault_count errors.old) (E.write_fault_count errors.new))) }
+    ensures write_fault { IfOk result (OnCode 5 (Rose
+        (O.write_fault_count output.old) (O.write_fault_count output.new))) }
+    ensures write_fault_told { IfOk result (OnCode 5 (Says write_fault_text
+        (E.bytes_held errors.old) (E.bytes_held errors.new)
+        (E.write_fault_count errors.old) (E.write_fault_count errors.new))) }
 
     ensures codes { IfOk result (λ status. IsCascadeStatus status.code) }
     // Where nothing failed, a script of the form is done and every other text is refused.
@@ -146,7 +173,9 @@ pub fn run_cascade<I: Source, O: Sink, E: Sink>(
 #[tactic(auto, unfolding(crate::specs::Texts::read_fault_text))]
 fn read_fault<E: Sink>(errors: &mut E) -> Status
     ensures code { result.code ≡ 4 }
-    ensures says { Says read_fault_text (E.bytes_held errors.old) (E.bytes_held errors.new) (E.write_fault_count errors.old) (E.write_fault_count errors.new) }
+    ensures says { Says read_fault_text
+        (E.bytes_held errors.old) (E.bytes_held errors.new)
+        (E.write_fault_count errors.old) (E.write_fault_count errors.new) }
 {
     say(errors, b"syncrepl: read fault\n");
     Status { code: 4 }
@@ -155,7 +184,9 @@ fn read_fault<E: Sink>(errors: &mut E) -> Status
 #[tactic(auto, unfolding(crate::specs::Texts::write_fault_text))]
 fn write_fault<E: Sink>(errors: &mut E) -> Status
     ensures code { result.code ≡ 5 }
-    ensures says { Says write_fault_text (E.bytes_held errors.old) (E.bytes_held errors.new) (E.write_fault_count errors.old) (E.write_fault_count errors.new) }
+    ensures says { Says write_fault_text
+        (E.bytes_held errors.old) (E.bytes_held errors.new)
+        (E.write_fault_count errors.old) (E.write_fault_count errors.new) }
 {
     say(errors, b"syncrepl: write fault\n");
     Status { code: 5 }
@@ -165,7 +196,9 @@ fn write_fault<E: Sink>(errors: &mut E) -> Status
 #[tactic(auto, unfolding(crate::specs::Texts::refusal_text))]
 fn refuse<E: Sink>(alloc: Global, errors: &mut E, line: u64) -> Result<Status, NoMemory>
     ensures { IfOk result (λ status. (status.code ≡ 3)
-        × Says (refusal_text line) (E.bytes_held errors.old) (E.bytes_held errors.new) (E.write_fault_count errors.old) (E.write_fault_count errors.new)) }
+        × Says (refusal_text line)
+        (E.bytes_held errors.old) (E.bytes_held errors.new)
+        (E.write_fault_count errors.old) (E.write_fault_count errors.new)) }
 {
     let text = format!(in alloc; "syncrepl: line {line}: NotYet\n")?;
     say(errors, text.as_bytes());
@@ -182,7 +215,8 @@ pub enum Input {
 
 fn read_text<I: Source>(alloc: Global, input: &mut I) -> Result<Input, NoMemory>
     requires { I.waits input.old ≡ false }
-    ensures { IfOk result (IsInput (I.bytes_left input.old) (I.bytes_left input.new) (I.read_fault_count input.old) (I.read_fault_count input.new)) }
+    ensures { IfOk result (IsInput (I.bytes_left input.old) (I.bytes_left input.new)
+        (I.read_fault_count input.old) (I.read_fault_count input.new)) }
 {
     let mut text = Vec::new(alloc);
     let mut buffer = [0u8; 4096];
@@ -207,9 +241,11 @@ fn run_text<O: Sink, E: Sink>(
 ) -> Result<Status, NoMemory>
     requires fresh { world.old ≡ [] }
     ensures front { WritesFront (script_lines text) (O.bytes_held output.old) (O.bytes_held output.new) }
-    ensures ends { IfOk result (λ status. RunEnds (script_lines text) (O.bytes_held output.old) (O.bytes_held output.new) world.new
+    ensures ends { IfOk result (λ status. RunEnds (script_lines text)
+        (O.bytes_held output.old) (O.bytes_held output.new) world.new
         (O.write_fault_count output.old) (O.write_fault_count output.new)
-        (E.bytes_held errors.old) (E.bytes_held errors.new) (E.write_fault_count errors.old) (E.write_fault_count errors.new) status.code) }
+        (E.bytes_held errors.old) (E.bytes_held errors.new)
+        (E.write_fault_count errors.old) (E.write_fault_count errors.new) status.code) }
 {
     let mut script = Script::new(text);
     let outcome = run_events(alloc, world, &mut script, output)?;
@@ -242,7 +278,9 @@ fn run_events<O: Sink>(
     requires fresh { world.old ≡ [] }
     requires first { (script.old.names ≡ Nobody) × (script.old.read ≡ 0) }
     ensures front { WritesFront script.old.lines (O.bytes_held output.old) (O.bytes_held output.new) }
-    ensures ends { IfOk result (Ends script.old.lines (O.bytes_held output.old) (O.bytes_held output.new) world.new (O.write_fault_count output.old) (O.write_fault_count output.new)) }
+    ensures ends { IfOk result (Ends script.old.lines
+        (O.bytes_held output.old) (O.bytes_held output.new) world.new
+        (O.write_fault_count output.old) (O.write_fault_count output.new)) }
     ensures later { O.write_fault_count output.old ≤ O.write_fault_count output.new }
 {
     loop {

@@ -1,0 +1,7 @@
+pub mod TextLines
+pub mod Joined
+pub mod Places
+pub mod Shorter
+pub mod WrittenLines
+pub mod WrittenRecords
+pub mod WrittenEntries

@@ -1,0 +1,22 @@
+-- What a reading says, and what a function tells of it.
+use Rattle.std.specs.Prelude.{◌≡◌, Result, Ok, Err}
+use Rattle.ldif_text.specs.declared.fault.LdifFault.{LdifFault}
+use Rattle.ldif_text.specs.declared.fault.LdifFault.TheVariants.{BadLine, BadBase64, BadChange, NoMemory}
+
+-- what a reading goes on with, where it was not refused
+infixl 10 ◌>>=◌
+abbrev pub ◌>>=◌ : {A B : Type 0} → Result A LdifFault → (A → Result B LdifFault) → Result B LdifFault
+(Ok a) >>= read = read a
+(Err fault) >>= read = Err fault
+
+-- want of memory says nothing of the text, and any other fault is that of the reading
+abbrev pub Refuses : {Y : Type 0} → LdifFault → Result Y LdifFault → Type 0
+Refuses NoMemory read = Unit {0}
+Refuses (BadLine number) read = read ≡ Err (BadLine number)
+Refuses (BadBase64 number) read = read ≡ Err (BadBase64 number)
+Refuses (BadChange number) read = read ≡ Err (BadChange number)
+
+-- what a function returned, seen by view, is what the reading says
+abbrev pub Gives : {X Y : Type 0} → (X → Y) → Result X LdifFault → Result Y LdifFault → Type 0
+Gives view (Ok x) read = read ≡ Ok (view x)
+Gives view (Err fault) read = Refuses fault read

@@ -1,0 +1,18 @@
+//! LDIF: the reading of change records, and entries as text (RFC 2849).
+//!
+//! `Records` reads a text record by record, and `write_entry` writes one. A URL in place of a value
+//! is refused, and `control:` lines are not known.
+#![tactic(auto)]
+
+mod fault;
+mod field;
+mod lines;
+mod record;
+mod records;
+#[cfg(test)]
+mod tests;
+mod written;
+
+pub use fault::LdifFault;
+pub use records::Records;
+pub use written::{entries_are_read_again, write_entry};

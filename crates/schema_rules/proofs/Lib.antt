@@ -1,0 +1,6 @@
+pub mod Joined
+pub mod Joining
+pub mod Lines
+pub mod Lists
+pub mod Reading
+pub mod Tables

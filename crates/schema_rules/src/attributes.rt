@@ -1,0 +1,229 @@
+//! Lists of attributes (RFC 4512, section 2.2).
+ghost use Rattle.std.specs.Prelude.{◌≡◌, ◌-◌, ◌^◌, ◌==◌, true, [], ◌++◌, min, position, Ok, None, Some, IfOk, IfErr, OnOk};
+ghost use Rattle.std.specs.List.{AllPass, filter_map, list_any, list_all};
+ghost use Rattle.std.specs.Result.{result_err};
+ghost use Rattle.schema_rules.specs.Attributes as spec;
+ghost use Rattle.schema_rules.specs.Fault.{Tells};
+ghost use Rattle.schema_rules.specs.Schema.{type_name, type_named};
+
+use crate::fault::{
+    ATTRIBUTE_OR_VALUE_EXISTS, CONSTRAINT_VIOLATION, INVALID_ATTRIBUTE_SYNTAX, SchemaFault,
+    UNDEFINED_ATTRIBUTE_TYPE,
+};
+use crate::keys::{are_of_syntax, keys_of};
+use crate::raw::{RawAttribute, RawList};
+use crate::types::AttributeType;
+use ldap_ber::{NoMemory, Octets, OctetsList};
+use std::alloc::Global;
+use std::marker::Model;
+
+/// The values of one type, in the order held.
+#[derive(Drop)]
+pub struct Attribute {
+    pub kind: AttributeType,
+    pub values: OctetsList,
+}
+
+impl Attribute {
+    fn copy(&self) -> Result<Attribute, NoMemory>
+        ensures { IfOk result (λ attribute. attribute ≡ self.now) }
+    {
+        Ok(Attribute {
+            kind: self.kind,
+            values: self.values.copy()?,
+        })
+    }
+
+    /// The length of each value and of the type's name, summed, as far as the numbers go.
+    fn weight(&self) -> u64
+        ensures { result ≡ min (spec.values_weight (type_name self.now.kind) self.now.values) (2 ^ 64 - 1) }
+    {
+        let name = self.kind.name().len() as u64;
+        let mut total: u64 = 0;
+        for value in self.values.list() {
+            total = total
+                .saturating_add(name)
+                .saturating_add(value.as_slice().len() as u64);
+        }
+        total
+    }
+}
+
+/// The attributes of an entry: each type once, and none without values.
+#[derive(Drop)]
+pub struct Attrs {
+    items: Vec<Attribute>,
+}
+
+impl Model for Attrs {
+    ghost use Rattle.std.specs.Prelude.{List};
+    ghost use Rattle.schema_rules.specs.declared.attributes.Attribute.{Attribute};
+    ghost use Rattle.schema_rules.specs.Attributes.{IsAttributeList};
+
+    ghost Value = { List Attribute };
+
+    ghost view = { λ a. a.items.items };
+
+    ghost invariant = { λ a. IsAttributeList a.items.items };
+}
+
+impl Attrs {
+    pub fn new(alloc: Global) -> Attrs
+        ensures { result ≡ [] }
+    {
+        Attrs {
+            items: Vec::new(alloc),
+        }
+    }
+
+    pub fn list(&self) -> &[Attribute]
+        ensures value { result.now ≡ self.now }
+        ensures sound { spec.IsAttributeList self.now }
+    {
+        self.items.as_slice()
+    }
+
+    pub fn copy(&self) -> Result<Attrs, NoMemory>
+        ensures { IfOk result (λ attrs. attrs ≡ self.now) }
+    {
+        let mut items = Vec::new(*self.items.allocator());
+        for attribute in self.list() {
+            items.push(attribute.copy()?)?;
+        }
+        Ok(Attrs { items })
+    }
+
+    /// The length of each value and of its type's name, summed. The greatest number stands for all
+    /// sums above it.
+    pub fn weight(&self) -> u64
+        ensures { result ≡ min (spec.weight_of self.now) (2 ^ 64 - 1) }
+    {
+        let mut total: u64 = 0;
+        for attribute in self.list() {
+            total = total.saturating_add(attribute.weight());
+        }
+        total
+    }
+
+    /// Reads attributes as they came. Those of one type are joined in order, at the place of the
+    /// first. The codes, the first of which is told: of each attribute in order 17 where its name
+    /// names no type, 19 where the type is operational, and 21 where it has no value or a value
+    /// that is not of the type's syntax; and after all of these 20 where two values of a type have
+    /// one key.
+    #[tactic(auto, unfolding(crate::specs::Attributes::read_attributes))]
+    pub fn read(alloc: Global, raw: &RawList) -> Result<Attrs, SchemaFault>
+        ensures ok { IfOk result (λ attrs. spec.read_attributes raw.now ≡ Ok attrs) }
+        ensures fault { IfErr result (Tells (result_err (spec.read_attributes raw.now))) }
+        ensures sound { IfOk result (AllPass spec.is_sound) }
+    {
+        let items = joined(alloc, raw.list())?;
+        if any_repeats(alloc, &items)? {
+            return Err(SchemaFault::Code(ATTRIBUTE_OR_VALUE_EXISTS));
+        }
+        Ok(Attrs { items })
+    }
+}
+
+/// One attribute for each type, where nothing is against any attribute by itself.
+fn joined(alloc: Global, raws: &[RawAttribute]) -> Result<Vec<Attribute>, SchemaFault>
+    ensures ok { IfOk result (λ items. items.items ≡ spec.joined (filter_map spec.typed raws.now)) }
+    ensures none { OnOk result (spec.first_code raws.now ≡ None) }
+    ensures list { IfOk result (λ items. spec.IsAttributeList items.items) }
+    ensures given { IfOk result (λ items. list_all spec.is_given items.items ≡ true) }
+    ensures fault { IfErr result (Tells (spec.first_code raws.now)) }
+{
+    let mut items = Vec::new(alloc);
+    for raw in raws {
+        let kind = checked_type(alloc, raw)?;
+        add_values(&mut items, kind, raw.values.list())?;
+    }
+    Ok(items)
+}
+
+/// Whether some attribute has two values that are equal.
+fn any_repeats(alloc: Global, attributes: &[Attribute]) -> Result<bool, NoMemory>
+    ensures { IfOk result (λ repeats. repeats ≡ list_any spec.repeats_value attributes.now) }
+{
+    for attribute in attributes {
+        if repeats_value(alloc, attribute)? {
+            return Ok(true);
+        }
+    }
+    Ok(false)
+}
+
+/// The type of an attribute as it came, where nothing is against the attribute by itself.
+fn checked_type(alloc: Global, raw: &RawAttribute) -> Result<AttributeType, SchemaFault>
+    ensures kind { IfOk result (λ kind. type_named raw.now.name ≡ Some kind) }
+    ensures ok { OnOk result (spec.raw_code raw.now ≡ None) }
+    ensures fault { IfErr result (Tells (spec.raw_code raw.now)) }
+{
+    let Some(kind) = AttributeType::find(raw.name.as_slice()) else {
+        return Err(SchemaFault::Code(UNDEFINED_ATTRIBUTE_TYPE));
+    };
+    if kind.operational() {
+        return Err(SchemaFault::Code(CONSTRAINT_VIOLATION));
+    }
+    let values = raw.values.list();
+    if values.is_empty() || !are_of_syntax(alloc, kind, values)? {
+        return Err(SchemaFault::Code(INVALID_ATTRIBUTE_SYNTAX));
+    }
+    Ok(kind)
+}
+
+/// Puts values of a type behind its other values, or behind all attributes.
+fn add_values(
+    attributes: &mut Vec<Attribute>,
+    kind: AttributeType,
+    values: &[Octets],
+) -> Result<(), NoMemory>
+    ensures { OnOk result (attributes.new.items ≡ spec.with_values attributes.old.items kind values.now) }
+{
+    if let Some(place) = place_of(attributes, kind) {
+        let attribute = &mut attributes[place];
+        return push_copies(&mut attribute.values, values);
+    }
+    let mut list = OctetsList::new(*attributes.allocator());
+    push_copies(&mut list, values)?;
+    attributes.push(Attribute { kind, values: list })?;
+    Ok(())
+}
+
+fn place_of(attributes: &[Attribute], kind: AttributeType) -> Option<usize>
+    ensures { result ≡ position (λ a. a.kind == kind) attributes.now }
+{
+    attributes
+        .iter()
+        .position(|attribute| attribute.kind == kind)
+}
+
+fn push_copies(list: &mut OctetsList, values: &[Octets]) -> Result<(), NoMemory>
+    ensures { OnOk result (list.new ≡ list.old ++ values.now) }
+{
+    for value in values {
+        list.push(value.copy()?)?;
+    }
+    Ok(())
+}
+
+/// Whether two values of the attribute are equal.
+fn repeats_value(alloc: Global, attribute: &Attribute) -> Result<bool, NoMemory>
+    ensures { IfOk result (λ repeats. repeats ≡ spec.repeats_value attribute.now) }
+{
+    let keys = keys_of(alloc, attribute.kind, attribute.values.list())?;
+    Ok(has_twins(&keys))
+}
+
+/// Whether a key comes twice.
+fn has_twins(keys: &[Octets]) -> bool
+    ensures { result ≡ spec.has_twins keys.now }
+{
+    let mut rest = keys;
+    while let Some((key, later)) = rest.split_first() {
+        if later.contains(key) {
+            return true;
+        }
+        rest = later;
+    }
+    false
+}

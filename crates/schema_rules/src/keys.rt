@@ -1,0 +1,125 @@
+//! Keys of values, by the rules of their types.
+ghost use Rattle.std.specs.Prelude.{◌≡◌, ◌≢◌, false, None, Some, IfOk, IfErr};
+ghost use Rattle.std.specs.List.{list_all};
+ghost use Rattle.text_keys.specs.Fault.{IsFaultOf};
+ghost use Rattle.schema_rules.specs.Attributes.{is_of_syntax};
+ghost use Rattle.schema_rules.specs.Keys as spec;
+ghost use Rattle.schema_rules.specs.Schema.{is_operational, is_operational_rule};
+
+use crate::classes::ObjectClass;
+use crate::types::{AttributeType, Rule};
+use ldap_ber::{NoMemory, Octets};
+use std::alloc::{AllocError, Global};
+use std::str;
+use text_keys::{KeyFault, boolean_key, exact_key, ignore_case_key, integer_key, time_key};
+
+/// The key of a value: two values of a type match exactly where their keys are the same bytes
+/// (RFC 4512, section 2.5.1).
+#[tactic(auto, unfolding(crate::specs::Keys::key_of))]
+pub fn key_of(alloc: Global, kind: AttributeType, value: &[u8]) -> Result<Vec<u8>, KeyFault>
+    requires { is_operational kind ≡ false }
+    ensures key { IfOk result (λ key. spec.key_of kind value.now ≡ Some key.items) }
+    ensures fault { IfErr result (IsFaultOf value.now (spec.key_of kind value.now)) }
+{
+    key_by(alloc, kind.rule(), value)
+}
+
+/// The key of a value of a type with this rule.
+fn key_by(alloc: Global, rule: Rule, value: &[u8]) -> Result<Vec<u8>, KeyFault>
+    requires { is_operational_rule rule ≡ false }
+    ensures key { IfOk result (λ key. spec.key_by rule value.now ≡ Some key.items) }
+    ensures fault { IfErr result (IsFaultOf value.now (spec.key_by rule value.now)) }
+{
+    match rule {
+        Rule::Class => class_key(alloc, value),
+        Rule::Folded => ignore_case_key(alloc, value),
+        Rule::FoldedAscii | Rule::ExactAscii if !is_ascii(value) => Err(syntax_fault(value)),
+        Rule::FoldedAscii => ignore_case_key(alloc, value),
+        Rule::ExactAscii => exact_key(alloc, value),
+        Rule::Whole => integer_key(alloc, value),
+        Rule::Flag => boolean_key(alloc, value),
+        Rule::Time => time_key(alloc, value),
+        Rule::Operational => unreachable!(),
+    }
+}
+
+/// The name of a class, in lower case.
+fn class_key(alloc: Global, value: &[u8]) -> Result<Vec<u8>, KeyFault>
+    ensures key { IfOk result (λ key. spec.class_key value.now ≡ Some key.items) }
+    ensures fault { IfErr result (IsFaultOf value.now (spec.class_key value.now)) }
+{
+    if ObjectClass::find(value).is_none() {
+        return Err(syntax_fault(value));
+    }
+    Ok(
+        value
+            .iter()
+            .map(|byte| byte.to_ascii_lowercase())
+            .collect(alloc)?,
+    )
+}
+
+/// The fault of a value that is not of its type's syntax.
+fn syntax_fault(value: &[u8]) -> KeyFault
+    ensures fault { IsFaultOf value.now None result }
+    ensures told { result ≢ KeyFault.NoMemory }
+{
+    match str::from_utf8(value) {
+        Ok(_) => KeyFault::NotOfSyntax,
+        Err(_) => KeyFault::NotUtf8,
+    }
+}
+
+fn is_ascii(value: &[u8]) -> bool
+    ensures { result ≡ spec.is_ascii value.now }
+{
+    value.iter().all(|byte| *byte < 128)
+}
+
+/// The keys of those values that have one.
+pub(crate) fn keys_of(
+    alloc: Global,
+    kind: AttributeType,
+    values: &[Octets],
+) -> Result<Vec<Octets>, NoMemory>
+    ensures { IfOk result (λ keys. keys.items ≡ spec.keys_of kind values.now) }
+{
+    let mut keys = Vec::new(alloc);
+    for value in values {
+        if let Some(key) = known_key(alloc, kind, value.as_slice())? {
+            keys.push(key)?;
+        }
+    }
+    Ok(keys)
+}
+
+/// Whether each value is of the type's syntax.
+pub(crate) fn are_of_syntax(
+    alloc: Global,
+    kind: AttributeType,
+    values: &[Octets],
+) -> Result<bool, NoMemory>
+    ensures { IfOk result (λ all. all ≡ list_all (is_of_syntax kind) values.now) }
+{
+    for value in values {
+        if known_key(alloc, kind, value.as_slice())?.is_none() {
+            return Ok(false);
+        }
+    }
+    Ok(true)
+}
+
+/// The key of a value, or nothing where the value has none.
+#[tactic(auto, unfolding(crate::specs::Keys::key_of))]
+fn known_key(alloc: Global, kind: AttributeType, value: &[u8]) -> Result<Option<Octets>, NoMemory>
+    ensures { IfOk result (λ key. key ≡ spec.key_of kind value.now) }
+{
+    if kind.operational() {
+        return Ok(None);
+    }
+    match key_of(alloc, kind, value) {
+        Ok(key) => Ok(Some(Octets::from(key))),
+        Err(KeyFault::NotUtf8 | KeyFault::NotOfSyntax) => Ok(None),
+        Err(KeyFault::NoMemory) => Err(AllocError),
+    }
+}

@@ -1,0 +1,21 @@
+//! The schema of the directory: attribute types, object classes, keys of values, and what the
+//! schema says of a list of attributes and of an entry (RFC 4512, section 2).
+#![tactic(auto)]
+
+mod attributes;
+mod classes;
+mod entry_check;
+mod fault;
+mod keys;
+mod raw;
+mod types;
+
+pub use attributes::{Attribute, Attrs};
+pub use entry_check::check_entry;
+pub use fault::SchemaFault;
+pub use keys::key_of;
+pub use raw::{Change, EditList, How, RawAttribute, RawEdit, RawList};
+pub use types::{AttributeType, Rule};
+
+#[cfg(test)]
+mod tests;
