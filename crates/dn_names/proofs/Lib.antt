@@ -1,0 +1,11 @@
+pub mod Appending
+pub mod Cuts
+pub mod Equality
+pub mod KeyTexts
+pub mod Marks
+pub mod PairSets
+pub mod Pieces
+pub mod Rereading
+pub mod SignLists
+pub mod SortedLists
+pub mod Sums

@@ -1,0 +1,246 @@
+-- Reading a list piece by piece.
+use Rattle.std.proofs.Common.{◌≡◌, ◌≢◌, ℕ, zero, suc, ◌+◌, ◌-◌, ◌<◌, ◌≤◌, Bool, true, false, not, ◌||◌, nat_lt, nat_eq, List, [], ◌∷◌, ◌++◌, length, Option, Some, None, is_some, option_and_then, if◌then◌else◌, Result, Ok, Err, refl, sym, ap, arith, append_assoc, length-append}
+use Rattle.std.specs.List.{list_any, list_all, slice_split, before_first, after_first, prefix_len, position_or_len}
+use Rattle.std.proofs.lemmas.List.Splits.{length-slice_split}
+use Rattle.std.proofs.lemmas.List.Sums.{sum_by-take-drop}
+use Rattle.std.proofs.lemmas.Grind.{elements}
+use Rattle.std.proofs.lemmas.Bool.{and_from, or_right, lt-ltb, le-ltb, le-leb, ne_eqb}
+use Rattle.schema_rules.specs.Keys.{key_of}
+use Rattle.dn_names.specs.Names.{TypeAndValue}
+use Rattle.dn_names.specs.Keys.{has_double}
+use Rattle.dn_names.specs.Writing.{rdn_text}
+use Rattle.dn_names.specs.Sound.{has_key, is_rdn, IsName}
+use Rattle.dn_names.specs.declared.fault.NameFault.{NameFault}
+use Rattle.dn_names.specs.declared.fault.NameFault.TheVariants.{BadName, UnknownType, TooLong, NoMemory}
+use Rattle.dn_names.specs.declared.signs.Sign.{Sign}
+use Rattle.dn_names.specs.declared.signs.Sign.TheVariants.{Stray}
+use Rattle.dn_names.specs.Reading.{IsFaultOf, and_then, with_first, or_bad, is_plain, pair_of, pair_at, pairs_of, type_of, value_of, value_signs, octets_of, is_empty, first_rdn, rdns_of, behind_comma, signs_width, sign_width, signs_of, rdn_of, checked_rdn, name_of_text}
+use Rattle.dn_names.proofs.Cuts.{slice_split-some, slice_split-none, before_first-none}
+
+-- the items before what the rest is read as
+abbrev pub with_all : {A : Type 0} → List A → Result (List A) NameFault → Result (List A) NameFault
+with_all items (Ok more) = Ok (items ++ more)
+with_all items (Err fault) = Err fault
+
+pub with_all-none : {A : Type 0} (read : Result (List A) NameFault) → read ≡ with_all [] read
+with_all-none (Ok more) = refl
+with_all-none (Err fault) = refl
+
+pub with_all-push : {A : Type 0} (items : List A) (item : A) (read : Result (List A) NameFault) → with_all items (with_first item read) ≡ with_all (items ++ item ∷ []) read
+with_all-push items item (Ok more) = ap Ok (sym (append_assoc items (item ∷ []) more))
+with_all-push items item (Err fault) = refl
+
+-- where each fault of the one is the other's
+pub IsFaultOf-along : {A B : Type 0} (one : Result A NameFault) (other : Result B NameFault) (fault : NameFault)
+    → ((f : NameFault) → one ≡ Err f → other ≡ Err f) → IsFaultOf one fault → IsFaultOf other fault
+IsFaultOf-along one other (BadName place) along same = along (BadName place) same
+IsFaultOf-along one other (UnknownType place) along same = along (UnknownType place) same
+IsFaultOf-along one other (TooLong place) along same = along (TooLong place) same
+IsFaultOf-along one other NoMemory along same = tt
+
+or-false : (b : Bool) → (b || false) ≡ b
+or-false true = refl
+or-false false = refl
+
+filled : {A : Type 0} (parts : List A) → length parts ≢ 0 → not (is_empty parts) ≡ true
+filled [] some = absurd (some refl)
+filled (part ∷ parts) some = refl
+
+split_filled : (signs : List Sign) → length (slice_split (is_plain 43) signs) ≢ 0
+split_filled signs = omega (arith, length-slice_split (is_plain 43) signs)
+
+pairs_of-more : (place : ℕ) (ended : Bool) (signs : List Sign) → list_any (is_plain 43) signs ≡ true
+    → pairs_of place ended (slice_split (is_plain 43) signs)
+    ≡ and_then (pair_of place true (before_first (is_plain 43) signs)) (λ pair. with_first pair (pairs_of place ended (slice_split (is_plain 43) (after_first (is_plain 43) signs))))
+pairs_of-more place ended signs more =
+    rw (slice_split-some (is_plain 43) Stray signs more, filled (slice_split (is_plain 43) (after_first (is_plain 43) signs)) (split_filled (after_first (is_plain 43) signs)), or_right ended true refl) refl
+
+pairs_of-last : (place : ℕ) (ended : Bool) (signs : List Sign) → list_any (is_plain 43) signs ≡ false
+    → pairs_of place ended (slice_split (is_plain 43) signs) ≡ and_then (pair_of place ended (before_first (is_plain 43) signs)) (λ pair. Ok (pair ∷ []))
+pairs_of-last place ended signs none = rw (slice_split-none (is_plain 43) signs none, or-false ended, before_first-none (is_plain 43) signs none) refl
+
+-- ---- a step of the loop over the pairs
+
+module _ (place : ℕ) (ended : Bool) (whole : Result (List TypeAndValue) NameFault) (pairs : List TypeAndValue) (rest : List Sign)
+    (so_far : whole ≡ with_all pairs (pairs_of place ended (slice_split (is_plain 43) rest))) where
+  pub next_pair : list_any (is_plain 43) rest ≡ true → (pair : TypeAndValue) → pair_of place true (before_first (is_plain 43) rest) ≡ Ok pair
+      → whole ≡ with_all (pairs ++ pair ∷ []) (pairs_of place ended (slice_split (is_plain 43) (after_first (is_plain 43) rest)))
+  next_pair more pair read =
+      rw (so_far, pairs_of-more place ended rest more, read) (with_all-push pairs pair (pairs_of place ended (slice_split (is_plain 43) (after_first (is_plain 43) rest))))
+
+  pub next_fault : list_any (is_plain 43) rest ≡ true → (fault : NameFault) → pair_of place true (before_first (is_plain 43) rest) ≡ Err fault → whole ≡ Err fault
+  next_fault more fault read = rw (so_far, pairs_of-more place ended rest more, read) refl
+
+  pub last_pair : list_any (is_plain 43) rest ≡ false → (pair : TypeAndValue) → pair_of place ended (before_first (is_plain 43) rest) ≡ Ok pair → whole ≡ Ok (pairs ++ pair ∷ [])
+  last_pair none pair read = rw (so_far, pairs_of-last place ended rest none, read) refl
+
+  pub last_fault : list_any (is_plain 43) rest ≡ false → (fault : NameFault) → pair_of place ended (before_first (is_plain 43) rest) ≡ Err fault → whole ≡ Err fault
+  last_fault none fault read = rw (so_far, pairs_of-last place ended rest none, read) refl
+
+  pub next_refused : list_any (is_plain 43) rest ≡ true → (fault : NameFault) → IsFaultOf (pair_of place true (before_first (is_plain 43) rest)) fault → IsFaultOf whole fault
+  next_refused more fault refused = IsFaultOf-along (pair_of place true (before_first (is_plain 43) rest)) whole fault (next_fault more) refused
+
+  pub last_refused : list_any (is_plain 43) rest ≡ false → (fault : NameFault) → IsFaultOf (pair_of place ended (before_first (is_plain 43) rest)) fault → IsFaultOf whole fault
+  last_refused none fault refused = IsFaultOf-along (pair_of place ended (before_first (is_plain 43) rest)) whole fault (last_fault none) refused
+
+-- ---- what was read has a key
+
+value_of-keyed : (kind : ℕ) (signs : List Sign) (value : List ℕ) → value_of kind signs ≡ Some value → is_some (key_of kind value) ≡ true
+value_of-keyed kind signs value read = checked (octets_of signs) read
+  where
+    tested : (octets : List ℕ) (keyed : Bool) → is_some (key_of kind octets) ≡ keyed → (if keyed then Some octets else None) ≡ Some value → is_some (key_of kind value) ≡ true
+    tested octets true is_keyed same = let one : octets ≡ value = (cc) in rw (← one) is_keyed
+    tested octets false is_keyed same = (cc)
+
+    checked : (read : Option (List ℕ)) → option_and_then (λ octets. if is_some (key_of kind octets) then Some octets else None) read ≡ Some value → is_some (key_of kind value) ≡ true
+    checked None same = (cc)
+    checked (Some octets) same = tested octets (is_some (key_of kind octets)) refl same
+
+pair_at-keyed : (place : ℕ) (ended : Bool) (signs : List Sign) (pair : TypeAndValue) → pair_at place ended signs ≡ Ok pair → has_key pair ≡ true
+pair_at-keyed place ended signs pair read = typed (type_of place (before_first (is_plain 61) signs)) read
+  where
+    valued : (kind : ℕ) (value : Option (List ℕ)) → value_of kind (value_signs ended (after_first (is_plain 61) signs)) ≡ value
+        → and_then (or_bad place value) (λ v. Ok (record { kind = kind; value = v })) ≡ Ok pair → has_key pair ≡ true
+    valued kind None is_value same = (cc)
+    valued kind (Some value) is_value same =
+        let one : (record { kind = kind; value = value }) ≡ pair = (cc) in
+        rw (← one) (value_of-keyed kind (value_signs ended (after_first (is_plain 61) signs)) value is_value)
+
+    typed : (kind : Result ℕ NameFault)
+        → and_then kind (λ k. and_then (or_bad place (value_of k (value_signs ended (after_first (is_plain 61) signs)))) (λ v. Ok (record { kind = k; value = v }))) ≡ Ok pair
+        → has_key pair ≡ true
+    typed (Err fault) same = (cc)
+    typed (Ok kind) same = valued kind (value_of kind (value_signs ended (after_first (is_plain 61) signs))) refl same
+
+pair_of-keyed : (place : ℕ) (ended : Bool) (signs : List Sign) (pair : TypeAndValue) → pair_of place ended signs ≡ Ok pair → has_key pair ≡ true
+pair_of-keyed place ended signs pair read = cut (list_any (is_plain 61) signs) read
+  where
+    cut : (some : Bool) → (if some then pair_at place ended signs else Err (BadName place)) ≡ Ok pair → has_key pair ≡ true
+    cut true same = pair_at-keyed place ended signs pair same
+    cut false same = (cc)
+
+-- each pair that was read has a key, and each part gave one
+first_keyed : (place : ℕ) (ended : Bool) (part : List Sign) (pairs : List TypeAndValue) (count : ℕ) (one : Result TypeAndValue NameFault) (rest : Result (List TypeAndValue) NameFault)
+    → pair_of place ended part ≡ one → ((more : List TypeAndValue) → rest ≡ Ok more → (list_all has_key more ≡ true) × (length more ≡ count))
+    → and_then one (λ pair. with_first pair rest) ≡ Ok pairs → (list_all has_key pairs ≡ true) × (length pairs ≡ suc count)
+first_keyed place ended part pairs count (Err fault) rest is_one later same = (cc)
+first_keyed place ended part pairs count (Ok pair) (Err fault) is_one later same = (cc)
+first_keyed place ended part pairs count (Ok pair) (Ok more) is_one later same =
+    let all : pair ∷ more ≡ pairs = (cc) in
+    let rest = later more refl in
+    rw (← all) (and_from (has_key pair) (list_all has_key more) (pair_of-keyed place ended part pair is_one) rest.0, ap suc rest.1)
+
+pub pairs_of-keyed : (place : ℕ) (ended : Bool) (parts : List (List Sign)) (pairs : List TypeAndValue) → pairs_of place ended parts ≡ Ok pairs
+    → (list_all has_key pairs ≡ true) × (length pairs ≡ length parts)
+pairs_of-keyed place ended [] pairs read = let none : [] ≡ pairs = (cc) in rw (← none) (refl, refl)
+pairs_of-keyed place ended (part ∷ parts) pairs read =
+    first_keyed place (ended || not (is_empty parts)) part pairs (length parts) (pair_of place (ended || not (is_empty parts)) part) (pairs_of place ended parts)
+    refl (λ more is_more. pairs_of-keyed place ended parts more is_more) read
+
+-- ---- a step of the loop over the RDNs
+
+pub rdns_of-more : (room bytes : ℕ) (signs : List Sign) (rdn : List TypeAndValue) → list_any (is_plain 44) signs ≡ true → first_rdn bytes signs ≡ Ok rdn
+    → rdns_of (suc room) bytes signs ≡ with_first rdn (rdns_of room bytes (behind_comma signs))
+unfolding rdns_of
+rdns_of-more room bytes signs rdn more read = rw (read, more) refl
+
+pub rdns_of-last : (room bytes : ℕ) (signs : List Sign) (rdn : List TypeAndValue) → list_any (is_plain 44) signs ≡ false → first_rdn bytes signs ≡ Ok rdn
+    → rdns_of (suc room) bytes signs ≡ Ok (rdn ∷ [])
+unfolding rdns_of
+rdns_of-last room bytes signs rdn none read = rw (read, none) refl
+
+rdns_of-full : (bytes : ℕ) (signs : List Sign) (rdn : List TypeAndValue) → first_rdn bytes signs ≡ Ok rdn → rdns_of 0 bytes signs ≡ Err (TooLong (bytes - signs_width signs))
+unfolding rdns_of
+rdns_of-full bytes signs rdn read = rw read refl
+
+rdns_of-fault : (room bytes : ℕ) (signs : List Sign) (fault : NameFault) → first_rdn bytes signs ≡ Err fault → rdns_of room bytes signs ≡ Err fault
+unfolding rdns_of
+rdns_of-fault zero bytes signs fault read = rw read refl
+rdns_of-fault (suc room) bytes signs fault read = rw read refl
+
+module _ (bytes : ℕ) (whole : Result (List (List TypeAndValue)) NameFault) (rdns : List (List TypeAndValue)) (rest : List Sign)
+    (so_far : whole ≡ with_all rdns (rdns_of (32 - length rdns) bytes rest)) where
+  pub next_rdn : (rdn : List TypeAndValue) (all : List (List TypeAndValue)) → all ≡ rdns ++ rdn ∷ [] → length rdns < 32 → list_any (is_plain 44) rest ≡ true
+      → first_rdn bytes rest ≡ Ok rdn → whole ≡ with_all all (rdns_of (32 - length all) bytes (behind_comma rest))
+  next_rdn rdn all is_all room more read =
+      let before : 32 - length rdns ≡ suc (31 - length rdns) = omega arith in
+      let after : 32 - length (rdns ++ rdn ∷ []) ≡ 31 - length rdns = omega (arith, length-append rdns (rdn ∷ [])) in
+      rw (is_all, after, so_far, before, rdns_of-more (31 - length rdns) bytes rest rdn more read)
+      (with_all-push rdns rdn (rdns_of (31 - length rdns) bytes (behind_comma rest)))
+
+  pub last_rdn : (rdn : List TypeAndValue) (all : List (List TypeAndValue)) → all ≡ rdns ++ rdn ∷ [] → length rdns < 32 → list_any (is_plain 44) rest ≡ false
+      → first_rdn bytes rest ≡ Ok rdn → whole ≡ Ok all
+  last_rdn rdn all is_all room none read =
+      let before : 32 - length rdns ≡ suc (31 - length rdns) = omega arith in
+      rw (is_all, so_far, before, rdns_of-last (31 - length rdns) bytes rest rdn none read) refl
+
+  pub no_room : (rdn : List TypeAndValue) → 32 ≤ length rdns → first_rdn bytes rest ≡ Ok rdn → whole ≡ Err (TooLong (bytes - signs_width rest))
+  no_room rdn full read =
+      let before : 32 - length rdns ≡ 0 = omega arith in
+      rw (so_far, before, rdns_of-full bytes rest rdn read) refl
+
+  pub rdn_refused : (fault : NameFault) → IsFaultOf (first_rdn bytes rest) fault → IsFaultOf whole fault
+  rdn_refused fault refused =
+      IsFaultOf-along (first_rdn bytes rest) whole fault
+      (λ f read. rw (so_far, rdns_of-fault (32 - length rdns) bytes rest f read) refl) refused
+
+-- ---- an RDN and its pairs
+
+pub rdn_of-spaced : (place : ℕ) (ended : Bool) (signs : List Sign) → nat_lt 0 (prefix_len (is_plain 32) signs) ≡ true → rdn_of place ended signs ≡ Err (BadName place)
+unfolding rdn_of
+rdn_of-spaced place ended signs space = rw space refl
+
+pub rdn_of-pairs : (place : ℕ) (ended : Bool) (signs : List Sign) (pairs : List TypeAndValue) → nat_lt 0 (prefix_len (is_plain 32) signs) ≡ false
+    → pairs_of place ended (slice_split (is_plain 43) signs) ≡ Ok pairs → rdn_of place ended signs ≡ checked_rdn place pairs
+unfolding rdn_of
+rdn_of-pairs place ended signs pairs none read = rw (none, read) refl
+
+rdn_of-fault : (place : ℕ) (ended : Bool) (signs : List Sign) (fault : NameFault) → nat_lt 0 (prefix_len (is_plain 32) signs) ≡ false
+    → pairs_of place ended (slice_split (is_plain 43) signs) ≡ Err fault → rdn_of place ended signs ≡ Err fault
+unfolding rdn_of
+rdn_of-fault place ended signs fault none read = rw (none, read) refl
+
+pub rdn_of-refused : (place : ℕ) (ended : Bool) (signs : List Sign) (fault : NameFault) → nat_lt 0 (prefix_len (is_plain 32) signs) ≡ false
+    → IsFaultOf (pairs_of place ended (slice_split (is_plain 43) signs)) fault → IsFaultOf (rdn_of place ended signs) fault
+rdn_of-refused place ended signs fault none refused =
+    IsFaultOf-along (pairs_of place ended (slice_split (is_plain 43) signs)) (rdn_of place ended signs) fault (λ f read. rdn_of-fault place ended signs f none read) refused
+
+pub checked-double : (place : ℕ) (pairs : List TypeAndValue) → has_double pairs ≡ true → checked_rdn place pairs ≡ Err (BadName place)
+checked-double place pairs double = rw double refl
+
+pub checked-long : (place : ℕ) (pairs : List TypeAndValue) → has_double pairs ≡ false → 1024 < length (rdn_text pairs) → checked_rdn place pairs ≡ Err (TooLong place)
+checked-long place pairs single long = rw (single, lt-ltb 1024 (length (rdn_text pairs)) long) refl
+
+pub checked-fine : (place : ℕ) (pairs : List TypeAndValue) → has_double pairs ≡ false → length (rdn_text pairs) ≤ 1024 → checked_rdn place pairs ≡ Ok pairs
+checked-fine place pairs single fits = rw (single, le-ltb 1024 (length (rdn_text pairs)) fits) refl
+
+pub read_is_rdn : (place : ℕ) (ended : Bool) (signs : List Sign) (pairs : List TypeAndValue) → pairs_of place ended (slice_split (is_plain 43) signs) ≡ Ok pairs
+    → has_double pairs ≡ false → length (rdn_text pairs) ≤ 1024 → is_rdn pairs ≡ true
+read_is_rdn place ended signs pairs read single fits =
+    let keyed = pairs_of-keyed place ended (slice_split (is_plain 43) signs) pairs read in
+    let some : length pairs ≢ 0 = omega (arith, keyed.1, length-slice_split (is_plain 43) signs) in
+    rw (ne_eqb (length pairs) 0 some, keyed.0, single, le-leb (length (rdn_text pairs)) 1024 fits) refl
+
+pub width-behind_comma : (signs : List Sign) → signs_width (behind_comma signs) ≤ signs_width signs
+width-behind_comma signs =
+    omega (
+      arith,
+      sum_by-take-drop sign_width (after_first (is_plain 44) signs) (prefix_len (is_plain 32) (after_first (is_plain 44) signs)),
+      sum_by-take-drop sign_width signs (position_or_len (is_plain 44) signs + 1),
+    )
+
+pub IsName-push : (rdns : List (List TypeAndValue)) (rdn : List TypeAndValue) → IsName rdns → is_rdn rdn ≡ true → length rdns < 32 → IsName (rdns ++ rdn ∷ [])
+IsName-push rdns rdn sound one room = record {
+  rdns = grind (arith, elements, sound.rdns);
+  few = omega (arith, length-append rdns (rdn ∷ []));
+}
+
+-- ---- a name and its RDNs
+
+pub name_of_text-empty : (text : List ℕ) → nat_eq (length text) 0 ≡ true → name_of_text text ≡ Ok []
+unfolding name_of_text
+name_of_text-empty text none = rw none refl
+
+pub name_of_text-rdns : (text : List ℕ) → nat_eq (length text) 0 ≡ false → name_of_text text ≡ rdns_of 32 (length text) (signs_of text)
+unfolding name_of_text
+name_of_text-rdns text some = rw some refl

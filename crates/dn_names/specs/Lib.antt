@@ -1,0 +1,6 @@
+-- Names: what they are, when they are equal, how they are read and written.
+pub mod Keys
+pub mod Names
+pub mod Reading
+pub mod Sound
+pub mod Writing

@@ -1,0 +1,126 @@
+//! Relative distinguished names (RFC 4514, section 2.2).
+ghost use Rattle.std.specs.Prelude.{◌≡◌, true, nat_lt, Ok, IfOk, IfErr};
+ghost use Rattle.std.specs.List.{list_all, prefix_len};
+ghost use Rattle.dn_names.specs.Names.{has_pair, same_rdn};
+ghost use Rattle.dn_names.specs.Reading.{rdn_of, rdn_of_text, is_plain, IsFaultOf};
+ghost use Rattle.dn_names.specs.Sound.{is_rdn};
+ghost use Rattle.dn_names.specs.Writing.{rdn_text};
+
+use crate::fault::NameFault;
+use crate::keys::has_double;
+use crate::pair::{Pair, has_pair};
+use crate::reading::read_pairs;
+use crate::signs::{Sign, signs_of};
+use crate::writing::append_pairs;
+use ldap_ber::{NoMemory, Octets};
+use std::alloc::Global;
+use std::marker::Model;
+
+/// The most bytes in which an RDN is written.
+const MOST_BYTES: usize = 1024;
+
+/// Pairs of types and values, one at least, of which no two match. It is written in at most 1,024
+/// bytes.
+#[derive(Drop)]
+pub struct Rdn {
+    pairs: Vec<Pair>,
+}
+
+impl Model for Rdn {
+    ghost use Rattle.std.specs.Prelude.{◌≡◌, true, List};
+    ghost use Rattle.dn_names.specs.Names.{TypeAndValue};
+    ghost use Rattle.dn_names.specs.Sound.{is_rdn};
+
+    ghost Value = { List TypeAndValue };
+
+    ghost view = { λ r. r.pairs.items };
+
+    ghost invariant = { λ r. is_rdn r.pairs.items ≡ true };
+}
+
+impl Rdn {
+    /// Reads one RDN. The place of each fault is 0.
+    pub fn parse(alloc: Global, text: &[u8]) -> Result<Rdn, NameFault>
+        ensures ok { IfOk result (λ rdn. rdn_of_text text.now ≡ Ok rdn) }
+        ensures fault { IfErr result (IsFaultOf (rdn_of_text text.now)) }
+    {
+        let signs = signs_of(alloc, text)?;
+        Rdn::read(alloc, 0, false, signs.as_slice())
+    }
+
+    /// Reads an RDN that stands at this place; `ended` says that a comma follows.
+    pub(crate) fn read(
+        alloc: Global,
+        place: usize,
+        ended: bool,
+        signs: &[Sign],
+    ) -> Result<Rdn, NameFault>
+        ensures ok { IfOk result (λ rdn. rdn_of place ended signs.now ≡ Ok rdn) }
+        ensures sound { IfOk result (λ rdn. is_rdn rdn ≡ true) }
+        ensures fault { IfErr result (IsFaultOf (rdn_of place ended signs.now)) }
+    {
+        if begins_with_space(signs) {
+            return Err(NameFault::BadName(place));
+        }
+        let pairs = read_pairs(alloc, place, ended, signs)?;
+        if has_double(alloc, pairs.as_slice())? {
+            return Err(NameFault::BadName(place));
+        }
+        let mut text = Vec::new(alloc);
+        append_pairs(&mut text, pairs.as_slice())?;
+        if text.len() > MOST_BYTES {
+            return Err(NameFault::TooLong(place));
+        }
+        Ok(Rdn { pairs })
+    }
+
+    pub fn list(&self) -> &[Pair]
+        ensures value { result.now ≡ self.now }
+        ensures sound { is_rdn self.now ≡ true }
+    {
+        self.pairs.as_slice()
+    }
+
+    pub fn copy(&self) -> Result<Rdn, NoMemory>
+        ensures { IfOk result (λ rdn. rdn ≡ self.now) }
+    {
+        let mut pairs = Vec::new(*self.pairs.allocator());
+        for pair in self.list() {
+            pairs.push(pair.copy()?)?;
+        }
+        Ok(Rdn { pairs })
+    }
+
+    /// The RDN as text, which is read again as the same RDN.
+    pub fn write(&self) -> Result<Octets, NoMemory>
+        ensures text { IfOk result (λ octets. octets ≡ rdn_text self.now) }
+        ensures again { IfOk result (λ octets. rdn_of_text octets ≡ Ok self.now) }
+    {
+        let mut text = Vec::new(*self.pairs.allocator());
+        append_pairs(&mut text, self.list())?;
+        Ok(Octets::from(text))
+    }
+}
+
+/// Whether the RDNs are equal as sets of pairs.
+pub(crate) fn is_same_rdn(one: &Rdn, other: &Rdn) -> bool
+    ensures { result ≡ same_rdn one.now other.now }
+{
+    has_all(other.list(), one.list()) && has_all(one.list(), other.list())
+}
+
+/// Whether each of the wanted pairs is among the pairs.
+fn has_all(pairs: &[Pair], wanted: &[Pair]) -> bool
+    ensures { result ≡ list_all (has_pair pairs.now) wanted.now }
+{
+    wanted.iter().all(|pair| has_pair(pairs, pair))
+}
+
+fn begins_with_space(signs: &[Sign]) -> bool
+    ensures { result ≡ nat_lt 0 (prefix_len (is_plain 32) signs.now) }
+{
+    match signs {
+        [] => false,
+        [first, ..] => first.is_plain(b' '),
+    }
+}
