@@ -386,3 +386,28 @@ fn values_as_lines(rt: HostRuntime) -> Result<(), Fail> {
     }
     Ok(())
 }
+
+/// How many values the one attribute of an added entry has, or 0 for any other change.
+fn added_values(change: &Option<Change>) -> usize {
+    match change {
+        Some(Change::Add(_, list)) => match list.list() {
+            [attribute] => attribute.values.list().len(),
+            _ => 0,
+        },
+        _ => 0,
+    }
+}
+
+/// A record of a million lines: comments, values, and what continues those.
+#[test]
+fn a_text_of_a_million_lines(rt: HostRuntime) -> Result<(), Fail> {
+    let mut text = Vec::from_slice(rt.alloc(), b"dn: a\n")?;
+    for _ in 0..333_333 {
+        text.extend_from_slice(b"# c\ncn: x\n y\n")?;
+    }
+    let mut records = Records::new(text.as_slice(), 1);
+    let change = records.next(rt.alloc())?;
+    assert_eq!(rt; added_values(&change), 333_333);
+    assert_eq!(rt; records.line(), 1_000_000);
+    Ok(())
+}

@@ -1,0 +1,10 @@
+-- Lemmas over plain variables.
+pub mod Behind
+pub mod Keys
+pub mod Lists
+pub mod Many
+pub mod Rounds
+pub mod Texts
+pub mod Truths
+pub mod Utf8
+pub mod Values

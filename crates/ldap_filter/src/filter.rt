@@ -1,0 +1,69 @@
+//! Filters as they are held (RFC 4511, section 4.5.1.7).
+ghost use Rattle.std.specs.Prelude.{◌≡◌, [], ◌∷◌, ◌++◌, true, IfOk, OnOk, OnErr};
+ghost use Rattle.ldap_filter.specs.Pieces.{has_piece};
+
+use ldap_ber::{NoMemory, Octets, OctetsList};
+use std::alloc::Global;
+
+/// A search filter. An item has the name of an attribute type, and but for `Present` a value.
+#[cycle(filter)]
+#[derive(Drop)]
+pub enum Filter {
+    And(FilterList),
+    Or(FilterList),
+    Not(Box<Filter>),
+    Equal(Octets, Octets),
+    Substrings(Octets, Pieces),
+    AtLeast(Octets, Octets),
+    AtMost(Octets, Octets),
+    Present(Octets),
+    Approx(Octets, Octets),
+    /// The body of the element of an extensible match, as it came.
+    Extensible(Octets),
+}
+
+/// The pieces of a value, one at least.
+#[derive(Drop)]
+pub struct Pieces {
+    /// What the value begins with.
+    pub initial: Option<Octets>,
+    /// What the value holds behind that, in order.
+    pub middle: OctetsList,
+    /// What the value ends with, behind all others.
+    pub last: Option<Octets>,
+    ghost some: { has_piece initial middle last ≡ true },
+}
+
+/// A list of filters.
+#[cycle(filter)]
+#[derive(Drop)]
+pub struct FilterList {
+    pub(crate) items: Vec<Filter>,
+}
+
+impl FilterList {
+    ghost use Rattle.ldap_filter.specs.Tree.{parts_of};
+
+    pub fn new(alloc: Global) -> FilterList
+        ensures { parts_of result ≡ [] }
+    {
+        FilterList {
+            items: Vec::new(alloc),
+        }
+    }
+
+    /// Puts the filter at the end.
+    pub fn push(&mut self, item: Filter) -> Result<(), NoMemory>
+        ensures ok { OnOk result (parts_of self.new ≡ parts_of self.old ++ item ∷ []) }
+        ensures err { OnErr result (parts_of self.new ≡ parts_of self.old) }
+    {
+        self.items.push(item)?;
+        Ok(())
+    }
+
+    pub fn list(&self) -> &[Filter]
+        ensures { result.now ≡ parts_of self.now }
+    {
+        self.items.as_slice()
+    }
+}

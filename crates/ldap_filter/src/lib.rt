@@ -1,0 +1,20 @@
+//! Search filters: their truth on an entry, and their text (RFC 4511, section 4.5.1.7; RFC 4515;
+//! RFC 4526).
+#![tactic(auto)]
+
+mod cursor;
+mod fault;
+mod filter;
+mod grammar;
+mod matching;
+mod reading;
+mod same;
+mod truth;
+mod writing;
+
+pub use fault::FilterFault;
+pub use filter::{Filter, FilterList, Pieces};
+pub use truth::Truth;
+
+#[cfg(test)]
+mod tests;

@@ -1,0 +1,178 @@
+//! Copies of filters, and whether two filters are the same.
+ghost use Rattle.std.specs.Prelude.{◌≡◌, map, IfOk, bytes_eq};
+ghost use Rattle.std.specs.Option.{option_eq};
+ghost use Rattle.ldap_filter.specs.Same.{same_name, same_tree, same_trees, same_item};
+ghost use Rattle.ldap_filter.specs.Tree.{tree_of, trees, parts_of};
+
+use crate::filter::{Filter, FilterList, Pieces};
+use ldap_ber::{NoMemory, Octets};
+
+impl Filter {
+    #[cycle(copies)]
+    pub fn copy(&self) -> Result<Filter, NoMemory>
+        ensures { IfOk result (λ filter. tree_of filter ≡ tree_of self.now) }
+    {
+        match self {
+            Filter::And(parts) => Ok(Filter::And(parts.copy()?)),
+            Filter::Or(parts) => Ok(Filter::Or(parts.copy()?)),
+            Filter::Not(part) => {
+                let copy = part.copy()?;
+                Ok(Filter::Not(Box::new(*Box::allocator(part), copy)?))
+            }
+            Filter::Equal(name, value) => Ok(Filter::Equal(name.copy()?, value.copy()?)),
+            Filter::Substrings(name, pieces) => {
+                Ok(Filter::Substrings(name.copy()?, pieces.copy()?))
+            }
+            Filter::AtLeast(name, value) => Ok(Filter::AtLeast(name.copy()?, value.copy()?)),
+            Filter::AtMost(name, value) => Ok(Filter::AtMost(name.copy()?, value.copy()?)),
+            Filter::Present(name) => Ok(Filter::Present(name.copy()?)),
+            Filter::Approx(name, value) => Ok(Filter::Approx(name.copy()?, value.copy()?)),
+            Filter::Extensible(body) => Ok(Filter::Extensible(body.copy()?)),
+        }
+    }
+
+    /// Whether the filters have the same structure, with names of types that differ in the case of
+    /// ASCII letters alone and the same bytes as values. The order in a list counts.
+    #[cycle(comparisons)]
+    pub fn same(&self, other: &Filter) -> bool
+        ensures { result ≡ same_tree (tree_of self.now) (tree_of other.now) }
+    {
+        match self {
+            Filter::And(parts) => match other {
+                Filter::And(others) => parts.same(others),
+                _ => false,
+            },
+            Filter::Or(parts) => match other {
+                Filter::Or(others) => parts.same(others),
+                _ => false,
+            },
+            Filter::Not(part) => match other {
+                Filter::Not(opposed) => part.same(opposed),
+                _ => false,
+            },
+            Filter::Equal(name, value) => match other {
+                Filter::Equal(other_name, other_value) => {
+                    is_same_item(name, value, other_name, other_value)
+                }
+                _ => false,
+            },
+            Filter::Substrings(name, pieces) => match other {
+                Filter::Substrings(other_name, others) => {
+                    is_same_name(name, other_name) && pieces.same(others)
+                }
+                _ => false,
+            },
+            Filter::AtLeast(name, value) => match other {
+                Filter::AtLeast(other_name, other_value) => {
+                    is_same_item(name, value, other_name, other_value)
+                }
+                _ => false,
+            },
+            Filter::AtMost(name, value) => match other {
+                Filter::AtMost(other_name, other_value) => {
+                    is_same_item(name, value, other_name, other_value)
+                }
+                _ => false,
+            },
+            Filter::Present(name) => match other {
+                Filter::Present(other_name) => is_same_name(name, other_name),
+                _ => false,
+            },
+            Filter::Approx(name, value) => match other {
+                Filter::Approx(other_name, other_value) => {
+                    is_same_item(name, value, other_name, other_value)
+                }
+                _ => false,
+            },
+            Filter::Extensible(body) => match other {
+                Filter::Extensible(other_body) => body == other_body,
+                _ => false,
+            },
+        }
+    }
+}
+
+impl FilterList {
+    #[cycle(copies)]
+    fn copy(&self) -> Result<FilterList, NoMemory>
+        ensures { IfOk result (λ list. map tree_of (parts_of list) ≡ map tree_of (parts_of self.now)) }
+    {
+        let mut items = Vec::new(*self.items.allocator());
+        for item in &self.items {
+            items.push(item.copy()?)?;
+        }
+        Ok(FilterList { items })
+    }
+
+    #[cycle(comparisons)]
+    fn same(&self, other: &FilterList) -> bool
+        ensures { result
+            ≡ same_trees (trees (map tree_of (parts_of self.now))) (trees (map tree_of (parts_of other.now))) }
+    {
+        let mut others = other.list();
+        for item in self.list() {
+            match others.split_first() {
+                Some((first, rest)) if item.same(first) => others = rest,
+                _ => return false,
+            }
+        }
+        others.is_empty()
+    }
+}
+
+impl Pieces {
+    ghost use Rattle.ldap_filter.specs.Same.{same_pieces};
+
+    fn copy(&self) -> Result<Pieces, NoMemory>
+        ensures initial { IfOk result (λ pieces. pieces.initial ≡ self.now.initial) }
+        ensures middle { IfOk result (λ pieces. pieces.middle ≡ self.now.middle) }
+        ensures last { IfOk result (λ pieces. pieces.last ≡ self.now.last) }
+    {
+        let initial = copy_of(&self.initial)?;
+        let middle = self.middle.copy()?;
+        let last = copy_of(&self.last)?;
+        Ok(Pieces {
+            initial,
+            middle,
+            last,
+        })
+    }
+
+    fn same(&self, other: &Pieces) -> bool
+        ensures { result
+            ≡ same_pieces self.now.initial self.now.middle self.now.last
+            other.now.initial other.now.middle other.now.last }
+    {
+        is_same_piece(&self.initial, &other.initial)
+            && self.middle == other.middle
+            && is_same_piece(&self.last, &other.last)
+    }
+}
+
+fn copy_of(piece: &Option<Octets>) -> Result<Option<Octets>, NoMemory>
+    ensures { IfOk result (λ copy. copy ≡ piece.now) }
+{
+    match piece {
+        None => Ok(None),
+        Some(octets) => Ok(Some(octets.copy()?)),
+    }
+}
+
+fn is_same_piece(one: &Option<Octets>, other: &Option<Octets>) -> bool
+    ensures { result ≡ option_eq bytes_eq one.now other.now }
+{
+    one == other
+}
+
+/// Whether the names of types differ in the case of ASCII letters alone.
+fn is_same_name(one: &Octets, other: &Octets) -> bool
+    ensures { result ≡ same_name one.now other.now }
+{
+    one.as_slice().eq_ignore_ascii_case(other.as_slice())
+}
+
+fn is_same_item(name: &Octets, value: &Octets, other_name: &Octets, other_value: &Octets) -> bool
+    ensures { result ≡ same_item name.now value.now other_name.now other_value.now }
+{
+    is_same_name(name, other_name) && value == other_value
+}
