@@ -1,118 +1,140 @@
--- The `stored` lines of a run are right.
-use Rattle.std.proofs.Common.{◌≡◌, ◌+◌, ℕ, Bool, true, false, ◌&&◌, ◌||◌, ◌==◌, not, Option, Some, None, List, [], ◌∷◌, ◌++◌, length, take, refl, ap, sym, subst, ◌∙◌, inl, inr, arith, append_assoc, length-append, add-zero, suc}
+-- The lines of a run are right.
+use Rattle.std.proofs.Common.{◌≡◌, ◌⊎◌, ◌+◌, ◌≤◌, ℕ, Bool, true, false, ◌||◌, Option, Some, None, List, [], ◌∷◌, ◌++◌, length, take, refl, ap, sym, subst, ◌∙◌, inl, inr, arith, append_assoc, length-append, add-zero, suc}
 use Rattle.std.proofs.lemmas.Bool.{cases_Bool}
 use Rattle.std.proofs.lemmas.List.{take_all}
 use Rattle.std.proofs.lemmas.List.Sums.{sum_by-append}
 use Rattle.std.proofs.lemmas.Slice.Eq.{bytes_eq-Decides}
 use Rattle.std.proofs.lemmas.List.Folds.{list_any-append}
-use Rattle.std.specs.Prelude.{count_by, if◌then◌else◌}
+use Rattle.std.specs.Prelude.{Ok, Err, count_by, not, nat_le, if◌then◌else◌}
 use Rattle.std.specs.Str.{bytes_eq}
-use Rattle.entry_tree.specs.Tree.{select, code_of}
-use Rattle.entry_tree.specs.declared.op.Op.{Op}
-use Rattle.entry_tree.specs.declared.op.Spec.{Spec}
-use Rattle.cascade_world.specs.declared.event.Command.{Command}
-use Rattle.cascade_world.specs.declared.event.Command.TheVariants.{Provider, Consumer, Write, Settle}
-use Rattle.cascade_world.specs.declared.form.Names.{Names}
+use Rattle.dn_names.specs.Names.{TypeAndValue, is_at_or_below}
+use Rattle.entry_tree.specs.Selection.{Search, select}
+use Rattle.entry_tree.specs.declared.entry.Entry.{Entry}
+use Rattle.schema_rules.specs.declared.raw.Change.{Change}
 use Rattle.cascade_world.specs.declared.node.Node.{Node}
 use Rattle.cascade_world.specs.declared.node.Part.{Part}
 use Rattle.cascade_world.specs.declared.node.Part.TheVariants.{Root, Copy}
-use Rattle.cascade_world.specs.declared.node.Follower.{Follower}
-use Rattle.cascade_world.specs.Directory.{History, entries_of, entries_after, code_at, written}
-use Rattle.cascade_world.specs.Headline.{accepted, accepted_from, with_accepted, is_declaration, IsDeclared, EachTellsRight, StoredLinesAreRight}
-use Rattle.cascade_world.specs.Reader.{names_after}
+use Rattle.cascade_world.specs.Directory.{History, entries_of, entries_after, writes_after, written}
+use Rattle.cascade_world.specs.Headline.{time_after, time_from, with_accepted, accepted_from, is_declaration, IsDeclared, AreAccepted, IsPrefixSelected, settles, HoldsStored, IsUnstored, IsLastStored, IsShown, EachTellsRight, LinesAreRight}
+use Rattle.cascade_world.specs.Holding.{Holding}
+use Rattle.cascade_world.specs.Orders.{Order}
+use Rattle.cascade_world.specs.Orders.{Order as asks}
+use Rattle.cascade_world.specs.Reader.{Reader}
 use Rattle.cascade_world.specs.Report.{Told}
-use Rattle.cascade_world.specs.Report.Told.{Stored, Settled}
+use Rattle.cascade_world.specs.Report.Told.{Stored, Settled, Shown}
 use Rattle.cascade_world.specs.Run.{Runs}
-use Rattle.cascade_world.specs.World.{Step, step, is_named, has_node, root_named, copy_named, root_in, copy_in, with_part, can_follow, declare_root, declare_copy, write_to, settle_to, settling_of, selection_of}
+use Rattle.cascade_world.specs.World.{State, no_nodes, Step, step, is_named, has_node, node_named, root_named, copy_named, root_in, copy_in, with_part, most_nodes, declared, declare_root, follow, declare_copy, write_to, settle_from, settle_to, show_of, entries_in}
+use Rattle.cascade_world.proofs.Accepted.{time_from-push, time_from-append, accepted_from-push, Untouched, with_accepted-untouched, declared-push}
 
-accepted_from-push : (history : ℕ) (suffix : List (List ℕ)) (name : List ℕ) (writes : List Op) (events : List Command) (event : Command)
-    → accepted_from history suffix name writes (events ++ event ∷ []) ≡ with_accepted history suffix name (accepted_from history suffix name writes events) event
-accepted_from-push history suffix name writes [] event = refl
-accepted_from-push history suffix name writes (e ∷ events) event = accepted_from-push history suffix name (with_accepted history suffix name writes e) events event
-
--- an event that is no write to the directory of that name
-abbrev Untouched : Command → List ℕ → Type 0
-Untouched (Provider other base) name = Unit {0}
-Untouched (Consumer other source spec) name = Unit {0}
-Untouched (Write target op) name = bytes_eq target name ≡ false
-Untouched (Settle other) name = Unit {0}
-
-with_accepted-untouched : (history : ℕ) (suffix : List (List ℕ)) (name : List ℕ) (writes : List Op) (e : Command) → Untouched e name → with_accepted history suffix name writes e ≡ writes
-with_accepted-untouched history suffix name writes (Provider other base) h = refl
-with_accepted-untouched history suffix name writes (Consumer other source spec) h = refl
-with_accepted-untouched history suffix name writes (Write target op) h = rw h refl
-with_accepted-untouched history suffix name writes (Settle other) h = refl
-
--- a declaration stays one, and a new one is one
-declared-push : (before : List Command) (n : ℕ) (d : Command) (later : List Command) (e : Command) → IsDeclared before n d later → IsDeclared (before ++ e ∷ []) n d (later ++ e ∷ [])
-declared-push before n d later e is = record {
-  earlier = is.earlier;
-  whole = ap (λ b. b ++ e ∷ []) is.whole ∙ append_assoc is.earlier (d ∷ later) (e ∷ []);
-  numbered = is.numbered;
-}
-
-declared_now : (before : List Command) (n : ℕ) (d : Command) → n ≡ count_by is_declaration before + 1 → IsDeclared (before ++ d ∷ []) n d []
-declared_now before n d count = record { earlier = before; whole = refl; numbered = count }
+-- ---- what the nodes are, by the orders so far
 
 -- a root was declared, and its writes are those that were accepted since
-pub record IsRootOf (before : List Command) (name : List ℕ) (directory : History) : Type 0 where
-  pub later : List Command
-  pub declared : IsDeclared before directory.id (Provider name directory.suffix) later
-  pub writes : directory.writes ≡ accepted directory.id directory.suffix name later
+pub record RootIs (before : List Order) (name : List ℕ) (directory : History) : Type 0 where
+  pub later : List Order
+  pub declared : IsDeclared before directory.id (asks.Provider name directory.suffix) later
+  pub writes : directory.writes ≡ accepted_from directory.id directory.suffix name (time_from 0 declared.earlier) [] later
 
--- a consumer was declared
-pub record IsCopyOf (before : List Command) (name : List ℕ) (follower : Follower) : Type 0 where
+-- a consumer was declared, and its entries are those of its last `stored` line
+pub record CopyIs (before : List Order) (name : List ℕ) (holding : Holding) : Type 0 where
   pub place : ℕ
-  pub since : List Command
-  pub declared : IsDeclared before place (Consumer name follower.source follower.spec) since
+  pub since : List Order
+  pub declared : IsDeclared before place (asks.Consumer name holding.source holding.search) since
+  pub held : HoldsStored before name holding.entries
 
-abbrev pub PartIs : List Command → List ℕ → Part → Type 0
-PartIs before name (Root directory) = IsRootOf before name directory
-PartIs before name (Copy follower) = IsCopyOf before name follower
+abbrev pub PartIs : List Order → List ℕ → Part → Type 0
+PartIs before name (Root directory) = RootIs before name directory
+PartIs before name (Copy holding) = CopyIs before name holding
 
--- each node is as its declaration and the writes since say, and no two have one name
-abbrev pub Each : List Command → List Node → Type 0
+-- each node is as its declaration and the orders since say, and no two have one name
+abbrev pub Each : List Order → List Node → Type 0
 Each before [] = Unit {0}
 Each before (node ∷ nodes) = PartIs before node.name node.part × (has_node node.name nodes ≡ false) × Each before nodes
 
-pub record Tracks (before : List Command) (nodes : List Node) : Type 0 where
-  pub count : length nodes ≡ count_by is_declaration before
-  pub each : Each before nodes
+pub record Tracks (before : List Order) (state : State) : Type 0 where
+  pub time : state.clock ≡ time_from 0 before
+  pub count : length state.nodes ≡ count_by is_declaration before
+  pub each : Each before state.nodes
 
-part_kept : (before : List Command) (e : Command) (name : List ℕ) (part : Part) → Untouched e name → PartIs before name part → PartIs (before ++ e ∷ []) name part
-part_kept before e name (Root d) quiet is = record {
-  later = is.later ++ e ∷ [];
-  declared = declared-push before d.id (Provider name d.suffix) is.later e is.declared;
-  writes = is.writes ∙ sym (accepted_from-push d.id d.suffix name [] is.later e ∙ with_accepted-untouched d.id d.suffix name (accepted d.id d.suffix name is.later) e quiet);
-}
-part_kept before e name (Copy f) quiet is = record {
+-- ---- one more order
+
+count_more : {X : Type 0} (p : X → Bool) (xs : List X) (x : X) → p x ≡ true → count_by p (xs ++ x ∷ []) ≡ count_by p xs + 1
+count_more p xs x yes' = sum_by-append _ xs (x ∷ []) ∙ rw yes' refl
+
+count_same : {X : Type 0} (p : X → Bool) (xs : List X) (x : X) → p x ≡ false → count_by p (xs ++ x ∷ []) ≡ count_by p xs
+count_same p xs x no' = sum_by-append _ xs (x ∷ []) ∙ rw no' (add-zero (count_by p xs))
+
+not_settled : (order : Order) (name : List ℕ) → Untouched order name → settles name order ≡ false
+not_settled (asks.Provider other base) name h = refl
+not_settled (asks.Consumer other source search) name h = refl
+not_settled (asks.Clock new) name h = refl
+not_settled (asks.Write target change) name h = refl
+not_settled (asks.Settle other) name h = h
+not_settled (asks.Show other) name h = refl
+
+held_kept : (before : List Order) (order : Order) (name : List ℕ) (entries : List Entry) → Untouched order name → HoldsStored before name entries → HoldsStored (before ++ order ∷ []) name entries
+held_kept before order name entries quiet (inl held) =
+    let u = held.0 in
+    inl (
+      record {
+        provider = u.provider;
+        search = u.search;
+        place = u.place;
+        since = u.since ++ order ∷ [];
+        declared = declared-push before u.place (asks.Consumer name u.provider u.search) u.since order u.declared;
+        none = count_same (settles name) u.since order (not_settled order name quiet) ∙ u.none;
+      },
+      held.1,
+    )
+held_kept before order name entries quiet (inr held) =
+    inr record {
+      earlier = held.earlier;
+      later = held.later ++ order ∷ [];
+      whole = ap (λ b. b ++ order ∷ []) held.whole ∙ append_assoc held.earlier (asks.Settle name ∷ held.later) (order ∷ []);
+      last = count_same (settles name) held.later order (not_settled order name quiet) ∙ held.last;
+      n = held.n;
+      stored = held.stored;
+    }
+
+part_kept : (before : List Order) (order : Order) (name : List ℕ) (part : Part) → Untouched order name → PartIs before name part → PartIs (before ++ order ∷ []) name part
+part_kept before order name (Root d) quiet is =
+    let time = time_from 0 is.declared.earlier in
+    record {
+      later = is.later ++ order ∷ [];
+      declared = declared-push before d.id (asks.Provider name d.suffix) is.later order is.declared;
+      writes = is.writes ∙ sym (accepted_from-push d.id d.suffix name time [] is.later order ∙ with_accepted-untouched d.id d.suffix name (time_from time is.later) (accepted_from d.id d.suffix name time [] is.later) order quiet);
+    }
+part_kept before order name (Copy h) quiet is = record {
   place = is.place;
-  since = is.since ++ e ∷ [];
-  declared = declared-push before is.place (Consumer name f.source f.spec) is.since e is.declared;
+  since = is.since ++ order ∷ [];
+  declared = declared-push before is.place (asks.Consumer name h.source h.search) is.since order is.declared;
+  held = held_kept before order name h.entries quiet is.held;
 }
 
 or_parts : (a b : Bool) → (a || b) ≡ false → (a ≡ false) × (b ≡ false)
 or_parts true b h = cc
 or_parts false b h = (refl, h)
 
--- an event that is no write to any of the nodes
-abbrev NoneTouched : Command → List Node → Type 0
-NoneTouched (Provider other base) nodes = Unit {0}
-NoneTouched (Consumer other source spec) nodes = Unit {0}
-NoneTouched (Write target op) nodes = has_node target nodes ≡ false
-NoneTouched (Settle other) nodes = Unit {0}
+-- an order that touches none of the nodes
+abbrev NoneTouched : Order → List Node → Type 0
+NoneTouched (asks.Write target change) nodes = has_node target nodes ≡ false
+NoneTouched (asks.Settle target) nodes = has_node target nodes ≡ false
+NoneTouched _ nodes = Unit {0}
 
-first_untouched : (e : Command) (node : Node) (nodes : List Node) → NoneTouched e (node ∷ nodes) → Untouched e node.name × NoneTouched e nodes
-first_untouched (Provider other base) node nodes h = (tt, tt)
-first_untouched (Consumer other source spec) node nodes h = (tt, tt)
-first_untouched (Write target op) node nodes h = or_parts (is_named target node) (has_node target nodes) h
-first_untouched (Settle other) node nodes h = (tt, tt)
+first_untouched : (order : Order) (node : Node) (nodes : List Node) → NoneTouched order (node ∷ nodes) → Untouched order node.name × NoneTouched order nodes
+first_untouched (asks.Provider other base) node nodes h = (tt, tt)
+first_untouched (asks.Consumer other source search) node nodes h = (tt, tt)
+first_untouched (asks.Clock new) node nodes h = (tt, tt)
+first_untouched (asks.Write target change) node nodes h = or_parts (is_named target node) (has_node target nodes) h
+first_untouched (asks.Settle target) node nodes h = or_parts (is_named target node) (has_node target nodes) h
+first_untouched (asks.Show other) node nodes h = (tt, tt)
 
-each_kept : (before : List Command) (e : Command) (nodes : List Node) → NoneTouched e nodes → Each before nodes → Each (before ++ e ∷ []) nodes
-each_kept before e [] quiet is = tt
-each_kept before e (node ∷ nodes) quiet is =
-    let q = first_untouched e node nodes quiet in
-    (part_kept before e node.name node.part q.0 is.0, is.1, each_kept before e nodes q.1 is.2)
+each_kept : (before : List Order) (order : Order) (nodes : List Node) → NoneTouched order nodes → Each before nodes → Each (before ++ order ∷ []) nodes
+each_kept before order [] quiet is = tt
+each_kept before order (node ∷ nodes) quiet is =
+    let q = first_untouched order node nodes quiet in
+    (part_kept before order node.name node.part q.0 is.0, is.1, each_kept before order nodes q.1 is.2)
+
+-- ---- nodes by name
 
 -- what is at a name
 abbrev pub part_at : List ℕ → List Node → Option Part
@@ -132,7 +154,7 @@ other_way a b miss =
       | inr so ↦ so
     ]
 
-each_at : (before : List Command) (nodes : List Node) (name : List ℕ) (part : Part) → Each before nodes → part_at name nodes ≡ Some part → PartIs before name part
+each_at : (before : List Order) (nodes : List Node) (name : List ℕ) (part : Part) → Each before nodes → part_at name nodes ≡ Some part → PartIs before name part
 each_at before [] name part is there = cc
 each_at before (node ∷ nodes) name part is there =
     elim (cases_Bool (is_named name node)) [
@@ -151,24 +173,30 @@ has_node-with_part other name part (node ∷ nodes) =
       | inr miss ↦ rw miss (ap (λ b. is_named other node || b) (has_node-with_part other name part nodes))
     ]
 
--- a change of the part at a name
-each_changed : (before : List Command) (e : Command) (name : List ℕ) (part : Part) (nodes : List Node) → ((others : List Node) → has_node name others ≡ false → NoneTouched e others) → ((other : List ℕ) → bytes_eq name other ≡ false → Untouched e other)
-    → PartIs (before ++ e ∷ []) name part → Each before nodes → Each (before ++ e ∷ []) (with_part name part nodes)
-each_changed before e name part [] quiet others now is = tt
-each_changed before e name part (node ∷ nodes) quiet others now is =
+-- a change of the part at a name, by an order that touches that name alone
+each_changed : (before : List Order) (order : Order) (name : List ℕ) (part : Part) (nodes : List Node)
+    → ((others : List Node) → has_node name others ≡ false → NoneTouched order others) → ((other : List ℕ) → bytes_eq name other ≡ false → Untouched order other)
+    → PartIs (before ++ order ∷ []) name part → Each before nodes → Each (before ++ order ∷ []) (with_part name part nodes)
+each_changed before order name part [] quiet others now is = tt
+each_changed before order name part (node ∷ nodes) quiet others now is =
     elim (cases_Bool (is_named name node)) [
       | inl hit ↦
           let same = same_name name node.name hit in
           rw hit (
-            subst (λ n. PartIs (before ++ e ∷ []) n part) same now,
+            subst (λ n. PartIs (before ++ order ∷ []) n part) same now,
             is.1,
-            each_kept before e nodes (quiet nodes (subst (λ n. has_node n nodes ≡ false) (sym same) is.1)) is.2,
+            each_kept before order nodes (quiet nodes (subst (λ n. has_node n nodes ≡ false) (sym same) is.1)) is.2,
           )
-      | inr miss ↦ rw miss (part_kept before e node.name node.part (others node.name miss) is.0, has_node-with_part node.name name part nodes ∙ is.1, each_changed before e name part nodes quiet others now is.2)
+      | inr miss ↦
+          rw miss (
+            part_kept before order node.name node.part (others node.name miss) is.0,
+            has_node-with_part node.name name part nodes ∙ is.1,
+            each_changed before order name part nodes quiet others now is.2,
+          )
     ]
 
 -- a new node at the end
-each_pushed : (before : List Command) (nodes : List Node) (node : Node) → has_node node.name nodes ≡ false → PartIs before node.name node.part → Each before nodes → Each before (nodes ++ node ∷ [])
+each_pushed : (before : List Order) (nodes : List Node) (node : Node) → has_node node.name nodes ≡ false → PartIs before node.name node.part → Each before nodes → Each before (nodes ++ node ∷ [])
 each_pushed before [] node new now is = (now, refl, tt)
 each_pushed before (first ∷ nodes) node new now is =
     let parts = or_parts (is_named node.name first) (has_node node.name nodes) new in
@@ -178,11 +206,11 @@ each_pushed before (first ∷ nodes) node new now is =
 
 root_part : (part : Part) (d : History) → root_in part ≡ Some d → Some part ≡ Some (Root d)
 root_part (Root other) d e = let same : other ≡ d = cc in ap (λ x. Some (Root x)) same
-root_part (Copy f) d e = cc
+root_part (Copy h) d e = cc
 
-copy_part : (part : Part) (f : Follower) → copy_in part ≡ Some f → Some part ≡ Some (Copy f)
-copy_part (Root d) f e = cc
-copy_part (Copy other) f e = let same : other ≡ f = cc in ap (λ x. Some (Copy x)) same
+copy_part : (part : Part) (h : Holding) → copy_in part ≡ Some h → Some part ≡ Some (Copy h)
+copy_part (Root d) h e = cc
+copy_part (Copy other) h e = let same : other ≡ h = cc in ap (λ x. Some (Copy x)) same
 
 root_is : (name : List ℕ) (nodes : List Node) (d : History) → root_named name nodes ≡ Some d → part_at name nodes ≡ Some (Root d)
 root_is name [] d e = cc
@@ -192,63 +220,21 @@ root_is name (node ∷ nodes) d e =
       | inr miss ↦ let e' : root_named name nodes ≡ Some d = rw miss at e in rw miss (root_is name nodes d e')
     ]
 
-copy_is : (name : List ℕ) (nodes : List Node) (f : Follower) → copy_named name nodes ≡ Some f → part_at name nodes ≡ Some (Copy f)
-copy_is name [] f e = cc
-copy_is name (node ∷ nodes) f e =
+copy_is : (name : List ℕ) (nodes : List Node) (h : Holding) → copy_named name nodes ≡ Some h → part_at name nodes ≡ Some (Copy h)
+copy_is name [] h e = cc
+copy_is name (node ∷ nodes) h e =
     elim (cases_Bool (is_named name node)) [
-      | inl hit ↦ let e' : copy_in node.part ≡ Some f = rw hit at e in rw hit (copy_part node.part f e')
-      | inr miss ↦ let e' : copy_named name nodes ≡ Some f = rw miss at e in rw miss (copy_is name nodes f e')
+      | inl hit ↦ let e' : copy_in node.part ≡ Some h = rw hit at e in rw hit (copy_part node.part h e')
+      | inr miss ↦ let e' : copy_named name nodes ≡ Some h = rw miss at e in rw miss (copy_is name nodes h e')
     ]
 
-written_root : (before : List Command) (name : List ℕ) (op : Op) (d : History) → IsRootOf before name d → IsRootOf (before ++ Write name op ∷ []) name (written d op)
-written_root before name op d is =
-    let writes = accepted d.id d.suffix name is.later in
-    let code : code_of d.suffix (entries_after d.id writes) op ≡ code_at d op = ap (λ ws. code_of d.suffix (entries_after d.id ws) op) (sym is.writes) in
-    let push = accepted_from-push d.id d.suffix name [] is.later (Write name op) in
-    let declared = declared-push before d.id (Provider name d.suffix) is.later (Write name op) is.declared in
-    elim (cases_Bool (code_at d op == 0)) [
-      | inl ok ↦
-          let there : with_accepted d.id d.suffix name writes (Write name op) ≡ writes ++ op ∷ [] = rw (itself name, code, ok) refl in
-          rw ok record { later = is.later ++ Write name op ∷ []; declared = declared; writes = ap (λ ws. ws ++ op ∷ []) is.writes ∙ sym (push ∙ there) }
-      | inr bad ↦
-          let there : with_accepted d.id d.suffix name writes (Write name op) ≡ writes = rw (itself name, code, bad) refl in
-          rw bad record { later = is.later ++ Write name op ∷ []; declared = declared; writes = is.writes ∙ sym (push ∙ there) }
+node_is : (name : List ℕ) (nodes : List Node) (node : Node) → node_named name nodes ≡ Some node → part_at name nodes ≡ Some node.part
+node_is name [] node e = cc
+node_is name (first ∷ nodes) node e =
+    elim (cases_Bool (is_named name first)) [
+      | inl hit ↦ let e' : Some first ≡ Some node = rw hit at e in let same : first ≡ node = cc in rw hit (ap (λ (n : Node). Some n.part) same)
+      | inr miss ↦ let e' : node_named name nodes ≡ Some node = rw miss at e in rw miss (node_is name nodes node e')
     ]
-
--- a settling tells a whole prefix
-settling_right : (before : List Command) (name : List ℕ) (f : Follower) (d : History) → IsCopyOf before name f → IsRootOf before f.source d
-    → EachTellsRight before (Stored name (length d.writes) (select f.spec (entries_of d)) ∷ Settled name (length d.writes) ∷ [])
-settling_right before name f d copy root =
-    let all : take (length d.writes) (accepted d.id d.suffix f.source root.later) ≡ d.writes =
-    ap (take (length d.writes)) (sym root.writes) ∙ take_all (length d.writes) d.writes (omega arith) in (
-      record {
-        provider = f.source;
-        suffix = d.suffix;
-        spec = f.spec;
-        place = copy.place;
-        since = copy.since;
-        declared = copy.declared;
-        history = d.id;
-        later = root.later;
-        root = root.declared;
-        prefix = rw (sym root.writes) (omega arith);
-        no_shorter = rw (sym root.writes) (omega arith);
-        exactly = ap (λ ws. select f.spec (entries_after d.id ws)) (sym all);
-      },
-      (tt, tt),
-    )
-
--- what a step from nodes that are those of the events leaves and tells
-abbrev After : List Command → Command → Step → Type 0
-After before e None = Unit {0}
-After before e (Some next) = Tracks (before ++ e ∷ []) next.0 × EachTellsRight before next.1
-
--- the declarations with one more event
-count_next : (before : List Command) (e : Command) → is_declaration e ≡ true → count_by is_declaration (before ++ e ∷ []) ≡ count_by is_declaration before + 1
-count_next before e yes' = sum_by-append _ before (e ∷ []) ∙ rw yes' refl
-
-count_same : (before : List Command) (e : Command) → is_declaration e ≡ false → count_by is_declaration (before ++ e ∷ []) ≡ count_by is_declaration before
-count_same before e no' = sum_by-append _ before (e ∷ []) ∙ rw no' (add-zero (count_by is_declaration before))
 
 length-with_part : (name : List ℕ) (part : Part) (nodes : List Node) → length (with_part name part nodes) ≡ length nodes
 length-with_part name part [] = refl
@@ -258,99 +244,198 @@ length-with_part name part (node ∷ nodes) =
       | inr miss ↦ rw miss (ap suc (length-with_part name part nodes))
     ]
 
-provider_after : (before : List Command) (nodes : List Node) (name : List ℕ) (suffix : List (List ℕ)) → Tracks before nodes → After before (Provider name suffix) (declare_root nodes name suffix)
-provider_after before nodes name suffix is =
-    let e = Provider name suffix in
-    let part : PartIs (before ++ e ∷ []) name (Root (record { id = length nodes + 1; suffix = suffix; writes = [] })) =
-    record { later = []; declared = declared_now before (length nodes + 1) e (ap (λ n. n + 1) is.count); writes = refl } in
-    elim (cases_Bool (has_node name nodes)) [
+-- ---- what each order leaves and tells
+
+-- the accepted writes of a root, as the headline says them
+accepted_of : (before : List Order) (name : List ℕ) (d : History) → RootIs before name d → AreAccepted before name d.id d.writes
+accepted_of before name d is = record { suffix = d.suffix; later = is.later; declared = is.declared; accepted = is.writes }
+
+-- the time at an order is that after those between the declaration and it
+time_since : (before : List Order) (n : ℕ) (d : Order) (later : List Order) (is : IsDeclared before n d later) → time_after (time_from 0 is.earlier) d ≡ time_from 0 is.earlier
+    → time_from 0 before ≡ time_from (time_from 0 is.earlier) later
+time_since before n d later is still =
+    ap (time_from 0) is.whole ∙ time_from-append 0 is.earlier (d ∷ later) ∙ ap (λ t. time_from t later) still
+
+written_root : (before : List Order) (name : List ℕ) (change : Change) (time : ℕ) (d : History) → time ≡ time_from 0 before → RootIs before name d → RootIs (before ++ asks.Write name change ∷ []) name (written d time change)
+written_root before name change time d clock is =
+    let order = asks.Write name change in
+    let first = time_from 0 is.declared.earlier in
+    let now = time_from first is.later in
+    let writes = accepted_from d.id d.suffix name first [] is.later in
+    let same : time ≡ now = clock ∙ time_since before d.id (asks.Provider name d.suffix) is.later is.declared refl in
+    let more : with_accepted d.id d.suffix name now writes order ≡ writes_after d.id d.suffix writes now change = rw (itself name) refl in
+    let whole : writes_after d.id d.suffix d.writes time change ≡ accepted_from d.id d.suffix name first [] (is.later ++ order ∷ []) =
+    ap (λ ws. writes_after d.id d.suffix ws time change) is.writes ∙ ap (λ t. writes_after d.id d.suffix writes t change) same
+    ∙ sym (accepted_from-push d.id d.suffix name first [] is.later order ∙ more) in
+    record {
+      later = is.later ++ order ∷ [];
+      declared = declared-push before d.id (asks.Provider name d.suffix) is.later order is.declared;
+      writes = whole;
+    }
+
+-- a settling tells a whole prefix
+stored_right : (before : List Order) (name : List ℕ) (h : Holding) (d : History) → CopyIs before name h → RootIs before h.source d
+    → IsPrefixSelected before name (length d.writes) (select h.search (entries_of d))
+stored_right before name h d copy root =
+    let all : take (length d.writes) d.writes ≡ d.writes = take_all (length d.writes) d.writes (omega arith) in
+    record {
+      provider = h.source;
+      search = h.search;
+      place = copy.place;
+      since = copy.since;
+      declared = copy.declared;
+      history = d.id;
+      writes = d.writes;
+      accepted = accepted_of before h.source d root;
+      prefix = omega arith;
+      no_shorter = omega arith;
+      exactly = ap (λ ws. select h.search (entries_after d.id ws)) (sym all);
+    }
+
+-- what a step from a state that is that of the orders leaves and tells
+abbrev After : List Order → Order → Step → Type 0
+After before order (Err cause) = Unit {0}
+After before order (Ok next) = Tracks (before ++ order ∷ []) next.0 × EachTellsRight before next.1
+
+abbrev declared_now : (before : List Order) (n : ℕ) (d : Order) → n ≡ count_by is_declaration before + 1 → IsDeclared (before ++ d ∷ []) n d []
+declared_now before n d count = record { earlier = before; whole = refl; numbered = count }
+
+-- one more node
+declared_after : (before : List Order) (order : Order) (state : State) (name : List ℕ) (part : Part) → Tracks before state → NoneTouched order state.nodes → time_after state.clock order ≡ state.clock
+    → is_declaration order ≡ true → has_node name state.nodes ≡ false → PartIs (before ++ order ∷ []) name part → After before order (declared state name part)
+declared_after before order state name part is quiet still declares new now =
+    elim (cases_Bool (nat_le most_nodes (length state.nodes))) [
+      | inl full ↦ rw full tt
+      | inr room ↦
+          rw room (
+            record {
+              time = sym (time_from-push 0 before order ∙ ap (λ t. time_after t order) (sym is.time) ∙ still);
+              count = length-append state.nodes _ ∙ ap (λ n. n + 1) is.count ∙ sym (count_more is_declaration before order declares);
+              each = each_pushed (before ++ order ∷ []) state.nodes _ new now (each_kept before order state.nodes quiet is.each);
+            },
+            tt,
+          )
+    ]
+
+provider_after : (before : List Order) (state : State) (name : List ℕ) (suffix : List (List TypeAndValue)) → Tracks before state → After before (asks.Provider name suffix) (declare_root state name suffix)
+provider_after before state name suffix is =
+    let order = asks.Provider name suffix in
+    let part : PartIs (before ++ order ∷ []) name (Root (record { id = length state.nodes + 1; suffix = suffix; writes = [] })) =
+    record { later = []; declared = declared_now before (length state.nodes + 1) order (ap (λ n. n + 1) is.count); writes = refl } in
+    elim (cases_Bool (has_node name state.nodes)) [
       | inl taken ↦ rw taken tt
-      | inr new ↦
-          rw new (
-            record {
-              count = length-append nodes _ ∙ ap (λ n. n + 1) is.count ∙ sym (count_next before e refl);
-              each = each_pushed (before ++ e ∷ []) nodes _ new part (each_kept before e nodes tt is.each);
-            },
-            tt,
-          )
+      | inr new ↦ rw new (declared_after before order state name _ is tt refl refl new part)
     ]
 
-not_second : (a b : Bool) → a && not b ≡ true → b ≡ false
-not_second true true h = cc
-not_second true false h = refl
-not_second false b h = cc
-
-can_follow_new : (nodes : List Node) (name : List ℕ) (spec : Spec) (root : Option History) → can_follow nodes name spec root ≡ true → has_node name nodes ≡ false
-can_follow_new nodes name spec None h = cc
-can_follow_new nodes name spec (Some d) h = not_second _ (has_node name nodes) h
-
-consumer_after : (before : List Command) (nodes : List Node) (name source : List ℕ) (spec : Spec) → Tracks before nodes → After before (Consumer name source spec) (declare_copy nodes name source spec)
-consumer_after before nodes name source spec is =
-    let e = Consumer name source spec in
-    let part : PartIs (before ++ e ∷ []) name (Copy (record { source = source; spec = spec; entries = [] })) =
-    record { place = length nodes + 1; since = []; declared = declared_now before (length nodes + 1) e (ap (λ n. n + 1) is.count) } in
-    elim (cases_Bool (can_follow nodes name spec (root_named source nodes))) [
-      | inl can ↦
-          let new = can_follow_new nodes name spec (root_named source nodes) can in
-          rw can (
-            record {
-              count = length-append nodes _ ∙ ap (λ n. n + 1) is.count ∙ sym (count_next before e refl);
-              each = each_pushed (before ++ e ∷ []) nodes _ new part (each_kept before e nodes tt is.each);
-            },
-            tt,
-          )
-      | inr cannot ↦ rw cannot tt
+follow_after : (before : List Order) (state : State) (name source : List ℕ) (search : Search) (root : Option History) → Tracks before state → has_node name state.nodes ≡ false
+    → After before (asks.Consumer name source search) (follow state name source search root)
+follow_after before state name source search None is new = tt
+follow_after before state name source search (Some d) is new =
+    let order = asks.Consumer name source search in
+    let declared' = declared_now before (length state.nodes + 1) order (ap (λ n. n + 1) is.count) in
+    let part : PartIs (before ++ order ∷ []) name (Copy (record { source = source; search = search; entries = [] })) =
+    record {
+      place = length state.nodes + 1;
+      since = [];
+      declared = declared';
+      held = inl (record { provider = source; search = search; place = length state.nodes + 1; since = []; declared = declared'; none = refl }, refl);
+    } in
+    elim (cases_Bool (not (is_at_or_below search.base d.suffix))) [
+      | inl outside ↦ rw outside tt
+      | inr inside ↦ rw inside (declared_after before order state name _ is tt refl refl new part)
     ]
 
-write_after : (before : List Command) (nodes : List Node) (name : List ℕ) (op : Op) (root : Option History) → root_named name nodes ≡ root → Tracks before nodes → After before (Write name op) (write_to nodes name op root)
-write_after before nodes name op None e is = tt
-write_after before nodes name op (Some d) e is =
-    let event = Write name op in
-    let now = written_root before name op d (each_at before nodes name (Root d) is.each (root_is name nodes d e)) in (
+consumer_after : (before : List Order) (state : State) (name source : List ℕ) (search : Search) → Tracks before state → After before (asks.Consumer name source search) (declare_copy state name source search)
+consumer_after before state name source search is =
+    elim (cases_Bool (has_node name state.nodes)) [
+      | inl taken ↦ rw taken tt
+      | inr new ↦ rw new (follow_after before state name source search (root_named source state.nodes) is new)
+    ]
+
+clock_after : (before : List Order) (state : State) (time : ℕ) → Tracks before state → After before (asks.Clock time) (step state (asks.Clock time))
+clock_after before state time is = (
+  record {
+    time = sym (time_from-push 0 before (asks.Clock time));
+    count = is.count ∙ sym (count_same is_declaration before (asks.Clock time) refl);
+    each = each_kept before (asks.Clock time) state.nodes tt is.each;
+  },
+  tt,
+)
+
+write_after : (before : List Order) (state : State) (name : List ℕ) (change : Change) (root : Option History) → root_named name state.nodes ≡ root → Tracks before state → After before (asks.Write name change) (write_to state name change root)
+write_after before state name change None e is = tt
+write_after before state name change (Some d) e is =
+    let order = asks.Write name change in
+    let now = written_root before name change state.clock d is.time (each_at before state.nodes name (Root d) is.each (root_is name state.nodes d e)) in (
       record {
-        count = length-with_part name (Root (written d op)) nodes ∙ is.count ∙ sym (count_same before event refl);
-        each = each_changed before event name (Root (written d op)) nodes (λ others h. h) (λ other h. h) now is.each;
+        time = is.time ∙ sym (time_from-push 0 before order);
+        count = length-with_part name (Root (written d state.clock change)) state.nodes ∙ is.count ∙ sym (count_same is_declaration before order refl);
+        each = each_changed before order name (Root (written d state.clock change)) state.nodes (λ others h. h) (λ other h. h) now is.each;
       },
       (tt, tt),
     )
 
-settle_after_by : (before : List Command) (nodes : List Node) (name : List ℕ) (f : Follower) (root : Option History) → copy_named name nodes ≡ Some f → root_named f.source nodes ≡ root → Tracks before nodes
-    → After before (Settle name) (settle_to nodes name (selection_of f.spec root))
-settle_after_by before nodes name f None copy e is = tt
-settle_after_by before nodes name f (Some d) copy e is =
-    let event = Settle name in
-    let there = each_at before nodes name (Copy f) is.each (copy_is name nodes f copy) in
-    let root = each_at before nodes f.source (Root d) is.each (root_is f.source nodes d e) in
-    let entries = select f.spec (entries_of d) in
-    let now : PartIs (before ++ event ∷ []) name (Copy (record f { entries = entries })) =
-    record { place = there.place; since = there.since ++ event ∷ []; declared = declared-push before there.place (Consumer name f.source f.spec) there.since event there.declared } in
-    rw copy (
+settle_from_after : (before : List Order) (state : State) (name : List ℕ) (h : Holding) (root : Option History) → copy_named name state.nodes ≡ Some h → root_named h.source state.nodes ≡ root → Tracks before state
+    → After before (asks.Settle name) (settle_from state name h root)
+settle_from_after before state name h None copy e is = tt
+settle_from_after before state name h (Some d) copy e is =
+    let order = asks.Settle name in
+    let there = each_at before state.nodes name (Copy h) is.each (copy_is name state.nodes h copy) in
+    let root = each_at before state.nodes h.source (Root d) is.each (root_is h.source state.nodes d e) in
+    let right = stored_right before name h d there root in
+    let entries = select h.search (entries_of d) in
+    let now : PartIs (before ++ order ∷ []) name (Copy (record h { entries = entries })) =
+    record {
+      place = there.place;
+      since = there.since ++ order ∷ [];
+      declared = declared-push before there.place (asks.Consumer name h.source h.search) there.since order there.declared;
+      held = inr record { earlier = before; later = []; whole = refl; last = refl; n = length d.writes; stored = right };
+    } in (
       record {
-        count = length-with_part name (Copy (record f { entries = entries })) nodes ∙ is.count ∙ sym (count_same before event refl);
-        each = each_changed before event name (Copy (record f { entries = entries })) nodes (λ others h. tt) (λ other h. tt) now is.each;
+        time = is.time ∙ sym (time_from-push 0 before order);
+        count = length-with_part name (Copy (record h { entries = entries })) state.nodes ∙ is.count ∙ sym (count_same is_declaration before order refl);
+        each = each_changed before order name (Copy (record h { entries = entries })) state.nodes (λ others q. q) (λ other q. q) now is.each;
       },
-      settling_right before name f d there root,
+      (right, (tt, tt)),
     )
 
-settle_after : (before : List Command) (nodes : List Node) (name : List ℕ) (copy : Option Follower) → copy_named name nodes ≡ copy → Tracks before nodes → After before (Settle name) (settle_to nodes name (settling_of nodes copy))
-settle_after before nodes name None e is = tt
-settle_after before nodes name (Some f) e is = settle_after_by before nodes name f (root_named f.source nodes) e refl is
+settle_after : (before : List Order) (state : State) (name : List ℕ) (copy : Option Holding) → copy_named name state.nodes ≡ copy → Tracks before state → After before (asks.Settle name) (settle_to state name copy)
+settle_after before state name None e is = tt
+settle_after before state name (Some h) e is = settle_from_after before state name h (root_named h.source state.nodes) e refl is
 
-step-after : (before : List Command) (nodes : List Node) (e : Command) → Tracks before nodes → After before e (step nodes e)
-step-after before nodes (Provider name suffix) is = provider_after before nodes name suffix is
-step-after before nodes (Consumer name source spec) is = consumer_after before nodes name source spec is
-step-after before nodes (Write name op) is = write_after before nodes name op (root_named name nodes) refl is
-step-after before nodes (Settle name) is = settle_after before nodes name (copy_named name nodes) refl is
+shown_right : (before : List Order) (name : List ℕ) (part : Part) → PartIs before name part → IsShown before name (entries_in part)
+shown_right before name (Root d) is = inl (d.id, d.writes, accepted_of before name d is, refl)
+shown_right before name (Copy h) is = inr is.held
 
-stored_right : (before : List Command) (nodes : List Node) (names : Names) (lines : List (List ℕ)) (events : List Command) (report : List (List Told)) (end : List Node) (last : Names) (rest : List (List ℕ))
-    → Tracks before nodes → Runs nodes names lines events report end last rest → StoredLinesAreRight before events report
-stored_right before nodes names lines [] report end last rest is r = tt
-stored_right before nodes names lines (e ∷ events) [] end last rest is r = tt
-stored_right before nodes names lines (e ∷ events) (t ∷ report) end last rest is r =
-    let P : Step → Type 0 = After before e in
-    let next = subst P r.3 (step-after before nodes e is) in
-    (next.1, stored_right (before ++ e ∷ []) r.1 (names_after names e) r.0 events report end last rest next.0 r.4)
+show_after : (before : List Order) (state : State) (name : List ℕ) (node : Option Node) → node_named name state.nodes ≡ node → Tracks before state → After before (asks.Show name) (show_of state name node)
+show_after before state name None e is = tt
+show_after before state name (Some node) e is =
+    let order = asks.Show name in (
+      record {
+        time = is.time ∙ sym (time_from-push 0 before order);
+        count = is.count ∙ sym (count_same is_declaration before order refl);
+        each = each_kept before order state.nodes tt is.each;
+      },
+      (shown_right before name node.part (each_at before state.nodes name node.part is.each (node_is name state.nodes node e)), tt),
+    )
 
--- each `stored` line of a run from no nodes is right
-pub runs_stored_right : (names : Names) (lines : List (List ℕ)) (events : List Command) (report : List (List Told)) (end : List Node) (last : Names) (rest : List (List ℕ)) → Runs [] names lines events report end last rest → StoredLinesAreRight [] events report
-runs_stored_right names lines events report end last rest r = stored_right [] [] names lines events report end last rest record { count = refl; each = tt } r
+step-after : (before : List Order) (state : State) (order : Order) → Tracks before state → After before order (step state order)
+step-after before state (asks.Provider name suffix) is = provider_after before state name suffix is
+step-after before state (asks.Consumer name source search) is = consumer_after before state name source search is
+step-after before state (asks.Clock time) is = clock_after before state time is
+step-after before state (asks.Write name change) is = write_after before state name change (root_named name state.nodes) refl is
+step-after before state (asks.Settle name) is = settle_after before state name (copy_named name state.nodes) refl is
+step-after before state (asks.Show name) is = show_after before state name (node_named name state.nodes) refl is
+
+lines_right : (before : List Order) (state : State) (reader : Reader) (orders : List Order) (report : List (List Told)) (end : State) (rest : Reader)
+    → Tracks before state → Runs state reader orders report end rest → LinesAreRight before orders report
+lines_right before state reader [] report end rest is r = tt
+lines_right before state reader (o ∷ orders) [] end rest is r = tt
+lines_right before state reader (o ∷ orders) (t ∷ report) end rest is r =
+    let P : Step → Type 0 = After before o in
+    let next = subst P r.4 (step-after before state o is) in
+    (next.1, lines_right (before ++ o ∷ []) r.2 r.1 orders report end rest next.0 r.5)
+
+-- each line of a run from no nodes is right
+pub runs_lines_right : (reader : Reader) (orders : List Order) (report : List (List Told)) (end : State) (rest : Reader) → Runs no_nodes reader orders report end rest → LinesAreRight [] orders report
+runs_lines_right reader orders report end rest r = lines_right [] no_nodes reader orders report end rest record { time = refl; count = refl; each = tt } r

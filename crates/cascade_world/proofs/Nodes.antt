@@ -2,23 +2,22 @@
 use Rattle.std.proofs.Common.{◌≡◌, ◌+◌, ◌<◌, ℕ, Bool, Some, None, List, [], ◌∷◌, length, set, get_or, ap, sym, ◌∙◌, inl, inr, arith}
 use Rattle.std.proofs.lemmas.Bool.{cases_Bool}
 use Rattle.std.proofs.lemmas.Bool.Decides.{nat_tests}
-use Rattle.std.proofs.lemmas.Option.{slice_get-get_or}
+use Rattle.std.proofs.lemmas.Option.{slice_get-get_or, slice_get_past}
 use Rattle.std.proofs.lemmas.List.Folds.{find_at}
-use Rattle.std.proofs.lemmas.Option.{slice_get_past}
 use Rattle.std.proofs.lemmas.List.{set-get_or}
 use Rattle.std.specs.Prelude.{find, position, nat_lt, slice_get}
 use Rattle.std.specs.List.{position_or_len}
 use Rattle.std.proofs.Math.Numerals.{one-add}
+use Rattle.entry_tree.specs.declared.entry.Entry.{Entry}
+use Rattle.schema_rules.specs.declared.raw.Change.{Change}
 use Rattle.cascade_world.specs.declared.node.Node.{Node}
 use Rattle.cascade_world.specs.declared.node.Part.{Part}
 use Rattle.cascade_world.specs.declared.node.Part.TheVariants.{Root, Copy}
-use Rattle.cascade_world.specs.World.{is_named, with_part, root_named, root_of, root_in, copy_named, copy_of, copy_in, stored, write_to, IsStep}
-use Rattle.cascade_world.specs.declared.node.Follower.{Follower}
 use Rattle.cascade_world.specs.Directory.{History, written, code_at}
+use Rattle.cascade_world.specs.Holding.{Holding}
 use Rattle.cascade_world.specs.Report.{lines_text}
 use Rattle.cascade_world.specs.Report.Told.{Wrote}
-use Rattle.entry_tree.specs.declared.entry.Entry.{Entry}
-use Rattle.entry_tree.specs.declared.op.Op.{Op}
+use Rattle.cascade_world.specs.World.{State, is_named, with_part, root_named, root_of, root_in, copy_named, copy_of, copy_in, stored, write_to, IsStep}
 
 -- the first place, where there is one
 pub position_is : {X : Type 0} (p : X → Bool) (xs : List X) (i : ℕ) → position p xs ≡ Some i → (position_or_len p xs ≡ i) × (i < length xs)
@@ -72,23 +71,26 @@ pub copy_nowhere : (nodes : List Node) (name : List ℕ) → position (is_named 
 copy_nowhere nodes name e = ap copy_of (found_nowhere (is_named name) nodes e)
 
 -- a write to the root at the place of its name
-pub write_at : (nodes : List Node) (name : List ℕ) (op : Op) (i : ℕ) (node : Node) (old new : History) (text : List ℕ) → position (is_named name) nodes ≡ Some i → node ≡ get_or nodes i node → node.part ≡ Root old
-    → new ≡ written old op → text ≡ lines_text (Wrote name (code_at old op) (length (written old op).writes) ∷ [])
-    → IsStep (write_to nodes name op (root_named name nodes)) (set nodes i (record node { part = Root new })) text
-write_at nodes name op i node old new text e is part same told =
-    let root : root_named name nodes ≡ Some old = root_at nodes name i node e is ∙ ap root_in part in
-    rw (root, same) (with_part-set nodes name (Root (written old op)) i node e is, told)
+pub write_at : (state : State) (name : List ℕ) (change : Change) (i : ℕ) (node : Node) (old new : History) (text : List ℕ)
+    → position (is_named name) state.nodes ≡ Some i → node ≡ get_or state.nodes i node → node.part ≡ Root old
+    → new ≡ written old state.clock change → text ≡ lines_text (Wrote name (code_at old state.clock change) (length (written old state.clock change).writes) ∷ [])
+    → IsStep (write_to state name change (root_named name state.nodes)) (record state { nodes = set state.nodes i (record node { part = Root new }) }) text
+write_at state name change i node old new text e is part same told =
+    let root : root_named name state.nodes ≡ Some old = root_at state.nodes name i node e is ∙ ap root_in part in
+    rw (root, same) (ap (λ ns. record state { nodes = ns }) (with_part-set state.nodes name (Root (written old state.clock change)) i node e is), told)
 
 -- new entries of the consumer at the place of its name
-pub stored_at : (nodes : List Node) (name : List ℕ) (entries : List Entry) (i : ℕ) (node : Node) (follower : Follower) → position (is_named name) nodes ≡ Some i → node ≡ get_or nodes i node → node.part ≡ Copy follower
-    → set nodes i (record node { part = Copy (record follower { entries = entries }) }) ≡ stored name entries nodes (copy_named name nodes)
-stored_at nodes name entries i node follower e is part =
-    let copy : copy_named name nodes ≡ Some follower = copy_at nodes name i node e is ∙ ap copy_in part in
-    rw copy (with_part-set nodes name (Copy (record follower { entries = entries })) i node e is)
+pub stored_at : (state : State) (name : List ℕ) (entries : List Entry) (i : ℕ) (node : Node) (holding : Holding)
+    → position (is_named name) state.nodes ≡ Some i → node ≡ get_or state.nodes i node → node.part ≡ Copy holding
+    → record state { nodes = set state.nodes i (record node { part = Copy (record holding { entries = entries }) }) } ≡ stored name entries state (copy_named name state.nodes)
+stored_at state name entries i node holding e is part =
+    let copy : copy_named name state.nodes ≡ Some holding = copy_at state.nodes name i node e is ∙ ap copy_in part in
+    rw copy (ap (λ ns. record state { nodes = ns }) (with_part-set state.nodes name (Copy (record holding { entries = entries })) i node e is))
 
--- a node that is no consumer stays as it is
-pub not_stored_at : (nodes : List Node) (name : List ℕ) (entries : List Entry) (i : ℕ) (node : Node) (directory : History) → position (is_named name) nodes ≡ Some i → node ≡ get_or nodes i node → node.part ≡ Root directory
-    → set nodes i (record node { part = node.part }) ≡ stored name entries nodes (copy_named name nodes)
-not_stored_at nodes name entries i node directory e is part =
-    let copy : copy_named name nodes ≡ None = copy_at nodes name i node e is ∙ ap copy_in part in
-    rw copy (ap (set nodes i) is ∙ set-get_or nodes i node)
+-- a root at the place stays
+pub not_stored_at : (state : State) (name : List ℕ) (entries : List Entry) (i : ℕ) (node : Node) (directory : History)
+    → position (is_named name) state.nodes ≡ Some i → node ≡ get_or state.nodes i node → node.part ≡ Root directory
+    → record state { nodes = set state.nodes i node } ≡ stored name entries state (copy_named name state.nodes)
+not_stored_at state name entries i node directory e is part =
+    let copy : copy_named name state.nodes ≡ None = copy_at state.nodes name i node e is ∙ ap copy_in part in
+    rw copy (ap (λ ns. record state { nodes = ns }) (ap (set state.nodes i) is ∙ set-get_or state.nodes i node))

@@ -1,70 +1,114 @@
--- What each `stored` line promises, said of the events before it alone.
-use Rattle.std.specs.Prelude.{◌≡◌, ℕ, ◌+◌, ◌≤◌, Bool, true, false, ◌&&◌, List, [], ◌∷◌, ◌++◌, length, take, if◌then◌else◌, ◌==◌, count_by}
+-- What each `stored` line promises, and what `show` prints, said of the orders before it alone.
+use Rattle.std.specs.Prelude.{◌≡◌, ◌⊎◌, ℕ, ◌+◌, ◌≤◌, Bool, true, false, List, [], ◌∷◌, ◌++◌, length, take, if◌then◌else◌, count_by}
 use Rattle.std.specs.Str.{bytes_eq}
-use Rattle.entry_tree.specs.Tree.{code_of, select}
+use Rattle.dn_names.specs.Names.{TypeAndValue}
+use Rattle.entry_tree.specs.Selection.{Search, select}
 use Rattle.entry_tree.specs.declared.entry.Entry.{Entry}
-use Rattle.entry_tree.specs.declared.op.Op.{Op}
-use Rattle.entry_tree.specs.declared.op.Spec.{Spec}
-use Rattle.cascade_world.specs.declared.event.Command.{Command}
-use Rattle.cascade_world.specs.declared.event.Command.TheVariants.{Provider, Consumer, Write, Settle}
-use Rattle.cascade_world.specs.Directory.{entries_after}
+use Rattle.entry_tree.specs.declared.op.Write.{Write}
+use Rattle.cascade_world.specs.Directory.{entries_after, writes_after}
+use Rattle.cascade_world.specs.Orders.{Order}
+use Rattle.cascade_world.specs.Orders.{Order as asks}
 use Rattle.cascade_world.specs.Report.{Told}
-use Rattle.cascade_world.specs.Report.Told.{Wrote, Stored, Settled}
+use Rattle.cascade_world.specs.Report.Told.{Wrote, Stored, Settled, Shown}
 
--- the accepted writes after one more event: a write to the directory of that name is accepted where its code, judged on the state before it, is 0
-abbrev pub with_accepted : ℕ → List (List ℕ) → List ℕ → List Op → Command → List Op
-with_accepted history suffix name writes (Write target op) =
-    if bytes_eq target name && code_of suffix (entries_after history writes) op == 0 then writes ++ op ∷ [] else writes
-with_accepted history suffix name writes (Provider other base) = writes
-with_accepted history suffix name writes (Consumer other source spec) = writes
-with_accepted history suffix name writes (Settle other) = writes
+-- the time after an order
+abbrev pub time_after : ℕ → Order → ℕ
+time_after time (asks.Clock new) = new
+time_after time _ = time
 
-abbrev pub accepted_from : ℕ → List (List ℕ) → List ℕ → List Op → List Command → List Op
-accepted_from history suffix name writes [] = writes
-accepted_from history suffix name writes (event ∷ events) = accepted_from history suffix name (with_accepted history suffix name writes event) events
+-- the accepted writes of the directory of this name after one more order
+abbrev pub with_accepted : ℕ → List (List TypeAndValue) → List ℕ → ℕ → List Write → Order → List Write
+with_accepted history suffix name time writes (asks.Write target change) =
+    if bytes_eq target name then writes_after history suffix writes time change else writes
+with_accepted history suffix name time writes _ = writes
 
--- the accepted writes of a directory among the events after its declaration: a function of the script alone
-abbrev pub accepted : ℕ → List (List ℕ) → List ℕ → List Command → List Op
-accepted history suffix name events = accepted_from history suffix name [] events
+abbrev pub accepted_from : ℕ → List (List TypeAndValue) → List ℕ → ℕ → List Write → List Order → List Write
+accepted_from history suffix name time writes [] = writes
+accepted_from history suffix name time writes (order ∷ orders) =
+    accepted_from history suffix name (time_after time order) (with_accepted history suffix name time writes order) orders
 
-abbrev pub is_declaration : Command → Bool
-is_declaration (Provider name suffix) = true
-is_declaration (Consumer name source spec) = true
-is_declaration (Write target op) = false
-is_declaration (Settle name) = false
+-- the time after these orders, from the first moment of 1970 on
+abbrev pub time_from : ℕ → List Order → ℕ
+time_from time [] = time
+time_from time (order ∷ orders) = time_from (time_after time order) orders
 
--- a provider was declared, as the node of that number, and these events came after it
-pub record IsDeclared (before : List Command) (number : ℕ) (declaration : Command) (later : List Command) : Type 0 where
-  pub earlier : List Command
+abbrev pub is_declaration : Order → Bool
+is_declaration (asks.Provider name suffix) = true
+is_declaration (asks.Consumer name source search) = true
+is_declaration _ = false
+
+-- the node of that number was declared, and these orders came after it
+pub record IsDeclared (before : List Order) (number : ℕ) (declaration : Order) (later : List Order) : Type 0 where
+  pub earlier : List Order
   pub whole : before ≡ earlier ++ declaration ∷ later
   pub numbered : number ≡ count_by is_declaration earlier + 1
 
--- a `stored` line after these events: it names a prefix of the accepted writes of the consumer's provider, of which none is missing, and the entries are what the consumer's specification selects from that prefix
-pub record IsPrefixSelected (before : List Command) (consumer : List ℕ) (n : ℕ) (entries : List Entry) : Type 0 where
-  pub provider : List ℕ
-  pub suffix : List (List ℕ)
-  pub spec : Spec
-  pub place : ℕ
-  pub since : List Command
-  pub declared : IsDeclared before place (Consumer consumer provider spec) since
-  pub history : ℕ
-  pub later : List Command
-  pub root : IsDeclared before history (Provider provider suffix) later
-  pub prefix : n ≤ length (accepted history suffix provider later)
-  pub no_shorter : length (accepted history suffix provider later) ≤ n
-  pub exactly : entries ≡ select spec (entries_after history (take n (accepted history suffix provider later)))
+-- these are the accepted writes of the provider of that name: a function of the orders alone
+pub record AreAccepted (before : List Order) (provider : List ℕ) (history : ℕ) (writes : List Write) : Type 0 where
+  pub suffix : List (List TypeAndValue)
+  pub later : List Order
+  pub declared : IsDeclared before history (asks.Provider provider suffix) later
+  pub accepted : writes ≡ accepted_from history suffix provider (time_from 0 declared.earlier) [] later
 
-abbrev pub TellsRight : List Command → Told → Type 0
+-- a `stored` line after these orders: it names a prefix of the accepted writes of the consumer's provider, of
+-- which none is missing, and the entries are what the consumer wants of that prefix
+pub record IsPrefixSelected (before : List Order) (consumer : List ℕ) (n : ℕ) (entries : List Entry) : Type 0 where
+  pub provider : List ℕ
+  pub search : Search
+  pub place : ℕ
+  pub since : List Order
+  pub declared : IsDeclared before place (asks.Consumer consumer provider search) since
+  pub history : ℕ
+  pub writes : List Write
+  pub accepted : AreAccepted before provider history writes
+  pub prefix : n ≤ length writes
+  pub no_shorter : length writes ≤ n
+  pub exactly : entries ≡ select search (entries_after history (take n writes))
+
+abbrev pub settles : List ℕ → Order → Bool
+settles name (asks.Settle other) = bytes_eq other name
+settles name _ = false
+
+-- a consumer has had no `stored` line since its declaration
+pub record IsUnstored (before : List Order) (consumer : List ℕ) : Type 0 where
+  pub provider : List ℕ
+  pub search : Search
+  pub place : ℕ
+  pub since : List Order
+  pub declared : IsDeclared before place (asks.Consumer consumer provider search) since
+  pub none : count_by (settles consumer) since ≡ 0
+
+-- these are the entries that the last `stored` line of a consumer told
+pub record IsLastStored (before : List Order) (consumer : List ℕ) (entries : List Entry) : Type 0 where
+  pub earlier : List Order
+  pub later : List Order
+  pub whole : before ≡ earlier ++ asks.Settle consumer ∷ later
+  pub last : count_by (settles consumer) later ≡ 0
+  pub n : ℕ
+  pub stored : IsPrefixSelected earlier consumer n entries
+
+-- the entries of a consumer: none before its first `stored` line, and then those that the last one told
+abbrev pub HoldsStored : List Order → List ℕ → List Entry → Type 0
+HoldsStored before consumer entries = (IsUnstored before consumer × (entries ≡ [])) ⊎ IsLastStored before consumer entries
+
+-- what is shown of a node: a provider's entries after all its accepted writes, or those of a consumer
+abbrev pub IsShown : List Order → List ℕ → List Entry → Type 0
+IsShown before name entries =
+    ((history : ℕ) × (writes : List Write) × AreAccepted before name history writes × (entries ≡ entries_after history writes))
+    ⊎ HoldsStored before name entries
+
+abbrev pub TellsRight : List Order → Told → Type 0
 TellsRight before (Stored consumer n entries) = IsPrefixSelected before consumer n entries
+TellsRight before (Shown name entries) = IsShown before name entries
 TellsRight before (Wrote name code n) = Unit {0}
 TellsRight before (Settled name n) = Unit {0}
 
-abbrev pub EachTellsRight : List Command → List Told → Type 0
+abbrev pub EachTellsRight : List Order → List Told → Type 0
 EachTellsRight before [] = Unit {0}
 EachTellsRight before (line ∷ told) = TellsRight before line × EachTellsRight before told
 
--- each `stored` line of these events, which come after those before, is right for the events before it
-abbrev pub StoredLinesAreRight : List Command → List Command → List (List Told) → Type 0
-StoredLinesAreRight before [] report = Unit {0}
-StoredLinesAreRight before (event ∷ events) [] = Unit {0}
-StoredLinesAreRight before (event ∷ events) (told ∷ report) = EachTellsRight before told × StoredLinesAreRight (before ++ event ∷ []) events report
+-- each line of these orders, which come after those before, is right for the orders before it
+abbrev pub LinesAreRight : List Order → List Order → List (List Told) → Type 0
+LinesAreRight before [] report = Unit {0}
+LinesAreRight before (order ∷ orders) [] = Unit {0}
+LinesAreRight before (order ∷ orders) (told ∷ report) = EachTellsRight before told × LinesAreRight (before ++ order ∷ []) orders report

@@ -1,9 +1,12 @@
 pub mod Directory
-pub mod Form
+pub mod Fault
+pub mod Grammar
 pub mod Headline
+pub mod Holding
 pub mod Lines
+pub mod Orders
 pub mod Reader
-pub mod Record
+pub mod Reading
 pub mod Report
 pub mod Run
 pub mod Words

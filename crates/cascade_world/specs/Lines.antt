@@ -1,5 +1,5 @@
 -- The lines of a script.
-use Rattle.std.specs.Prelude.{ℕ, Bool, List, [], ◌∷◌, ◌++◌, length, take, drop, nat_lt, ◌==◌, if◌then◌else◌}
+use Rattle.std.specs.Prelude.{◌≡◌, ℕ, ◌+◌, Bool, Option, Some, None, List, [], ◌∷◌, ◌++◌, length, take, drop, nat_lt, ◌==◌, if◌then◌else◌}
 use Rattle.std.specs.List.{list_any}
 use Rattle.std.specs.Str.Lines.{lines}
 
@@ -8,34 +8,36 @@ use Rattle.std.specs.Str.Lines.{lines}
 abbrev pub text_lines : List ℕ → List (List ℕ)
 text_lines text = lines text
 
+-- so many first bytes end where a line does: the lines of the text to any byte behind are those of the two parts
+pub record IsCut (text : List ℕ) (at : ℕ) : Type 0 where
+  pub parts : (n : ℕ) → lines (take (at + n) text) ≡ lines (take at text) ++ lines (take n (drop at text))
+
 -- the bytes up to the last such byte, that one included
 abbrev pub up_to_last : ℕ → List ℕ → List ℕ
 up_to_last mark [] = []
 up_to_last mark (b ∷ bytes) = if list_any (λ c. c == mark) (b ∷ bytes) then b ∷ up_to_last mark bytes else []
 
--- the most bytes of a script
+-- the most bytes and lines of a script
 abbrev pub most_bytes : ℕ
-most_bytes = 65536
+most_bytes = 67108864
 
--- what stands for the line that holds the first byte beyond the most: a line feed, which no line holds,
--- so that this line is refused whatever it says
-abbrev pub beyond : List ℕ
-beyond = 10 ∷ []
+abbrev pub most_lines : ℕ
+most_lines = 1000000
 
-abbrev pub beyond_if : Bool → List (List ℕ)
-beyond_if more = if more then beyond ∷ [] else []
+abbrev pub has_more : ℕ → List ℕ → Bool
+has_more most text = nat_lt most (length text)
 
-abbrev pub is_too_long : List ℕ → Bool
-is_too_long text = nat_lt most_bytes (length text)
+-- the bytes before the line that holds the first byte beyond so many, or all
+abbrev pub kept_bytes : ℕ → List ℕ → List ℕ
+kept_bytes most text = if has_more most text then up_to_last 10 (take most text) else text
 
--- the bytes of a script that are read: all, or those of the lines before the first byte beyond the most
-abbrev pub kept_bytes : List ℕ → List ℕ
-kept_bytes text = if is_too_long text then up_to_last 10 (take most_bytes text) else text
-
--- the lines of a script, the last of which may be one beyond the most bytes
+-- the lines of a script before the first that passes a limit
 abbrev pub script_lines : List ℕ → List (List ℕ)
-script_lines text = text_lines (kept_bytes text) ++ beyond_if (is_too_long text)
+script_lines text = take most_lines (text_lines (kept_bytes most_bytes text))
 
--- the lines from a place on, and whether one beyond the most bytes follows them
-abbrev pub lines_from : List ℕ → ℕ → Bool → List (List ℕ)
-lines_from bytes at more = text_lines (drop at bytes) ++ beyond_if more
+-- the limit that the line after those passes, where there is one
+abbrev pub limit_passed : List ℕ → Option ℕ
+limit_passed text =
+    if nat_lt most_lines (length (text_lines (kept_bytes most_bytes text))) then Some most_lines
+    else if has_more most_bytes text then Some most_bytes
+    else None

@@ -1,40 +1,33 @@
--- A run of a script: the events that are read one after another, what each does to the nodes, and what its lines tell.
-use Rattle.std.specs.Prelude.{◌≡◌, ℕ, ◌≤◌, Some, List, [], ◌∷◌, length}
-use Rattle.cascade_world.specs.declared.event.Command.{Command}
-use Rattle.cascade_world.specs.declared.node.Node.{Node}
-use Rattle.cascade_world.specs.declared.form.Names.{Names}
-use Rattle.cascade_world.specs.declared.form.Names.TheVariants.{Nobody}
-use Rattle.cascade_world.specs.Lines.{script_lines, most_bytes}
-use Rattle.cascade_world.specs.Reader.{Next, next_from, names_after}
-use Rattle.cascade_world.specs.Reader.Next.{Ended, TooEarly, Outside, Got}
+-- A run of a script: the orders that are read one after another, what each does, and what its lines tell.
+use Rattle.std.specs.Prelude.{◌≡◌, ◌⊎◌, ℕ, Ok, Err, List, [], ◌∷◌}
+use Rattle.cascade_world.specs.declared.fault.Cause.{Cause}
+use Rattle.cascade_world.specs.Fault.{fault_at}
+use Rattle.cascade_world.specs.Orders.{Order}
+use Rattle.cascade_world.specs.Reader.{Reader, Next, next_in, reader_of}
+use Rattle.cascade_world.specs.Reader.Next.{Ended, Refused, Got}
 use Rattle.cascade_world.specs.Report.{Told}
-use Rattle.cascade_world.specs.World.{step}
+use Rattle.cascade_world.specs.World.{State, no_nodes, step}
 
--- from these nodes, the names so far and the lines of a script these events come, they tell these lines, and leave these nodes, these names and the rest of the script
-abbrev pub Runs : List Node → Names → List (List ℕ) → List Command → List (List Told) → List Node → Names → List (List ℕ) → Type 0
-Runs nodes names lines [] [] end last rest = (nodes ≡ end) × (names ≡ last) × (lines ≡ rest)
-Runs nodes names lines (event ∷ events) (told ∷ report) end last rest =
-    (more : List (List ℕ)) × (next : List Node) × (next_from names lines ≡ Got event more) × (step nodes event ≡ Some (next, told)) × Runs next (names_after names event) more events report end last rest
-Runs nodes names lines [] (told ∷ report) end last rest = ⊥
-Runs nodes names lines (event ∷ events) [] end last rest = ⊥
+-- from this state and reader on these orders come, they tell these lines, and leave this state and the rest of the script
+abbrev pub Runs : State → Reader → List Order → List (List Told) → State → Reader → Type 0
+Runs state reader [] [] end rest = (state ≡ end) × (reader ≡ rest)
+Runs state reader (order ∷ orders) (told ∷ report) end rest =
+    (line : ℕ) × (more : Reader) × (next : State) × (next_in reader ≡ Got line order more) × (step state order ≡ Ok (next, told))
+    × Runs next more orders report end rest
+Runs state reader [] (told ∷ report) end rest = ⊥
+Runs state reader (order ∷ orders) [] end rest = ⊥
 
--- the text is refused here
-abbrev pub IsRefusal : Next → Type 0
-IsRefusal Ended = ⊥
-IsRefusal TooEarly = Unit {0}
-IsRefusal (Outside rest) = Unit {0}
-IsRefusal (Got event rest) = ⊥
+-- what stands next is refused at that line, by the reader or by the nodes
+abbrev pub IsRefusal : State → Reader → ℕ → Cause → Type 0
+IsRefusal state reader line cause =
+    (next_in reader ≡ Refused (fault_at line cause))
+    ⊎ ((order : Order) × (rest : Reader) × (next_in reader ≡ Got line order rest) × (step state order ≡ Err cause))
 
--- from these nodes and names on the lines are read to their end
-pub record Finishes (nodes : List Node) (names : Names) (lines : List (List ℕ)) : Type 0 where
-  pub events : List Command
+-- a text is a script that meets no refusal
+pub record IsScript (text : List ℕ) : Type 0 where
+  pub orders : List Order
   pub report : List (List Told)
-  pub end : List Node
-  pub last : Names
-  pub rest : List (List ℕ)
-  pub run : Runs nodes names lines events report end last rest
-  pub whole : next_from last rest ≡ Ended
-
--- a text is a script of the form
-abbrev pub IsScript : List ℕ → Type 0
-IsScript text = (length text ≤ most_bytes) × Finishes [] Nobody (script_lines text)
+  pub end : State
+  pub rest : Reader
+  pub run : Runs no_nodes (reader_of text) orders report end rest
+  pub whole : next_in rest ≡ Ended

@@ -1,30 +1,33 @@
--- The words of a script's lines, and the commands that stand on one line.
-use Rattle.std.specs.Prelude.{◌≡◌, ℕ, ◌-◌, Bool, false, ◌&&◌, ◌||◌, not, nat_le, Option, Some, None, Result, Ok, Err, List, [], ◌∷◌, length, if◌then◌else◌, ◌==◌, slice_index, option_and_then, codes}
+-- The words of a script's lines.
+use Rattle.std.specs.Prelude.{ℕ, ◌+◌, ◌-◌, ◌*◌, Bool, true, false, ◌&&◌, ◌||◌, not, nat_le, Option, Some, None, Result, Ok, Err, List, [], ◌∷◌, length, fold, if◌then◌else◌, ◌==◌, slice_index, option_and_then, codes}
 use Rattle.std.specs.Str.{bytes_eq}
 use Rattle.std.specs.List.{list_all}
-use Rattle.entry_tree.specs.Text.{cut, stripped}
-use Rattle.entry_tree.specs.Dn.{name_of_text, is_lower, is_empty}
-use Rattle.cascade_world.specs.declared.event.Command.{Command}
-use Rattle.cascade_world.specs.declared.event.Command.TheVariants.{Provider, Consumer}
-use Rattle.cascade_world.specs.declared.fault.ScriptFault.{ScriptFault}
-use Rattle.cascade_world.specs.declared.fault.Cause.{Cause}
-use Rattle.cascade_world.specs.declared.fault.Cause.TheVariants.{NotYet, NoMemory}
+use Rattle.dn_names.specs.declared.fault.NameFault.{NameFault}
+use Rattle.dn_names.specs.Names.{TypeAndValue}
+use Rattle.dn_names.specs.Reading.{name_of_text}
+use Rattle.entry_tree.specs.declared.spec.Scope.{Scope}
+use Rattle.entry_tree.specs.declared.spec.Scope.TheVariants.{Base, One, Sub}
+use Rattle.entry_tree.specs.Selection.{Search}
+use Rattle.ldap_filter.specs.declared.fault.FilterFault.{FilterFault}
+use Rattle.ldap_filter.specs.Reading.{read_filter}
+use Rattle.ldap_filter.specs.Tree.{Tree}
+use Rattle.ldif_text.specs.Field.{cut}
 
 infixl 10 ◌>>=◌
 abbrev pub ◌>>=◌ : {A B : Type 0} → Option A → (A → Option B) → Option B
 o >>= f = option_and_then f o
 
--- want of memory says nothing of the text, and any other refusal says that the line is outside the form
-abbrev pub Refuses : {Y : Type 0} → ℕ → ℕ → Cause → Option Y → Type 0
-Refuses line at NotYet read = (read ≡ None) × (at ≡ line)
-Refuses line at NoMemory read = Unit {0}
+abbrev pub guarded : Bool → Option (Unit {0})
+guarded test = if test then Some tt else None
 
--- what a function returned, seen by view, is what the text of that line says
-abbrev pub Gives : {X Y : Type 0} → ℕ → (X → Y) → Result X ScriptFault → Option Y → Type 0
-Gives line view (Ok x) read = read ≡ Some (view x)
-Gives line view (Err fault) read = Refuses line fault.line fault.cause read
+-- the first choice that is there
+abbrev pub otherwise : {A B : Type 0} → Option A → (A → Option B) → Option B → Option B
+otherwise None f b = b
+otherwise (Some a) f b = f a
 
--- the bytes before the mark and those after it, where it is there
+-- ---- cuts
+
+-- the bytes before the first such byte and those after it, where it is there
 abbrev pub after_cut : List ℕ → Option (List ℕ) → Option (List ℕ × List ℕ)
 after_cut front None = None
 after_cut front (Some back) = Some (front, back)
@@ -32,11 +35,20 @@ after_cut front (Some back) = Some (front, back)
 abbrev pub until : ℕ → List ℕ → Option (List ℕ × List ℕ)
 until mark bytes = after_cut (cut mark bytes).0 (cut mark bytes).1
 
-abbrev pub guarded : Bool → Option (Unit {0})
-guarded test = if test then Some tt else None
+-- what follows the prefix, where the bytes begin with it
+abbrev pub stripped : List ℕ → List ℕ → Option (List ℕ)
+stripped [] bytes = Some bytes
+stripped (p ∷ prefix) [] = None
+stripped (p ∷ prefix) (b ∷ bytes) = if b == p then stripped prefix bytes else None
+
+-- ---- words
+
+abbrev pub is_empty : List ℕ → Bool
+is_empty [] = true
+is_empty (b ∷ bytes) = false
 
 abbrev pub is_letter_or_digit : ℕ → Bool
-is_letter_or_digit b = (is_lower b || (nat_le 65 b && nat_le b 90)) || (nat_le 48 b && nat_le b 57)
+is_letter_or_digit b = ((nat_le 97 b && nat_le b 122) || (nat_le 65 b && nat_le b 90)) || (nat_le 48 b && nat_le b 57)
 
 -- 1 to 32 ASCII letters and digits
 abbrev pub is_node_name : List ℕ → Bool
@@ -47,56 +59,76 @@ node_name bytes = do
   _ ← guarded (is_node_name bytes)
   Some bytes
 
--- `P "SUFFIX"`
-unfoldable pub provider_at : List ℕ → Option Command
-provider_at text = do
+-- a node's name, and what stands behind the space after it
+unfoldable pub named : List ℕ → Option (List ℕ × List ℕ)
+named text = do
   word ← until 32 text
   name ← node_name word.0
-  rest ← stripped (34 ∷ []) word.1
-  quoted ← until 34 rest
-  _ ← guarded (is_empty quoted.1)
-  suffix ← name_of_text quoted.0
-  Some (Provider name suffix)
+  Some (name, word.1)
 
--- what follows the base of a consumer
-abbrev pub filter_words : List ℕ
-filter_words = 32 ∷ 34 ∷ 40 ∷ 111 ∷ 98 ∷ 106 ∷ 101 ∷ 99 ∷ 116 ∷ 67 ∷ 108 ∷ 97 ∷ 115 ∷ 115 ∷ 61 ∷ 42 ∷ 41 ∷ 34 ∷ []
+abbrev pub is_digit : ℕ → Bool
+is_digit b = nat_le 48 b && nat_le b 57
 
--- `C from P sub "BASE" "(objectClass=*)"`
-unfoldable pub consumer_at : List ℕ → Option Command
-consumer_at text = do
+abbrev pub value_of : List ℕ → ℕ
+value_of digits = fold (λ value digit. value * 10 + (digit - 48)) 0 digits
+
+-- decimal digits, of which there is one at least, and the first is no zero before others
+abbrev pub is_number : List ℕ → Bool
+is_number text =
+    if is_empty text then false else ((length text == 1 || not (slice_index text 0 == 48)) && list_all is_digit text)
+
+abbrev pub value_up_to : ℕ → List ℕ → Option ℕ
+value_up_to most digits = if nat_le (value_of digits) most then Some (value_of digits) else None
+
+-- a number up to this one
+unfoldable pub number : ℕ → List ℕ → Option ℕ
+number most text = if is_number text then value_up_to most text else None
+
+-- the greatest number that a command may give: the last microsecond of the year 9999
+abbrev pub greatest_number : ℕ
+greatest_number = 253402300799999999
+
+-- what stands between quotation marks, and behind them
+unfoldable pub quoted : List ℕ → Option (List ℕ × List ℕ)
+quoted text = do
+  rest ← stripped (34 ∷ []) text
+  until 34 rest
+
+-- the line ends here
+unfoldable pub at_end : List ℕ → Option (Unit {0})
+at_end text = guarded (is_empty text)
+
+-- ---- what is wanted
+
+abbrev pub name_or_none : Result (List (List TypeAndValue)) NameFault → Option (List (List TypeAndValue))
+name_or_none (Ok name) = Some name
+name_or_none (Err fault) = None
+
+-- the name that a text spells (RFC 4514, section 3)
+unfoldable pub name_in : List ℕ → Option (List (List TypeAndValue))
+name_in text = name_or_none (name_of_text text)
+
+abbrev pub filter_or_none : Result Tree FilterFault → Option Tree
+filter_or_none (Ok filter) = Some filter
+filter_or_none (Err fault) = None
+
+-- the filter that a text spells (RFC 4515, section 3)
+unfoldable pub filter_in : List ℕ → Option Tree
+filter_in text = filter_or_none (read_filter text)
+
+unfoldable pub scope_in : List ℕ → Option Scope
+scope_in word =
+    if bytes_eq word (codes "base") then Some Base
+    else (if bytes_eq word (codes "one") then Some One else (if bytes_eq word (codes "sub") then Some Sub else None))
+
+-- `SCOPE "BASE" "FILTER"`, and what stands behind it
+unfoldable pub search_in : List ℕ → Option (Search × List ℕ)
+search_in text = do
   word ← until 32 text
-  name ← node_name word.0
-  rest ← stripped (codes "from ") word.1
-  source ← until 32 rest
-  provider ← node_name source.0
-  scope ← stripped (115 ∷ 117 ∷ 98 ∷ 32 ∷ 34 ∷ []) source.1
-  quoted ← until 34 scope
-  _ ← guarded (bytes_eq quoted.1 filter_words)
-  base ← name_of_text quoted.0
-  Some (Consumer name provider (record { base = base }))
-
--- lower-case letters, or `objectClass`
-abbrev pub is_kind : List ℕ → Bool
-is_kind kind = bytes_eq kind (codes "objectClass") || (not (is_empty kind) && list_all is_lower kind)
-
-abbrev pub is_printable : ℕ → Bool
-is_printable b = nat_le 32 b && nat_le b 126
-
--- no space, colon or `<`
-abbrev pub is_begin : ℕ → Bool
-is_begin b = (not (b == 32) && not (b == 58)) && not (b == 60)
-
--- printable, with no space, colon or `<` at its front and no space at its end (RFC 2849, SAFE-STRING)
-abbrev pub is_value : List ℕ → Bool
-is_value value =
-    if is_empty value then false else ((is_begin (slice_index value 0) && not (slice_index value (length value - 1) == 32)) && list_all is_printable value)
-
--- `TYPE: VALUE`
-unfoldable pub attribute_at : List ℕ → Option (List ℕ × List ℕ)
-attribute_at text = do
-  front ← until 58 text
-  value ← stripped (32 ∷ []) front.1
-  _ ← guarded (is_kind front.0)
-  _ ← guarded (is_value value)
-  Some (front.0, value)
+  scope ← scope_in word.0
+  base ← quoted word.1
+  name ← name_in base.0
+  rest ← stripped (32 ∷ []) base.1
+  filter ← quoted rest
+  tree ← filter_in filter.0
+  Some (record { base = name; scope = scope; filter = tree }, filter.1)

@@ -1,5 +1,8 @@
-use entry_tree::{Dn, Op, Spec};
+//! The commands of a script.
+use dn_names::Dn;
+use entry_tree::Spec;
 use ldap_ber::Octets;
+use schema_rules::Change;
 
 /// A command of a script. The first name is that of its node.
 #[derive(Drop)]
@@ -8,10 +11,14 @@ pub enum Command {
     Provider(Octets, Dn),
     /// A consumer with its provider's name and what it wants.
     Consumer(Octets, Octets, Spec),
+    /// The time of all nodes, in microseconds from the first moment of 1970 on.
+    Clock(u64),
     /// A write to a provider.
-    Write(Octets, Op),
+    Write(Octets, Change),
     /// Brings a consumer up to its provider.
     Settle(Octets),
+    /// Prints the entries of a node.
+    Show(Octets),
 }
 
 /// A command with the number of its line, counted from 1.

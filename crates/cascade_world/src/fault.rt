@@ -1,12 +1,25 @@
+//! Why a script is refused.
 ghost use Rattle.std.specs.Prelude.{◌≡◌};
-ghost use Rattle.cascade_world.specs.declared.fault.Cause.TheVariants.{NotYet, NoMemory};
+ghost use Rattle.cascade_world.specs.declared.fault.Cause.TheVariants.{BadCommand, NoMemory};
 
 use std::alloc::{AllocError, AllocFailed};
 
 /// Why a script is refused.
 #[derive(Clone, Copy, Debug, PartialEq, Eq)]
 pub enum Cause {
-    /// The text is outside the form that is read so far.
+    /// A line is outside the grammar, or is not UTF-8.
+    BadCommand,
+    /// A name is not declared, or is of a kind that the command is not for.
+    UnknownNode,
+    /// A declared name is in use.
+    NameTaken,
+    /// What follows a `write` is not one record.
+    BadRecord,
+    /// The script has more bytes, lines or nodes than this.
+    LimitReached(u64),
+    /// The base of a consumer is not at or below its provider's suffix.
+    OutsideSuffix,
+    /// The command is of the language, but is not done yet.
     NotYet,
     NoMemory,
 }
@@ -19,14 +32,14 @@ pub struct ScriptFault {
 }
 
 impl ScriptFault {
-    /// The text is outside the form at that line.
-    pub fn not_yet(line: u64) -> ScriptFault
-        ensures cause { result.cause ≡ NotYet }
+    /// The line is outside the grammar.
+    pub fn bad_command(line: u64) -> ScriptFault
+        ensures cause { result.cause ≡ BadCommand }
         ensures line { result.line ≡ line }
     {
         ScriptFault {
             line,
-            cause: Cause::NotYet,
+            cause: Cause::BadCommand,
         }
     }
 }

@@ -4,10 +4,9 @@
 mod directory;
 mod event;
 mod fault;
-mod form;
+mod grammar;
 mod lines;
 mod node;
-mod record;
 mod report;
 mod script;
 mod words;

@@ -1,87 +1,111 @@
-ghost use Rattle.std.specs.Prelude.{◌≡◌, ◌∷◌, [], find, position, IfOk, OnOk, OnErr, IfErr};
-ghost use Rattle.cascade_world.specs.Directory.{code_at, written};
+//! The nodes of a script, and what each event does and tells.
+ghost use Rattle.std.specs.Prelude.{◌≡◌, ◌∷◌, ◌++◌, [], find, position, length, IfOk, OnOk, OnErr};
+ghost use Rattle.std.specs.Option.{option_copied};
+ghost use Rattle.entry_tree.specs.Selection.{search_of, select};
+ghost use Rattle.cascade_world.specs.Directory.{code_at, written, entries_of};
+ghost use Rattle.cascade_world.specs.Orders.{order_of};
+ghost use Rattle.cascade_world.specs.Orders.{Order as order};
 ghost use Rattle.cascade_world.specs.Report.{lines_text};
 ghost use Rattle.cascade_world.specs.Report.Told.{Wrote, Stored, Settled};
-ghost use Rattle.cascade_world.specs.World.{StepsBy, is_named, has_node, root_named, copy_named, can_follow, selection_of, settling_of, stored, Selects};
-ghost use Rattle.std.specs.Option.{option_copied};
-ghost use Rattle.std.specs.Prelude.{length};
+ghost use Rattle.cascade_world.specs.World as spec;
+ghost use Rattle.cascade_world.specs.World.{StepsBy};
 
 use crate::directory::Directory;
 use crate::node::{Follower, Node, Part};
-use crate::report::{push_settled, push_stored, push_wrote};
-use crate::{Command, Event, ScriptFault};
-use entry_tree::{Dn, EntryList, Op, Spec};
+use crate::report::{push_settled, push_stored, push_wrote, text_of};
+use crate::{Cause, Command, Event, ScriptFault};
+use dn_names::Dn;
+use entry_tree::{Entry, EntryList, Spec};
 use ldap_ber::{NoMemory, Octets};
+use schema_rules::Change;
 use std::alloc::Global;
 use std::marker::Model;
+
+/// The most nodes of a script.
+const MOST_NODES: usize = 16;
 
 /// The lines of an event as bytes, each ended by a line feed.
 pub type Lines = Octets;
 
-/// The nodes of a script.
+/// The nodes of a script, and the time that their clocks show.
 #[derive(Drop)]
 pub struct World {
     alloc: Global,
+    clock: u64,
     nodes: Vec<Node>,
 }
 
-/// Contracts see the nodes in the order of their declaration: for each its name, and the accepted
-/// writes of a provider, or what a consumer wants and the entries that it holds.
+/// Contracts see the time and the nodes in the order of their declaration: for each its name, and the
+/// accepted writes of a provider, or what a consumer wants and the entries that it holds.
 impl Model for World {
-    ghost use Rattle.std.specs.Prelude.{List};
-    ghost use Rattle.cascade_world.specs.declared.node.Node.{Node};
+    ghost use Rattle.std.specs.Prelude.{◌≤◌, length};
+    ghost use Rattle.std.specs.Coded.{codes};
+    ghost use Rattle.cascade_world.specs.contracts.node.Node as node;
+    ghost use Rattle.cascade_world.specs.World.{State, most_nodes};
 
-    ghost Value = { List Node };
+    ghost Value = { State };
 
-    ghost view = { λ w. w.nodes.items };
+    ghost coded = { Prim.hlevel (codes, node.the_row.coded) };
+
+    ghost view = { λ w. record { clock = w.clock; nodes = w.nodes.items } };
+
+    ghost invariant = { λ w. length w.nodes.items ≤ most_nodes };
 }
 
 impl World {
-    /// No node.
+    /// No node, and the first moment of 1970.
     pub fn new(alloc: Global) -> Result<World, NoMemory>
-        ensures { IfOk result (λ world. world ≡ []) }
+        ensures { IfOk result (λ world. world ≡ spec.no_nodes) }
     {
         Ok(World {
             alloc,
+            clock: 0,
             nodes: Vec::new(alloc),
         })
     }
 
     /// Does an event, and gives its lines. After a refusal the world is as before.
     pub fn step(&mut self, event: Event) -> Result<Lines, ScriptFault>
-        ensures steps { StepsBy self.old event.line event.command self.new result }
+        ensures steps { StepsBy self.old event.line (order_of event.command) self.new result }
         ensures err { OnErr result (self.new ≡ self.old) }
     {
         let line = event.line;
         match event.command {
             Command::Provider(name, suffix) => self.declare_root(line, name, suffix),
-            Command::Consumer(name, source, spec) => self.declare_copy(line, name, source, spec),
-            Command::Write(name, op) => self.write(line, name, op),
+            Command::Consumer(name, source, wanted) => self.declare_copy(
+                line, name, source, wanted,
+            ),
+            Command::Clock(time) => {
+                self.clock = time;
+                Ok(no_lines(self.alloc))
+            }
+            Command::Write(name, change) => self.write(line, name, change),
             Command::Settle(name) => self.settle(line, name),
+            Command::Show(name) => self.show(line, name),
         }
     }
 
     fn has_node(&self, name: &Octets) -> bool
-        ensures { result ≡ has_node name.now self.now }
+        ensures { result ≡ spec.has_node name.now self.now.nodes }
     {
         self.nodes.iter().any(|node| *name == node.name)
     }
 
     fn place_of(&self, name: &Octets) -> Option<usize>
-        ensures { result ≡ position (is_named name.now) self.now }
+        ensures { result ≡ position (spec.is_named name.now) self.now.nodes }
     {
         self.nodes.iter().position(|node| *name == node.name)
     }
 
     fn node(&self, name: &Octets) -> Option<&Node>
-        ensures { option_copied result ≡ find (is_named name.now) self.now }
+        ensures { option_copied result ≡ spec.node_named name.now self.now.nodes }
     {
         self.nodes.iter().find(|node| *name == node.name)
     }
 
     /// The root of that name.
     fn root(&self, name: &Octets) -> Option<&Directory>
-        ensures { option_copied result ≡ root_named name.now self.now }
+        ensures { option_copied result ≡ spec.root_named name.now self.now.nodes }
     {
         match self.node(name) {
             Some(node) => node.part.root(),
@@ -89,45 +113,38 @@ impl World {
         }
     }
 
-    /// Whether a consumer of that name can be declared.
-    fn can_follow(&self, name: &Octets, source: &Octets, spec: &Spec) -> bool
-        ensures { result ≡ can_follow self.now name.now spec.now (root_named source.now self.now) }
+    /// What the consumer of that name holds.
+    fn follower(&self, name: &Octets) -> Option<&Follower>
+        ensures { option_copied result ≡ spec.copy_named name.now self.now.nodes }
     {
-        match self.root(source) {
-            Some(directory) => directory.covers(&spec.base) && !self.has_node(name),
-            None => false,
+        match self.node(name) {
+            Some(node) => node.part.copy(),
+            None => None,
         }
     }
 
-    /// How many writes the provider accepted, and what the specification selects from its state.
-    fn selection(
-        &self,
-        line: u64,
-        source: &Octets,
-        spec: &Spec,
-    ) -> Result<(u64, EntryList), ScriptFault>
-        ensures { Selects line (selection_of spec.now (root_named source.now self.now)) result }
+    /// One more node, where there is room.
+    fn declare(&mut self, line: u64, name: Octets, part: Part) -> Result<Lines, ScriptFault>
+        ensures steps { spec.Answers line (spec.declared self.old name part) self.new result }
+        ensures err { OnErr result (self.new ≡ self.old) }
     {
-        match self.root(source) {
-            Some(directory) => {
-                let entries = directory.select(self.alloc, spec)?;
-                Ok((directory.writes(), entries))
-            }
-            None => Err(ScriptFault::not_yet(line)),
+        if self.nodes.len() >= MOST_NODES {
+            return Err(refusal(line, Cause::LimitReached(MOST_NODES as u64)));
         }
+        self.nodes.push(Node { name, part })?;
+        Ok(no_lines(self.alloc))
     }
 
     fn declare_root(&mut self, line: u64, name: Octets, suffix: Dn) -> Result<Lines, ScriptFault>
-        ensures steps { StepsBy self.old line (Command.Provider name suffix) self.new result }
+        ensures steps { StepsBy self.old line (order.Provider name suffix) self.new result }
         ensures err { OnErr result (self.new ≡ self.old) }
     {
         if self.has_node(&name) {
-            return Err(ScriptFault::not_yet(line));
+            return Err(refusal(line, Cause::NameTaken));
         }
-        let history = self.nodes.len() as u64 + 1;
-        let part = Part::Root(Directory::new(self.alloc, suffix, history));
-        self.nodes.push(Node { name, part })?;
-        Ok(Octets::from(Vec::new(self.alloc)))
+        let number = self.nodes.len() as u16 + 1;
+        let part = Part::Root(Directory::new(self.alloc, suffix, number));
+        self.declare(line, name, part)
     }
 
     fn declare_copy(
@@ -135,77 +152,99 @@ impl World {
         line: u64,
         name: Octets,
         source: Octets,
-        spec: Spec,
+        wanted: Spec,
     ) -> Result<Lines, ScriptFault>
-        ensures steps { StepsBy self.old line (Command.Consumer name source spec) self.new result }
+        ensures steps { StepsBy self.old line (order.Consumer name source (search_of wanted)) self.new result }
         ensures err { OnErr result (self.new ≡ self.old) }
     {
-        if !self.can_follow(&name, &source, &spec) {
-            return Err(ScriptFault::not_yet(line));
+        if self.has_node(&name) {
+            return Err(refusal(line, Cause::NameTaken));
         }
-        let part = Part::Copy(Follower {
-            source,
-            spec,
-            entries: EntryList::new(self.alloc),
-        });
-        self.nodes.push(Node { name, part })?;
-        Ok(Octets::from(Vec::new(self.alloc)))
+        let Some(directory) = self.root(&source) else {
+            return Err(refusal(line, Cause::UnknownNode));
+        };
+        if !directory.covers(&wanted.base) {
+            return Err(refusal(line, Cause::OutsideSuffix));
+        }
+        let part = Part::Copy(Follower::new(self.alloc, source, wanted));
+        self.declare(line, name, part)
     }
 
-    fn write(&mut self, line: u64, name: Octets, op: Op) -> Result<Lines, ScriptFault>
-        ensures steps { StepsBy self.old line (Command.Write name op) self.new result }
+    fn write(&mut self, line: u64, name: Octets, change: Change) -> Result<Lines, ScriptFault>
+        ensures steps { StepsBy self.old line (order.Write name change) self.new result }
         ensures err { OnErr result (self.new ≡ self.old) }
     {
         let alloc = self.alloc;
+        let now = self.clock;
         match self.place_of(&name) {
-            None => Err(ScriptFault::not_yet(line)),
+            None => Err(refusal(line, Cause::UnknownNode)),
             Some(place) => {
                 let node = &mut self.nodes[place];
                 match &mut node.part {
                     Part::Root(directory) => {
-                        let lines = write_root(alloc, directory, name.as_slice(), op)?;
+                        let lines = write_root(alloc, directory, name.as_slice(), now, &change)?;
                         Ok(lines)
                     }
-                    Part::Copy(_) => Err(ScriptFault::not_yet(line)),
+                    Part::Copy(_) => Err(refusal(line, Cause::UnknownNode)),
                 }
             }
         }
     }
 
     fn settle(&mut self, line: u64, name: Octets) -> Result<Lines, ScriptFault>
-        ensures steps { StepsBy self.old line (Command.Settle name) self.new result }
+        ensures steps { StepsBy self.old line (order.Settle name) self.new result }
         ensures err { OnErr result (self.new ≡ self.old) }
     {
-        let (number, entries) = self.settling(line, &name)?;
-        let lines = settled_lines(self.alloc, name.as_slice(), number, &entries)?;
+        let Some(follower) = self.follower(&name) else {
+            return Err(refusal(line, Cause::UnknownNode));
+        };
+        let Some(directory) = self.root(follower.source()) else {
+            return Err(refusal(line, Cause::UnknownNode));
+        };
+        let entries = directory.select(self.alloc, follower.spec())?;
+        let number = directory.writes();
+        let lines = settled_lines(self.alloc, name.as_slice(), number, entries.list())?;
         self.store(&name, entries);
         Ok(lines)
     }
 
-    /// What a consumer gets.
-    fn settling(&self, line: u64, name: &Octets) -> Result<(u64, EntryList), ScriptFault>
-        ensures { Selects line (settling_of self.now (copy_named name.now self.now)) result }
-    {
-        match self.node(name) {
-            Some(node) => match &node.part {
-                Part::Copy(follower) => self.selection(line, &follower.source, &follower.spec),
-                Part::Root(_) => Err(ScriptFault::not_yet(line)),
-            },
-            None => Err(ScriptFault::not_yet(line)),
-        }
-    }
-
     /// Gives a consumer its entries.
     fn store(&mut self, name: &Octets, entries: EntryList)
-        ensures { self.new ≡ stored name.now entries self.old (copy_named name.now self.old) }
+        ensures { self.new ≡ spec.stored name.now entries self.old (spec.copy_named name.now self.old.nodes) }
     {
         if let Some(place) = self.place_of(name) {
             let node = &mut self.nodes[place];
             if let Part::Copy(follower) = &mut node.part {
-                follower.entries = entries;
+                follower.store(entries);
             }
         }
     }
+
+    fn show(&mut self, line: u64, name: Octets) -> Result<Lines, ScriptFault>
+        ensures steps { StepsBy self.old line (order.Show name) self.new result }
+        ensures same { self.new ≡ self.old }
+    {
+        let text = match self.node(&name) {
+            None => return Err(refusal(line, Cause::UnknownNode)),
+            Some(node) => match &node.part {
+                Part::Root(directory) => text_of(self.alloc, directory.entries())?,
+                Part::Copy(follower) => text_of(self.alloc, follower.entries().list())?,
+            },
+        };
+        Ok(Octets::from(text))
+    }
+}
+
+fn refusal(line: u64, cause: Cause) -> ScriptFault
+    ensures { result ≡ record { line = line; cause = cause } }
+{
+    ScriptFault { line, cause }
+}
+
+fn no_lines(alloc: Global) -> Lines
+    ensures { result ≡ [] }
+{
+    Octets::from(Vec::new(alloc))
 }
 
 /// Writes to a root, and tells it.
@@ -213,18 +252,29 @@ fn write_root(
     alloc: Global,
     directory: &mut Directory,
     name: &[u8],
-    op: Op,
+    now: u64,
+    change: &Change,
 ) -> Result<Lines, NoMemory>
-    ensures lines { IfOk result (λ lines. lines ≡ lines_text (Wrote name.now (code_at directory.old op) (length (written directory.old op).writes) ∷ [])) }
-    ensures ok { OnOk result (directory.new ≡ written directory.old op) }
+    ensures lines { IfOk result (λ lines. lines ≡ lines_text (Wrote name.now (code_at directory.old now change.now) (length (written directory.old now change.now).writes) ∷ [])) }
+    ensures ok { OnOk result (directory.new ≡ written directory.old now change.now) }
     ensures err { OnErr result (directory.new ≡ directory.old) }
 {
+    // The line of an accepted write is made before the write, which then can't fail any more.
+    let number = directory.writes();
+    let accepted = wrote_lines(alloc, name, 0, number + 1)?;
+    let code = directory.write(alloc, now, change)?;
+    if directory.writes() > number {
+        return Ok(accepted);
+    }
+    wrote_lines(alloc, name, code, number)
+}
+
+/// The line of a write.
+fn wrote_lines(alloc: Global, name: &[u8], code: u32, number: u64) -> Result<Lines, NoMemory>
+    ensures { IfOk result (λ lines. lines ≡ lines_text (Wrote name.now code number ∷ [])) }
+{
     let mut lines = Vec::new(alloc);
-    let code = directory.code(&op);
-    let before = directory.writes();
-    let number = if code == 0 { before + 1 } else { before };
     push_wrote(alloc, &mut lines, name, code, number)?;
-    directory.write(op)?;
     Ok(Octets::from(lines))
 }
 
@@ -233,7 +283,7 @@ fn settled_lines(
     alloc: Global,
     name: &[u8],
     number: u64,
-    entries: &EntryList,
+    entries: &[Entry],
 ) -> Result<Lines, NoMemory>
     ensures { IfOk result (λ lines. lines ≡ lines_text (Stored name.now number entries.now ∷ Settled name.now number ∷ [])) }
 {

@@ -41,6 +41,13 @@ impl CsnMaker {
         self.last
     }
 
+    /// A maker that draws the same CSNs.
+    pub fn copy(&self) -> CsnMaker
+        ensures { result ≡ self.now }
+    {
+        CsnMaker { last: self.last }
+    }
+
     /// Draws the next CSN, where the clock shows `now`, in microseconds from the first moment of
     /// 1970 on. A clock past the year 9999 counts as its end.
     pub fn next(&mut self, now: u64) -> Result<Csn, CookieFault>

@@ -1,5 +1,13 @@
-pub mod Attrs
-pub mod Dn
-pub mod Ldif
-pub mod Text
-pub mod Tree
+-- Entries, writes with their codes and effects, and what a specification selects.
+pub mod Bytes
+pub mod Codes
+pub mod Edits
+pub mod Effects
+pub mod Fault
+pub mod FilterCode
+pub mod History
+pub mod Reading
+pub mod Selection
+pub mod Sound
+pub mod State
+pub mod Touched

@@ -1,14 +1,18 @@
-ghost use Rattle.std.specs.Prelude.{◌≡◌, List, ℕ, [], ◌++◌, ◌∷◌, IfOk, OnOk, OnErr};
+//! Entries of a directory (RFC 4512, section 2).
+ghost use Rattle.std.specs.Prelude.{◌≡◌, [], ◌∷◌, ◌++◌, IfOk, OnOk, OnErr};
 
-use crate::{Attrs, Dn};
+use csn_cookie::Csn;
+use dn_names::Dn;
 use ldap_ber::NoMemory;
+use schema_rules::Attrs;
 use std::alloc::Global;
 use std::marker::Model;
 
-/// An entry of a directory (RFC 4512, section 2): its identity, its name and its attributes.
+/// An entry: its identity, the stamp of the write that last changed it, its name and its attributes.
 #[derive(Drop)]
 pub struct Entry {
     pub uuid: u128,
+    pub csn: Csn,
     pub dn: Dn,
     pub attrs: Attrs,
 }
@@ -18,8 +22,10 @@ impl Entry {
         ensures { IfOk result (λ entry. entry ≡ self.now) }
     {
         let uuid = self.uuid;
+        let csn = self.csn;
         Ok(Entry {
             uuid,
+            csn,
             dn: self.dn.copy()?,
             attrs: self.attrs.copy()?,
         })
@@ -51,11 +57,11 @@ impl EntryList {
     }
 
     /// Puts the entry at the end.
-    pub fn push(&mut self, entry: Entry) -> Result<(), NoMemory>
-        ensures ok { OnOk result (self.new ≡ self.old ++ entry ∷ []) }
+    pub fn push(&mut self, item: Entry) -> Result<(), NoMemory>
+        ensures ok { OnOk result (self.new ≡ self.old ++ item ∷ []) }
         ensures err { OnErr result (self.new ≡ self.old) }
     {
-        self.items.push(entry)?;
+        self.items.push(item)?;
         Ok(())
     }
 

@@ -1,19 +1,32 @@
-//! Names, attributes and entries in plain forms, the writes of a directory with their codes and
-//! effects, and the entries that a specification selects (RFC 4511, sections 4.5 to 4.8).
+//! Entries, the writes of a directory with their codes and effects, and the entries that a
+//! specification selects (RFC 4511, sections 4.5 to 4.9).
 #![tactic(auto)]
 
-mod attrs;
-mod dn;
+mod add;
+mod bytes;
+mod changing;
+mod checks;
+mod delete;
+mod edit;
 mod entry;
-mod ldif;
+mod fault;
+mod modify;
 mod op;
-pub mod text;
+mod reading;
+mod rename;
+mod spec;
+mod target;
+#[cfg(test)]
+mod tests;
+mod touched;
 mod tree;
 
-pub use attrs::{Attribute, Attrs};
-pub use dn::Dn;
+pub use edit::{Edit, Edits};
 pub use entry::{Entry, EntryList};
+pub use fault::OpFault;
 pub use ldap_ber::NoMemory;
-pub use ldif::write_entries;
-pub use op::{Op, OpFault, Spec};
+pub use op::{Op, Write};
+pub use reading::read_op;
+pub use spec::{Scope, Spec};
+pub use touched::{Touch, Touched};
 pub use tree::Tree;

@@ -1,38 +1,26 @@
-ghost use Rattle.std.specs.Prelude.{◌≡◌};
-ghost use Rattle.entry_tree.specs.declared.op.OpFault.TheVariants.{NoMemory};
+//! Writes, with names, types and values that were read.
+use crate::edit::Edits;
+use csn_cookie::Csn;
+use dn_names::{Dn, Rdn};
+use schema_rules::Attrs;
 
-use crate::{Attrs, Dn};
-use std::alloc::AllocError;
-
-/// A write.
+/// What a write does.
 #[derive(Drop)]
 pub enum Op {
     /// Adds an entry (RFC 4511, section 4.7).
     Add(Dn, Attrs),
     /// Deletes the entry of that name (RFC 4511, section 4.8).
     Delete(Dn),
+    /// Edits the attributes of the entry of that name (RFC 4511, section 4.6).
+    Modify(Dn, Edits),
+    /// Gives the entry of that name another RDN, and another superior where one is told; all below
+    /// it move with it. The values of the old RDN go where this is asked for (RFC 4511, section 4.9).
+    Rename(Dn, Rdn, bool, Option<Dn>),
 }
 
-/// Why a write was refused.
-#[derive(Clone, Copy, Debug, PartialEq, Eq)]
-pub enum OpFault {
-    /// The result code (RFC 4511, appendix A), which is not 0.
-    Code(u32),
-    NoMemory,
-}
-
-impl From<AllocError> for OpFault {
-    ghost from_gives = { λ _ fault. fault ≡ NoMemory };
-
-    fn from(_: AllocError) -> Self {
-        OpFault::NoMemory
-    }
-}
-
-/// Which entries are wanted: those at or below the base that have an object class. This is the
-/// search with the scope of the whole subtree and the filter `(objectClass=*)` (RFC 4511,
-/// section 4.5.1).
+/// A write that was accepted, with its stamp.
 #[derive(Drop)]
-pub struct Spec {
-    pub base: Dn,
+pub struct Write {
+    pub csn: Csn,
+    pub op: Op,
 }

@@ -1,27 +1,43 @@
-ghost use Rattle.std.specs.Prelude.{◌≡◌, ◌≤◌, List, [], length, find, IfOk, OnOk, OnErr, IfErr};
-ghost use Rattle.std.specs.List.{position_or_len};
+//! The entries of a directory.
+ghost use Rattle.std.specs.Prelude.{◌≡◌, ◌≤◌, true, None, [], length, find, IfOk, OnOk, OnErr, IfErr};
 ghost use Rattle.std.specs.Option.{option_copied};
-ghost use Rattle.entry_tree.specs.Tree.{has_name, has_parent, has_below, put, without, code_of, add_code_of, delete_code_of, effect, select, is_selected, is_named, is_identified, is_from, IsRefusedBy};
+ghost use Rattle.entry_tree.specs.Codes.{code_of};
+ghost use Rattle.entry_tree.specs.Effects.{effect};
+ghost use Rattle.entry_tree.specs.Fault.{Tells};
+ghost use Rattle.entry_tree.specs.Selection.{search_of, select};
+ghost use Rattle.entry_tree.specs.Sound.{is_sound_op};
+ghost use Rattle.entry_tree.specs.State as state;
+ghost use Rattle.entry_tree.specs.Touched.{touched};
 
-use crate::{Dn, Entry, EntryList, Op, OpFault, Spec};
+use crate::entry::{Entry, EntryList};
+use crate::fault::OpFault;
+use crate::op::Op;
+use crate::spec::Spec;
+use crate::touched::Touched;
+use csn_cookie::Csn;
+use dn_names::Dn;
 use ldap_ber::NoMemory;
 use std::alloc::Global;
 use std::marker::Model;
 
-/// The entries of a directory.
+/// The entries of a directory, with their weight.
 #[derive(Drop)]
 pub struct Tree {
-    entries: Vec<Entry>,
+    pub(crate) entries: Vec<Entry>,
+    pub(crate) weight: u64,
 }
 
 /// Contracts see the entries in ascending order of identity.
 impl Model for Tree {
     ghost use Rattle.std.specs.Prelude.{List};
     ghost use Rattle.entry_tree.specs.declared.entry.Entry.{Entry};
+    ghost use Rattle.entry_tree.specs.State.{IsDirectory};
 
     ghost Value = { List Entry };
 
     ghost view = { λ t. t.entries.items };
+
+    ghost invariant = { λ t. IsDirectory t.entries.items t.weight };
 }
 
 impl Tree {
@@ -30,155 +46,86 @@ impl Tree {
     {
         Tree {
             entries: Vec::new(alloc),
+            weight: 0,
         }
     }
 
-    /// How many entries there are.
+    /// How many entries there are, 20,000 at most.
     pub fn len(&self) -> usize
-        ensures { result ≡ length self.now }
+        ensures value { result ≡ length self.now }
+        ensures bound { result ≤ state.most_entries }
     {
         self.entries.len()
     }
 
+    /// What the entries weigh, 64 MiB at most.
+    pub fn weight(&self) -> u64
+        ensures value { result ≡ state.total_weight self.now }
+        ensures bound { result ≤ state.most_weight }
+    {
+        self.weight
+    }
+
+    /// The entries, in ascending order of identity.
+    pub fn entries(&self) -> &[Entry]
+        ensures { result.now ≡ self.now }
+    {
+        self.entries.as_slice()
+    }
+
     /// The entry of that identity.
     pub fn get(&self, uuid: u128) -> Option<&Entry>
-        ensures { option_copied result ≡ find (is_identified uuid) self.now }
+        ensures value { option_copied result ≡ state.entry_at self.now uuid }
+        ensures ascends { state.ascends self.now ≡ true }
     {
         self.entries.iter().find(|entry| entry.uuid == uuid)
     }
 
-    /// The entry of that name, the first by identity.
+    /// The entry of that name; where there are several, the first by identity.
     pub fn find(&self, dn: &Dn) -> Option<&Entry>
-        ensures { option_copied result ≡ find (is_named dn.now) self.now }
+        ensures { option_copied result ≡ state.entry_named self.now dn.now }
     {
-        self.entries.iter().find(|entry| dn.same(&entry.dn))
+        self.entries.iter().find(|entry| entry.dn.same(dn))
     }
 
-    /// The result code of a write to the directory below the suffix.
-    pub fn code(&self, op: &Op, suffix: &Dn) -> u32
-        ensures { result ≡ code_of suffix.now self.now op.now }
-    {
-        match op {
-            Op::Add(dn, _) => add_code(&self.entries, suffix, dn),
-            Op::Delete(dn) => delete_code(&self.entries, dn),
-        }
-    }
-
-    /// Applies a write to the directory below the suffix. An entry that it adds gets the identity.
-    pub fn apply(&mut self, op: &Op, suffix: &Dn, uuid: u128) -> Result<(), OpFault>
-        ensures accepted { OnOk result (code_of suffix.now self.old op.now ≡ 0) }
-        ensures effect { OnOk result (self.new ≡ effect self.old uuid op.now) }
-        ensures refused { IfErr result (IsRefusedBy (code_of suffix.now self.old op.now)) }
+    /// Applies a write to the directory with this suffix, or tells the first code that is against it.
+    /// An entry that is added gets the identity, and each entry that is added or changed the stamp.
+    /// The answer is what differs, with what was and what is. A refusal leaves the entries.
+    pub fn apply(
+        &mut self,
+        alloc: Global,
+        op: &Op,
+        suffix: &Dn,
+        uuid: u128,
+        csn: Csn,
+    ) -> Result<Touched, OpFault>
+        requires { is_sound_op op.now ≡ true }
+        ensures accepted { OnOk result (code_of suffix.now self.old op.now ≡ None) }
+        ensures effect { OnOk result (self.new ≡ effect self.old op.now uuid csn) }
+        ensures touched { IfOk result (λ touches. touches ≡ touched self.old self.new) }
+        ensures refused { IfErr result (Tells (code_of suffix.now self.old op.now)) }
         ensures err { OnErr result (self.new ≡ self.old) }
     {
-        let code = self.code(op, suffix);
-        if code != 0 {
-            return Err(OpFault::Code(code));
-        }
         match op {
-            Op::Add(dn, attrs) => {
-                let entry = Entry {
-                    uuid,
-                    dn: dn.copy()?,
-                    attrs: attrs.copy()?,
-                };
-                put_entry(&mut self.entries, entry)?;
+            Op::Add(dn, attrs) => self.add(alloc, suffix, dn, attrs, uuid, csn),
+            Op::Delete(dn) => self.delete(alloc, dn),
+            Op::Modify(dn, edits) => self.modify(alloc, dn, edits, csn),
+            Op::Rename(dn, rdn, deletes, superior) => {
+                self.rename(alloc, suffix, dn, rdn, *deletes, superior, csn)
             }
-            Op::Delete(dn) => remove_named(&mut self.entries, dn),
         }
-        Ok(())
     }
 
     /// The entries that are wanted, in ascending order of identity.
     pub fn select(&self, alloc: Global, spec: &Spec) -> Result<EntryList, NoMemory>
-        ensures { IfOk result (λ found. found ≡ select spec.now self.now) }
+        ensures { IfOk result (λ found. found ≡ select (search_of spec.now) self.now) }
     {
         let mut found = EntryList::new(alloc);
         for entry in &self.entries {
-            if is_wanted(spec, entry) {
+            if spec.takes(alloc, entry)? {
                 found.push(entry.copy()?)?;
             }
         }
         Ok(found)
     }
-}
-
-fn is_wanted(spec: &Spec, entry: &Entry) -> bool
-    ensures { result ≡ is_selected spec.now entry.now }
-{
-    entry.dn.is_at_or_below(&spec.base) && entry.attrs.has(b"objectClass")
-}
-
-fn has_entry(entries: &[Entry], dn: &Dn) -> bool
-    ensures { result ≡ has_name dn.now entries.now }
-{
-    entries.iter().any(|entry| dn.same(&entry.dn))
-}
-
-fn has_entry_above(entries: &[Entry], dn: &Dn) -> bool
-    ensures { result ≡ has_parent dn.now entries.now }
-{
-    entries.iter().any(|entry| entry.dn.is_parent_of(dn))
-}
-
-fn has_entry_below(entries: &[Entry], dn: &Dn) -> bool
-    ensures { result ≡ has_below dn.now entries.now }
-{
-    entries
-        .iter()
-        .any(|entry| entry.dn.is_at_or_below(dn) && !dn.same(&entry.dn))
-}
-
-fn add_code(entries: &[Entry], suffix: &Dn, dn: &Dn) -> u32
-    ensures { result ≡ add_code_of suffix.now entries.now dn.now }
-{
-    if !dn.is_at_or_below(suffix) {
-        return 32;
-    }
-    if !dn.same(suffix) && !has_entry_above(entries, dn) {
-        return 32;
-    }
-    if has_entry(entries, dn) {
-        return 68;
-    }
-    0
-}
-
-fn delete_code(entries: &[Entry], dn: &Dn) -> u32
-    ensures { result ≡ delete_code_of entries.now dn.now }
-{
-    if !has_entry(entries, dn) {
-        return 32;
-    }
-    if has_entry_below(entries, dn) {
-        return 66;
-    }
-    0
-}
-
-fn remove_named(entries: &mut Vec<Entry>, dn: &Dn)
-    ensures { entries.new.items ≡ without dn.now entries.old.items }
-{
-    entries.retain(|entry| !dn.same(&entry.dn));
-}
-
-fn put_entry(entries: &mut Vec<Entry>, entry: Entry) -> Result<(), NoMemory>
-    ensures ok { OnOk result (entries.new.items ≡ put entry entries.old.items) }
-    ensures err { OnErr result (entries.new.items ≡ entries.old.items) }
-{
-    let place = place_for(entries, entry.uuid);
-    entries.insert(place, entry)?;
-    Ok(())
-}
-
-fn place_for(entries: &[Entry], uuid: u128) -> usize
-    ensures place { result ≡ position_or_len (is_from uuid) entries.now }
-    ensures within { result ≤ length entries.now }
-{
-    for (i, entry) in entries.iter().enumerate() {
-        if entry.uuid >= uuid {
-            return i;
-        }
-    }
-    entries.len()
 }

@@ -38,56 +38,35 @@ impl Filter {
         ensures { result ≡ same_tree (tree_of self.now) (tree_of other.now) }
     {
         match self {
-            Filter::And(parts) => match other {
-                Filter::And(others) => parts.same(others),
-                _ => false,
-            },
-            Filter::Or(parts) => match other {
-                Filter::Or(others) => parts.same(others),
-                _ => false,
-            },
-            Filter::Not(part) => match other {
-                Filter::Not(opposed) => part.same(opposed),
-                _ => false,
-            },
-            Filter::Equal(name, value) => match other {
-                Filter::Equal(other_name, other_value) => {
-                    is_same_item(name, value, other_name, other_value)
-                }
-                _ => false,
-            },
-            Filter::Substrings(name, pieces) => match other {
-                Filter::Substrings(other_name, others) => {
-                    is_same_name(name, other_name) && pieces.same(others)
-                }
-                _ => false,
-            },
-            Filter::AtLeast(name, value) => match other {
-                Filter::AtLeast(other_name, other_value) => {
-                    is_same_item(name, value, other_name, other_value)
-                }
-                _ => false,
-            },
-            Filter::AtMost(name, value) => match other {
-                Filter::AtMost(other_name, other_value) => {
-                    is_same_item(name, value, other_name, other_value)
-                }
-                _ => false,
-            },
-            Filter::Present(name) => match other {
-                Filter::Present(other_name) => is_same_name(name, other_name),
-                _ => false,
-            },
-            Filter::Approx(name, value) => match other {
-                Filter::Approx(other_name, other_value) => {
-                    is_same_item(name, value, other_name, other_value)
-                }
-                _ => false,
-            },
-            Filter::Extensible(body) => match other {
-                Filter::Extensible(other_body) => body == other_body,
-                _ => false,
-            },
+            Filter::And(parts) => matches!(other, Filter::And(others) if parts.same(others)),
+            Filter::Or(parts) => matches!(other, Filter::Or(others) if parts.same(others)),
+            Filter::Not(part) => matches!(other, Filter::Not(opposed) if part.same(opposed)),
+            Filter::Equal(name, value) => {
+                matches!(other, Filter::Equal(other_name, other_value)
+                    if is_same_item(name, value, other_name, other_value))
+            }
+            Filter::Substrings(name, pieces) => {
+                matches!(other, Filter::Substrings(other_name, others)
+                    if is_same_name(name, other_name) && pieces.same(others))
+            }
+            Filter::AtLeast(name, value) => {
+                matches!(other, Filter::AtLeast(other_name, other_value)
+                    if is_same_item(name, value, other_name, other_value))
+            }
+            Filter::AtMost(name, value) => {
+                matches!(other, Filter::AtMost(other_name, other_value)
+                    if is_same_item(name, value, other_name, other_value))
+            }
+            Filter::Present(name) => {
+                matches!(other, Filter::Present(other_name) if is_same_name(name, other_name))
+            }
+            Filter::Approx(name, value) => {
+                matches!(other, Filter::Approx(other_name, other_value)
+                    if is_same_item(name, value, other_name, other_value))
+            }
+            Filter::Extensible(body) => {
+                matches!(other, Filter::Extensible(other_body) if body == other_body)
+            }
         }
     }
 }

@@ -14,5 +14,6 @@ mod tests;
 mod written;
 
 pub use fault::LdifFault;
+pub use lines::{Cursor, cut_at, next_line};
 pub use records::Records;
 pub use written::{entries_are_read_again, write_entry};

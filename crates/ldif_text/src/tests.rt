@@ -1,4 +1,4 @@
-//! Records and texts from outside: the examples of RFC 2849, and its rules one by one.
+//! Records and texts from outside: after the examples of RFC 2849, and its rules one by one.
 use crate::{LdifFault, Records, write_entry};
 use csn_cookie::Csn;
 use ldap_ber::{NoMemory, Octets, OctetsList};
@@ -81,9 +81,11 @@ fn told(alloc: Global, text: &[u8]) -> Result<Vec<u8>, NoMemory> {
     Ok(told)
 }
 
-const EXAMPLES: [(&[u8], &[u8]); 4] = [
+/// The examples 1 to 7 of RFC 2849, and what is read of each. Left out are the empty lines that the
+/// ends of pages put into 4, 5 and 6, one comment of 4, and the line of 6 that has a URL.
+const EXAMPLES: [(&str, &str); 7] = [
     (
-        b"version: 1
+        "version: 1
 dn: cn=Barbara Jensen, ou=Product Development, dc=airius, dc=com
 objectclass: top
 objectclass: person
@@ -104,41 +106,135 @@ cn: Bjorn Jensen
 sn: Jensen
 telephonenumber: +1 408 555 1212
 ",
-        b"add cn=Barbara Jensen, ou=Product Development, dc=airius, dc=com objectclass|top|person|organizationalPerson cn|Barbara Jensen|Barbara J Jensen|Babs Jensen sn|Jensen uid|bjensen telephonenumber|+1 408 555 1212 description|A big sailing fan. @12
+        "add cn=Barbara Jensen, ou=Product Development, dc=airius, dc=com objectclass|top|person|organizationalPerson cn|Barbara Jensen|Barbara J Jensen|Babs Jensen sn|Jensen uid|bjensen telephonenumber|+1 408 555 1212 description|A big sailing fan. @12
 add cn=Bjorn Jensen, ou=Accounting, dc=airius, dc=com objectclass|top|person|organizationalPerson cn|Bjorn Jensen sn|Jensen telephonenumber|+1 408 555 1212 @20
 end",
     ),
     (
-        b"version: 1
+        "version: 1
 dn:cn=Barbara Jensen, ou=Product Development, dc=airius, dc=com
 objectclass:top
+objectclass:person
+objectclass:organizationalPerson
 cn:Barbara Jensen
+cn:Barbara J Jensen
+cn:Babs Jensen
+sn:Jensen
+uid:bjensen
+telephonenumber:+1 408 555 1212
 description:Babs is a big sailing fan, and travels extensively in sea
  rch of perfect sailing conditions.
 title:Product Manager, Rod and Reel Division
 ",
-        b"add cn=Barbara Jensen, ou=Product Development, dc=airius, dc=com objectclass|top cn|Barbara Jensen description|Babs is a big sailing fan, and travels extensively in search of perfect sailing conditions. title|Product Manager, Rod and Reel Division @7
+        "add cn=Barbara Jensen, ou=Product Development, dc=airius, dc=com objectclass|top|person|organizationalPerson cn|Barbara Jensen|Barbara J Jensen|Babs Jensen sn|Jensen uid|bjensen telephonenumber|+1 408 555 1212 description|Babs is a big sailing fan, and travels extensively in search of perfect sailing conditions. title|Product Manager, Rod and Reel Division @14
 end",
     ),
     (
-        b"version: 1
+        "version: 1
 dn: cn=Gern Jensen, ou=Product Testing, dc=airius, dc=com
+objectclass: top
+objectclass: person
+objectclass: organizationalPerson
+cn: Gern Jensen
+cn: Gern O Jensen
+sn: Jensen
 uid: gernj
+telephonenumber: +1 408 555 1212
 description:: V2hhdCBhIGNhcmVmdWwgcmVhZGVyIHlvdSBhcmUhICBUaGlzIHZhbHVl
  IGlzIGJhc2UtNjQtZW5jb2RlZCBiZWNhdXNlIGl0IGhhcyBhIGNvbnRyb2wgY2hhcmFjdG
  VyIGluIGl0IChhIENSKS4NICBCeSB0aGUgd2F5LCB5b3Ugc2hvdWxkIHJlYWxseSBnZXQg
  b3V0IG1vcmUu
 ",
-        b"add cn=Gern Jensen, ou=Product Testing, dc=airius, dc=com uid|gernj description|What a careful reader you are!  This value is base-64-encoded because it has a control character in it (a CR).\r  By the way, you should really get out more. @7
+        "add cn=Gern Jensen, ou=Product Testing, dc=airius, dc=com objectclass|top|person|organizationalPerson cn|Gern Jensen|Gern O Jensen sn|Jensen uid|gernj telephonenumber|+1 408 555 1212 description|What a careful reader you are!  This value is base-64-encoded because it has a control character in it (a CR).\r  By the way, you should really get out more. @14
 end",
     ),
+    // Types are not checked in reading.
     (
-        b"version: 1
+        "version: 1
+dn:: b3U95Za25qWt6YOoLG89QWlyaXVz
+# dn:: ou=<JapaneseOU>,o=Airius
+objectclass: top
+objectclass: organizationalUnit
+ou:: 5Za25qWt6YOo
+# ou:: <JapaneseOU>
+ou;lang-ja:: 5Za25qWt6YOo
+# ou;lang-ja:: <JapaneseOU>
+ou;lang-ja;phonetic:: 44GI44GE44GO44KH44GG44G2
+# ou;lang-ja:: <JapaneseOU_in_phonetic_representation>
+ou;lang-en: Sales
+description: Japanese office
+
+dn:: dWlkPXJvZ2FzYXdhcmEsb3U95Za25qWt6YOoLG89QWlyaXVz
+# dn:: uid=<uid>,ou=<JapaneseOU>,o=Airius
+userpassword: {SHA}O3HSv1MusyL4kTjP+HKI5uxuNoM=
+objectclass: top
+objectclass: person
+objectclass: organizationalPerson
+objectclass: inetOrgPerson
+uid: rogasawara
+mail: rogasawara@airius.co.jp
+givenname;lang-ja:: 44Ot44OJ44OL44O8
+# givenname;lang-ja:: <JapaneseGivenname>
+sn;lang-ja:: 5bCP56yg5Y6f
+# sn;lang-ja:: <JapaneseSn>
+cn;lang-ja:: 5bCP56yg5Y6fIOODreODieODi+ODvA==
+# cn;lang-ja:: <JapaneseCn>
+title;lang-ja:: 5Za25qWt6YOoIOmDqOmVtw==
+# title;lang-ja:: <JapaneseTitle>
+preferredlanguage: ja
+givenname:: 44Ot44OJ44OL44O8
+# givenname:: <JapaneseGivenname>
+sn:: 5bCP56yg5Y6f
+# sn:: <JapaneseSn>
+cn:: 5bCP56yg5Y6fIOODreODieODi+ODvA==
+# cn:: <JapaneseCn>
+title:: 5Za25qWt6YOoIOmDqOmVtw==
+# title:: <JapaneseTitle>
+givenname;lang-ja;phonetic:: 44KN44Gp44Gr44O8
+sn;lang-ja;phonetic:: 44GK44GM44GV44KP44KJ
+# sn;lang-ja;phonetic:: <JapaneseSn_in_phonetic_representation_kana>
+cn;lang-ja;phonetic:: 44GK44GM44GV44KP44KJIOOCjeOBqeOBq+ODvA==
+# cn;lang-ja;phonetic:: <JapaneseCn_in_phonetic_representation_kana>
+title;lang-ja;phonetic:: 44GI44GE44GO44KH44GG44G2IOOBtuOBoeOCh+OBhg==
+# title;lang-ja;phonetic::
+# <JapaneseTitle_in_phonetic_representation_kana>
+givenname;lang-en: Rodney
+sn;lang-en: Ogasawara
+cn;lang-en: Rodney Ogasawara
+title;lang-en: Sales, Director
+",
+        "add ou=営業部,o=Airius objectclass|top|organizationalUnit ou|営業部 ou;lang-ja|営業部 ou;lang-ja;phonetic|えいぎょうぶ ou;lang-en|Sales description|Japanese office @13
+add uid=rogasawara,ou=営業部,o=Airius userpassword|{SHA}O3HSv1MusyL4kTjP+HKI5uxuNoM= objectclass|top|person|organizationalPerson|inetOrgPerson uid|rogasawara mail|rogasawara@airius.co.jp givenname;lang-ja|ロドニー sn;lang-ja|小笠原 cn;lang-ja|小笠原 ロドニー title;lang-ja|営業部 部長 preferredlanguage|ja givenname|ロドニー sn|小笠原 cn|小笠原 ロドニー title|営業部 部長 givenname;lang-ja;phonetic|ろどにー sn;lang-ja;phonetic|おがさわら cn;lang-ja;phonetic|おがさわら ろどにー title;lang-ja;phonetic|えいぎょうぶ ぶちょう givenname;lang-en|Rodney sn;lang-en|Ogasawara cn;lang-en|Rodney Ogasawara title;lang-en|Sales, Director @52
+end",
+    ),
+    // A URL in place of a value.
+    (
+        "version: 1
+dn: cn=Horatio Jensen, ou=Product Testing, dc=airius, dc=com
+objectclass: top
+objectclass: person
+objectclass: organizationalPerson
+cn: Horatio Jensen
+cn: Horatio N Jensen
+sn: Jensen
+uid: hjensen
+telephonenumber: +1 408 555 1212
+jpegphoto:< file:///usr/local/directory/photos/hjensen.jpg
+",
+        "BadLine(11)",
+    ),
+    (
+        "version: 1
 # Add a new entry
 dn: cn=Fiona Jensen, ou=Marketing, dc=airius, dc=com
 changetype: add
 objectclass: top
+objectclass: person
+objectclass: organizationalPerson
 cn: Fiona Jensen
+sn: Jensen
+uid: fiona
+telephonenumber: +1 408 555 1212
 
 # Delete an existing entry
 dn: cn=Robert Jensen, ou=Marketing, dc=airius, dc=com
@@ -153,11 +249,15 @@ deleteoldrdn: 1
 # Rename an entry and move all of its children to a new location in
 # the directory tree (only implemented by LDAPv3 servers).
 dn: ou=PD Accountants, ou=Product Development, dc=airius, dc=com
-changetype: moddn
+changetype: modrdn
 newrdn: ou=Product Development Accountants
 deleteoldrdn: 0
 newsuperior: ou=Accounting, dc=airius, dc=com
 
+# Modify an entry: add an additional value to the postaladdress
+# attribute, completely delete the description attribute, replace
+# the telephonenumber attribute with two values, and delete a specific
+# value from the facsimiletelephonenumber attribute
 dn: cn=Paula Jensen, ou=Product Development, dc=airius, dc=com
 changetype: modify
 add: postaladdress
@@ -172,12 +272,39 @@ telephonenumber: +1 408 555 5678
 delete: facsimiletelephonenumber
 facsimiletelephonenumber: +1 408 555 9876
 -
+
+# Modify an entry: replace the postaladdress attribute with an empty
+# set of values (which will cause the attribute to be removed), and
+# delete the entire description attribute. Note that the first will
+# always succeed, while the second will only succeed if at least
+# one value for the description attribute is present.
+dn: cn=Ingrid Jensen, ou=Product Support, dc=airius, dc=com
+changetype: modify
+replace: postaladdress
+-
+delete: description
+-
 ",
-        b"add cn=Fiona Jensen, ou=Marketing, dc=airius, dc=com objectclass|top cn|Fiona Jensen @6
-delete cn=Robert Jensen, ou=Marketing, dc=airius, dc=com @10
-rename cn=Paul Jensen, ou=Product Development, dc=airius, dc=com to cn=Paula Jensen dropping @16
-rename ou=PD Accountants, ou=Product Development, dc=airius, dc=com to ou=Product Development Accountants below ou=Accounting, dc=airius, dc=com @24
-modify cn=Paula Jensen, ou=Product Development, dc=airius, dc=com + postaladdress|123 Anystreet $ Sunnyvale, CA $ 94086 - description = telephonenumber|+1 408 555 1234|+1 408 555 5678 - facsimiletelephonenumber|+1 408 555 9876 @39
+        "add cn=Fiona Jensen, ou=Marketing, dc=airius, dc=com objectclass|top|person|organizationalPerson cn|Fiona Jensen sn|Jensen uid|fiona telephonenumber|+1 408 555 1212 @11
+delete cn=Robert Jensen, ou=Marketing, dc=airius, dc=com @15
+rename cn=Paul Jensen, ou=Product Development, dc=airius, dc=com to cn=Paula Jensen dropping @21
+rename ou=PD Accountants, ou=Product Development, dc=airius, dc=com to ou=Product Development Accountants below ou=Accounting, dc=airius, dc=com @29
+modify cn=Paula Jensen, ou=Product Development, dc=airius, dc=com + postaladdress|123 Anystreet $ Sunnyvale, CA $ 94086 - description = telephonenumber|+1 408 555 1234|+1 408 555 5678 - facsimiletelephonenumber|+1 408 555 9876 @48
+modify cn=Ingrid Jensen, ou=Product Support, dc=airius, dc=com = postaladdress - description @60
+end",
+    ),
+    // What follows the name is no `changetype:`, so these are the attributes of an add.
+    (
+        "version: 1
+# Delete an entry. The operation will attach the LDAPv3
+# Tree Delete Control defined in [9]. The criticality
+# field is \"true\" and the controlValue field is
+# absent, as required by [9].
+dn: ou=Product Development, dc=airius, dc=com
+control: 1.2.840.113556.1.4.805 true
+changetype: delete
+",
+        "add ou=Product Development, dc=airius, dc=com control|1.2.840.113556.1.4.805 true changetype|delete @8
 end",
     ),
 ];
@@ -185,12 +312,15 @@ end",
 #[test]
 fn examples_are_read(rt: HostRuntime) -> Result<(), Fail> {
     for (text, want) in EXAMPLES {
-        assert_eq!(rt; told(rt.alloc(), text)?.as_slice(), want);
+        assert_eq!(rt;
+            told(rt.alloc(), text.as_bytes())?.as_slice(),
+            want.as_bytes()
+        );
     }
     Ok(())
 }
 
-const RULES: [(&[u8], &[u8]); 44] = [
+const RULES: [(&[u8], &[u8]); 45] = [
     (b"", b"end"),
     (b"\n# c\n d\n\n", b"end"),
     (b"dn: a\r\ncn:  x \r\n", b"add a cn|x  @2\nend"),
@@ -244,6 +374,7 @@ const RULES: [(&[u8], &[u8]); 44] = [
     (b"dn: a\nchangetype: add\n", b"BadChange(2)"),
     (b"dn: a\nchangetype: moved\n", b"BadChange(2)"),
     (b"dn: a\nchangetype: delete\ncn: x\n", b"BadChange(3)"),
+    (b"dn: a\nchangetype: delete\ncontrol: 1\n", b"BadChange(3)"),
     (
         b"dn: a\nchangetype: modify\nadd: cn\ncn: x\nadd: sn\n",
         b"BadChange(5)",

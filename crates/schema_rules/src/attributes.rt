@@ -25,7 +25,7 @@ pub struct Attribute {
 }
 
 impl Attribute {
-    fn copy(&self) -> Result<Attribute, NoMemory>
+    pub fn copy(&self) -> Result<Attribute, NoMemory>
         ensures { IfOk result (λ attribute. attribute ≡ self.now) }
     {
         Ok(Attribute {
@@ -74,6 +74,14 @@ impl Attrs {
         Attrs {
             items: Vec::new(alloc),
         }
+    }
+
+    /// The list of these attributes, which takes them over.
+    pub fn of(items: Vec<Attribute>) -> Attrs
+        requires { spec.IsAttributeList items.items }
+        ensures { result ≡ items.items }
+    {
+        Attrs { items }
     }
 
     pub fn list(&self) -> &[Attribute]
@@ -172,7 +180,7 @@ fn checked_type(alloc: Global, raw: &RawAttribute) -> Result<AttributeType, Sche
 }
 
 /// Puts values of a type behind its other values, or behind all attributes.
-fn add_values(
+pub fn add_values(
     attributes: &mut Vec<Attribute>,
     kind: AttributeType,
     values: &[Octets],
@@ -215,7 +223,7 @@ fn repeats_value(alloc: Global, attribute: &Attribute) -> Result<bool, NoMemory>
 }
 
 /// Whether a key comes twice.
-fn has_twins(keys: &[Octets]) -> bool
+pub fn has_twins(keys: &[Octets]) -> bool
     ensures { result ≡ spec.has_twins keys.now }
 {
     let mut rest = keys;

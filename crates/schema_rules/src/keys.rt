@@ -77,7 +77,7 @@ fn is_ascii(value: &[u8]) -> bool
 }
 
 /// The keys of those values that have one.
-pub(crate) fn keys_of(
+pub fn keys_of(
     alloc: Global,
     kind: AttributeType,
     values: &[Octets],
@@ -94,7 +94,7 @@ pub(crate) fn keys_of(
 }
 
 /// Whether each value is of the type's syntax.
-pub(crate) fn are_of_syntax(
+pub fn are_of_syntax(
     alloc: Global,
     kind: AttributeType,
     values: &[Octets],
@@ -111,7 +111,11 @@ pub(crate) fn are_of_syntax(
 
 /// The key of a value, or nothing where the value has none.
 #[tactic(auto, unfolding(crate::specs::Keys::key_of))]
-fn known_key(alloc: Global, kind: AttributeType, value: &[u8]) -> Result<Option<Octets>, NoMemory>
+pub fn known_key(
+    alloc: Global,
+    kind: AttributeType,
+    value: &[u8],
+) -> Result<Option<Octets>, NoMemory>
     ensures { IfOk result (λ key. key ≡ spec.key_of kind value.now) }
 {
     if kind.operational() {

@@ -10,10 +10,10 @@ mod keys;
 mod raw;
 mod types;
 
-pub use attributes::{Attribute, Attrs};
+pub use attributes::{Attribute, Attrs, add_values, has_twins};
 pub use entry_check::check_entry;
 pub use fault::SchemaFault;
-pub use keys::key_of;
+pub use keys::{are_of_syntax, key_of, keys_of, known_key};
 pub use raw::{Change, EditList, How, RawAttribute, RawEdit, RawList};
 pub use types::{AttributeType, Rule};
 

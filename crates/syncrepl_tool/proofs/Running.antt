@@ -1,106 +1,87 @@
 -- What a run has done so far, and how it goes on and ends.
-use Rattle.std.proofs.Common.{◌≡◌, ◌+◌, ◌≤◌, ℕ, Option, List, [], ◌∷◌, ◌++◌, length, refl, ap, sym, subst, ◌∙◌, inl, inr, arith, append-nil, append_assoc}
+use Rattle.std.proofs.Common.{◌≡◌, ◌≢◌, ◌≤◌, ℕ, Option, List, [], ◌∷◌, ◌++◌, refl, ap, sym, subst, ◌∙◌, inl, inr, arith, append-nil, append_assoc}
 use Rattle.std.proofs.lemmas.List.{flat_map_more}
 use Rattle.std.proofs.KnownBytes.{Appends-nil, Appends-trans}
 use Rattle.std.specs.Io.KnownBytes.{Appends}
+use Rattle.std.specs.Prelude.{Result, Ok, Err}
 use Rattle.sync_io.specs.Sink.{AppendsFront}
-use Rattle.cascade_world.specs.declared.event.Command.{Command}
 use Rattle.cascade_world.specs.declared.fault.Cause.{Cause}
-use Rattle.cascade_world.specs.declared.fault.Cause.TheVariants.{NotYet}
-use Rattle.cascade_world.specs.declared.form.Names.TheVariants.{Nobody}
-use Rattle.cascade_world.specs.declared.node.Node.{Node}
-use Rattle.cascade_world.specs.Form.{IsRefusedAt}
-use Rattle.cascade_world.specs.Reader.{Reader, Next, next_from, names_after, FailsNext, IsFaultLine}
-use Rattle.cascade_world.specs.Reader.Next.{Ended, TooEarly, Outside, Got}
+use Rattle.cascade_world.specs.declared.fault.Cause.TheVariants.{NoMemory, BadCommand, UnknownNode, NameTaken, BadRecord, LimitReached, OutsideSuffix, NotYet}
+use Rattle.cascade_world.specs.declared.fault.ScriptFault.{ScriptFault}
+use Rattle.cascade_world.specs.Fault.{fault_at, RefusedAt}
+use Rattle.cascade_world.specs.Orders.{Order}
+use Rattle.cascade_world.specs.Reader.{Reader, Next, next_in, IsRefusalOf}
+use Rattle.cascade_world.specs.Reader.Next.{Ended, Refused, Got}
 use Rattle.cascade_world.specs.Report.{Told, lines_text, report_text}
 use Rattle.cascade_world.specs.Run.{Runs, IsRefusal}
-use Rattle.cascade_world.specs.World.{step, IsStep, RefusesStep}
-use Rattle.cascade_world.proofs.FirstBad.{got_is_good, first_bad, too_short}
-use Rattle.cascade_world.proofs.Fits.{NamesFit, fits_after, fits_never_refused}
-use Rattle.cascade_world.proofs.HeadlineHolds.{runs_stored_right}
+use Rattle.cascade_world.specs.World.{State, no_nodes, step, IsStep}
+use Rattle.cascade_world.proofs.HeadlineHolds.{runs_lines_right}
 use Rattle.cascade_world.proofs.Runs.{runs-more, step_told}
 use Rattle.syncrepl_tool.specs.declared.run.Outcome.{Outcome}
-use Rattle.syncrepl_tool.specs.declared.run.Outcome.TheVariants.{Refused}
+use Rattle.syncrepl_tool.specs.declared.run.Outcome.TheVariants as outcome
 use Rattle.syncrepl_tool.specs.Cascade.{WritesFront, WritesReport, WritesWhole, WritesUpTo, Ends}
 
--- the events that were read are done and told
-pub record SoFar (lines : List (List ℕ)) (nodes : List Node) (reader : Reader) (old new : Option (List ℕ)) (before now : ℕ) : Type 0 where
-  pub events : List Command
+-- the orders that were read are done and told
+pub record SoFar (script : Reader) (state : State) (reader : Reader) (old new : Option (List ℕ)) (before now : ℕ) : Type 0 where
+  pub orders : List Order
   pub report : List (List Told)
-  pub run : Runs [] Nobody lines events report nodes reader.names reader.lines
-  pub fits : NamesFit nodes reader.names
-  pub count : reader.read + length reader.lines ≡ length lines
+  pub run : Runs no_nodes script orders report state reader
   pub written : Appends old new (report_text report)
   pub later : before ≤ now
 
-pub start : (nodes : List Node) (reader : Reader) (held : Option (List ℕ)) (n : ℕ) → nodes ≡ [] → (reader.names ≡ Nobody) × (reader.read ≡ 0) → SoFar reader.lines nodes reader held held n n
-start nodes reader held n fresh first = record {
-  events = [];
-  report = [];
-  run = (sym fresh, sym first.0, refl);
-  fits = subst (λ names. NamesFit nodes names) (sym first.0) fresh;
-  count = omega (arith, first.1);
-  written = Appends-nil held;
-  later = omega arith;
-}
+pub start : (state : State) (reader : Reader) (held : Option (List ℕ)) (n : ℕ) → state ≡ no_nodes → SoFar reader state reader held held n n
+start state reader held n fresh = record { orders = []; report = []; run = (sym fresh, refl); written = Appends-nil held; later = omega arith }
 
 report_text-push : (report : List (List Told)) (told : List Told) → report_text report ++ lines_text told ≡ report_text (report ++ told ∷ [])
 report_text-push report told = flat_map_more lines_text [] report told
 
-pub go_on : {lines : List (List ℕ)} {reader : Reader} {nodes : List Node} {old new : Option (List ℕ)} {before now : ℕ} → SoFar lines nodes reader old new before now
-    → (event : Command) (after : Reader) (next : List Node) (text : List ℕ) (held : Option (List ℕ)) (count : ℕ)
-    → (next_from reader.names reader.lines ≡ Got event after.lines) × (after.names ≡ names_after reader.names event) × (after.read + length after.lines ≡ reader.read + length reader.lines)
-    → IsStep (step nodes event) next text → Appends new held text → now ≤ count → SoFar lines next after old held before count
-go_on {lines} {reader} {nodes} {old} {new} s event after next text held count reads steps appended later =
-    let told = step_told (step nodes event) next text steps in
-    let fit = (got_is_good reader.lines reader.names event after.lines reads.0).0 in
+pub go_on : {script reader : Reader} {state : State} {old new : Option (List ℕ)} {before now : ℕ} → SoFar script state reader old new before now
+    → (line : ℕ) (order : Order) (after : Reader) (next : State) (text : List ℕ) (held : Option (List ℕ)) (count : ℕ)
+    → next_in reader ≡ Got line order after → IsStep (step state order) next text → Appends new held text → now ≤ count → SoFar script next after old held before count
+go_on {script} {reader} {state} {old} {new} s line order after next text held count reads steps appended later =
+    let told = step_told (step state order) next text steps in
     record {
-      events = s.events ++ event ∷ [];
+      orders = s.orders ++ order ∷ [];
       report = s.report ++ told.0 ∷ [];
-      run = subst (λ n. Runs [] Nobody lines (s.events ++ event ∷ []) (s.report ++ told.0 ∷ []) next n after.lines) (sym reads.1)
-          (runs-more [] Nobody lines s.events s.report nodes reader.names reader.lines s.run event told.0 next after.lines reads.0 told.1);
-      fits = subst (λ n. NamesFit next n) (sym reads.1) (fits_after nodes next reader.names event told.0 s.fits fit told.1);
-      count = reads.2 ∙ s.count;
+      run = runs-more no_nodes script s.orders s.report state reader s.run line order told.0 next after reads told.1;
       written = subst (λ t. Appends old held t) (ap (λ t. report_text s.report ++ t) told.2 ∙ report_text-push s.report told.0) (Appends-trans old new held (report_text s.report) text s.written appended);
       later = omega (arith, s.later);
     }
 
-pub written_report : {lines : List (List ℕ)} {reader : Reader} {nodes : List Node} {old new : Option (List ℕ)} {before now : ℕ} → SoFar lines nodes reader old new before now → WritesReport lines old new nodes reader.names reader.lines
-written_report {lines} {reader} {nodes} s = record {
-  events = s.events;
+pub written_report : {script reader : Reader} {state : State} {old new : Option (List ℕ)} {before now : ℕ} → SoFar script state reader old new before now → WritesReport script old new state reader
+written_report {script} {reader} {state} s = record {
+  orders = s.orders;
   report = s.report;
   run = s.run;
-  right = runs_stored_right Nobody lines s.events s.report nodes reader.names reader.lines s.run;
+  right = runs_lines_right script s.orders s.report state reader s.run;
   written = s.written;
 }
 
-pub front_so_far : {lines : List (List ℕ)} {reader : Reader} {nodes : List Node} {old new : Option (List ℕ)} {before now : ℕ} → SoFar lines nodes reader old new before now → WritesFront lines old new
-front_so_far {lines} {reader} {nodes} s = record {
-  events = s.events;
+pub front_so_far : {script reader : Reader} {state : State} {old new : Option (List ℕ)} {before now : ℕ} → SoFar script state reader old new before now → WritesFront script old new
+front_so_far {script} {reader} {state} s = record {
+  orders = s.orders;
   report = s.report;
-  nodes = nodes;
-  names = reader.names;
-  rest = reader.lines;
+  end = state;
+  rest = reader;
   run = s.run;
-  right = runs_stored_right Nobody lines s.events s.report nodes reader.names reader.lines s.run;
+  right = runs_lines_right script s.orders s.report state reader s.run;
   written = (report_text s.report, [], sym (append-nil (report_text s.report)), s.written);
 }
 
--- a front of the lines of one more event
-pub front_of_next : {lines : List (List ℕ)} {reader : Reader} {nodes : List Node} {old new : Option (List ℕ)} {before now : ℕ} → SoFar lines nodes reader old new before now
-    → (event : Command) (more : List (List ℕ)) (next : List Node) (text : List ℕ) (held : Option (List ℕ))
-    → next_from reader.names reader.lines ≡ Got event more → IsStep (step nodes event) next text → AppendsFront new held text → WritesFront lines old held
-front_of_next {lines} {reader} {nodes} {old} {new} s event more next text held reads steps front =
-    let told = step_told (step nodes event) next text steps in
-    let run = runs-more [] Nobody lines s.events s.report nodes reader.names reader.lines s.run event told.0 next more reads told.1 in
+-- a front of the lines of one more order
+pub front_of_next : {script reader : Reader} {state : State} {old new : Option (List ℕ)} {before now : ℕ} → SoFar script state reader old new before now
+    → (line : ℕ) (order : Order) (more : Reader) (next : State) (text : List ℕ) (held : Option (List ℕ))
+    → next_in reader ≡ Got line order more → IsStep (step state order) next text → AppendsFront new held text → WritesFront script old held
+front_of_next {script} {reader} {state} {old} {new} s line order more next text held reads steps front =
+    let told = step_told (step state order) next text steps in
+    let run = runs-more no_nodes script s.orders s.report state reader s.run line order told.0 next more reads told.1 in
     record {
-      events = s.events ++ event ∷ [];
+      orders = s.orders ++ order ∷ [];
       report = s.report ++ told.0 ∷ [];
-      nodes = next;
-      names = names_after reader.names event;
+      end = next;
       rest = more;
       run = run;
-      right = runs_stored_right Nobody lines (s.events ++ event ∷ []) (s.report ++ told.0 ∷ []) next (names_after reader.names event) more run;
+      right = runs_lines_right script (s.orders ++ order ∷ []) (s.report ++ told.0 ∷ []) next more run;
       written =
           let whole : lines_text told.0 ≡ front.0 ++ front.1 = sym told.2 ∙ front.2 in (
             report_text s.report ++ front.0,
@@ -110,39 +91,47 @@ front_of_next {lines} {reader} {nodes} {old} {new} s event more next text held r
           );
     }
 
--- the text is read to its end
-pub whole_so_far : {lines : List (List ℕ)} {reader : Reader} {nodes : List Node} {old new : Option (List ℕ)} {before now : ℕ} → SoFar lines nodes reader old new before now → next_from reader.names reader.lines ≡ Ended → WritesWhole lines old new nodes
-whole_so_far {lines} {reader} s ended = (reader.names, reader.lines, written_report s, ended)
+-- the script is read to its end
+pub whole_so_far : {script reader : Reader} {state : State} {old new : Option (List ℕ)} {before now : ℕ} → SoFar script state reader old new before now → next_in reader ≡ Ended → WritesWhole script old new state
+whole_so_far {script} {reader} s ended = (reader, written_report s, ended)
 
-refused_at : {lines : List (List ℕ)} {reader : Reader} {nodes : List Node} {old new : Option (List ℕ)} {before now : ℕ} → SoFar lines nodes reader old new before now
-    → (line : ℕ) (n : Next) → next_from reader.names reader.lines ≡ n → IsFaultLine (length lines) line n → IsRefusal n × IsRefusedAt lines line
-refused_at s line Ended is h = absurd h
-refused_at {lines} {reader} {nodes} s line TooEarly is h = (tt, inr (too_short lines s.events s.report nodes reader.names reader.lines line s.run is h))
-refused_at {lines} {reader} {nodes} s line (Outside rest) is h = (tt, inl (first_bad lines s.events s.report nodes reader.names reader.lines rest line s.run is h))
-refused_at s line (Got event rest) is h = absurd h
+refused_reading : (n : Next) (line : ℕ) (cause : Cause) → cause ≢ NoMemory → IsRefusalOf n line cause → n ≡ Refused (fault_at line cause)
+refused_reading n line BadCommand known h = h
+refused_reading n line UnknownNode known h = h
+refused_reading n line NameTaken known h = h
+refused_reading n line BadRecord known h = h
+refused_reading n line (LimitReached number) known h = h
+refused_reading n line OutsideSuffix known h = h
+refused_reading n line NotYet known h = h
+refused_reading n line NoMemory known h = absurd (known refl)
 
 -- a refusal in reading
-pub refused_read : {lines : List (List ℕ)} {reader : Reader} {nodes : List Node} {old new : Option (List ℕ)} {before now : ℕ} → SoFar lines nodes reader old new before now
-    → (line : ℕ) (cause : Cause) → cause ≡ NotYet → FailsNext (reader.read + length reader.lines) line cause (next_from reader.names reader.lines) → WritesUpTo lines old new nodes line
-refused_read {lines} {reader} s line cause is h =
-    let P : Cause → Type 0 = λ c. FailsNext (reader.read + length reader.lines) line c (next_from reader.names reader.lines) in
-    let fault = subst (λ n. IsFaultLine n line (next_from reader.names reader.lines)) s.count (subst P is h) in
-    let at = refused_at s line (next_from reader.names reader.lines) refl fault in
-    (reader.names, reader.lines, written_report s, at.0, at.1)
+pub refused_read : {script reader : Reader} {state : State} {old new : Option (List ℕ)} {before now : ℕ} → SoFar script state reader old new before now
+    → (line : ℕ) (cause : Cause) → cause ≢ NoMemory → IsRefusalOf (next_in reader) line cause → WritesUpTo script old new state line cause
+refused_read {script} {reader} s line cause known h = (reader, written_report s, inl (refused_reading (next_in reader) line cause known h))
 
--- no event that was read is refused by its step
-pub no_refused_step : {lines : List (List ℕ)} {reader : Reader} {nodes : List Node} {old new : Option (List ℕ)} {before now : ℕ} → SoFar lines nodes reader old new before now
-    → (event : Command) (more : List (List ℕ)) (line at : ℕ) (cause : Cause) → next_from reader.names reader.lines ≡ Got event more → cause ≡ NotYet → RefusesStep line at cause (step nodes event) → ⊥
-no_refused_step {lines} {reader} {nodes} s event more line at cause reads is h =
-    let P : Cause → Type 0 = λ c. RefusesStep line at c (step nodes event) in
-    fits_never_refused nodes reader.names event s.fits (got_is_good reader.lines reader.names event more reads).0 (subst P is h).0
+refused_answer : {Y : Type 0} (line at : ℕ) (cause : Cause) (answer : Result Y Cause) → cause ≢ NoMemory → RefusedAt line at cause answer → (answer ≡ Err cause) × (at ≡ line)
+refused_answer line at BadCommand answer known h = h
+refused_answer line at UnknownNode answer known h = h
+refused_answer line at NameTaken answer known h = h
+refused_answer line at BadRecord answer known h = h
+refused_answer line at (LimitReached number) answer known h = h
+refused_answer line at OutsideSuffix answer known h = h
+refused_answer line at NotYet answer known h = h
+refused_answer line at NoMemory answer known h = absurd (known refl)
+
+-- a refusal by the nodes
+pub refused_step : {script reader : Reader} {state : State} {old new : Option (List ℕ)} {before now : ℕ} → SoFar script state reader old new before now
+    → (line at : ℕ) (order : Order) (more : Reader) (cause : Cause) → next_in reader ≡ Got line order more → cause ≢ NoMemory → RefusedAt line at cause (step state order) → WritesUpTo script old new state at cause
+refused_step {script} {reader} {state} {old} {new} s line at order more cause reads known h =
+    let is = refused_answer line at cause (step state order) known h in
+    subst (λ l. WritesUpTo script old new state l cause) (sym is.1) (reader, written_report s, inr (order, more, reads, is.0))
 
 -- nothing was written
-pub nothing_written : (lines : List (List ℕ)) (held : Option (List ℕ)) → WritesFront lines held held
-nothing_written lines held = front_so_far (start [] (record { names = Nobody; lines = lines; read = 0 }) held 0 refl (refl, refl))
+pub nothing_written : (script : Reader) (held : Option (List ℕ)) → WritesFront script held held
+nothing_written script held = front_so_far (start no_nodes script held 0 refl)
 
-pub refused_ends : {lines : List (List ℕ)} {reader : Reader} {nodes : List Node} {old new : Option (List ℕ)} {before now : ℕ} → SoFar lines nodes reader old new before now
-    → (line : ℕ) (cause : Cause) → FailsNext (reader.read + length reader.lines) line cause (next_from reader.names reader.lines) → (b n : ℕ) (o : Outcome) → (cause ≡ NotYet) × (o ≡ Refused line) → Ends lines old new nodes b n o
-refused_ends {lines} {reader} {nodes} {old} {new} s line cause h b n o is =
-    let P : Outcome → Type 0 = Ends lines old new nodes b n in
-    subst P (sym is.1) (refused_read s line cause is.0 h)
+-- how the run ends with a refusal
+pub ends_refused : {script : Reader} {old new : Option (List ℕ)} {state : State} (b n : ℕ) (fault : ScriptFault) (o : Outcome) → WritesUpTo script old new state fault.line fault.cause → o ≡ outcome.Refused fault → Ends script old new state b n o
+ends_refused {script} {old} {new} {state} b n fault o told is =
+    let P : Outcome → Type 0 = Ends script old new state b n in subst P (sym is) told

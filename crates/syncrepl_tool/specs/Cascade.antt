@@ -6,17 +6,16 @@ use Rattle.std.specs.String.{string_bytes}
 use Rattle.std.specs.Io.KnownBytes.{Appends, Keeps, IsAtEnd}
 use Rattle.sync_io.specs.Faults.{Rose}
 use Rattle.sync_io.specs.Sink.{AppendsFront}
-use Rattle.cascade_world.specs.declared.event.Command.{Command}
-use Rattle.cascade_world.specs.declared.form.Names.{Names}
-use Rattle.cascade_world.specs.declared.form.Names.TheVariants.{Nobody}
-use Rattle.cascade_world.specs.declared.node.Node.{Node}
-use Rattle.cascade_world.specs.Form.{IsRefusedAt}
-use Rattle.cascade_world.specs.Headline.{StoredLinesAreRight}
+use Rattle.cascade_world.specs.declared.fault.Cause.{Cause}
+use Rattle.cascade_world.specs.declared.fault.Cause.TheVariants.{LimitReached}
+use Rattle.cascade_world.specs.Headline.{LinesAreRight}
 use Rattle.cascade_world.specs.Lines.{most_bytes}
-use Rattle.cascade_world.specs.Reader.{next_from}
+use Rattle.cascade_world.specs.Orders.{Order}
+use Rattle.cascade_world.specs.Reader.{Reader, next_in}
 use Rattle.cascade_world.specs.Reader.Next.{Ended}
 use Rattle.cascade_world.specs.Report.{Told, report_text}
 use Rattle.cascade_world.specs.Run.{Runs, IsRefusal, IsScript}
+use Rattle.cascade_world.specs.World.{State, no_nodes}
 use Rattle.syncrepl_tool.specs.Texts.{Says, refusal_text, write_fault_text}
 use Rattle.syncrepl_tool.specs.declared.run.Status.{Status}
 use Rattle.syncrepl_tool.specs.declared.run.Outcome.{Outcome}
@@ -24,45 +23,58 @@ use Rattle.syncrepl_tool.specs.declared.run.Outcome.TheVariants.{Done, Refused, 
 use Rattle.syncrepl_tool.specs.declared.run.Input.{Input}
 use Rattle.syncrepl_tool.specs.declared.run.Input.TheVariants.{Text, Failed}
 
--- The headline: of the report of the first events of the lines a front was written, which may end in the midst of a line, and each of these events' `stored` lines is right.
-pub record WritesFront (lines : List (List ℕ)) (old new : Option (List ℕ)) : Type 0 where
-  pub events : List Command
+-- The headline: of the report of the first orders of the script a front was written, which may end in the midst of a line, and each of these lines is right.
+pub record WritesFront (script : Reader) (old new : Option (List ℕ)) : Type 0 where
+  pub orders : List Order
   pub report : List (List Told)
-  pub nodes : List Node
-  pub names : Names
-  pub rest : List (List ℕ)
-  pub run : Runs [] Nobody lines events report nodes names rest
-  pub right : StoredLinesAreRight [] events report
+  pub end : State
+  pub rest : Reader
+  pub run : Runs no_nodes script orders report end rest
+  pub right : LinesAreRight [] orders report
   pub written : AppendsFront old new (report_text report)
 
--- the whole report of the first events of the lines was written, and the nodes are those that these events leave
-pub record WritesReport (lines : List (List ℕ)) (old new : Option (List ℕ)) (nodes : List Node) (names : Names) (rest : List (List ℕ)) : Type 0 where
-  pub events : List Command
+-- the whole report of the first orders of the script was written, and the state is that which these orders leave
+pub record WritesReport (script : Reader) (old new : Option (List ℕ)) (end : State) (rest : Reader) : Type 0 where
+  pub orders : List Order
   pub report : List (List Told)
-  pub run : Runs [] Nobody lines events report nodes names rest
-  pub right : StoredLinesAreRight [] events report
+  pub run : Runs no_nodes script orders report end rest
+  pub right : LinesAreRight [] orders report
   pub written : Appends old new (report_text report)
 
--- all events of the lines are done and told
-abbrev pub WritesWhole : List (List ℕ) → Option (List ℕ) → Option (List ℕ) → List Node → Type 0
-WritesWhole lines old new nodes = (names : Names) × (rest : List (List ℕ)) × WritesReport lines old new nodes names rest × (next_from names rest ≡ Ended)
+-- all orders of the script are done and told
+abbrev pub WritesWhole : Reader → Option (List ℕ) → Option (List ℕ) → State → Type 0
+WritesWhole script old new end = (rest : Reader) × WritesReport script old new end rest × (next_in rest ≡ Ended)
 
--- the events before the refused line are done and told, and that line has this number
-abbrev pub WritesUpTo : List (List ℕ) → Option (List ℕ) → Option (List ℕ) → List Node → ℕ → Type 0
-WritesUpTo lines old new nodes line =
-    (names : Names) × (rest : List (List ℕ)) × WritesReport lines old new nodes names rest × IsRefusal (next_from names rest) × IsRefusedAt lines line
+-- the orders before the refused one are done and told, and that is refused at this line with this cause
+abbrev pub WritesUpTo : Reader → Option (List ℕ) → Option (List ℕ) → State → ℕ → Cause → Type 0
+WritesUpTo script old new end line cause =
+    (rest : Reader) × WritesReport script old new end rest × IsRefusal end rest line cause
 
--- how the events of a script ended
-abbrev pub Ends : List (List ℕ) → Option (List ℕ) → Option (List ℕ) → List Node → ℕ → ℕ → Outcome → Type 0
-Ends lines old new nodes before now Done = WritesWhole lines old new nodes
-Ends lines old new nodes before now (Refused line) = WritesUpTo lines old new nodes line
-Ends lines old new nodes before now WriteFault = Rose before now
+-- how the orders of a script ended
+abbrev pub Ends : Reader → Option (List ℕ) → Option (List ℕ) → State → ℕ → ℕ → Outcome → Type 0
+Ends script old new end before now Done = WritesWhole script old new end
+Ends script old new end before now (Refused fault) = WritesUpTo script old new end fault.line fault.cause
+Ends script old new end before now WriteFault = Rose before now
 
--- the events of the lines are done, and nothing is said; or they are refused at a line, which is said; or writing the report failed
-abbrev pub RunEnds : List (List ℕ) → Option (List ℕ) → Option (List ℕ) → List Node → ℕ → ℕ → Option (List ℕ) → Option (List ℕ) → ℕ → ℕ → ℕ → Type 0
-RunEnds lines old new nodes before now unsaid said faults_before faults_now code =
-    ((code ≡ 0) × WritesWhole lines old new nodes × Keeps unsaid said)
-    ⊎ ((code ≡ 3) × ((line : ℕ) × WritesUpTo lines old new nodes line × Says (refusal_text line) unsaid said faults_before faults_now))
+-- the status of a refusal: 8 where a limit is passed, else 3
+abbrev pub status_of : Cause → ℕ
+status_of (LimitReached number) = 8
+status_of _ = 3
+
+-- the script is refused with a status of that number, and the refusal is said
+abbrev pub IsRefused : ℕ → Reader → Option (List ℕ) → Option (List ℕ) → State → Option (List ℕ) → Option (List ℕ) → ℕ → ℕ → Type 0
+IsRefused code script old new end unsaid said before now =
+    (line : ℕ) × (cause : Cause) × (status_of cause ≡ code) × WritesUpTo script old new end line cause
+    × Says (refusal_text line cause) unsaid said before now
+
+abbrev pub IsRefusedStatus : ℕ → Type 0
+IsRefusedStatus code = (code ≡ 3) ⊎ (code ≡ 8)
+
+-- the orders of the script are done, and nothing is said; or it is refused, which is said; or writing the report failed
+abbrev pub RunEnds : Reader → Option (List ℕ) → Option (List ℕ) → State → ℕ → ℕ → Option (List ℕ) → Option (List ℕ) → ℕ → ℕ → ℕ → Type 0
+RunEnds script old new end before now unsaid said faults_before faults_now code =
+    ((code ≡ 0) × WritesWhole script old new end × Keeps unsaid said)
+    ⊎ (IsRefusedStatus code × IsRefused code script old new end unsaid said faults_before faults_now)
     ⊎ ((code ≡ 5) × Rose before now × Says write_fault_text unsaid said faults_before faults_now)
 
 -- the text is the front of the bytes that were left, and all of them where it is not too long
@@ -85,12 +97,12 @@ IsCascade (word ∷ []) = string_bytes word ≡ codes "cascade"
 IsCascade (word ∷ other ∷ words) = ⊥
 
 abbrev pub IsCascadeStatus : ℕ → Type 0
-IsCascadeStatus code = (code ≡ 0) ⊎ (code ≡ 3) ⊎ (code ≡ 4) ⊎ (code ≡ 5)
+IsCascadeStatus code = (code ≡ 0) ⊎ (code ≡ 3) ⊎ (code ≡ 4) ⊎ (code ≡ 5) ⊎ (code ≡ 8)
 
 abbrev pub IsStatus : ℕ → Type 0
 IsStatus code = (code ≡ 2) ⊎ IsCascadeStatus code
 
--- a script of the form is done, and any other text is refused
+-- a script without a refusal is done, and any other text is refused
 pub record Decides (code : ℕ) (text : List ℕ) : Type 0 where
   pub script : IsScript text → code ≡ 0
-  pub other : (IsScript text → ⊥) → code ≡ 3
+  pub other : (IsScript text → ⊥) → IsRefusedStatus code

@@ -2,6 +2,8 @@
 use Rattle.std.specs.Prelude.{ℕ, Option, List, ◌++◌, codes}
 use Rattle.std.specs.Fmt.{decimal}
 use Rattle.std.specs.Io.KnownBytes.{Appends}
+use Rattle.cascade_world.specs.declared.fault.Cause.{Cause}
+use Rattle.cascade_world.specs.declared.fault.Cause.TheVariants.{BadCommand, UnknownNode, NameTaken, BadRecord, LimitReached, OutsideSuffix, NotYet, NoMemory}
 use Rattle.sync_io.specs.Faults.{Rose}
 use Rattle.sync_io.specs.Sink.{AppendsFront}
 
@@ -14,9 +16,20 @@ read_fault_text = codes "syncrepl: read fault\n"
 unfoldable pub write_fault_text : List ℕ
 write_fault_text = codes "syncrepl: write fault\n"
 
--- the place of a refusal and its name
-unfoldable pub refusal_text : ℕ → List ℕ
-refusal_text line = codes "syncrepl: line " ++ decimal line ++ codes ": NotYet\n"
+-- the name of a cause, and the limit that is passed
+unfoldable pub cause_text : Cause → List ℕ
+cause_text BadCommand = codes "BadCommand"
+cause_text UnknownNode = codes "UnknownNode"
+cause_text NameTaken = codes "NameTaken"
+cause_text BadRecord = codes "BadRecord"
+cause_text (LimitReached number) = codes "LimitReached " ++ decimal number
+cause_text OutsideSuffix = codes "OutsideSuffix"
+cause_text NotYet = codes "NotYet"
+cause_text NoMemory = codes "NoMemory"
+
+-- the place of a refusal and its cause
+unfoldable pub refusal_text : ℕ → Cause → List ℕ
+refusal_text line cause = codes "syncrepl: line " ++ decimal line ++ codes ": " ++ cause_text cause ++ codes "\n"
 
 -- the text was written, or a front of it where a write failed
 pub record Says (text : List ℕ) (old new : Option (List ℕ)) (before now : ℕ) : Type 0 where

@@ -1,12 +1,13 @@
-ghost use Rattle.std.specs.Prelude.{◌≡◌, ◌↔◌, ◌≤◌, false, IfOk, IfSome, IsTrue, ℕ, []};
+ghost use Rattle.std.specs.Prelude.{◌≡◌, ◌↔◌, ◌≢◌, ◌≤◌, false, IfOk, IfSome, IsTrue, ℕ, []};
 ghost use Rattle.std.specs.Io.KnownBytes.{IsAtEnd, Keeps};
 ghost use Rattle.sync_io.specs.Faults.{Rose};
-ghost use Rattle.cascade_world.specs.Lines.{script_lines};
+ghost use Rattle.cascade_world.specs.Reader.{reader_of};
 ghost use Rattle.cascade_world.specs.Run.{IsScript};
-ghost use Rattle.cascade_world.specs.declared.form.Names.TheVariants.{Nobody};
-ghost use Rattle.cascade_world.specs.declared.fault.Cause.TheVariants.{NotYet};
-ghost use Rattle.syncrepl_tool.specs.Texts.{Says, usage_text, read_fault_text, write_fault_text, refusal_text};
-ghost use Rattle.syncrepl_tool.specs.Cascade.{WritesFront, WritesWhole, WritesUpTo, Ends, RunEnds, IsInput, OnCode, Decides, IsCascade, IsStatus, IsCascadeStatus};
+ghost use Rattle.cascade_world.specs.World.{no_nodes};
+ghost use Rattle.std.specs.String.{string_bytes};
+ghost use Rattle.cascade_world.specs.declared.fault.Cause.TheVariants.{NoMemory};
+ghost use Rattle.syncrepl_tool.specs.Texts.{Says, usage_text, read_fault_text, write_fault_text, refusal_text, cause_text};
+ghost use Rattle.syncrepl_tool.specs.Cascade.{WritesFront, WritesWhole, IsRefused, IsRefusedStatus, status_of, Ends, RunEnds, IsInput, OnCode, Decides, IsCascade, IsStatus, IsCascadeStatus};
 
 use cascade_world::{Cause, NoMemory, Script, ScriptFault, World, read_event};
 use ldap_ber::Octets;
@@ -16,12 +17,13 @@ use std::thread::Threads;
 use sync_io::{Piece, Sink, Source, write_whole};
 
 /// The most bytes of a script.
-const MOST_BYTES: usize = 65_536;
+const MOST_BYTES: usize = 67_108_864;
 
 /// How a run ended.
 #[derive(Clone, Copy, Debug, PartialEq, Eq)]
 pub struct Status {
-    /// 0 done, 2 other words, 3 a refused script, 4 a read fault, 5 a write fault.
+    /// 0 done, 2 other words, 3 a refused script, 4 a read fault, 5 a write fault, 8 a script that passes
+    /// a limit.
     pub code: u8,
 }
 
@@ -35,16 +37,17 @@ pub fn run<R: Threads + Wait + Sync, I: Source, O: Sink, E: Sink>(
     output: &mut O,
     errors: &mut E,
 ) -> Result<Status, NoMemory>
-    requires fresh { world.old ≡ [] }
+    requires fresh { world.old ≡ no_nodes }
     requires prompt { I.waits input.old ≡ false }
 
     // Each `stored` line names a prefix of the provider's accepted writes, no shorter than those before
-    // its settling, and the consumer's entries are exactly what its specification selects from it.
+    // its settling, and the consumer's entries are exactly what its specification selects from it; a
+    // `show` of the consumer prints these until the next one.
     ensures headline { IfSome (I.bytes_left input.old) (λ text.
-        WritesFront (script_lines text) (O.bytes_held output.old) (O.bytes_held output.new)) }
+        WritesFront (reader_of text) (O.bytes_held output.old) (O.bytes_held output.new)) }
 
     ensures done { IfOk result (OnCode 0 (IfSome (I.bytes_left input.old) (λ text. IsScript text
-        × WritesWhole (script_lines text) (O.bytes_held output.old) (O.bytes_held output.new) world.new))) }
+        × WritesWhole (reader_of text) (O.bytes_held output.old) (O.bytes_held output.new) world.new))) }
     ensures read_to_end { IfOk result (OnCode 0 (IsAtEnd (I.bytes_left input.new))) }
     ensures quiet { IfOk result (OnCode 0 (Keeps (E.bytes_held errors.old) (E.bytes_held errors.new))) }
 
@@ -52,16 +55,19 @@ pub fn run<R: Threads + Wait + Sync, I: Source, O: Sink, E: Sink>(
     ensures usage_told { IfOk result (OnCode 2 (Says usage_text
         (E.bytes_held errors.old) (E.bytes_held errors.new)
         (E.write_fault_count errors.old) (E.write_fault_count errors.new))) }
-    ensures usage_alone { IfOk result (OnCode 2 ((world.new ≡ [])
+    ensures usage_alone { IfOk result (OnCode 2 ((world.new ≡ no_nodes)
         × Keeps (O.bytes_held output.old) (O.bytes_held output.new))) }
 
-    ensures refused { IfOk result (OnCode 3 (IfSome (I.bytes_left input.old) (λ text. (line : ℕ)
-        × WritesUpTo (script_lines text) (O.bytes_held output.old) (O.bytes_held output.new) world.new line
-        × Says (refusal_text line)
+    ensures refused { IfOk result (OnCode 3 (IfSome (I.bytes_left input.old) (λ text. IsRefused 3 (reader_of text)
+        (O.bytes_held output.old) (O.bytes_held output.new) world.new
         (E.bytes_held errors.old) (E.bytes_held errors.new)
         (E.write_fault_count errors.old) (E.write_fault_count errors.new)))) }
-    ensures no_script { IfOk result (OnCode 3 (IfSome (I.bytes_left input.old)
-        (λ text. IsScript text → ⊥))) }
+    ensures limited { IfOk result (OnCode 8 (IfSome (I.bytes_left input.old) (λ text. IsRefused 8 (reader_of text)
+        (O.bytes_held output.old) (O.bytes_held output.new) world.new
+        (E.bytes_held errors.old) (E.bytes_held errors.new)
+        (E.write_fault_count errors.old) (E.write_fault_count errors.new)))) }
+    ensures no_script { IfOk result (λ status. IsRefusedStatus status.code → IfSome (I.bytes_left input.old)
+        (λ text. IsScript text → ⊥)) }
 
     ensures read_fault { IfOk result (OnCode 4 (Rose
         (I.read_fault_count input.old) (I.read_fault_count input.new))) }
@@ -75,7 +81,7 @@ pub fn run<R: Threads + Wait + Sync, I: Source, O: Sink, E: Sink>(
         (E.write_fault_count errors.old) (E.write_fault_count errors.new))) }
 
     ensures codes { IfOk result (λ status. IsStatus status.code) }
-    // Where nothing failed, a script of the form is done and every other text is refused.
+    // Where nothing failed, a script without a refusal is done, and every other text is refused.
     ensures complete { IfOk result (λ status. IsCascade words.now
         → (Rose (I.read_fault_count input.old) (I.read_fault_count input.new) → ⊥)
         → (Rose (O.write_fault_count output.old) (O.write_fault_count output.new) → ⊥)
@@ -125,26 +131,30 @@ pub fn run_cascade<I: Source, O: Sink, E: Sink>(
     output: &mut O,
     errors: &mut E,
 ) -> Result<Status, NoMemory>
-    requires fresh { world.old ≡ [] }
+    requires fresh { world.old ≡ no_nodes }
     requires prompt { I.waits input.old ≡ false }
 
     // Each `stored` line names a prefix of the provider's accepted writes, no shorter than those before
-    // its settling, and the consumer's entries are exactly what its specification selects from it.
+    // its settling, and the consumer's entries are exactly what its specification selects from it; a
+    // `show` of the consumer prints these until the next one.
     ensures headline { IfSome (I.bytes_left input.old) (λ text.
-        WritesFront (script_lines text) (O.bytes_held output.old) (O.bytes_held output.new)) }
+        WritesFront (reader_of text) (O.bytes_held output.old) (O.bytes_held output.new)) }
 
     ensures done { IfOk result (OnCode 0 (IfSome (I.bytes_left input.old) (λ text. IsScript text
-        × WritesWhole (script_lines text) (O.bytes_held output.old) (O.bytes_held output.new) world.new))) }
+        × WritesWhole (reader_of text) (O.bytes_held output.old) (O.bytes_held output.new) world.new))) }
     ensures read_to_end { IfOk result (OnCode 0 (IsAtEnd (I.bytes_left input.new))) }
     ensures quiet { IfOk result (OnCode 0 (Keeps (E.bytes_held errors.old) (E.bytes_held errors.new))) }
 
-    ensures refused { IfOk result (OnCode 3 (IfSome (I.bytes_left input.old) (λ text. (line : ℕ)
-        × WritesUpTo (script_lines text) (O.bytes_held output.old) (O.bytes_held output.new) world.new line
-        × Says (refusal_text line)
+    ensures refused { IfOk result (OnCode 3 (IfSome (I.bytes_left input.old) (λ text. IsRefused 3 (reader_of text)
+        (O.bytes_held output.old) (O.bytes_held output.new) world.new
         (E.bytes_held errors.old) (E.bytes_held errors.new)
         (E.write_fault_count errors.old) (E.write_fault_count errors.new)))) }
-    ensures no_script { IfOk result (OnCode 3 (IfSome (I.bytes_left input.old)
-        (λ text. IsScript text → ⊥))) }
+    ensures limited { IfOk result (OnCode 8 (IfSome (I.bytes_left input.old) (λ text. IsRefused 8 (reader_of text)
+        (O.bytes_held output.old) (O.bytes_held output.new) world.new
+        (E.bytes_held errors.old) (E.bytes_held errors.new)
+        (E.write_fault_count errors.old) (E.write_fault_count errors.new)))) }
+    ensures no_script { IfOk result (λ status. IsRefusedStatus status.code → IfSome (I.bytes_left input.old)
+        (λ text. IsScript text → ⊥)) }
 
     ensures read_fault { IfOk result (OnCode 4 (Rose
         (I.read_fault_count input.old) (I.read_fault_count input.new))) }
@@ -158,7 +168,7 @@ pub fn run_cascade<I: Source, O: Sink, E: Sink>(
         (E.write_fault_count errors.old) (E.write_fault_count errors.new))) }
 
     ensures codes { IfOk result (λ status. IsCascadeStatus status.code) }
-    // Where nothing failed, a script of the form is done and every other text is refused.
+    // Where nothing failed, a script without a refusal is done, and every other text is refused.
     ensures complete { IfOk result (λ status.
         (Rose (I.read_fault_count input.old) (I.read_fault_count input.new) → ⊥)
         → (Rose (O.write_fault_count output.old) (O.write_fault_count output.new) → ⊥)
@@ -192,17 +202,59 @@ fn write_fault<E: Sink>(errors: &mut E) -> Status
     Status { code: 5 }
 }
 
-/// Says at which line the script is refused.
-#[tactic(auto, unfolding(crate::specs::Texts::refusal_text))]
-fn refuse<E: Sink>(alloc: Global, errors: &mut E, line: u64) -> Result<Status, NoMemory>
-    ensures { IfOk result (λ status. (status.code ≡ 3)
-        × Says (refusal_text line)
+/// Says at which line the script is refused, and why.
+fn refuse<E: Sink>(alloc: Global, errors: &mut E, fault: ScriptFault) -> Result<Status, NoMemory>
+    ensures { IfOk result (λ status. (status.code ≡ status_of fault.cause)
+        × Says (refusal_text fault.line fault.cause)
         (E.bytes_held errors.old) (E.bytes_held errors.new)
         (E.write_fault_count errors.old) (E.write_fault_count errors.new)) }
 {
-    let text = format!(in alloc; "syncrepl: line {line}: NotYet\n")?;
-    say(errors, text.as_bytes());
-    Ok(Status { code: 3 })
+    let text = refusal_text(alloc, fault)?;
+    say(errors, &text);
+    Ok(Status {
+        code: status_of(fault.cause),
+    })
+}
+
+/// The status of a refusal.
+fn status_of(cause: Cause) -> u8
+    ensures { result ≡ status_of cause }
+{
+    match cause {
+        Cause::LimitReached(_) => 8,
+        _ => 3,
+    }
+}
+
+/// The place of a refusal and its cause.
+#[tactic(auto, unfolding(crate::specs::Texts::refusal_text))]
+fn refusal_text(alloc: Global, fault: ScriptFault) -> Result<Vec<u8>, NoMemory>
+    ensures { IfOk result (λ text. text.items ≡ refusal_text fault.line fault.cause) }
+{
+    let line = fault.line;
+    let place = format!(in alloc; "syncrepl: line {line}: ")?;
+    let cause = cause_text(alloc, fault.cause)?;
+    let mut text = place.as_bytes().to_vec(alloc)?;
+    text.extend_from_slice(cause.as_bytes())?;
+    text.push(b'\n')?;
+    Ok(text)
+}
+
+/// The name of a cause, and the limit that is passed.
+#[tactic(auto, unfolding(crate::specs::Texts::cause_text))]
+fn cause_text(alloc: Global, cause: Cause) -> Result<String, NoMemory>
+    ensures { IfOk result (λ text. string_bytes text ≡ cause_text cause) }
+{
+    match cause {
+        Cause::BadCommand => String::from_str(alloc, "BadCommand"),
+        Cause::UnknownNode => String::from_str(alloc, "UnknownNode"),
+        Cause::NameTaken => String::from_str(alloc, "NameTaken"),
+        Cause::BadRecord => String::from_str(alloc, "BadRecord"),
+        Cause::LimitReached(number) => format!(in alloc; "LimitReached {number}"),
+        Cause::OutsideSuffix => String::from_str(alloc, "OutsideSuffix"),
+        Cause::NotYet => String::from_str(alloc, "NotYet"),
+        Cause::NoMemory => String::from_str(alloc, "NoMemory"),
+    }
 }
 
 /// How reading the input ended.
@@ -239,9 +291,9 @@ fn run_text<O: Sink, E: Sink>(
     output: &mut O,
     errors: &mut E,
 ) -> Result<Status, NoMemory>
-    requires fresh { world.old ≡ [] }
-    ensures front { WritesFront (script_lines text) (O.bytes_held output.old) (O.bytes_held output.new) }
-    ensures ends { IfOk result (λ status. RunEnds (script_lines text)
+    requires fresh { world.old ≡ no_nodes }
+    ensures front { WritesFront (reader_of text) (O.bytes_held output.old) (O.bytes_held output.new) }
+    ensures ends { IfOk result (λ status. RunEnds (reader_of text)
         (O.bytes_held output.old) (O.bytes_held output.new) world.new
         (O.write_fault_count output.old) (O.write_fault_count output.new)
         (E.bytes_held errors.old) (E.bytes_held errors.new)
@@ -254,7 +306,7 @@ fn run_text<O: Sink, E: Sink>(
     }
     match outcome {
         Outcome::Done => Ok(Status { code: 0 }),
-        Outcome::Refused(line) => refuse(alloc, errors, line),
+        Outcome::Refused(fault) => refuse(alloc, errors, fault),
         Outcome::WriteFault => Ok(write_fault(errors)),
     }
 }
@@ -263,8 +315,8 @@ fn run_text<O: Sink, E: Sink>(
 #[derive(Clone, Copy, Debug, PartialEq, Eq)]
 pub enum Outcome {
     Done,
-    /// The script is refused at that line.
-    Refused(u64),
+    /// The script is refused.
+    Refused(ScriptFault),
     WriteFault,
 }
 
@@ -275,10 +327,9 @@ fn run_events<O: Sink>(
     script: &mut Script,
     output: &mut O,
 ) -> Result<Outcome, NoMemory>
-    requires fresh { world.old ≡ [] }
-    requires first { (script.old.names ≡ Nobody) × (script.old.read ≡ 0) }
-    ensures front { WritesFront script.old.lines (O.bytes_held output.old) (O.bytes_held output.new) }
-    ensures ends { IfOk result (Ends script.old.lines
+    requires fresh { world.old ≡ no_nodes }
+    ensures front { WritesFront script.old (O.bytes_held output.old) (O.bytes_held output.new) }
+    ensures ends { IfOk result (Ends script.old
         (O.bytes_held output.old) (O.bytes_held output.new) world.new
         (O.write_fault_count output.old) (O.write_fault_count output.new)) }
     ensures later { O.write_fault_count output.old ≤ O.write_fault_count output.new }
@@ -300,11 +351,12 @@ fn run_events<O: Sink>(
     }
 }
 
+/// How the events end with a refusal; want of memory is no outcome.
 fn refused(fault: ScriptFault) -> Result<Outcome, NoMemory>
-    ensures { IfOk result (λ outcome. (fault.cause ≡ NotYet) × (outcome ≡ Outcome.Refused fault.line)) }
+    ensures { IfOk result (λ outcome. (fault.cause ≢ NoMemory) × (outcome ≡ Outcome.Refused fault)) }
 {
     match fault.cause {
-        Cause::NotYet => Ok(Outcome::Refused(fault.line)),
         Cause::NoMemory => Err(AllocError),
+        _ => Ok(Outcome::Refused(fault)),
     }
 }

@@ -64,184 +64,572 @@ fn started(alloc: Global, more: &[u8]) -> Result<Vec<u8>, Fail> {
     Ok(script)
 }
 
+/// What follows the start, and what is reported after the first write.
+const REPORTS: [(&str, &str); 12] = [
+    ("", ""),
+    (
+        "settle c
+",
+        "stored c 1 entries 1 sha256 8f8bbfc32f02a834239e30b6652655f8b425d92fe020ac9bd789cbeb3244bf78
+settled c 1
+",
+    ),
+    (
+        "write p
+dn: ou=a,dc=x
+changetype: add
+objectClass: organizationalUnit
+ou: a
+
+settle c
+",
+        "wrote p 0 2
+stored c 2 entries 2 sha256 3aa6e4e23a52c4438ed29fa3d3d295976654c425e8abfa4fd967014eff964bd6
+settled c 2
+",
+    ),
+    // The end of the text ends a record, and carriage returns before line feeds are no part of a line.
+    (
+        "# a comment\r
+\r
+settle c\r
+write p\r
+dn: dc=x\r
+changetype: delete",
+        "stored c 1 entries 1 sha256 8f8bbfc32f02a834239e30b6652655f8b425d92fe020ac9bd789cbeb3244bf78
+settled c 1
+wrote p 0 2
+",
+    ),
+    (
+        "write p
+dn: dc=y
+changetype: delete
+
+write p
+dn: ou=a,dc=x
+changetype: add
+objectClass: organizationalUnit
+ou: a
+
+write p
+dn: dc=x
+changetype: delete
+",
+        "wrote p 32 1
+wrote p 0 2
+wrote p 66 2
+",
+    ),
+    // A settling keeps nothing of before.
+    (
+        "settle c
+write p
+dn: dc=x
+changetype: delete
+
+settle c
+show c
+",
+        "stored c 1 entries 1 sha256 8f8bbfc32f02a834239e30b6652655f8b425d92fe020ac9bd789cbeb3244bf78
+settled c 1
+wrote p 0 2
+stored c 2 entries 0 sha256 e3b0c44298fc1c149afbf4c8996fb92427ae41e4649b934ca495991b7852b855
+settled c 2
+",
+    ),
+    // A name is one by its keys, and is held as it was given.
+    (
+        "write p
+dn: OU=A , DC=x
+changetype: add
+objectClass: organizationalUnit
+ou: a
+
+write p
+dn: ou=a,dc=x
+changetype: add
+objectClass: organizationalUnit
+ou: a
+
+",
+        "wrote p 0 2
+wrote p 68 2
+",
+    ),
+    (
+        "write p
+dn: ou=a,dc=x
+changetype: add
+objectClass: organizationalUnit
+ou: b
+
+write p
+dn: ou=a,dc=x
+changetype: add
+objectClass: organizationalUnit
+ou: a
+foo: x
+
+write p
+dn: ou=a,dc=x
+changetype: add
+objectClass: organizationalUnit
+ou: a
+entryCSN: x
+
+write p
+dn: ou=a,dc=x
+changetype: add
+objectClass: organizationalUnit
+ou: a
+ou: a
+
+write p
+dn: ou=a,dc=x
+changetype: add
+ou: a
+",
+        "wrote p 64 1
+wrote p 17 1
+wrote p 19 1
+wrote p 20 1
+wrote p 65 1
+",
+    ),
+    // A clock that goes back repeats no stamp.
+    (
+        "clock 1000000
+write p
+dn: ou=a,dc=x
+changetype: add
+objectClass: organizationalUnit
+ou: a
+
+clock 500000
+write p
+dn: ou=b,dc=x
+changetype: add
+objectClass: organizationalUnit
+ou: b
+
+consumer d from p one \"dc=x\" \"(!(ou=a))\"
+settle d
+show d
+",
+        "wrote p 0 2
+wrote p 0 3
+stored d 3 entries 1 sha256 fa66cad5bab1570bb87f71e9d8e15180033694ab53045bde768782779afc1efc
+settled d 3
+dn: ou=b,dc=x
+objectClass: organizationalUnit
+ou: b
+entryUUID: 00000000-0001-8000-8000-000000000003
+entryCSN: 19700101000001.000000Z#000001#001#000000
+
+",
+    ),
+    // A modify edits in order and stamps; a refused one changes nothing.
+    (
+        "write p
+dn: dc=x
+changetype: modify
+add: description
+description: one
+description: two
+-
+delete: description
+description: ONE
+-
+replace: l
+l: here
+-
+
+write p
+dn: dc=x
+changetype: modify
+delete: dc
+-
+
+show p
+",
+        "wrote p 0 2
+wrote p 65 2
+dn: dc=x
+objectClass: organization
+objectClass: dcObject
+o: X
+dc: x
+description: two
+l: here
+entryUUID: 00000000-0001-8000-8000-000000000001
+entryCSN: 19700101000000.000000Z#000002#001#000000
+
+",
+    ),
+    // A rename moves and stamps all below; what a consumer holds stays until it settles.
+    (
+        "write p
+dn: ou=a,dc=x
+objectClass: organizationalUnit
+ou: a
+
+write p
+dn: ou=b,ou=a,dc=x
+objectClass: organizationalUnit
+ou: b
+
+settle c
+write p
+dn: ou=a,dc=x
+changetype: moddn
+newrdn: ou=c
+deleteoldrdn: 1
+
+write p
+dn: ou=c,dc=x
+changetype: modrdn
+newrdn: ou=c
+deleteoldrdn: 0
+newsuperior: ou=b,ou=c,dc=x
+
+write p
+dn: dc=x
+changetype: modrdn
+newrdn: dc=y
+deleteoldrdn: 1
+
+consumer d from p sub \"ou=c,dc=x\" \"(objectClass=*)\"
+settle d
+show d
+",
+        "wrote p 0 2
+wrote p 0 3
+stored c 3 entries 3 sha256 f768f0ec3c7ead80431558d5d100a60eb9530e476befc818aded298a88a4ba39
+settled c 3
+wrote p 0 4
+wrote p 53 4
+wrote p 53 4
+stored d 4 entries 2 sha256 1c3d07828e5c87c26ec845d3d27e5c4e9d3fb123a467d7e1d2318e0225308a10
+settled d 4
+dn: ou=c,dc=x
+objectClass: organizationalUnit
+ou: c
+entryUUID: 00000000-0001-8000-8000-000000000002
+entryCSN: 19700101000000.000000Z#000004#001#000000
+
+dn: ou=b,ou=c,dc=x
+objectClass: organizationalUnit
+ou: b
+entryUUID: 00000000-0001-8000-8000-000000000003
+entryCSN: 19700101000000.000000Z#000004#001#000000
+
+",
+    ),
+    // Before its first settling a consumer shows nothing, and a value beyond ASCII is shown in base64.
+    (
+        "show c
+write p
+dn:: b3U9w6ksZGM9eA==
+objectClass: organizationalUnit
+ou: \u{e9}
+
+consumer d from p base \"ou=\\c3\\89,dc=x\" \"(OU=\u{c9})\"
+settle d
+show d
+",
+        "wrote p 0 2
+stored d 2 entries 1 sha256 a7432cdc283ee60d59d3741d649deddf922ff9459c81b8e58cf1b56974c2e0e3
+settled d 2
+dn:: b3U9w6ksZGM9eA==
+objectClass: organizationalUnit
+ou:: w6k=
+entryUUID: 00000000-0001-8000-8000-000000000002
+entryCSN: 19700101000000.000000Z#000002#001#000000
+
+",
+    ),
+];
+
 #[test]
 fn scripts_are_reported(rt: HostRuntime) -> Result<(), Fail> {
-    let cases: [(&[u8], &[u8]); 6] = [
-        (b"", b"wrote p 0 1\n"),
-        (
-            b"settle c\n",
-            b"wrote p 0 1\nstored c 1 entries 1 sha256 143f38a1e23adca8b06127b9b88daeb88928c4d802fbea904a7311c2e4135ccf\nsettled c 1\n",
-        ),
-        (
-            b"write p\ndn: ou=a,dc=x\nchangetype: add\nobjectClass: organizationalUnit\nou: a\n\nsettle c\n",
-            b"wrote p 0 1\nwrote p 0 2\nstored c 2 entries 2 sha256 6da00b190a4e58c4552b59ab02fbc06339472d6797c8bb8c3dcf9b2ab6fa850a\nsettled c 2\n",
-        ),
-        // The end of the text ends a record, and carriage returns before line feeds are no part of a line.
-        (
-            b"# a comment\r\n\r\nsettle c\r\nwrite p\r\ndn: dc=x\r\nchangetype: delete",
-            b"wrote p 0 1\nstored c 1 entries 1 sha256 143f38a1e23adca8b06127b9b88daeb88928c4d802fbea904a7311c2e4135ccf\nsettled c 1\nwrote p 0 2\n",
-        ),
-        (
-            b"write p\ndn: dc=y\nchangetype: delete\n\nwrite p\ndn: ou=a,dc=x\nchangetype: add\nobjectClass: organizationalUnit\nou: a\n\nwrite p\ndn: dc=x\nchangetype: delete\n\n",
-            b"wrote p 0 1\nwrote p 32 1\nwrote p 0 2\nwrote p 66 2\n",
-        ),
-        // A settling keeps nothing of before.
-        (
-            b"settle c\nwrite p\ndn: dc=x\nchangetype: delete\n\nsettle c\n",
-            b"wrote p 0 1\nstored c 1 entries 1 sha256 143f38a1e23adca8b06127b9b88daeb88928c4d802fbea904a7311c2e4135ccf\nsettled c 1\nwrote p 0 2\nstored c 2 entries 0 sha256 e3b0c44298fc1c149afbf4c8996fb92427ae41e4649b934ca495991b7852b855\nsettled c 2\n",
-        ),
-    ];
-    for (more, report) in cases {
-        let script = started(rt.alloc(), more)?;
+    for (more, report) in REPORTS {
+        let script = started(rt.alloc(), more.as_bytes())?;
         let (code, output, errors) = cascade(&rt, rt.alloc(), script.as_slice())?;
+        let mut told = b"wrote p 0 1\n".to_vec(rt.alloc())?;
+        told.extend_from_slice(report.as_bytes())?;
+        assert_eq!(rt; errors.bytes(), b"".as_slice());
+        assert_eq!(rt; output.bytes(), told.as_slice());
         assert_eq!(rt; code, 0);
-        assert_eq!(rt; output.bytes(), report);
+    }
+    Ok(())
+}
+
+/// Scripts that have no start, and their reports.
+const WHOLE_REPORTS: [(&str, &str); 3] = [
+    ("", ""),
+    ("\n# nothing but a comment\n", ""),
+    (
+        "provider p \"dc=x\"
+consumer c from p sub \"dc=x\" \"(objectClass=*)\"
+settle c
+",
+        "stored c 0 entries 0 sha256 e3b0c44298fc1c149afbf4c8996fb92427ae41e4649b934ca495991b7852b855
+settled c 0
+",
+    ),
+];
+
+#[test]
+fn whole_scripts_are_reported(rt: HostRuntime) -> Result<(), Fail> {
+    for (script, report) in WHOLE_REPORTS {
+        let (code, output, errors) = cascade(&rt, rt.alloc(), script.as_bytes())?;
+        assert_eq!(rt; code, 0);
+        assert_eq!(rt; output.bytes(), report.as_bytes());
         assert_eq!(rt; errors.bytes(), b"".as_slice());
     }
     Ok(())
 }
 
+/// The line that follows the start, which is line 11, and why it is refused there.
+const REFUSED_LINES: &str = "frobnicate c => BadCommand
+settle => BadCommand
+settle c  => BadCommand
+settle  c => BadCommand
+ settle c => BadCommand
+Settle c => BadCommand
+settle c d => BadCommand
+settle c-d => BadCommand
+show abcdefghijklmnopqrstuvwxyz0123456 => BadCommand
+provider q dc=y => BadCommand
+provider q \"dc=y => BadCommand
+provider q \"dc=y\" x => BadCommand
+provider q \"foo=1\" => BadCommand
+provider q \"dc=y,,dc=x\" => BadCommand
+provider \"dc=y\" => BadCommand
+consumer d from p all \"dc=x\" \"(objectClass=*)\" => BadCommand
+consumer d from p sub \"dc=x\" \"(objectClass=*\" => BadCommand
+consumer d from p sub \"dc=x\" (objectClass=*) => BadCommand
+consumer d of p sub \"dc=x\" \"(objectClass=*)\" => BadCommand
+consumer d from p sub \"dc=x\" \"(objectClass=*)\" again => BadCommand
+consumer d from p sub \"dc=x\" \"(objectClass=*)\"  => BadCommand
+consumer d from p sub \"dc=x\"  \"(objectClass=*)\" => BadCommand
+replica r from p sub \"dc=x\" \"(cn=*\" => BadCommand
+clock 01 => BadCommand
+clock -1 => BadCommand
+clock 253402300800000000 => BadCommand
+clock 99999999999999999999999 => BadCommand
+clock 1 2 => BadCommand
+clock => BadCommand
+open c => BadCommand
+open c never => BadCommand
+send c 0 => BadCommand
+take c 1000001 => BadCommand
+cookie c \"x => BadCommand
+cookie c x => BadCommand
+log p => BadCommand
+queue p 1000001 => BadCommand
+repoint c => BadCommand
+respec c sub \"dc=x\" => BadCommand
+respec c sub \"dc=x\" \"(cn=)(\" => BadCommand
+replica r from p sub \"dc=x\" \"(objectClass=*)\" => NotYet
+replica r from p sub \"dc=x\" \"(objectClass=*)\" reload => NotYet
+consumer d from p sub \"dc=x\" \"(objectClass=*)\" reload => NotYet
+open c once => NotYet
+open nobody stay => NotYet
+send c => NotYet
+send c 1000000 => NotYet
+take c => NotYet
+take c 2 => NotYet
+cut c => NotYet
+lose c => NotYet
+cookie c \"rid=000 x\" => NotYet
+repoint c p => NotYet
+respec c one \"dc=x\" \"(cn=a)\" => NotYet
+log p 0 => NotYet
+queue p 1000000 => NotYet
+settle q => UnknownNode
+settle p => UnknownNode
+show q => UnknownNode
+consumer d from q sub \"dc=x\" \"(objectClass=*)\" => UnknownNode
+consumer d from c sub \"dc=x\" \"(objectClass=*)\" => UnknownNode
+provider p \"dc=z\" => NameTaken
+provider c \"dc=z\" => NameTaken
+consumer p from q sub \"dc=x\" \"(objectClass=*)\" => NameTaken
+consumer d from p sub \"dc=y\" \"(objectClass=*)\" => OutsideSuffix
+consumer d from p sub \"\" \"(objectClass=*)\" => OutsideSuffix";
+
+/// Each line is refused, and what stands before it is done and told.
 #[test]
-fn an_empty_directory_is_settled(rt: HostRuntime) -> Result<(), Fail> {
-    let script =
-        b"provider p \"dc=x\"\nconsumer c from p sub \"dc=x\" \"(objectClass=*)\"\nsettle c\n";
-    let (code, output, errors) = cascade(&rt, rt.alloc(), script)?;
-    assert_eq!(rt; code, 0);
-    assert_eq!(rt;
-        output.bytes(),
-        b"stored c 0 entries 0 sha256 e3b0c44298fc1c149afbf4c8996fb92427ae41e4649b934ca495991b7852b855\nsettled c 0\n".as_slice()
-    );
-    assert_eq!(rt; errors.bytes(), b"".as_slice());
+fn lines_are_refused(rt: HostRuntime) -> Result<(), Fail> {
+    for case in REFUSED_LINES.lines() {
+        let (line, cause) = case.split_once(" => ").unwrap_or((case, ""));
+        let script = started(rt.alloc(), line.as_bytes())?;
+        let (code, output, errors) = cascade(&rt, rt.alloc(), script.as_slice())?;
+        let refusal = format!(in rt.alloc(); "syncrepl: line 11: {cause}\n")?;
+        assert_eq!(rt; errors.bytes(), refusal.as_bytes());
+        assert_eq!(rt; output.bytes(), b"wrote p 0 1\n".as_slice());
+        assert_eq!(rt; code, 3);
+    }
     Ok(())
 }
 
-/// Each text is refused at its line, and what stands before is done and told.
+/// What follows the start, and the refusal.
+const REFUSED_RECORDS: [(&str, &str); 23] = [
+    ("write p\n", "11: BadRecord"),
+    ("write p\n\nsettle c\n", "11: BadRecord"),
+    ("write p\n# a comment\n# and another\n\n", "11: BadRecord"),
+    ("write p\nversion: 1\n", "12: BadRecord"),
+    ("write p\nversion: 2\ndn: dc=y\n", "12: BadRecord"),
+    ("write p\n folded\n", "12: BadRecord"),
+    ("write p\ndc: y\n", "12: BadRecord"),
+    ("write p\ndn: dc=y\nno colon\n", "13: BadRecord"),
+    ("write p\ndn:: !!\n", "12: BadRecord"),
+    (
+        "write p\ndn: dc=y\ndescription:< file:///x\n",
+        "13: BadRecord",
+    ),
+    ("write p\ndn: dc=y\ndescription:: YQ\n", "13: BadRecord"),
+    ("write p\ndn: dc=y\n", "12: BadRecord"),
+    ("write p\ndn: dc=y\nchangetype: add\n", "13: BadRecord"),
+    ("write p\ndn: dc=y\nchangetype: grow\n", "13: BadRecord"),
+    (
+        "write p\ndn: dc=y\nchangetype: delete\ncn: a\n",
+        "14: BadRecord",
+    ),
+    ("write p\ndn: dc=y\nchangetype: moddn\n", "13: BadRecord"),
+    (
+        "write p\ndn: dc=y\nchangetype: moddn\nnewrdn: dc=z\n",
+        "14: BadRecord",
+    ),
+    (
+        "write p\ndn: dc=y\nchangetype: moddn\nnewrdn: dc=z\ndeleteoldrdn: 2\n",
+        "15: BadRecord",
+    ),
+    (
+        "write p\ndn: dc=y\nchangetype: modify\nadd: cn\nsn: a\n-\n",
+        "15: BadRecord",
+    ),
+    (
+        "write p\ndn: dc=y\nchangetype: modify\n-\n",
+        "14: BadRecord",
+    ),
+    ("write q\ndn: dc=y\nno colon\n", "13: BadRecord"),
+    ("write q\ndn: dc=y\nchangetype: delete\n", "11: UnknownNode"),
+    (
+        "write c\ndn: dc=y\nchangetype: delete\n\nsettle c\n",
+        "11: UnknownNode",
+    ),
+];
+
 #[test]
-fn texts_outside_the_form_are_refused(rt: HostRuntime) -> Result<(), Fail> {
-    let cases: [(&[u8], &[u8]); 22] = [
-        (b"settle q\n", b"syncrepl: line 11: NotYet\n"),
-        (b"settle c \n", b"syncrepl: line 11: NotYet\n"),
-        (b"settle  c\n", b"syncrepl: line 11: NotYet\n"),
-        (b"settle c\r", b"syncrepl: line 11: NotYet\n"),
-        (b"write c\n", b"syncrepl: line 11: NotYet\n"),
-        (b"show c\n", b"syncrepl: line 11: NotYet\n"),
-        (
-            b"\n#\nprovider q \"dc=x\"\n",
-            b"syncrepl: line 13: NotYet\n",
-        ),
-        (b" settle c\n", b"syncrepl: line 11: NotYet\n"),
-        (b"write p\n", b"syncrepl: line 11: NotYet\n"),
-        (b"write p\n\n", b"syncrepl: line 12: NotYet\n"),
-        (b"write p\ndn:dc=x\n", b"syncrepl: line 12: NotYet\n"),
-        (b"write p\ndn: dc=X\n", b"syncrepl: line 12: NotYet\n"),
-        (b"write p\ndn: dc=x\n", b"syncrepl: line 12: NotYet\n"),
-        (
-            b"write p\ndn: dc=x\n# no comment\n",
-            b"syncrepl: line 13: NotYet\n",
-        ),
-        (
-            b"write p\ndn: dc=x\nchangetype: modify\n",
-            b"syncrepl: line 13: NotYet\n",
-        ),
-        (
-            b"write p\ndn: dc=x\nchangetype: delete\ndc: x\n",
-            b"syncrepl: line 14: NotYet\n",
-        ),
-        (
-            b"write p\ndn: dc=x\nchangetype: add\n",
-            b"syncrepl: line 13: NotYet\n",
-        ),
-        (
-            b"write p\ndn: dc=x\nchangetype: add\n\nsettle c\n",
-            b"syncrepl: line 14: NotYet\n",
-        ),
-        (
-            b"write p\ndn: dc=x\nchangetype: add\ndc: x\n\n",
-            b"syncrepl: line 15: NotYet\n",
-        ),
-        (
-            b"write p\ndn: dc=x\nchangetype: add\ndc:  x\n",
-            b"syncrepl: line 14: NotYet\n",
-        ),
-        (
-            b"write p\ndn: dc=x\nchangetype: add\ndC: x\n",
-            b"syncrepl: line 14: NotYet\n",
-        ),
-        (
-            b"write p\ndn: dc=x\nchangetype: add\ndc: \xc3\xa9\n",
-            b"syncrepl: line 14: NotYet\n",
-        ),
+fn records_are_refused(rt: HostRuntime) -> Result<(), Fail> {
+    for (more, refusal) in REFUSED_RECORDS {
+        let script = started(rt.alloc(), more.as_bytes())?;
+        let (code, output, errors) = cascade(&rt, rt.alloc(), script.as_slice())?;
+        let said = format!(in rt.alloc(); "syncrepl: line {refusal}\n")?;
+        assert_eq!(rt; errors.bytes(), said.as_bytes());
+        assert_eq!(rt; output.bytes(), b"wrote p 0 1\n".as_slice());
+        assert_eq!(rt; code, 3);
+    }
+    Ok(())
+}
+
+/// Bytes that are not UTF-8 are refused at the command, wherever they stand.
+#[test]
+fn other_bytes_are_refused(rt: HostRuntime) -> Result<(), Fail> {
+    let cases: [&[u8]; 4] = [
+        b"\xff\n",
+        b"# \xff\n",
+        b"write p\ndn: dc=y\nno colon\ndescription: \xc3\n\nsettle c\n",
+        b"write q\n# \xff",
     ];
-    for (more, refusal) in cases {
+    for more in cases {
         let script = started(rt.alloc(), more)?;
         let (code, output, errors) = cascade(&rt, rt.alloc(), script.as_slice())?;
         assert_eq!(rt; code, 3);
         assert_eq!(rt; output.bytes(), b"wrote p 0 1\n".as_slice());
-        assert_eq!(rt; errors.bytes(), refusal);
+        assert_eq!(rt;
+            errors.bytes(),
+            b"syncrepl: line 11: BadCommand\n".as_slice()
+        );
     }
     Ok(())
 }
 
-#[test]
-fn beginnings_outside_the_form_are_refused(rt: HostRuntime) -> Result<(), Fail> {
-    let cases: [(&[u8], &[u8]); 9] = [
-        (b"", b"syncrepl: line 1: NotYet\n"),
-        (b"\n", b"syncrepl: line 1: NotYet\n"),
-        (b"# a comment\n", b"syncrepl: line 1: NotYet\n"),
-        (b"provider p \"\"\n", b"syncrepl: line 1: NotYet\n"),
-        (b"provider p \"dc=x\"", b"syncrepl: line 1: NotYet\n"),
-        (b"provider p \"dc=x\"\n\n", b"syncrepl: line 2: NotYet\n"),
-        (
-            b"provider p \"dc=x\"\nconsumer p from p sub \"dc=x\" \"(objectClass=*)\"\n",
-            b"syncrepl: line 2: NotYet\n",
-        ),
-        (
-            b"provider p \"dc=x\"\nconsumer c from p sub \"dc=y\" \"(objectClass=*)\"\n",
-            b"syncrepl: line 2: NotYet\n",
-        ),
-        (
-            b"provider p \"dc=x\"\nconsumer c from p sub \"dc=x\" \"(objectClass=*)\" reload\n",
-            b"syncrepl: line 2: NotYet\n",
-        ),
-    ];
-    for (script, refusal) in cases {
-        let (code, output, errors) = cascade(&rt, rt.alloc(), script)?;
-        assert_eq!(rt; code, 3);
-        assert_eq!(rt; output.bytes(), b"".as_slice());
-        assert_eq!(rt; errors.bytes(), refusal);
+/// Sixteen nodes, and then this.
+fn sixteen_nodes(alloc: Global, more: &[u8]) -> Result<Vec<u8>, Fail> {
+    let mut script = Vec::new(alloc);
+    for letter in b"abcdefghijklmnop" {
+        script.extend_from_slice(b"provider ")?;
+        script.push(*letter)?;
+        script.extend_from_slice(b" \"dc=x\"\n")?;
     }
-    Ok(())
-}
-
-/// The start of a script, and empty lines and comments up to a length in bytes.
-fn long_script(alloc: Global, length: usize) -> Result<Vec<u8>, Fail> {
-    let mut script = started(alloc, b"")?;
-    let rest = length.saturating_sub(script.len());
-    for _ in 0..rest % 64 {
-        script.push(b'\n')?;
-    }
-    for _ in 0..rest / 64 {
-        script.extend_from_slice(
-            b"#23456789012345678901234567890123456789012345678901234567890123\n",
-        )?;
-    }
+    script.extend_from_slice(more)?;
     Ok(script)
 }
 
-/// A script of the most bytes is done; with one byte more it is refused at the line that holds that byte.
 #[test]
-fn a_script_has_65536_bytes_at_most(rt: HostRuntime) -> Result<(), Fail> {
-    let mut script = long_script(rt.alloc(), 65_536)?;
-    let (code, output, errors) = cascade(&rt, rt.alloc(), script.as_slice())?;
-    assert_eq!(rt; code, 0);
-    assert_eq!(rt; output.bytes(), b"wrote p 0 1\n".as_slice());
-    assert_eq!(rt; errors.bytes(), b"".as_slice());
+fn a_script_has_16_nodes_at_most(rt: HostRuntime) -> Result<(), Fail> {
+    let cases: [(&[u8], u8, &[u8]); 4] = [
+        (b"show p\n", 0, b""),
+        (
+            b"provider q \"dc=x\"\n",
+            8,
+            b"syncrepl: line 17: LimitReached 16\n",
+        ),
+        (
+            b"consumer q from a sub \"dc=x\" \"(objectClass=*)\"\n",
+            8,
+            b"syncrepl: line 17: LimitReached 16\n",
+        ),
+        (
+            b"provider a \"dc=x\"\n",
+            3,
+            b"syncrepl: line 17: NameTaken\n",
+        ),
+    ];
+    for (more, status, refusal) in cases {
+        let script = sixteen_nodes(rt.alloc(), more)?;
+        let (code, output, errors) = cascade(&rt, rt.alloc(), script.as_slice())?;
+        assert_eq!(rt; errors.bytes(), refusal);
+        assert_eq!(rt; output.bytes(), b"".as_slice());
+        assert_eq!(rt; code, status);
+    }
+    Ok(())
+}
 
-    script.push(b'\n')?;
-    let (code, output, errors) = cascade(&rt, rt.alloc(), script.as_slice())?;
-    assert_eq!(rt; code, 3);
-    assert_eq!(rt; output.bytes(), b"wrote p 0 1\n".as_slice());
-    assert_eq!(rt; errors.bytes(), b"syncrepl: line 1066: NotYet\n".as_slice());
+/// The start, a settling, empty lines up to so many lines, and then this.
+fn long_script(alloc: Global, lines: usize, more: &[u8]) -> Result<Vec<u8>, Fail> {
+    let mut script = started(alloc, b"settle c\n")?;
+    for _ in 11..lines {
+        script.push(b'\n')?;
+    }
+    script.extend_from_slice(more)?;
+    Ok(script)
+}
+
+/// A script of the most lines is done; one more is refused, and so is a record that runs into it.
+#[test]
+fn a_script_has_1000000_lines_at_most(rt: HostRuntime) -> Result<(), Fail> {
+    let report =
+        b"wrote p 0 1\nstored c 1 entries 1 sha256 8f8bbfc32f02a834239e30b6652655f8b425d92fe020ac9bd789cbeb3244bf78\nsettled c 1\n";
+    let cases: [(usize, &[u8], u8); 3] = [
+        (1_000_000, b"", 0),
+        (1_000_000, b"# one more", 8),
+        (999_999, b"write p\ndn: dc=x\n", 8),
+    ];
+    for (lines, more, status) in cases {
+        let script = long_script(rt.alloc(), lines, more)?;
+        let (code, output, errors) = cascade(&rt, rt.alloc(), script.as_slice())?;
+        let refusal: &[u8] = match status {
+            0 => b"",
+            _ => b"syncrepl: line 1000001: LimitReached 1000000\n",
+        };
+        assert_eq!(rt; errors.bytes(), refusal);
+        assert_eq!(rt; output.bytes(), report.as_slice());
+        assert_eq!(rt; code, status);
+    }
     Ok(())
 }
 

@@ -1,5 +1,5 @@
 use Rattle.std.proofs.Common.{◌<◌, length, arith}
-use Rattle.cascade_world.proofs.TextLines.{up_to_last-more, up_to_last-same}
+use Rattle.cascade_world.proofs.LastMark.{up_to_last-more, up_to_last-same}
 use Rattle.cascade_world.proofs.lines.length_up_to_last.Goals as goal
 use Rattle.cascade_world.proofs.lines.length_up_to_last.Goals.{then-b-mark, else-b-mark}
 

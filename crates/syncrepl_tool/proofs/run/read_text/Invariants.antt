@@ -13,4 +13,4 @@ invariant-loop-buffer g l =
     }
 
 abbrev pub decreases-loop-buffer : goal.decreases-loop-buffer
-decreases-loop-buffer g l = 65537 - length l.text.items
+decreases-loop-buffer g l = 67108865 - length l.text.items

@@ -1,3 +1,4 @@
+use Rattle.std.proofs.Common.{inl, inr, refl}
 use Rattle.std.proofs.lemmas.Result.{IfOk-weaker}
 use Rattle.syncrepl_tool.proofs.Ending.{done_of, end_of, refused_of, no_script_of, decides_of, front_of, front_of_nothing}
 use Rattle.syncrepl_tool.proofs.run.run_cascade.Goals as goal
@@ -24,7 +25,12 @@ returns-in-Text-clause-read_to_end g c =
 pub returns-in-Text-clause-refused : goal.returns-in-Text-clause-refused
 returns-in-Text-clause-refused g c =
     let front = rw c.in-Text.is at c.in_ok-text.ensures in
-    IfOk-weaker c.run_text.result _ _ (λ status ends. refused_of front _ _ _ _ _ _ _ _ _ _ ends) c.run_text.ensures.ends
+    IfOk-weaker c.run_text.result _ _ (λ status ends. refused_of front _ _ _ _ _ _ _ _ _ _ 3 (inl refl) ends) c.run_text.ensures.ends
+
+pub returns-in-Text-clause-limited : goal.returns-in-Text-clause-limited
+returns-in-Text-clause-limited g c =
+    let front = rw c.in-Text.is at c.in_ok-text.ensures in
+    IfOk-weaker c.run_text.result _ _ (λ status ends. refused_of front _ _ _ _ _ _ _ _ _ _ 8 (inr refl) ends) c.run_text.ensures.ends
 
 pub returns-in-Text-clause-no_script : goal.returns-in-Text-clause-no_script
 returns-in-Text-clause-no_script g c =

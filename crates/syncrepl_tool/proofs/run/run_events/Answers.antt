@@ -1,9 +1,9 @@
 use Rattle.std.proofs.lemmas.Result.{IfOk-weaker}
-use Rattle.syncrepl_tool.proofs.Running.{start, go_on, front_so_far, front_of_next, whole_so_far, refused_ends, no_refused_step}
+use Rattle.syncrepl_tool.proofs.Running.{start, go_on, front_so_far, front_of_next, whole_so_far, refused_read, refused_step, ends_refused}
 use Rattle.syncrepl_tool.proofs.run.run_events.Goals as goal
 
 pub loop-event-init : goal.loop-event-init
-loop-event-init g c = start _ _ _ _ c.requires.fresh c.requires.first
+loop-event-init g c = start _ _ _ _ c.requires.fresh
 
 pub returns-in-Ok-None-clause-front : goal.returns-in-Ok-None-clause-front
 returns-in-Ok-None-clause-front g c = front_so_far c.loop-event.invariant
@@ -16,17 +16,18 @@ returns-in-Err-clause-front g c = front_so_far c.loop-event.invariant
 
 pub returns-in-Err-clause-ends : goal.returns-in-Err-clause-ends
 returns-in-Err-clause-ends g c =
-    IfOk-weaker c.refused.result _ _ (λ outcome is. refused_ends c.loop-event.invariant c.in-Err.fault.line c.in-Err.fault.cause c.in-Err.ensures.reads _ _ outcome is) c.refused.ensures
+    IfOk-weaker c.refused.result _ _
+    (λ outcome is. ends_refused _ _ c.in-Err.fault outcome (refused_read c.loop-event.invariant c.in-Err.fault.line c.in-Err.fault.cause is.0 c.in-Err.ensures.reads) is.1) c.refused.ensures
 
 pub returns-then-not-write_whole-clause-front : goal.returns-then-not-write_whole-clause-front
 returns-then-not-write_whole-clause-front g c =
     let reads = rw c.in-Ok-Some.field-0-is at c.in-Ok-Some.ensures.reads in
-    front_of_next c.loop-event.invariant c.in-Ok-Some.event.command _ c.step.new.self _ _ reads.0 c.in-Ok.ensures.steps (rw c.as_slice.ensures at c.write_whole.ensures.front)
+    front_of_next c.loop-event.invariant _ _ _ c.step.new.self _ _ reads c.in-Ok.ensures.steps (rw c.as_slice.ensures at c.write_whole.ensures.front)
 
 pub loop-event-preserved : goal.loop-event-preserved
 loop-event-preserved g c =
     let reads = rw c.in-Ok-Some.field-0-is at c.in-Ok-Some.ensures.reads in
-    go_on c.loop-event.invariant c.in-Ok-Some.event.command c.read_event.new.script c.step.new.self _ _ _ reads c.in-Ok.ensures.steps (rw c.as_slice.ensures at c.if-not-write_whole.ensures.whole) c.write_whole.ensures.later
+    go_on c.loop-event.invariant _ _ c.read_event.new.script c.step.new.self _ _ _ reads c.in-Ok.ensures.steps (rw c.as_slice.ensures at c.if-not-write_whole.ensures.whole) c.write_whole.ensures.later
 
 pub returns-in-Err-step-clause-front : goal.returns-in-Err-step-clause-front
 returns-in-Err-step-clause-front g c = front_so_far c.loop-event.invariant
@@ -34,5 +35,5 @@ returns-in-Err-step-clause-front g c = front_so_far c.loop-event.invariant
 pub returns-in-Err-step-clause-ends : goal.returns-in-Err-step-clause-ends
 returns-in-Err-step-clause-ends g c =
     let reads = rw c.in-Ok-Some.field-0-is at c.in-Ok-Some.ensures.reads in
-    IfOk-weaker c.refused-in-Err-step.result _ _
-    (λ outcome is. absurd (no_refused_step c.loop-event.invariant c.in-Ok-Some.event.command _ _ c.in-Err-step.fault.line c.in-Err-step.fault.cause reads.0 is.0 c.in-Err-step.ensures.steps)) c.refused-in-Err-step.ensures
+    rw c.in-Err-step.ensures.err (IfOk-weaker c.refused-in-Err-step.result _ _
+    (λ outcome is. ends_refused _ _ c.in-Err-step.fault outcome (refused_step c.loop-event.invariant _ c.in-Err-step.fault.line _ _ c.in-Err-step.fault.cause reads is.0 c.in-Err-step.ensures.steps) is.1) c.refused-in-Err-step.ensures)

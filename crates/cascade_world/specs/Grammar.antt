@@ -1,0 +1,170 @@
+-- The commands of the language.
+use Rattle.std.specs.Prelude.{ℕ, ◌||◌, nat_le, Option, Some, None, List, [], ◌∷◌, if◌then◌else◌, codes}
+use Rattle.std.specs.Str.{bytes_eq}
+use Rattle.entry_tree.specs.Selection.{Search}
+use Rattle.cascade_world.specs.declared.grammar.Heading.{Heading}
+use Rattle.cascade_world.specs.declared.grammar.Heading.TheVariants as heading
+use Rattle.cascade_world.specs.Orders.{Order, order_of}
+use Rattle.cascade_world.specs.Orders.Order.{Provider, Consumer, Clock, Settle, Show}
+use Rattle.cascade_world.specs.Words.{◌>>=◌, guarded, otherwise, until, stripped, node_name, named, number, greatest_number, quoted, at_end, name_in, search_in}
+
+-- what a line says: an order, a write whose record follows, or a command that is of the language but is not done yet
+pub data Saying : Type 0 where
+  Orders : Order → Saying
+  Writes : List ℕ → Saying
+  Later : Saying
+
+abbrev pub saying_of : Heading → Saying
+saying_of (heading.Whole command) = Orders (order_of command)
+saying_of (heading.Writes name) = Writes name
+saying_of heading.Later = Later
+
+-- the most messages of one command, and the greatest limit of a log or a queue
+abbrev pub most_count : ℕ
+most_count = 1000000
+
+-- ---- behind the first word
+
+-- `P "SUFFIX"`
+unfoldable pub provider_line : List ℕ → Option Saying
+provider_line text = do
+  node ← named text
+  suffix ← quoted node.1
+  name ← name_in suffix.0
+  _ ← at_end suffix.1
+  Some (Orders (Provider node.0 name))
+
+-- `C from P SCOPE "BASE" "FILTER"`, and what stands behind it
+unfoldable pub following : List ℕ → Option ((List ℕ × List ℕ) × (Search × List ℕ))
+following text = do
+  node ← named text
+  rest ← stripped (codes "from ") node.1
+  source ← named rest
+  search ← search_in source.1
+  Some ((node.0, source.0), search)
+
+-- a consumer that asks for a whole copy rather than being refused is not done yet
+unfoldable pub consumer_end : List ℕ → List ℕ → Search → List ℕ → Option Saying
+consumer_end name source search rest =
+    if bytes_eq rest (codes " reload") then Some Later
+    else (do
+      _ ← at_end rest
+      Some (Orders (Consumer name source search)))
+
+unfoldable pub consumer_line : List ℕ → Option Saying
+consumer_line text = do
+  x ← following text
+  consumer_end x.0.0 x.0.1 x.1.0 x.1.1
+
+unfoldable pub replica_line : List ℕ → Option Saying
+replica_line text = do
+  x ← following text
+  _ ← guarded (bytes_eq x.1.1 [] || bytes_eq x.1.1 (codes " reload"))
+  Some Later
+
+unfoldable pub clock_line : List ℕ → Option Saying
+clock_line text = do
+  time ← number greatest_number text
+  Some (Orders (Clock time))
+
+unfoldable pub write_line : List ℕ → Option Saying
+write_line text = do
+  name ← node_name text
+  Some (Writes name)
+
+unfoldable pub settle_line : List ℕ → Option Saying
+settle_line text = do
+  name ← node_name text
+  Some (Orders (Settle name))
+
+unfoldable pub show_line : List ℕ → Option Saying
+show_line text = do
+  name ← node_name text
+  Some (Orders (Show name))
+
+-- `C`, of a command that is not done yet
+unfoldable pub later_name : List ℕ → Option Saying
+later_name text = do
+  _ ← node_name text
+  Some Later
+
+-- `C once` or `C stay`
+unfoldable pub open_line : List ℕ → Option Saying
+open_line text = do
+  node ← named text
+  _ ← guarded (bytes_eq node.1 (codes "once") || bytes_eq node.1 (codes "stay"))
+  Some Later
+
+-- `P N`, where N may be from this number on
+unfoldable pub later_number : ℕ → List ℕ → Option Saying
+later_number least text = do
+  node ← named text
+  count ← number most_count node.1
+  _ ← guarded (nat_le least count)
+  Some Later
+
+-- `C` or `C N`
+unfoldable pub counted_line : List ℕ → Option Saying
+counted_line text = otherwise (node_name text) (λ name. Some Later) (later_number 1 text)
+
+-- `C "TEXT"`
+unfoldable pub cookie_line : List ℕ → Option Saying
+cookie_line text = do
+  node ← named text
+  cookie ← quoted node.1
+  _ ← at_end cookie.1
+  Some Later
+
+-- `C P`
+unfoldable pub repoint_line : List ℕ → Option Saying
+repoint_line text = do
+  node ← named text
+  later_name node.1
+
+-- `C SCOPE "BASE" "FILTER"`
+unfoldable pub respec_line : List ℕ → Option Saying
+respec_line text = do
+  node ← named text
+  search ← search_in node.1
+  _ ← at_end search.1
+  Some Later
+
+-- ---- the words that a line may begin with
+
+-- a word, and what the line says behind it
+pub record Keyword : Type 0 where
+  pub word : List ℕ
+  pub says : List ℕ → Option Saying
+
+abbrev pub keyword : List ℕ → (List ℕ → Option Saying) → Keyword
+keyword word says = record { word = word; says = says }
+
+-- the words of what a consumer holds and wants, and of limits
+unfoldable pub holding_keywords : List Keyword
+holding_keywords =
+    keyword (codes "cookie") cookie_line ∷ keyword (codes "repoint") repoint_line ∷ keyword (codes "respec") respec_line
+    ∷ keyword (codes "log") (later_number 0) ∷ keyword (codes "queue") (later_number 0) ∷ []
+
+-- those, and before them the words of searches and their messages
+unfoldable pub search_keywords : List Keyword
+search_keywords =
+    keyword (codes "open") open_line ∷ keyword (codes "send") counted_line ∷ keyword (codes "take") counted_line
+    ∷ keyword (codes "cut") later_name ∷ keyword (codes "lose") later_name ∷ holding_keywords
+
+-- all words
+abbrev pub keywords : List Keyword
+keywords =
+    keyword (codes "provider") provider_line ∷ keyword (codes "consumer") consumer_line ∷ keyword (codes "replica") replica_line
+    ∷ keyword (codes "clock") clock_line ∷ keyword (codes "write") write_line ∷ keyword (codes "settle") settle_line
+    ∷ keyword (codes "show") show_line ∷ search_keywords
+
+-- what stands behind the word of a line that begins with one of these
+abbrev pub said_by : List Keyword → List ℕ → List ℕ → Option Saying
+said_by [] word rest = None
+said_by (k ∷ ks) word rest = if bytes_eq word k.word then k.says rest else said_by ks word rest
+
+-- what a line says, where it is in the grammar
+unfoldable pub saying : List ℕ → Option Saying
+saying line = do
+  words ← until 32 line
+  said_by keywords words.0 words.1

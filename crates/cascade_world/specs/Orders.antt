@@ -1,0 +1,23 @@
+-- What a command asks for, with its filter seen as a tree.
+use Rattle.std.specs.Prelude.{ℕ, List}
+use Rattle.dn_names.specs.Names.{TypeAndValue}
+use Rattle.entry_tree.specs.Selection.{Search, search_of}
+use Rattle.schema_rules.specs.declared.raw.Change.{Change}
+use Rattle.cascade_world.specs.declared.event.Command.{Command}
+use Rattle.cascade_world.specs.declared.event.Command.TheVariants as command
+
+pub data Order : Type 0 where
+  Provider : List ℕ → List (List TypeAndValue) → Order
+  Consumer : List ℕ → List ℕ → Search → Order
+  Clock : ℕ → Order
+  Write : List ℕ → Change → Order
+  Settle : List ℕ → Order
+  Show : List ℕ → Order
+
+abbrev pub order_of : Command → Order
+order_of (command.Provider name suffix) = Provider name suffix
+order_of (command.Consumer name source spec) = Consumer name source (search_of spec)
+order_of (command.Clock time) = Clock time
+order_of (command.Write name change) = Write name change
+order_of (command.Settle name) = Settle name
+order_of (command.Show name) = Show name

@@ -1,0 +1,292 @@
+//! The commands of the language, each on its line.
+ghost use Rattle.std.specs.Prelude.{◌≡◌, ◌≤◌};
+ghost use Rattle.entry_tree.specs.Selection.{search_of};
+ghost use Rattle.cascade_world.specs.Fault.{Gives};
+ghost use Rattle.cascade_world.specs.Grammar as spec;
+ghost use Rattle.cascade_world.specs.Grammar.{saying_of};
+ghost use Rattle.cascade_world.specs.Words.{greatest_number};
+
+use crate::words::{
+    after_front, at_end, name_in, named, node_name, number, only_if, quoted, search_in,
+    spells_node_name, until_mark,
+};
+use crate::{Command, ScriptFault};
+use entry_tree::Spec;
+use ldap_ber::Octets;
+use std::alloc::Global;
+
+/// The greatest time of a clock, in microseconds: the last of the year 9999.
+const MOST_TIME: u64 = 253_402_300_799_999_999;
+
+/// The most messages of one command, and the greatest limit of a log or a queue.
+const MOST_COUNT: u64 = 1_000_000;
+
+/// What a line says.
+#[derive(Drop)]
+pub enum Heading {
+    /// A command by itself.
+    Whole(Command),
+    /// A write to the provider of that name, whose record follows.
+    Writes(Octets),
+    /// A command of the language that is not done yet.
+    Later,
+}
+
+/// What a line says.
+#[tactic(auto, unfolding(crate::specs::Grammar::saying))]
+pub fn heading_of(alloc: Global, text: &[u8], line: u64) -> Result<Heading, ScriptFault>
+    ensures { Gives line saying_of result (spec.saying text.now) }
+{
+    let (word, rest) = until_mark(text, b' ', line)?;
+    said_by(alloc, word, rest, line)
+}
+
+/// What a line says that begins with this word.
+fn said_by(alloc: Global, word: &[u8], rest: &[u8], line: u64) -> Result<Heading, ScriptFault>
+    ensures { Gives line saying_of result (spec.said_by spec.keywords word.now rest.now) }
+{
+    if word == b"provider".as_slice() {
+        return provider_line(alloc, rest, line);
+    }
+    if word == b"consumer".as_slice() {
+        return consumer_line(alloc, rest, line);
+    }
+    if word == b"replica".as_slice() {
+        return replica_line(alloc, rest, line);
+    }
+    if word == b"clock".as_slice() {
+        return clock_line(rest, line);
+    }
+    if word == b"write".as_slice() {
+        return write_line(alloc, rest, line);
+    }
+    if word == b"settle".as_slice() {
+        return settle_line(alloc, rest, line);
+    }
+    if word == b"show".as_slice() {
+        return show_line(alloc, rest, line);
+    }
+    said_of_search(alloc, word, rest, line)
+}
+
+/// What a line says whose word is that of a search or its messages, or a later one.
+#[tactic(auto, unfolding(crate::specs::Grammar::search_keywords))]
+fn said_of_search(
+    alloc: Global,
+    word: &[u8],
+    rest: &[u8],
+    line: u64,
+) -> Result<Heading, ScriptFault>
+    ensures { Gives line saying_of result (spec.said_by spec.search_keywords word.now rest.now) }
+{
+    if word == b"open".as_slice() {
+        return open_line(alloc, rest, line);
+    }
+    if word == b"send".as_slice() {
+        return counted_line(alloc, rest, line);
+    }
+    if word == b"take".as_slice() {
+        return counted_line(alloc, rest, line);
+    }
+    if word == b"cut".as_slice() {
+        return later_name(rest, line);
+    }
+    if word == b"lose".as_slice() {
+        return later_name(rest, line);
+    }
+    said_of_holding(alloc, word, rest, line)
+}
+
+/// What a line says whose word is that of what a consumer holds or wants, or of a limit.
+#[tactic(auto, unfolding(crate::specs::Grammar::holding_keywords))]
+fn said_of_holding(
+    alloc: Global,
+    word: &[u8],
+    rest: &[u8],
+    line: u64,
+) -> Result<Heading, ScriptFault>
+    ensures { Gives line saying_of result (spec.said_by spec.holding_keywords word.now rest.now) }
+{
+    if word == b"cookie".as_slice() {
+        return cookie_line(alloc, rest, line);
+    }
+    if word == b"repoint".as_slice() {
+        return repoint_line(alloc, rest, line);
+    }
+    if word == b"respec".as_slice() {
+        return respec_line(alloc, rest, line);
+    }
+    if word == b"log".as_slice() {
+        return later_number(alloc, rest, 0, line);
+    }
+    if word == b"queue".as_slice() {
+        return later_number(alloc, rest, 0, line);
+    }
+    Err(ScriptFault::bad_command(line))
+}
+
+/// `P "SUFFIX"`.
+#[tactic(auto, unfolding(crate::specs::Grammar::provider_line))]
+fn provider_line(alloc: Global, text: &[u8], line: u64) -> Result<Heading, ScriptFault>
+    ensures { Gives line saying_of result (spec.provider_line text.now) }
+{
+    let (name, rest) = named(alloc, text, line)?;
+    let (suffix, rest) = quoted(rest, line)?;
+    let suffix = name_in(alloc, suffix, line)?;
+    at_end(rest, line)?;
+    Ok(Heading::Whole(Command::Provider(name, suffix)))
+}
+
+/// A consumer's name, its provider's, what it wants, and what stands behind that.
+#[derive(Drop)]
+struct Wanting<'a> {
+    name: Octets,
+    source: Octets,
+    spec: Spec,
+    rest: &'a [u8],
+}
+
+/// `C from P SCOPE "BASE" "FILTER"`, and what stands behind it.
+#[tactic(auto, unfolding(crate::specs::Grammar::following))]
+fn following(alloc: Global, text: &[u8], line: u64) -> Result<Wanting<'_>, ScriptFault>
+    ensures { Gives line (λ x. ((x.name, x.source), (search_of x.spec, x.rest.now))) result (spec.following text.now) }
+{
+    let (name, rest) = named(alloc, text, line)?;
+    let rest = after_front(rest, b"from ", line)?;
+    let (source, rest) = named(alloc, rest, line)?;
+    let (spec, rest) = search_in(alloc, rest, line)?;
+    Ok(Wanting {
+        name,
+        source,
+        spec,
+        rest,
+    })
+}
+
+#[tactic(auto, unfolding(crate::specs::Grammar::consumer_line, crate::specs::Grammar::consumer_end))]
+fn consumer_line(alloc: Global, text: &[u8], line: u64) -> Result<Heading, ScriptFault>
+    ensures { Gives line saying_of result (spec.consumer_line text.now) }
+{
+    let found = following(alloc, text, line)?;
+    if found.rest == b" reload".as_slice() {
+        return Ok(Heading::Later);
+    }
+    at_end(found.rest, line)?;
+    let command = Command::Consumer(found.name, found.source, found.spec);
+    Ok(Heading::Whole(command))
+}
+
+#[tactic(auto, unfolding(crate::specs::Grammar::replica_line))]
+fn replica_line(alloc: Global, text: &[u8], line: u64) -> Result<Heading, ScriptFault>
+    ensures { Gives line saying_of result (spec.replica_line text.now) }
+{
+    let rest = following(alloc, text, line)?.rest;
+    only_if(rest.is_empty() || rest == b" reload".as_slice(), line)?;
+    Ok(Heading::Later)
+}
+
+#[tactic(auto, unfolding(crate::specs::Grammar::clock_line))]
+fn clock_line(text: &[u8], line: u64) -> Result<Heading, ScriptFault>
+    ensures { Gives line saying_of result (spec.clock_line text.now) }
+{
+    let time = number(text, MOST_TIME, line)?;
+    Ok(Heading::Whole(Command::Clock(time)))
+}
+
+#[tactic(auto, unfolding(crate::specs::Grammar::write_line))]
+fn write_line(alloc: Global, text: &[u8], line: u64) -> Result<Heading, ScriptFault>
+    ensures { Gives line saying_of result (spec.write_line text.now) }
+{
+    Ok(Heading::Writes(node_name(alloc, text, line)?))
+}
+
+#[tactic(auto, unfolding(crate::specs::Grammar::settle_line))]
+fn settle_line(alloc: Global, text: &[u8], line: u64) -> Result<Heading, ScriptFault>
+    ensures { Gives line saying_of result (spec.settle_line text.now) }
+{
+    let name = node_name(alloc, text, line)?;
+    Ok(Heading::Whole(Command::Settle(name)))
+}
+
+#[tactic(auto, unfolding(crate::specs::Grammar::show_line))]
+fn show_line(alloc: Global, text: &[u8], line: u64) -> Result<Heading, ScriptFault>
+    ensures { Gives line saying_of result (spec.show_line text.now) }
+{
+    let name = node_name(alloc, text, line)?;
+    Ok(Heading::Whole(Command::Show(name)))
+}
+
+/// `C`, of a command that is not done yet.
+#[tactic(auto, unfolding(crate::specs::Grammar::later_name, crate::specs::Words::node_name))]
+fn later_name(text: &[u8], line: u64) -> Result<Heading, ScriptFault>
+    ensures { Gives line saying_of result (spec.later_name text.now) }
+{
+    only_if(spells_node_name(text), line)?;
+    Ok(Heading::Later)
+}
+
+/// `C once` or `C stay`.
+#[tactic(auto, unfolding(crate::specs::Grammar::open_line))]
+fn open_line(alloc: Global, text: &[u8], line: u64) -> Result<Heading, ScriptFault>
+    ensures { Gives line saying_of result (spec.open_line text.now) }
+{
+    let (_, mode) = named(alloc, text, line)?;
+    only_if(
+        mode == b"once".as_slice() || mode == b"stay".as_slice(),
+        line,
+    )?;
+    Ok(Heading::Later)
+}
+
+/// `P N`, where N may be from this number on.
+#[tactic(auto, unfolding(crate::specs::Grammar::later_number))]
+fn later_number(alloc: Global, text: &[u8], least: u64, line: u64) -> Result<Heading, ScriptFault>
+    ensures { Gives line saying_of result (spec.later_number least text.now) }
+{
+    let (_, rest) = named(alloc, text, line)?;
+    let count = number(rest, MOST_COUNT, line)?;
+    only_if(least <= count, line)?;
+    Ok(Heading::Later)
+}
+
+/// `C` or `C N`.
+#[tactic(auto, unfolding(crate::specs::Grammar::counted_line, crate::specs::Words::node_name))]
+fn counted_line(alloc: Global, text: &[u8], line: u64) -> Result<Heading, ScriptFault>
+    ensures { Gives line saying_of result (spec.counted_line text.now) }
+{
+    if spells_node_name(text) {
+        return Ok(Heading::Later);
+    }
+    later_number(alloc, text, 1, line)
+}
+
+/// `C "TEXT"`.
+#[tactic(auto, unfolding(crate::specs::Grammar::cookie_line))]
+fn cookie_line(alloc: Global, text: &[u8], line: u64) -> Result<Heading, ScriptFault>
+    ensures { Gives line saying_of result (spec.cookie_line text.now) }
+{
+    let (_, rest) = named(alloc, text, line)?;
+    let (_, rest) = quoted(rest, line)?;
+    at_end(rest, line)?;
+    Ok(Heading::Later)
+}
+
+/// `C P`.
+#[tactic(auto, unfolding(crate::specs::Grammar::repoint_line))]
+fn repoint_line(alloc: Global, text: &[u8], line: u64) -> Result<Heading, ScriptFault>
+    ensures { Gives line saying_of result (spec.repoint_line text.now) }
+{
+    let (_, source) = named(alloc, text, line)?;
+    later_name(source, line)
+}
+
+/// `C SCOPE "BASE" "FILTER"`.
+#[tactic(auto, unfolding(crate::specs::Grammar::respec_line))]
+fn respec_line(alloc: Global, text: &[u8], line: u64) -> Result<Heading, ScriptFault>
+    ensures { Gives line saying_of result (spec.respec_line text.now) }
+{
+    let (_, rest) = named(alloc, text, line)?;
+    let (_, rest) = search_in(alloc, rest, line)?;
+    at_end(rest, line)?;
+    Ok(Heading::Later)
+}

@@ -1,0 +1,119 @@
+-- A code of filters as trees, by which a proof tells values that hold them apart: signs in the order in which a
+-- machine with two stacks, of filters and of lists of filters, builds the tree from them.
+use Rattle.std.specs.Prelude.{◌≡◌, ℕ, Option, Some, None, List, [], ◌∷◌, ◌++◌, fold, refl, ◌==◌, if◌then◌else◌}
+use Rattle.std.specs.Coded.{Coded, code_by, coded×, coded_ℕ, coded_list, coded_option}
+use Rattle.std.proofs.Common.{ap, ◌∙◌}
+use Rattle.ldap_filter.specs.Tree.{Tree, Trees, all_of, any_of, negated, equal, substrings, at_least, at_most, present, approx, extensible, no_trees, more_trees}
+
+abbrev bytes_code : Coded (List ℕ)
+bytes_code = coded_list coded_ℕ
+
+-- what a sign does, and the texts that it holds
+abbrev Sign : Type 0
+Sign = ℕ × (List ℕ × (List ℕ × (Option (List ℕ) × (List (List ℕ) × Option (List ℕ)))))
+
+abbrev sign : ℕ → List ℕ → List ℕ → Sign
+sign what name value = (what, (name, (value, (None, ([], None)))))
+
+abbrev Stacks : Type 0
+Stacks = List Tree × List Trees
+
+abbrev mutual
+  signs_of : Tree → List Sign
+  signs_of (all_of ts) = signs_of_list ts ++ sign 0 [] [] ∷ []
+  signs_of (any_of ts) = signs_of_list ts ++ sign 1 [] [] ∷ []
+  signs_of (negated t) = signs_of t ++ sign 2 [] [] ∷ []
+  signs_of (equal name value) = sign 3 name value ∷ []
+  signs_of (substrings name initial middle last) = (4, (name, ([], (initial, (middle, last))))) ∷ []
+  signs_of (at_least name value) = sign 5 name value ∷ []
+  signs_of (at_most name value) = sign 6 name value ∷ []
+  signs_of (present name) = sign 7 name [] ∷ []
+  signs_of (approx name value) = sign 8 name value ∷ []
+  signs_of (extensible body) = sign 9 body [] ∷ []
+
+  signs_of_list : Trees → List Sign
+  signs_of_list no_trees = sign 10 [] [] ∷ []
+  signs_of_list (more_trees t ts) = signs_of t ++ (signs_of_list ts ++ sign 11 [] [] ∷ [])
+
+-- a filter or a list of filters on top of its stack
+abbrev on_trees : Tree → Stacks → Stacks
+on_trees t stacks = (t ∷ stacks.0, stacks.1)
+
+abbrev on_lists : Trees → Stacks → Stacks
+on_lists ts stacks = (stacks.0, ts ∷ stacks.1)
+
+-- what is built of the list on top
+abbrev of_list : (Trees → Tree) → Stacks → Stacks
+of_list built (trees, []) = (trees, [])
+of_list built (trees, ts ∷ lists) = (built ts ∷ trees, lists)
+
+-- what is built of the filter on top
+abbrev of_tree : (Tree → Tree) → Stacks → Stacks
+of_tree built ([], lists) = ([], lists)
+of_tree built (t ∷ trees, lists) = (built t ∷ trees, lists)
+
+-- the filter on top before the list on top
+abbrev of_both : Stacks → Stacks
+of_both ([], lists) = ([], lists)
+of_both (t ∷ trees, []) = (t ∷ trees, [])
+of_both (t ∷ trees, ts ∷ lists) = (trees, more_trees t ts ∷ lists)
+
+abbrev act : ℕ → List ℕ → List ℕ → Option (List ℕ) → List (List ℕ) → Option (List ℕ) → Stacks → Stacks
+act what name value initial middle last stacks =
+    if what == 0 then of_list all_of stacks
+    else if what == 1 then of_list any_of stacks
+    else if what == 2 then of_tree negated stacks
+    else if what == 3 then on_trees (equal name value) stacks
+    else if what == 4 then on_trees (substrings name initial middle last) stacks
+    else if what == 5 then on_trees (at_least name value) stacks
+    else if what == 6 then on_trees (at_most name value) stacks
+    else if what == 7 then on_trees (present name) stacks
+    else if what == 8 then on_trees (approx name value) stacks
+    else if what == 9 then on_trees (extensible name) stacks
+    else if what == 10 then on_lists no_trees stacks
+    else of_both stacks
+
+abbrev act_by : Stacks → Sign → Stacks
+act_by stacks s = act s.0 s.1.0 s.1.1.0 s.1.1.1.0 s.1.1.1.1.0 s.1.1.1.1.1 stacks
+
+abbrev built_by : Stacks → List Sign → Stacks
+built_by stacks signs = fold act_by stacks signs
+
+abbrev top : List Tree → Tree
+top [] = present []
+top (t ∷ trees) = t
+
+abbrev tree_by : List Sign → Tree
+tree_by signs = top (built_by ([], []) signs).0
+
+fold_on : (stacks : Stacks) (one two : List Sign) → built_by stacks (one ++ two) ≡ built_by (built_by stacks one) two
+fold_on stacks [] two = refl
+fold_on stacks (s ∷ one) two = fold_on (act_by stacks s) one two
+
+mutual
+  built_again : (t : Tree) (stacks : Stacks) → built_by stacks (signs_of t) ≡ on_trees t stacks
+  built_again (all_of ts) stacks = fold_on stacks (signs_of_list ts) _ ∙ ap (λ s. built_by s (sign 0 [] [] ∷ [])) (list_built_again ts stacks)
+  built_again (any_of ts) stacks = fold_on stacks (signs_of_list ts) _ ∙ ap (λ s. built_by s (sign 1 [] [] ∷ [])) (list_built_again ts stacks)
+  built_again (negated t) stacks = fold_on stacks (signs_of t) _ ∙ ap (λ s. built_by s (sign 2 [] [] ∷ [])) (built_again t stacks)
+  built_again (equal name value) stacks = refl
+  built_again (substrings name initial middle last) stacks = refl
+  built_again (at_least name value) stacks = refl
+  built_again (at_most name value) stacks = refl
+  built_again (present name) stacks = refl
+  built_again (approx name value) stacks = refl
+  built_again (extensible body) stacks = refl
+
+  list_built_again : (ts : Trees) (stacks : Stacks) → built_by stacks (signs_of_list ts) ≡ on_lists ts stacks
+  list_built_again no_trees stacks = refl
+  list_built_again (more_trees t ts) stacks =
+      fold_on stacks (signs_of t) _ ∙ ap (λ s. built_by s (signs_of_list ts ++ sign 11 [] [] ∷ [])) (built_again t stacks)
+      ∙ fold_on (on_trees t stacks) (signs_of_list ts) _ ∙ ap (λ s. built_by s (sign 11 [] [] ∷ [])) (list_built_again ts (on_trees t stacks))
+
+pub same_tree_again : (t : Tree) → tree_by (signs_of t) ≡ t
+same_tree_again t = ap (λ (s : Stacks). top s.0) (built_again t ([], []))
+
+abbrev pub tree_code : Coded Tree
+tree_code =
+    code_by (List Sign)
+    (coded_list (coded× coded_ℕ (coded× bytes_code (coded× bytes_code (coded× (coded_option bytes_code) (coded× (coded_list bytes_code) (coded_option bytes_code)))))))
+    signs_of tree_by same_tree_again

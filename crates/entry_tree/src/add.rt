@@ -1,0 +1,91 @@
+//! The addition of an entry (RFC 4511, section 4.7).
+ghost use Rattle.std.specs.Prelude.{◌≡◌, ◌+◌, ◌≤◌, ◌<◌, true, None, length, unwrap_or, option_map, IfOk, IfErr, OnOk, OnErr};
+ghost use Rattle.std.specs.Option.{option_copied};
+ghost use Rattle.schema_rules.specs.Attributes.{weight_of};
+ghost use Rattle.entry_tree.specs.Codes.{add_code};
+ghost use Rattle.entry_tree.specs.Fault.{Tells};
+ghost use Rattle.entry_tree.specs.State as state;
+ghost use Rattle.entry_tree.specs.Touched.{touched};
+
+use crate::checks::check_add;
+use crate::entry::Entry;
+use crate::fault::OpFault;
+use crate::touched::Touched;
+use crate::tree::Tree;
+use csn_cookie::Csn;
+use dn_names::Dn;
+use ldap_ber::NoMemory;
+use schema_rules::Attrs;
+use std::alloc::Global;
+
+impl Tree {
+    /// Adds an entry to the directory with this suffix, or tells the first code that is against it.
+    /// An entry that has the identity goes. The answer is what differs. A refusal leaves the
+    /// entries.
+    pub(crate) fn add(
+        &mut self,
+        alloc: Global,
+        suffix: &Dn,
+        dn: &Dn,
+        attrs: &Attrs,
+        uuid: u128,
+        csn: Csn,
+    ) -> Result<Touched, OpFault>
+        ensures accepted { OnOk result (add_code suffix.now self.old dn.now attrs.now ≡ None) }
+        ensures effect { OnOk result (self.new ≡ state.put (record { uuid = uuid; csn = csn; dn = dn.now; attrs = attrs.now }) self.old) }
+        ensures touched { IfOk result (λ touches. touches ≡ touched self.old self.new) }
+        ensures refused { IfErr result (Tells (add_code suffix.now self.old dn.now attrs.now)) }
+        ensures err { OnErr result (self.new ≡ self.old) }
+    {
+        check_add(alloc, &self.entries, self.weight, suffix, dn, attrs)?;
+        let entry = Entry {
+            uuid,
+            csn,
+            dn: dn.copy()?,
+            attrs: attrs.copy()?,
+        };
+        Ok(self.put(alloc, entry)?)
+    }
+
+    /// Puts the entry in its place, where it replaces one of the same identity. The answer is what
+    /// differs.
+    fn put(&mut self, alloc: Global, entry: Entry) -> Result<Touched, NoMemory>
+        requires few { length self.old < state.most_entries }
+        requires light { state.total_weight self.old + weight_of entry.attrs ≤ state.most_weight }
+        ensures effect { OnOk result (self.new ≡ state.put entry self.old) }
+        ensures touched { IfOk result (λ touches. touches ≡ touched self.old self.new) }
+        ensures err { OnErr result (self.new ≡ self.old) }
+    {
+        let was = self.get(entry.uuid);
+        let weight = weight_without(self.weight, was) + entry.attrs.weight();
+        let mut touches = Touched::new(alloc);
+        touches.push_change(was, &entry)?;
+        put_entry(&mut self.entries, entry)?;
+        self.weight = weight;
+        Ok(touches)
+    }
+}
+
+/// What is left of a weight without that of the entry, which is part of it.
+pub(crate) fn weight_without(total: u64, entry: Option<&Entry>) -> u64
+    requires { unwrap_or (option_map (λ e. weight_of e.attrs) (option_copied entry)) 0 ≤ total }
+    ensures { result + unwrap_or (option_map (λ e. weight_of e.attrs) (option_copied entry.entry)) 0 ≡ total }
+{
+    match entry {
+        None => total,
+        Some(entry) => total - entry.attrs.weight(),
+    }
+}
+
+/// Puts the entry in its place among entries in ascending order.
+fn put_entry(entries: &mut Vec<Entry>, entry: Entry) -> Result<(), NoMemory>
+    requires { state.ascends entries.old.items ≡ true }
+    ensures ok { OnOk result (entries.new.items ≡ state.put entry entries.old.items) }
+    ensures err { OnErr result (entries.new.items ≡ entries.old.items) }
+{
+    match entries.binary_search_by_key(&entry.uuid, |held| held.uuid) {
+        Ok(place) => entries[place] = entry,
+        Err(place) => entries.insert(place, entry)?,
+    }
+    Ok(())
+}

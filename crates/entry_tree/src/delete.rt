@@ -1,0 +1,71 @@
+//! The removal of an entry (RFC 4511, section 4.8).
+ghost use Rattle.std.specs.Prelude.{◌≡◌, ◌≤◌, not, None, filter, map, IfOk, IfErr, OnOk, OnErr};
+ghost use Rattle.entry_tree.specs.Codes.{delete_code};
+ghost use Rattle.entry_tree.specs.Fault.{Tells};
+ghost use Rattle.entry_tree.specs.State as state;
+ghost use Rattle.entry_tree.specs.Touched.{touched};
+
+use crate::checks::check_delete;
+use crate::entry::Entry;
+use crate::fault::OpFault;
+use crate::touched::{Touch, Touched};
+use crate::tree::Tree;
+use dn_names::Dn;
+use ldap_ber::NoMemory;
+use std::alloc::Global;
+
+impl Tree {
+    /// Removes the entry of that name, or tells the first code that is against it. The answer is
+    /// what differs. A refusal leaves the entries.
+    pub(crate) fn delete(&mut self, alloc: Global, dn: &Dn) -> Result<Touched, OpFault>
+        ensures accepted { OnOk result (delete_code self.old dn.now ≡ None) }
+        ensures effect { OnOk result (self.new ≡ filter (λ e. not (state.is_named dn.now e)) self.old) }
+        ensures touched { IfOk result (λ touches. touches ≡ touched self.old self.new) }
+        ensures refused { IfErr result (Tells (delete_code self.old dn.now)) }
+        ensures err { OnErr result (self.new ≡ self.old) }
+    {
+        check_delete(&self.entries, dn)?;
+        let touches = removals(alloc, &self.entries, dn)?;
+        self.weight -= named_weight(&self.entries, dn);
+        remove_named(&mut self.entries, dn);
+        Ok(touches)
+    }
+}
+
+/// What differs without the entries of that name.
+fn removals(alloc: Global, entries: &[Entry], dn: &Dn) -> Result<Touched, NoMemory>
+    ensures { IfOk result (λ touches.
+        touches ≡ map (λ e. record { uuid = e.uuid; was = Some e; now = None }) (filter (state.is_named dn.now) entries.now)) }
+{
+    let mut touches = Touched::new(alloc);
+    for entry in entries {
+        if entry.dn.same(dn) {
+            touches.push(Touch {
+                uuid: entry.uuid,
+                was: Some(entry.copy()?),
+                now: None,
+            })?;
+        }
+    }
+    Ok(touches)
+}
+
+/// What the entries of that name weigh.
+fn named_weight(entries: &[Entry], dn: &Dn) -> u64
+    requires { state.total_weight entries.now ≤ state.most_weight }
+    ensures { result ≡ state.total_weight (filter (state.is_named dn.now) entries.now) }
+{
+    let mut total: u64 = 0;
+    for entry in entries {
+        if entry.dn.same(dn) {
+            total += entry.attrs.weight();
+        }
+    }
+    total
+}
+
+fn remove_named(entries: &mut Vec<Entry>, dn: &Dn)
+    ensures { entries.new.items ≡ filter (λ e. not (state.is_named dn.now e)) entries.old.items }
+{
+    entries.retain(|entry| !entry.dn.same(dn));
+}
