@@ -1,0 +1,13 @@
+//! A bounded ring that hands byte strings from one thread to another: first in, first out, and none
+//! is lost.
+//!
+//! [`ring`] makes the two ends. Each may go to a thread of its own, and neither waits: an end that
+//! finds nothing says so. What was offered and what was taken can be compared once both ends are
+//! in one thread again, by [`Consumer::beside`].
+#![tactic(auto)]
+
+mod ends;
+#[cfg(test)]
+mod tests;
+
+pub use ends::{Consumer, Full, Producer, ring};

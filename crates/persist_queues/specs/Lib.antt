@@ -1,0 +1,2 @@
+-- What a search has pending, and when that is too much.
+pub mod Pending

@@ -1,0 +1,10 @@
+//! What a refresh tells of a content where it is known which entries were touched since the
+//! client's cookie: the delete phase of a content update (RFC 4533, section 3.3.2). At its end the
+//! client keeps each entry that was not told.
+#![tactic(auto)]
+
+mod planning;
+#[cfg(test)]
+mod tests;
+
+pub use planning::{plan, slice, slices_make_the_plan};

@@ -1,0 +1,5 @@
+use Rattle.refresh_present.proofs.Telling.{planned-pieces}
+use Rattle.refresh_present.proofs.planning.slices_make_the_plan.Goals as goal
+
+pub returns : goal.returns
+returns c after pieces = planned-pieces after pieces
