@@ -1,0 +1,9 @@
+pub mod Steps
+pub mod LengthLemmas
+pub mod ElementLemmas
+pub mod CutLemmas
+pub mod ManyLemmas
+pub mod SkipLemmas
+pub mod ExactLemmas
+pub mod IntegerLemmas
+pub mod CanonicalLemmas

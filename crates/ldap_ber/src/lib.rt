@@ -1,6 +1,20 @@
-//! Octet strings that own their bytes, and lists of them (RFC 4511, section 4.1.2).
+//! Octet strings that own their bytes (RFC 4511, section 4.1.2), lists of them, and elements of the
+//! Basic Encoding Rules as LDAP uses them (RFC 4511, section 5.1; ITU-T X.690).
+//!
+//! A tag is one octet, and a length is definite, in at most four octets behind its first. What is
+//! written is the one canonical spelling: the shortest length, the shortest integer, TRUE as `FF`.
 #![tactic(auto)]
 
+mod fault;
+mod laws;
 mod octets;
+mod reader;
+#[cfg(test)]
+mod tests;
+mod writer;
 
+pub use fault::{BerFault, BerKind};
+pub use laws::{canonical_spellings, elements_are_read, no_spelling_begins_another};
 pub use octets::{NoMemory, Octets, OctetsList};
+pub use reader::{Reader, Tlv, boolean, integer};
+pub use writer::Writer;

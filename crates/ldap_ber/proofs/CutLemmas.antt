@@ -1,0 +1,79 @@
+-- A proper front of a spelling is short, and so no spelling begins another one.
+use Rattle.std.proofs.Common.{◌≡◌, ◌≢◌, ℕ, ◌-◌, ◌%◌, cond, ltb, eqb, List, [], ◌∷◌, ◌++◌, length, take, drop, Result, Ok, Err, refl, sym, ap, ◌∙◌, inl, inr, ◌⊎◌}
+use Rattle.ldap_ber.specs.declared.fault.BerFault.{BerFault}
+use Rattle.ldap_ber.specs.declared.fault.BerKind.{BerKind}
+use Rattle.ldap_ber.specs.declared.fault.BerKind.TheVariants.{Short}
+use Rattle.ldap_ber.specs.Element.{Begins}
+use Rattle.ldap_ber.specs.Reader.{◌>>=◌, fault, length_at, parts_at, placed, element_at, expect_at}
+use Rattle.ldap_ber.specs.Reading.{Reading, told, octets_at, sequence_at}
+use Rattle.ldap_ber.proofs.Steps.{chosen, err_is}
+use Rattle.ldap_ber.proofs.ElementLemmas.{parts_found, parts_only, Begins-more, one_element}
+
+-- more octets behind those that are refused change nothing but what was short
+length_refused : (bytes after : List ℕ) (k : BerKind) → length_at bytes ≡ Err k → (k ≡ Short) ⊎ (length_at (bytes ++ after) ≡ Err k)
+length_refused [] after k e = inl (sym (err_is _ _ e))
+length_refused (b ∷ more) after k e = elim (chosen (ltb b 128) _ _ _ e) [
+  | inl s ↦ absurd (let h = s.1 in cc)
+  | inr s ↦ elim (chosen (eqb b 128) _ _ _ s.1) [
+    | inl t ↦ inr (rw (s.0, t.0) t.1)
+    | inr t ↦ elim (chosen (ltb 132 b) _ _ _ t.1) [
+      | inl u ↦ inr (rw (s.0, t.0, u.0) u.1)
+      | inr u ↦ elim (chosen (ltb (length more) (b - 128)) _ _ _ u.1) [
+        | inl v ↦ inl (sym (err_is _ _ v.1))
+        | inr v ↦ absurd (let h = v.1 in cc)
+      ]
+    ]
+  ]
+]
+
+-- a body of so many octets, and what follows it
+abbrev body_at : ℕ → ℕ × List ℕ → Result (ℕ × List ℕ × List ℕ) BerKind
+body_at tag n = cond (ltb (length n.1) n.0) (Err Short) (Ok (tag, take n.0 n.1, drop n.0 n.1))
+
+body_refused : (tag : ℕ) (more after : List ℕ) (k : BerKind) (r : Result (ℕ × List ℕ) BerKind) → length_at more ≡ r
+    → (r >>= body_at tag) ≡ Err k
+    → (k ≡ Short) ⊎ ((length_at (more ++ after) >>= body_at tag) ≡ Err k)
+body_refused tag more after k (Ok n) is e = elim (chosen (ltb (length n.1) n.0) _ _ _ e) [
+  | inl s ↦ inl (sym (err_is _ _ s.1))
+  | inr s ↦ absurd (let h = s.1 in cc)
+]
+body_refused tag more after k (Err j) is e = elim (length_refused more after j is) [
+  | inl s ↦ inl (sym (err_is j k e) ∙ s)
+  | inr s ↦ inr (rw s e)
+]
+
+parts_refused : (bytes after : List ℕ) (k : BerKind) → parts_at bytes ≡ Err k → (k ≡ Short) ⊎ (parts_at (bytes ++ after) ≡ Err k)
+parts_refused [] after k e = inl (sym (err_is _ _ e))
+parts_refused (tag ∷ more) after k e = elim (chosen (eqb (tag % 32) 31) _ _ _ e) [
+  | inl s ↦ inr (rw s.0 s.1)
+  | inr s ↦ elim (body_refused tag more after k (length_at more) refl s.1) [
+    | inl t ↦ inl t
+    | inr t ↦ inr (rw s.0 t)
+  ]
+]
+
+cut_goes : (front more : List ℕ) (tag : ℕ) (body : List ℕ) → Begins (front ++ more) tag body [] → more ≢ [] → (r : Result (ℕ × List ℕ × List ℕ) BerKind) → parts_at front ≡ r → r ≡ Err Short
+cut_goes front more tag body h some (Ok p) is =
+    absurd (some (more_none p.2 more (one_element (front ++ more) p.0 tag p.1 body (p.2 ++ more) [] (Begins-more front p.0 p.1 p.2 more (parts_found front p.0 p.1 p.2 is)) h).2))
+  where
+    more_none : (xs ys : List ℕ) → xs ++ ys ≡ [] → ys ≡ []
+    more_none [] ys e = e
+    more_none (x ∷ xs) ys e = absurd cc
+cut_goes front more tag body h some (Err k) is = elim (parts_refused front more k is) [
+  | inl s ↦ ap (λ (j : BerKind). Err j) s
+  | inr s ↦ absurd (let p = sym (parts_only (front ++ more) tag body [] h) ∙ s in cc)
+]
+
+pub element_cut : (stop tag : ℕ) (front more body : List ℕ) → Begins (front ++ more) tag body [] → more ≢ [] → element_at stop front ≡ Err (fault Short stop front)
+unfolding element_at
+element_cut stop tag front more body h some = ap (placed stop front) (cut_goes front more tag body h some (parts_at front) refl)
+
+pub expect_cut : (tag other stop : ℕ) (front more body : List ℕ) → Begins (front ++ more) other body [] → more ≢ [] → expect_at tag stop front ≡ Err (fault Short stop front)
+unfolding expect_at
+expect_cut tag other stop front more body h some = rw (element_cut stop other front more body h some) refl
+
+pub octets_cut : {E : Type 0} (tell : BerFault → E) (tag other stop : ℕ) (front more body : List ℕ) → Begins (front ++ more) other body [] → more ≢ [] → told tell (octets_at tag stop front) ≡ Err (tell (fault Short stop front))
+octets_cut tell tag other stop front more body h some = rw (expect_cut tag other stop front more body h some) refl
+
+pub sequence_cut : {X E : Type 0} (tell : BerFault → E) (tag other : ℕ) (f : Reading E X) (stop : ℕ) (front more body : List ℕ) → Begins (front ++ more) other body [] → more ≢ [] → sequence_at tell tag f stop front ≡ Err (tell (fault Short stop front))
+sequence_cut tell tag other f stop front more body h some = rw (expect_cut tag other stop front more body h some) refl

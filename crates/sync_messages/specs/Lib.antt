@@ -1,0 +1,6 @@
+pub mod Gives
+pub mod Parts
+pub mod Request
+pub mod State
+pub mod Done
+pub mod Info

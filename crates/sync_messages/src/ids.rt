@@ -1,0 +1,46 @@
+//! Lists of identities.
+
+ghost use Rattle.std.specs.Prelude.{◌≡◌, [], ◌∷◌, ◌++◌, OnOk, OnErr};
+
+use ldap_ber::NoMemory;
+use std::alloc::Global;
+use std::marker::Model;
+
+/// A list of identities.
+#[derive(Drop)]
+pub struct IdList {
+    items: Vec<u128>,
+}
+
+impl Model for IdList {
+    ghost use Rattle.std.specs.Prelude.{List, ℕ};
+
+    ghost Value = { List ℕ };
+
+    ghost view = { λ l. l.items.items };
+}
+
+impl IdList {
+    pub fn new(alloc: Global) -> IdList
+        ensures { result ≡ [] }
+    {
+        IdList {
+            items: Vec::new(alloc),
+        }
+    }
+
+    /// Puts the identity at the end.
+    pub fn push(&mut self, id: u128) -> Result<(), NoMemory>
+        ensures ok { OnOk result (self.new ≡ self.old ++ id ∷ []) }
+        ensures err { OnErr result (self.new ≡ self.old) }
+    {
+        self.items.push(id)?;
+        Ok(())
+    }
+
+    pub fn list(&self) -> &[u128]
+        ensures { result.now ≡ self.now }
+    {
+        self.items.as_slice()
+    }
+}

@@ -1,0 +1,62 @@
+-- What a copy makes of each message within the limits of a directory.
+use Rattle.std.specs.Prelude.{ℕ, Bool, true, false, cond, ◌&&◌, ◌||◌, nat_lt, List, [], ◌∷◌, length, Option, Some, None, option_map}
+use Rattle.std.specs.Option.{option_or}
+use Rattle.entry_tree.specs.declared.entry.Entry.{Entry}
+use Rattle.entry_tree.specs.State.{entry_named, total_weight, most_entries, most_weight}
+use Rattle.sync_model.specs.Message.{SyncMessage}
+use Rattle.sync_model.specs.Message.SyncMessage.{Put, Gone, Present, IdSet, NewCookie, PhaseEnds, Done, Passed}
+use Rattle.sync_model.specs.Copy.{Running, Copy, Fault, Answer, puts_of, refused, taken}
+use Rattle.sync_model.specs.Copy.Fault.{StageFull, DuplicateName}
+use Rattle.sync_model.specs.Copy.Answer.{Staged, Stored, Copied, Over, Refused}
+
+-- more entries than a directory may have, or heavier ones
+abbrev pub is_crowded : List Entry → Bool
+is_crowded entries = nat_lt most_entries (length entries) || nat_lt most_weight (total_weight entries)
+
+-- the first entry whose name a later one has, with the first such
+abbrev pub same_named : List Entry → Option (ℕ × ℕ)
+same_named [] = None
+same_named (entry ∷ entries) = option_or (option_map (λ (other : Entry). (entry.uuid, other.uuid)) (entry_named entries entry.dn)) (same_named entries)
+
+abbrev pub puts_entry : SyncMessage → Bool
+puts_entry (Put adds entry cookie) = true
+puts_entry (Gone uuid name cookie) = false
+puts_entry (Present uuid cookie) = false
+puts_entry (IdSet deletes uuids cookie) = false
+puts_entry (NewCookie cookie) = false
+puts_entry (PhaseEnds deletes done cookie) = false
+puts_entry (Done code control) = false
+puts_entry Passed = false
+
+abbrev pub staged_puts : Option Running → List Entry
+staged_puts None = []
+staged_puts (Some running) = puts_of running.stage
+
+-- what is against the entries that a stage left
+abbrev pub against : List Entry → Option Fault
+against entries = cond (is_crowded entries) (Some StageFull) (option_map (λ (pair : ℕ × ℕ). DuplicateName pair.0 pair.1) (same_named entries))
+
+-- the puts of the stage are counted and weighed at each put, and the entries wherever the stage takes effect
+abbrev pub limit_fault : (puts : Bool) → Copy → Answer → Option Fault
+limit_fault puts after Staged = cond (puts && is_crowded (staged_puts after.running)) (Some StageFull) None
+limit_fault puts after (Stored commit) = cond (puts && is_crowded commit.puts) (Some StageFull) (against after.held)
+limit_fault puts after (Copied commit) = cond (puts && is_crowded commit.puts) (Some StageFull) (against after.held)
+limit_fault puts after (Over code) = None
+limit_fault puts after (Refused fault) = None
+
+abbrev pub refused_by : Option Fault → Copy → Copy × Answer → Copy × Answer
+refused_by None before outcome = outcome
+refused_by (Some fault) before outcome = refused before fault
+
+-- a message of this ID
+abbrev pub taken_within : ℕ → Copy → SyncMessage → Copy × Answer
+taken_within id copy message =
+    refused_by (limit_fault (puts_entry message) (taken id copy message).0 (taken id copy message).1) copy (taken id copy message)
+
+abbrev pub taken_all_within : ℕ → Copy → List SyncMessage → Copy
+taken_all_within id copy [] = copy
+taken_all_within id copy (message ∷ messages) = taken_all_within id (taken_within id copy message).0 messages
+
+abbrev pub answers_within : ℕ → Copy → List SyncMessage → List Answer
+answers_within id copy [] = []
+answers_within id copy (message ∷ messages) = (taken_within id copy message).1 ∷ answers_within id (taken_within id copy message).0 messages
