@@ -11,8 +11,6 @@ mod digits;
 mod fault;
 mod maker;
 mod moment;
-#[cfg(test)]
-mod tests;
 mod text;
 
 pub use cookie::{Cookie, is_blank};

@@ -16,6 +16,3 @@ pub use dn::{Dn, keys_tell_names};
 pub use fault::NameFault;
 pub use pair::Pair;
 pub use rdn::Rdn;
-
-#[cfg(test)]
-mod tests;

@@ -16,8 +16,6 @@ mod reading;
 mod rename;
 mod spec;
 mod target;
-#[cfg(test)]
-mod tests;
 mod touched;
 mod tree;
 

@@ -9,8 +9,6 @@ mod fault;
 mod laws;
 mod octets;
 mod reader;
-#[cfg(test)]
-mod tests;
 mod writer;
 
 pub use fault::{BerFault, BerKind};

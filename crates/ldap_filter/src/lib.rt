@@ -15,6 +15,3 @@ mod writing;
 pub use fault::FilterFault;
 pub use filter::{Filter, FilterList, Pieces};
 pub use truth::Truth;
-
-#[cfg(test)]
-mod tests;

@@ -9,8 +9,6 @@ mod field;
 mod lines;
 mod record;
 mod records;
-#[cfg(test)]
-mod tests;
 mod written;
 
 pub use fault::LdifFault;

@@ -7,7 +7,5 @@
 #![tactic(auto)]
 
 mod ends;
-#[cfg(test)]
-mod tests;
 
 pub use ends::{Consumer, Full, Producer, ring};

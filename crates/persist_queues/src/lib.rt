@@ -9,8 +9,6 @@
 
 mod fault;
 mod queue;
-#[cfg(test)]
-mod tests;
 mod weight;
 
 pub use fault::QueueFault;

@@ -4,7 +4,5 @@
 #![tactic(auto)]
 
 mod planning;
-#[cfg(test)]
-mod tests;
 
 pub use planning::{plan, slice, slices_make_the_plan};

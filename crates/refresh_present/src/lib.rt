@@ -6,8 +6,6 @@
 mod decision;
 mod item;
 mod planning;
-#[cfg(test)]
-mod tests;
 
 pub use decision::Decision;
 pub use item::Item;

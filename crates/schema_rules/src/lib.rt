@@ -16,6 +16,3 @@ pub use fault::SchemaFault;
 pub use keys::{are_of_syntax, key_of, keys_of, known_key};
 pub use raw::{Change, EditList, How, RawAttribute, RawEdit, RawList};
 pub use types::{AttributeType, Rule};
-
-#[cfg(test)]
-mod tests;

@@ -7,8 +7,6 @@ mod law;
 mod log;
 mod note;
 mod searching;
-#[cfg(test)]
-mod tests;
 
 pub use law::a_covered_number_misses_nothing;
 pub use log::{NoMemory, SessionLog};

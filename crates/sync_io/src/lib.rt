@@ -15,8 +15,6 @@ mod memory_source;
 mod reading;
 mod sink;
 mod source;
-#[cfg(test)]
-mod tests;
 mod writing;
 
 pub use faulty_sink::FaultySink;

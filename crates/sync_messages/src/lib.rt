@@ -14,8 +14,6 @@ mod laws;
 mod parts;
 mod request;
 mod state;
-#[cfg(test)]
-mod tests;
 
 pub use done::SyncDone;
 pub use fault::SyncFault;

@@ -15,6 +15,3 @@ pub use fault::KeyFault;
 pub use integer::integer_key;
 pub use text::{exact_key, ignore_case_key, piece_key};
 pub use time::time_key;
-
-#[cfg(test)]
-mod tests;

@@ -1,0 +1,5 @@
+//! Tests of entries and their writes: the crate `entry_tree`, by its public calls.
+#![tactic(auto)]
+
+#[cfg(test)]
+mod entry_tree_tests;

@@ -1,0 +1,10 @@
+pub mod UriLemmas
+pub mod OutcomeLemmas
+pub mod ModifyLemmas
+pub mod OperationLemmas
+pub mod OperationSpellings
+pub mod MessageLemmas
+pub mod MessageSpellings
+pub mod FrameLemmas
+pub mod FrontLemmas
+pub mod GrammarLemmas

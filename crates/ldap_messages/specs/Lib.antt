@@ -1,0 +1,16 @@
+pub mod Uris
+pub mod Outcome
+pub mod Bind
+pub mod Unbind
+pub mod Search
+pub mod Modify
+pub mod Add
+pub mod Delete
+pub mod ModifyDn
+pub mod Compare
+pub mod Abandon
+pub mod Extended
+pub mod Intermediate
+pub mod Operation
+pub mod Whole
+pub mod Frame

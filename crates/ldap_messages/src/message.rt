@@ -1,0 +1,141 @@
+//! Messages (RFC 4511, section 4.1.1).
+//!
+//! ```text
+//! LDAPMessage ::= SEQUENCE {
+//!      messageID       MessageID,
+//!      protocolOp      CHOICE { .. },
+//!      controls       [0] Controls OPTIONAL }
+//! ```
+
+ghost use Rattle.std.specs.Prelude.{◌≡◌, ◌≤◌, ℕ, List, [], ◌++◌, length, take, IfOk, IfSome};
+ghost use Rattle.ldap_ber.specs.Reading.{whole_at};
+ghost use Rattle.ldap_ber.specs.Writer.{IsSmall};
+ghost use Rattle.ldap_parts.specs.Gives.{Gives, place_of};
+ghost use Rattle.ldap_messages.specs.Operation.{operation_of, IsHeld};
+ghost use Rattle.ldap_messages.specs.Whole.{Whole, whole_of, MessageForm, message_at, message_octets, HasSpelling};
+ghost use Rattle.ldap_messages.specs.Frame.{message, read_of, Tells, Spells};
+
+use crate::fault::MessageFault;
+use crate::frame::{Frame, frame_of};
+use crate::protocol::{Protocol, operation_of, put_operation};
+use ldap_ber::{NoMemory, Octets, Reader, Writer};
+use ldap_parts::{ControlList, PartFault, controls_of, put_controls, put_number, range_of};
+use std::alloc::Global;
+
+#[derive(Drop)]
+pub struct Message {
+    /// At most 2,147,483,647.
+    pub id: u32,
+    pub op: Protocol,
+    pub controls: ControlList,
+}
+
+impl Message {
+    /// Reads the message at the front of a stream, and the length of its frame. None where the
+    /// bytes so far begin a frame of at most 4,194,304 octets and more of it have to come.
+    #[tactic(auto, using(crate::proofs::FrameLemmas::tells_found, crate::proofs::FrameLemmas::tells_only, crate::proofs::GrammarLemmas::tells_grammar))]
+    pub fn read(alloc: Global, bytes: &[u8]) -> Result<Option<(Message, usize)>, MessageFault>
+        ensures exact { Tells result (read_of bytes.now) }
+        ensures within { IfOk result (λ o. IfSome o (λ x. x.1 ≤ length bytes.now)) }
+        ensures found { IfOk result
+            (λ o. IfSome o (λ x. Spells (take x.1 bytes.now) (whole_of x.0))) }
+        ensures has_spelling { IfOk result (λ o. IfSome o (λ x. HasSpelling (whole_of x.0))) }
+        ensures only { (whole : Whole) (front after : List ℕ) → bytes.now ≡ front ++ after
+            → Spells front whole → Tells result (message whole (length front)) }
+    {
+        read_message(alloc, bytes)
+    }
+
+    /// Writes the canonical spelling, which is read again as the same message where it is not
+    /// longer than a frame may be.
+    pub fn write(&self, alloc: Global) -> Result<Octets, NoMemory>
+        requires { HasSpelling (whole_of self.now) }
+        ensures canonical { IfOk result (λ octets. octets ≡ message_octets (whole_of self.now)) }
+        ensures spelled { IfOk result (λ octets. MessageForm octets (whole_of self.now) []) }
+        ensures read_again { IfOk result (λ octets. length octets ≤ 4194304 → (after : List ℕ)
+            → read_of (octets ++ after) ≡ message (whole_of self.now) (length octets)) }
+    {
+        self.spelling(alloc)
+    }
+
+    #[tactic(auto, unfolding(crate::specs::Whole::message_octets))]
+    fn spelling(&self, alloc: Global) -> Result<Octets, NoMemory>
+        ensures canonical { IfOk result (λ octets. octets ≡ message_octets (whole_of self.now)) }
+        ensures small { IfOk result IsSmall }
+        ensures held { IfOk result (λ octets. IsHeld (operation_of self.now.op)) }
+    {
+        let mut writer = Writer::new(alloc);
+        writer.begin(0x30)?;
+        put_number(&mut writer, 0x02, self.id)?;
+        put_operation(&mut writer, &self.op)?;
+        put_controls(&mut writer, self.controls.list())?;
+        writer.end()?;
+        Ok(writer.finish())
+    }
+}
+
+#[tactic(auto, unfolding(crate::specs::Frame::read_of))]
+fn read_message(alloc: Global, bytes: &[u8]) -> Result<Option<(Message, usize)>, MessageFault>
+    ensures exact { Tells result (read_of bytes.now) }
+    ensures within { IfOk result (λ o. IfSome o (λ x. x.1 ≤ length bytes.now)) }
+{
+    match frame_of(bytes) {
+        Frame::Partial => Ok(None),
+        Frame::Refused(place) => Err(MessageFault::BadMessage(place)),
+        Frame::Long => Err(MessageFault::TooLong),
+        Frame::Held(count) => {
+            let (front, _) = bytes.split_at(count);
+            match message_in(alloc, front) {
+                Ok(message) => Ok(Some((message, count))),
+                Err(PartFault::Refused(place)) => Err(MessageFault::BadMessage(place)),
+                Err(PartFault::NoMemory) => Err(MessageFault::NoMemory),
+            }
+        }
+    }
+}
+
+/// The message that all of the bytes spell.
+fn message_in(alloc: Global, bytes: &[u8]) -> Result<Message, PartFault>
+    ensures { Gives whole_of result (whole_at place_of message_at bytes.now) }
+{
+    let mut reader = Reader::new(bytes);
+    let message = message_of(alloc, &mut reader)?;
+    match reader.end() {
+        Ok(()) => Ok(message),
+        Err(fault) => {
+            discard(message);
+            Err(PartFault::from(fault))
+        }
+    }
+}
+
+/// The message that comes next.
+#[tactic(auto, unfolding(crate::specs::Whole::message_at))]
+fn message_of(alloc: Global, reader: &mut Reader) -> Result<Message, PartFault>
+    ensures exact { Gives (λ message. (whole_of message, reader.new.left)) result
+        (message_at reader.old.stop reader.old.left) }
+    ensures stop { reader.new.stop ≡ reader.old.stop }
+{
+    let whole = reader.expect(0x30)?;
+    let mut inner = Reader::inside(&whole);
+    let id = range_of(&mut inner, 0x02, 0, 2_147_483_647)?;
+    let op = operation_of(alloc, &mut inner)?;
+    let controls = match controls_of(alloc, &mut inner) {
+        Ok(controls) => controls,
+        Err(fault) => {
+            discard(op);
+            return Err(fault);
+        }
+    };
+    match inner.skip() {
+        Ok(()) => Ok(Message { id, op, controls }),
+        Err(fault) => {
+            discard(op);
+            Err(PartFault::from(fault))
+        }
+    }
+}
+
+/// Drops a value through its bound: the many cases of an operation are gone through once, in the
+/// drop of their type, and not wherever one is dropped.
+fn discard<T: Drop>(_value: T) {}

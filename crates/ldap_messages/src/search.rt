@@ -1,0 +1,261 @@
+//! Search, its entries and its references (RFC 4511, section 4.5).
+//!
+//! ```text
+//! SearchRequest ::= [APPLICATION 3] SEQUENCE {
+//!      baseObject      LDAPDN,
+//!      scope           ENUMERATED {
+//!           baseObject              (0),
+//!           singleLevel             (1),
+//!           wholeSubtree            (2),
+//!           ...  },
+//!      derefAliases    ENUMERATED {
+//!           neverDerefAliases       (0),
+//!           derefInSearching        (1),
+//!           derefFindingBaseObj     (2),
+//!           derefAlways             (3) },
+//!      sizeLimit       INTEGER (0 ..  maxInt),
+//!      timeLimit       INTEGER (0 ..  maxInt),
+//!      typesOnly       BOOLEAN,
+//!      filter          Filter,
+//!      attributes      AttributeSelection }
+//!
+//! AttributeSelection ::= SEQUENCE OF selector LDAPString
+//!
+//! SearchResultEntry ::= [APPLICATION 4] SEQUENCE {
+//!      objectName      LDAPDN,
+//!      attributes      PartialAttributeList }
+//!
+//! SearchResultReference ::= [APPLICATION 19] SEQUENCE
+//!                           SIZE (1..MAX) OF uri URI
+//!
+//! SearchResultDone ::= [APPLICATION 5] LDAPResult
+//! ```
+
+ghost use Rattle.std.specs.Prelude.{◌≡◌, ◌≤◌, true, OnOk};
+ghost use Rattle.ldap_ber.specs.Reading.{made_at};
+ghost use Rattle.ldap_ber.specs.Writer.{after_bytes};
+ghost use Rattle.ldap_filter.specs.Tree.{tree_of};
+ghost use Rattle.ldap_parts.specs.Gives.{Gives};
+ghost use Rattle.ldap_parts.specs.Filters.{have_piece};
+ghost use Rattle.ldap_messages.specs.Search.{scope_number, scope_at, reach_at, search_at, entry_at, reference_at, reach_octets, search_octets, entry_octets};
+ghost use Rattle.ldap_messages.specs.Operation.{operation_of, search, entry, reference};
+
+use crate::protocol::Protocol;
+use crate::uris::uris_of;
+use ldap_ber::{NoMemory, Octets, OctetsList, Reader, Writer};
+use ldap_filter::Filter;
+use ldap_parts::{
+    PartFault, attributes_of, filter_of, put_attributes, put_filter, put_number, put_strings,
+    range_of, string_of, strings_of, truth_of,
+};
+use schema_rules::RawAttribute;
+use std::alloc::Global;
+
+/// How many filters may stand in one another.
+const LEVELS: usize = 32;
+
+/// maxInt.
+const MOST: u32 = 2_147_483_647;
+
+/// The entries that a search is about.
+#[derive(Clone, Copy, Debug, PartialEq, Eq)]
+pub enum SearchScope {
+    Base,
+    One,
+    Sub,
+}
+
+/// How far a search reaches.
+#[derive(Drop)]
+struct Reach {
+    base: Octets,
+    scope: SearchScope,
+    deref: u8,
+    size_limit: u32,
+    time_limit: u32,
+    types_only: bool,
+}
+
+/// A SearchRequest that is held elsewhere.
+#[derive(Clone, Copy)]
+pub(crate) struct Asked<'a> {
+    pub(crate) base: &'a Octets,
+    pub(crate) scope: SearchScope,
+    pub(crate) deref: u8,
+    pub(crate) size_limit: u32,
+    pub(crate) time_limit: u32,
+    pub(crate) types_only: bool,
+    pub(crate) filter: &'a Filter,
+    pub(crate) attributes: &'a OctetsList,
+}
+
+/// The SearchRequest that comes next.
+#[tactic(auto, unfolding(crate::specs::Search::search_at, crate::specs::Operation::operation_of))]
+pub(crate) fn search_of(alloc: Global, reader: &mut Reader) -> Result<Protocol, PartFault>
+    ensures exact { Gives (λ op. (operation_of op, reader.new.left)) result
+        (made_at search search_at reader.old.stop reader.old.left) }
+    ensures stop { reader.new.stop ≡ reader.old.stop }
+{
+    let whole = reader.expect(0x63)?;
+    let mut inner = Reader::inside(&whole);
+    let reach = reach_of(alloc, &mut inner)?;
+    let filter = filter_of(alloc, &mut inner, LEVELS)?;
+    let attributes = strings_of(alloc, &mut inner, 0x30)?;
+    inner.skip()?;
+    Ok(Protocol::SearchRequest {
+        base: reach.base,
+        scope: reach.scope,
+        deref: reach.deref,
+        size_limit: reach.size_limit,
+        time_limit: reach.time_limit,
+        types_only: reach.types_only,
+        filter,
+        attributes,
+    })
+}
+
+/// The components in front of the filter, which come next.
+#[tactic(auto, unfolding(crate::specs::Search::reach_at))]
+fn reach_of(alloc: Global, reader: &mut Reader) -> Result<Reach, PartFault>
+    ensures exact { Gives (λ reach. (
+      (
+        reach.base,
+        (
+          scope_number reach.scope,
+          (
+            reach.deref,
+            (reach.size_limit, (reach.time_limit, reach.types_only)),
+          ),
+        ),
+      ),
+      reader.new.left,
+    )) result
+        (reach_at reader.old.stop reader.old.left) }
+    ensures stop { reader.new.stop ≡ reader.old.stop }
+{
+    let base = string_of(alloc, reader, 0x04)?;
+    let scope = scope_of(reader)?;
+    let deref = range_of(reader, 0x0A, 0, 3)?;
+    let size_limit = range_of(reader, 0x02, 0, MOST)?;
+    let time_limit = range_of(reader, 0x02, 0, MOST)?;
+    let types_only = truth_of(reader)?;
+    Ok(Reach {
+        base,
+        scope,
+        deref: deref as u8,
+        size_limit,
+        time_limit,
+        types_only,
+    })
+}
+
+fn scope_of(reader: &mut Reader) -> Result<SearchScope, PartFault>
+    ensures exact { Gives (λ scope. (scope_number scope, reader.new.left)) result
+        (scope_at reader.old.stop reader.old.left) }
+    ensures stop { reader.new.stop ≡ reader.old.stop }
+{
+    let number = range_of(reader, 0x0A, 0, 2)?;
+    match number {
+        0 => Ok(SearchScope::Base),
+        1 => Ok(SearchScope::One),
+        _ => Ok(SearchScope::Sub),
+    }
+}
+
+/// The SearchResultEntry that comes next.
+#[tactic(auto, unfolding(crate::specs::Search::entry_at, crate::specs::Operation::operation_of))]
+pub(crate) fn entry_of(alloc: Global, reader: &mut Reader) -> Result<Protocol, PartFault>
+    ensures exact { Gives (λ op. (operation_of op, reader.new.left)) result
+        (made_at entry entry_at reader.old.stop reader.old.left) }
+    ensures stop { reader.new.stop ≡ reader.old.stop }
+{
+    let whole = reader.expect(0x64)?;
+    let mut inner = Reader::inside(&whole);
+    let name = string_of(alloc, &mut inner, 0x04)?;
+    let attributes = attributes_of(alloc, &mut inner)?;
+    inner.skip()?;
+    Ok(Protocol::SearchResultEntry { name, attributes })
+}
+
+/// The SearchResultReference that comes next.
+#[tactic(auto, unfolding(crate::specs::Operation::operation_of))]
+pub(crate) fn reference_of(alloc: Global, reader: &mut Reader) -> Result<Protocol, PartFault>
+    ensures exact { Gives (λ op. (operation_of op, reader.new.left)) result
+        (made_at reference reference_at reader.old.stop reader.old.left) }
+    ensures stop { reader.new.stop ≡ reader.old.stop }
+{
+    let uris = uris_of(alloc, reader, 0x73)?;
+    Ok(Protocol::SearchResultReference(uris))
+}
+
+pub(crate) fn put_search(writer: &mut Writer, asked: &Asked) -> Result<(), NoMemory>
+    ensures ok { OnOk result (writer.new ≡ after_bytes writer.old (search_octets (
+      (
+        asked.now.base.now,
+        (
+          scope_number asked.now.scope,
+          (
+            asked.now.deref,
+            (asked.now.size_limit, (asked.now.time_limit, asked.now.types_only)),
+          ),
+        ),
+      ),
+      (tree_of asked.now.filter.now, asked.now.attributes.now),
+    ))) }
+    ensures pieces { OnOk result (have_piece (tree_of asked.now.filter.now) ≡ true) }
+    ensures scope { OnOk result (scope_number asked.now.scope ≤ 2) }
+{
+    writer.begin(0x63)?;
+    put_reach(writer, asked)?;
+    put_filter(writer, asked.filter)?;
+    put_strings(writer, 0x30, asked.attributes.list())?;
+    writer.end()
+}
+
+/// Writes the components in front of the filter.
+#[tactic(auto, unfolding(crate::specs::Search::reach_octets))]
+fn put_reach(writer: &mut Writer, asked: &Asked) -> Result<(), NoMemory>
+    ensures ok { OnOk result (writer.new ≡ after_bytes writer.old (reach_octets (
+      asked.now.base.now,
+      (
+        scope_number asked.now.scope,
+        (
+          asked.now.deref,
+          (asked.now.size_limit, (asked.now.time_limit, asked.now.types_only)),
+        ),
+      ),
+    ))) }
+    ensures scope { OnOk result (scope_number asked.now.scope ≤ 2) }
+{
+    writer.octets(0x04, asked.base.as_slice())?;
+    put_number(writer, 0x0A, scope_number(asked.scope))?;
+    put_number(writer, 0x0A, asked.deref as u32)?;
+    put_number(writer, 0x02, asked.size_limit)?;
+    put_number(writer, 0x02, asked.time_limit)?;
+    writer.boolean(0x01, asked.types_only)
+}
+
+fn scope_number(scope: SearchScope) -> u32
+    ensures number { result ≡ scope_number scope }
+    ensures few { result ≤ 2 }
+{
+    match scope {
+        SearchScope::Base => 0,
+        SearchScope::One => 1,
+        SearchScope::Sub => 2,
+    }
+}
+
+pub(crate) fn put_entry(
+    writer: &mut Writer,
+    name: &Octets,
+    attributes: &[RawAttribute],
+) -> Result<(), NoMemory>
+    ensures { OnOk result
+        (writer.new ≡ after_bytes writer.old (entry_octets (name.now, attributes.now))) }
+{
+    writer.begin(0x64)?;
+    writer.octets(0x04, name.as_slice())?;
+    put_attributes(writer, attributes)?;
+    writer.end()
+}

@@ -1,0 +1,6 @@
+pub mod Gives
+pub mod Components
+pub mod Attributes
+pub mod Controls
+pub mod Filters
+pub mod Agreement

@@ -1,0 +1,97 @@
+//! Attributes with their values (RFC 4511, section 4.1.7).
+//!
+//! ```text
+//! PartialAttribute ::= SEQUENCE {
+//!      type       AttributeDescription,
+//!      vals       SET OF value AttributeValue }
+//!
+//! PartialAttributeList ::= SEQUENCE OF
+//!                      partialAttribute PartialAttribute
+//! ```
+
+ghost use Rattle.std.specs.Prelude.{◌≡◌, ◌<◌, length, OnOk};
+ghost use Rattle.std.specs.List.{flat_map};
+ghost use Rattle.ldap_ber.specs.Reading.{many_at};
+ghost use Rattle.ldap_ber.specs.Writer.{after_bytes};
+ghost use Rattle.ldap_parts.specs.Gives.{Gives};
+ghost use Rattle.ldap_parts.specs.Attributes.{attribute_at, attributes_at, attribute_octets, attributes_octets};
+
+use crate::component::string_of;
+use crate::fault::PartFault;
+use crate::lists::{put_strings, strings_of};
+use ldap_ber::{NoMemory, Reader, Writer};
+use schema_rules::{RawAttribute, RawList};
+use std::alloc::Global;
+
+/// The attribute that comes next.
+#[tactic(auto, unfolding(crate::specs::Attributes::attribute_at))]
+pub fn attribute_of(alloc: Global, reader: &mut Reader) -> Result<RawAttribute, PartFault>
+    ensures exact { Gives (λ attribute. (attribute, reader.new.left)) result
+        (attribute_at reader.old.stop reader.old.left) }
+    ensures stop { reader.new.stop ≡ reader.old.stop }
+    ensures shorter { OnOk result (length reader.new.left < length reader.old.left) }
+{
+    let whole = reader.expect(0x30)?;
+    let mut inner = Reader::inside(&whole);
+    let name = string_of(alloc, &mut inner, 0x04)?;
+    let values = strings_of(alloc, &mut inner, 0x31)?;
+    inner.skip()?;
+    Ok(RawAttribute { name, values })
+}
+
+/// The list of attributes that comes next.
+pub fn attributes_of(alloc: Global, reader: &mut Reader) -> Result<RawList, PartFault>
+    ensures exact { Gives (λ attributes. (attributes, reader.new.left)) result
+        (attributes_at reader.old.stop reader.old.left) }
+    ensures stop { reader.new.stop ≡ reader.old.stop }
+{
+    let whole = reader.expect(0x30)?;
+    let mut inner = Reader::inside(&whole);
+    attributes_in(alloc, &mut inner)
+}
+
+/// The attributes that are left.
+#[tactic(auto, using(crate::proofs::AttributeLemmas::attributes_go_on, crate::proofs::AttributeLemmas::attributes_fail, crate::proofs::AttributeLemmas::attributes_end))]
+fn attributes_in(alloc: Global, reader: &mut Reader) -> Result<RawList, PartFault>
+    ensures { Gives (λ attributes. attributes) result
+        (many_at attribute_at reader.old.stop reader.old.left) }
+{
+    let mut attributes = RawList::new(alloc);
+    while !reader.is_empty() {
+        let attribute = attribute_of(alloc, reader)?;
+        attributes.push(attribute)?;
+    }
+    Ok(attributes)
+}
+
+/// Writes an attribute.
+#[tactic(auto, unfolding(crate::specs::Attributes::attribute_octets))]
+pub fn put_attribute(writer: &mut Writer, attribute: &RawAttribute) -> Result<(), NoMemory>
+    ensures { OnOk result
+        (writer.new ≡ after_bytes writer.old (attribute_octets attribute.now)) }
+{
+    writer.begin(0x30)?;
+    writer.octets(0x04, attribute.name.as_slice())?;
+    put_strings(writer, 0x31, attribute.values.list())?;
+    writer.end()
+}
+
+/// Writes a list of attributes.
+pub fn put_attributes(writer: &mut Writer, attributes: &[RawAttribute]) -> Result<(), NoMemory>
+    ensures { OnOk result
+        (writer.new ≡ after_bytes writer.old (attributes_octets attributes.now)) }
+{
+    writer.begin(0x30)?;
+    put_each(writer, attributes)?;
+    writer.end()
+}
+
+fn put_each(writer: &mut Writer, attributes: &[RawAttribute]) -> Result<(), NoMemory>
+    ensures { OnOk result
+        (writer.new ≡ after_bytes writer.old (flat_map attribute_octets attributes.now)) }
+{
+    for attribute in attributes {
+        put_attribute(writer, attribute)?;
+    }
+    Ok(())
+}

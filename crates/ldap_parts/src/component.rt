@@ -1,0 +1,104 @@
+//! Octet strings, numbers and truth values.
+//!
+//! ```text
+//! MessageID ::= INTEGER (0 .. maxInt)
+//!
+//! maxInt INTEGER ::= 2147483647 -- (2^^31 - 1) --
+//!
+//! LDAPString ::= OCTET STRING -- UTF-8 encoded,
+//!                             -- [ISO10646] characters
+//!
+//! LDAPOID ::= OCTET STRING -- Constrained to <numericoid>
+//!                          -- [RFC4512]
+//!
+//! LDAPDN ::= LDAPString -- Constrained to <distinguishedName>
+//!                       -- [RFC4514]
+//! ```
+
+ghost use Rattle.std.specs.Prelude.{◌≡◌, ◌<◌, ◌≤◌, length, IfOk, OnOk};
+ghost use Rattle.ldap_ber.specs.Writer.{after_bytes};
+ghost use Rattle.ldap_parts.specs.Gives.{Gives};
+ghost use Rattle.ldap_parts.specs.Components.{string_at, number_at, truth_at, range_at, option_at, number_octets, string_octets};
+
+use crate::fault::PartFault;
+use ldap_ber::{NoMemory, Octets, Reader, Writer};
+use std::alloc::Global;
+
+/// The octet string with this tag that comes next.
+pub fn string_of(alloc: Global, reader: &mut Reader, tag: u8) -> Result<Octets, PartFault>
+    ensures exact { Gives (λ string. (string, reader.new.left)) result
+        (string_at tag reader.old.stop reader.old.left) }
+    ensures stop { reader.new.stop ≡ reader.old.stop }
+    ensures shorter { OnOk result (length reader.new.left < length reader.old.left) }
+{
+    let octets = reader.octets(tag)?;
+    Ok(Octets::from_slice(alloc, octets)?)
+}
+
+/// The octet string with this tag, where one comes next.
+pub fn option_of(alloc: Global, reader: &mut Reader, tag: u8) -> Result<Option<Octets>, PartFault>
+    ensures exact { Gives (λ option. (option, reader.new.left)) result
+        (option_at tag reader.old.stop reader.old.left) }
+    ensures stop { reader.new.stop ≡ reader.old.stop }
+{
+    if reader.has(tag) {
+        return Ok(Some(string_of(alloc, reader, tag)?));
+    }
+    Ok(None)
+}
+
+/// The integer with this tag that comes next.
+pub fn number_of(reader: &mut Reader, tag: u8) -> Result<i64, PartFault>
+    ensures exact { Gives (λ number. (number, reader.new.left)) result
+        (number_at tag reader.old.stop reader.old.left) }
+    ensures stop { reader.new.stop ≡ reader.old.stop }
+{
+    let number = reader.integer(tag)?;
+    Ok(number)
+}
+
+/// The truth value that comes next.
+pub fn truth_of(reader: &mut Reader) -> Result<bool, PartFault>
+    ensures exact { Gives (λ truth. (truth, reader.new.left)) result
+        (truth_at reader.old.stop reader.old.left) }
+    ensures stop { reader.new.stop ≡ reader.old.stop }
+{
+    let truth = reader.boolean(0x01)?;
+    Ok(truth)
+}
+
+/// The integer with this tag that comes next, which has to be within these bounds.
+pub fn range_of(reader: &mut Reader, tag: u8, least: u32, most: u32) -> Result<u32, PartFault>
+    ensures exact { Gives (λ number. (number, reader.new.left)) result
+        (range_at least most tag reader.old.stop reader.old.left) }
+    ensures stop { reader.new.stop ≡ reader.old.stop }
+    ensures most { IfOk result (λ number. number ≤ most) }
+{
+    let place = reader.place();
+    let number = number_of(reader, tag)?;
+    if number < 0 {
+        return Err(PartFault::Refused(place));
+    }
+    let size = number as u64;
+    if (least as u64) <= size && size <= (most as u64) {
+        return Ok(size as u32);
+    }
+    Err(PartFault::Refused(place))
+}
+
+/// Writes an octet string where there is one.
+pub fn put_option(writer: &mut Writer, tag: u8, option: &Option<Octets>) -> Result<(), NoMemory>
+    ensures { OnOk result (writer.new ≡ after_bytes writer.old (string_octets tag option.now)) }
+{
+    match option {
+        Some(string) => writer.octets(tag, string.as_slice()),
+        None => Ok(()),
+    }
+}
+
+/// Writes a number.
+pub fn put_number(writer: &mut Writer, tag: u8, number: u32) -> Result<(), NoMemory>
+    ensures { OnOk result (writer.new ≡ after_bytes writer.old (number_octets tag number)) }
+{
+    writer.integer(tag, number as i64)
+}

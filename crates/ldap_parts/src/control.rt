@@ -1,0 +1,156 @@
+//! Controls of a message (RFC 4511, section 4.1.11).
+//!
+//! ```text
+//! Controls ::= SEQUENCE OF control Control
+//!
+//! Control ::= SEQUENCE {
+//!      controlType             LDAPOID,
+//!      criticality             BOOLEAN DEFAULT FALSE,
+//!      controlValue            OCTET STRING OPTIONAL }
+//! ```
+
+ghost use Rattle.std.specs.Prelude.{◌≡◌, ◌<◌, [], ◌∷◌, ◌++◌, length, OnOk, OnErr};
+ghost use Rattle.std.specs.List.{flat_map};
+ghost use Rattle.ldap_ber.specs.Reading.{many_at};
+ghost use Rattle.ldap_ber.specs.Writer.{after_bytes};
+ghost use Rattle.ldap_parts.specs.Gives.{Gives};
+ghost use Rattle.ldap_parts.specs.Controls.{control_at, controls_at, control_octets, controls_octets};
+
+use crate::component::{option_of, put_option, string_of};
+use crate::fault::PartFault;
+use ldap_ber::{NoMemory, Octets, Reader, Writer};
+use std::alloc::Global;
+use std::marker::Model;
+
+#[derive(Drop)]
+pub struct Control {
+    /// The control's object identifier.
+    pub name: Octets,
+    pub critical: bool,
+    pub value: Option<Octets>,
+}
+
+/// A list of controls.
+#[derive(Drop)]
+pub struct ControlList {
+    items: Vec<Control>,
+}
+
+impl Model for ControlList {
+    ghost use Rattle.std.specs.Prelude.{List};
+    ghost use Rattle.ldap_parts.specs.declared.control.Control.{Control};
+
+    ghost Value = { List Control };
+
+    ghost view = { λ l. l.items.items };
+}
+
+impl ControlList {
+    pub fn new(alloc: Global) -> ControlList
+        ensures { result ≡ [] }
+    {
+        ControlList {
+            items: Vec::new(alloc),
+        }
+    }
+
+    /// Puts the control at the end.
+    pub fn push(&mut self, item: Control) -> Result<(), NoMemory>
+        ensures ok { OnOk result (self.new ≡ self.old ++ item ∷ []) }
+        ensures err { OnErr result (self.new ≡ self.old) }
+    {
+        self.items.push(item)?;
+        Ok(())
+    }
+
+    pub fn list(&self) -> &[Control]
+        ensures { result.now ≡ self.now }
+    {
+        self.items.as_slice()
+    }
+}
+
+/// The controls of a message, where they come next, or none.
+pub fn controls_of(alloc: Global, reader: &mut Reader) -> Result<ControlList, PartFault>
+    ensures exact { Gives (λ controls. (controls, reader.new.left)) result
+        (controls_at reader.old.stop reader.old.left) }
+    ensures stop { reader.new.stop ≡ reader.old.stop }
+{
+    if reader.has(0xA0) {
+        let whole = reader.expect(0xA0)?;
+        let mut inner = Reader::inside(&whole);
+        return controls_in(alloc, &mut inner);
+    }
+    Ok(ControlList::new(alloc))
+}
+
+/// The controls that are left.
+#[tactic(auto, using(crate::proofs::ControlLemmas::controls_go_on, crate::proofs::ControlLemmas::controls_fail, crate::proofs::ControlLemmas::controls_end))]
+fn controls_in(alloc: Global, reader: &mut Reader) -> Result<ControlList, PartFault>
+    ensures { Gives (λ controls. controls) result
+        (many_at control_at reader.old.stop reader.old.left) }
+{
+    let mut controls = ControlList::new(alloc);
+    while !reader.is_empty() {
+        let control = control_of(alloc, reader)?;
+        controls.push(control)?;
+    }
+    Ok(controls)
+}
+
+/// The control that comes next.
+#[tactic(auto, unfolding(crate::specs::Controls::control_at))]
+fn control_of(alloc: Global, reader: &mut Reader) -> Result<Control, PartFault>
+    ensures exact { Gives (λ control. (control, reader.new.left)) result
+        (control_at reader.old.stop reader.old.left) }
+    ensures stop { reader.new.stop ≡ reader.old.stop }
+    ensures shorter { OnOk result (length reader.new.left < length reader.old.left) }
+{
+    let whole = reader.expect(0x30)?;
+    let mut inner = Reader::inside(&whole);
+    let name = string_of(alloc, &mut inner, 0x04)?;
+    let critical = inner.boolean_or(0x01, false)?;
+    let value = option_of(alloc, &mut inner, 0x04)?;
+    inner.skip()?;
+    Ok(Control {
+        name,
+        critical,
+        value,
+    })
+}
+
+/// Writes the controls of a message, where there are any.
+pub fn put_controls(writer: &mut Writer, controls: &[Control]) -> Result<(), NoMemory>
+    ensures { OnOk result
+        (writer.new ≡ after_bytes writer.old (controls_octets controls.now)) }
+{
+    match controls {
+        [] => Ok(()),
+        [_, ..] => {
+            writer.begin(0xA0)?;
+            put_each(writer, controls)?;
+            writer.end()
+        }
+    }
+}
+
+fn put_each(writer: &mut Writer, controls: &[Control]) -> Result<(), NoMemory>
+    ensures { OnOk result
+        (writer.new ≡ after_bytes writer.old (flat_map control_octets controls.now)) }
+{
+    for control in controls {
+        put_control(writer, control)?;
+    }
+    Ok(())
+}
+
+#[tactic(auto, unfolding(crate::specs::Controls::control_octets))]
+fn put_control(writer: &mut Writer, control: &Control) -> Result<(), NoMemory>
+    ensures { OnOk result (writer.new ≡ after_bytes writer.old (control_octets control.now)) }
+{
+    writer.begin(0x30)?;
+    writer.octets(0x04, control.name.as_slice())?;
+    writer.boolean_unless(0x01, false, control.critical)?;
+    put_option(writer, 0x04, &control.value)?;
+    writer.end()
+}

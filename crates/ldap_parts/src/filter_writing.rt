@@ -1,0 +1,95 @@
+//! Filters, written (RFC 4511, section 4.5.1.7).
+
+ghost use Rattle.std.specs.Prelude.{◌≡◌, true, map, OnOk};
+ghost use Rattle.ldap_ber.specs.Writer.{after_bytes};
+ghost use Rattle.ldap_filter.specs.Tree.{tree_of, trees};
+ghost use Rattle.ldap_filter.specs.Pieces.{has_piece};
+ghost use Rattle.ldap_parts.specs.Filters.{pieces_octets, assertion_octets, substrings_octets, filter_octets, filters_octets, have_piece, all_have_piece};
+
+use crate::component::put_option;
+use crate::lists;
+use ldap_ber::{NoMemory, Octets, Writer};
+use ldap_filter::{Filter, Pieces};
+
+/// Writes a filter.
+#[cycle(writing)]
+pub fn put_filter(writer: &mut Writer, filter: &Filter) -> Result<(), NoMemory>
+    ensures ok { OnOk result
+        (writer.new ≡ after_bytes writer.old (filter_octets (tree_of filter.now))) }
+    ensures pieces { OnOk result (have_piece (tree_of filter.now) ≡ true) }
+{
+    match filter {
+        Filter::And(parts) => {
+            writer.begin(0xA0)?;
+            put_each(writer, parts.list())?;
+            writer.end()
+        }
+        Filter::Or(parts) => {
+            writer.begin(0xA1)?;
+            put_each(writer, parts.list())?;
+            writer.end()
+        }
+        Filter::Not(part) => {
+            writer.begin(0xA2)?;
+            put_filter(writer, part)?;
+            writer.end()
+        }
+        Filter::Equal(name, value) => put_assertion(writer, 0xA3, name, value),
+        Filter::Substrings(name, pieces) => put_substrings(writer, name, pieces),
+        Filter::AtLeast(name, value) => put_assertion(writer, 0xA5, name, value),
+        Filter::AtMost(name, value) => put_assertion(writer, 0xA6, name, value),
+        Filter::Present(name) => writer.octets(0x87, name.as_slice()),
+        Filter::Approx(name, value) => put_assertion(writer, 0xA8, name, value),
+        Filter::Extensible(body) => writer.octets(0xA9, body.as_slice()),
+    }
+}
+
+#[cycle(writing)]
+fn put_each(writer: &mut Writer, filters: &[Filter]) -> Result<(), NoMemory>
+    ensures ok { OnOk result (writer.new
+        ≡ after_bytes writer.old (filters_octets (trees (map tree_of filters.now)))) }
+    ensures pieces { OnOk result (all_have_piece (trees (map tree_of filters.now)) ≡ true) }
+{
+    for filter in filters {
+        put_filter(writer, filter)?;
+    }
+    Ok(())
+}
+
+/// Writes a type and a value.
+pub fn put_assertion(
+    writer: &mut Writer,
+    tag: u8,
+    name: &Octets,
+    value: &Octets,
+) -> Result<(), NoMemory>
+    ensures { OnOk result
+        (writer.new ≡ after_bytes writer.old (assertion_octets tag (name.now, value.now))) }
+{
+    writer.begin(tag)?;
+    writer.octets(0x04, name.as_slice())?;
+    writer.octets(0x04, value.as_slice())?;
+    writer.end()
+}
+
+fn put_substrings(writer: &mut Writer, name: &Octets, pieces: &Pieces) -> Result<(), NoMemory>
+    ensures ok { OnOk result (writer.new ≡ after_bytes writer.old (substrings_octets
+        (name.now, (pieces.now.initial, (pieces.now.middle, pieces.now.last))))) }
+    ensures pieces { has_piece pieces.now.initial pieces.now.middle pieces.now.last ≡ true }
+{
+    writer.begin(0xA4)?;
+    writer.octets(0x04, name.as_slice())?;
+    put_pieces(writer, pieces)?;
+    writer.end()
+}
+
+fn put_pieces(writer: &mut Writer, pieces: &Pieces) -> Result<(), NoMemory>
+    ensures { OnOk result (writer.new ≡ after_bytes writer.old
+        (pieces_octets (pieces.now.initial, (pieces.now.middle, pieces.now.last)))) }
+{
+    writer.begin(0x30)?;
+    put_option(writer, 0x80, &pieces.initial)?;
+    lists::put_each(writer, 0x81, pieces.middle.list())?;
+    put_option(writer, 0x82, &pieces.last)?;
+    writer.end()
+}

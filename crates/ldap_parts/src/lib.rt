@@ -1,0 +1,27 @@
+//! Components that several messages of LDAP hold: octet strings, numbers, attributes, controls and
+//! filters, as bytes (RFC 4511, sections 4.1 and 4.5.1.7).
+//!
+//! Each is read in any spelling of its elements, with unknown elements behind the last known one
+//! of a SEQUENCE, and with values written that could be left out. It is written in its one
+//! canonical spelling. The elements of a SEQUENCE OF or SET OF are all known. A refused place is
+//! the first octet of the first element that the grammar refuses; a missing element is refused
+//! where it had to begin.
+#![tactic(auto)]
+
+mod attributes;
+mod component;
+mod control;
+mod fault;
+mod filter_reading;
+mod filter_writing;
+mod laws;
+mod lists;
+
+pub use attributes::{attribute_of, attributes_of, put_attribute, put_attributes};
+pub use component::{number_of, option_of, put_number, put_option, range_of, string_of, truth_of};
+pub use control::{Control, ControlList, controls_of, put_controls};
+pub use fault::PartFault;
+pub use filter_reading::{assertion_of, filter_of};
+pub use filter_writing::{put_assertion, put_filter};
+pub use laws::{canonical_spellings, components_are_read};
+pub use lists::{put_strings, strings_of};

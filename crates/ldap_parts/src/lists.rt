@@ -1,0 +1,60 @@
+//! Lists of octet strings.
+
+ghost use Rattle.std.specs.Prelude.{◌≡◌, OnOk};
+ghost use Rattle.std.specs.List.{flat_map};
+ghost use Rattle.ldap_ber.specs.Reading.{many_at};
+ghost use Rattle.ldap_ber.specs.Canonical.{element};
+ghost use Rattle.ldap_ber.specs.Writer.{after_bytes};
+ghost use Rattle.ldap_parts.specs.Gives.{Gives};
+ghost use Rattle.ldap_parts.specs.Components.{string_at, strings_at, strings_octets};
+
+use crate::component::string_of;
+use crate::fault::PartFault;
+use ldap_ber::{NoMemory, Octets, OctetsList, Reader, Writer};
+use std::alloc::Global;
+
+/// The element with this tag that comes next: octet strings alone.
+pub fn strings_of(alloc: Global, reader: &mut Reader, tag: u8) -> Result<OctetsList, PartFault>
+    ensures exact { Gives (λ strings. (strings, reader.new.left)) result
+        (strings_at tag reader.old.stop reader.old.left) }
+    ensures stop { reader.new.stop ≡ reader.old.stop }
+{
+    let whole = reader.expect(tag)?;
+    let mut inner = Reader::inside(&whole);
+    strings_in(alloc, &mut inner)
+}
+
+/// The octet strings that are left.
+#[tactic(auto, using(crate::proofs::StringLemmas::strings_go_on, crate::proofs::StringLemmas::strings_fail, crate::proofs::StringLemmas::strings_end))]
+fn strings_in(alloc: Global, reader: &mut Reader) -> Result<OctetsList, PartFault>
+    ensures { Gives (λ strings. strings) result
+        (many_at (string_at 4) reader.old.stop reader.old.left) }
+{
+    let mut strings = OctetsList::new(alloc);
+    while !reader.is_empty() {
+        let string = string_of(alloc, reader, 0x04)?;
+        strings.push(string)?;
+    }
+    Ok(strings)
+}
+
+/// Writes an element of octet strings.
+pub fn put_strings(writer: &mut Writer, tag: u8, strings: &[Octets]) -> Result<(), NoMemory>
+    ensures { OnOk result
+        (writer.new ≡ after_bytes writer.old (strings_octets tag strings.now)) }
+{
+    writer.begin(tag)?;
+    put_each(writer, 0x04, strings)?;
+    writer.end()
+}
+
+/// Writes octet strings one after the other.
+pub(crate) fn put_each(writer: &mut Writer, tag: u8, strings: &[Octets]) -> Result<(), NoMemory>
+    ensures { OnOk result
+        (writer.new ≡ after_bytes writer.old (flat_map (element tag) strings.now)) }
+{
+    for string in strings {
+        writer.octets(tag, string.as_slice())?;
+    }
+    Ok(())
+}

@@ -1,0 +1,16 @@
+//! Tests of the layers of replication: change numbers and cookies, the session log, the phases of a
+//! refresh, queues and rings. Each file tests the crate that it is named for, by its public calls.
+#![tactic(auto)]
+
+#[cfg(test)]
+mod csn_cookie_tests;
+#[cfg(test)]
+mod link_rings_tests;
+#[cfg(test)]
+mod persist_queues_tests;
+#[cfg(test)]
+mod refresh_delete_tests;
+#[cfg(test)]
+mod refresh_present_tests;
+#[cfg(test)]
+mod session_log_tests;

@@ -1,0 +1,544 @@
+//! Records and texts from outside: after the examples of RFC 2849, and its rules one by one.
+use csn_cookie::Csn;
+use ldap_ber::{NoMemory, Octets, OctetsList};
+use ldif_text::{LdifFault, Records, write_entry};
+use schema_rules::{Attrs, Change, How, RawAttribute, RawList};
+use std::alloc::{AllocError, Global};
+use std::test::Fail;
+
+/// Appends the type with its values, as ` cn|a|b`.
+fn push_attribute(text: &mut Vec<u8>, attribute: &RawAttribute) -> Result<(), NoMemory> {
+    text.push(b' ')?;
+    text.extend_from_slice(attribute.name.as_slice())?;
+    for value in attribute.values.list() {
+        text.push(b'|')?;
+        text.extend_from_slice(value.as_slice())?;
+    }
+    Ok(())
+}
+
+fn push_word(text: &mut Vec<u8>, word: &[u8], name: &[u8]) -> Result<(), NoMemory> {
+    text.extend_from_slice(word)?;
+    text.push(b' ')?;
+    text.extend_from_slice(name)?;
+    Ok(())
+}
+
+fn push_change(text: &mut Vec<u8>, change: &Change) -> Result<(), NoMemory> {
+    match change {
+        Change::Add(name, list) => {
+            push_word(text, b"add", name.as_slice())?;
+            for attribute in list.list() {
+                push_attribute(text, attribute)?;
+            }
+        }
+        Change::Delete(name) => push_word(text, b"delete", name.as_slice())?,
+        Change::Modify(name, list) => {
+            push_word(text, b"modify", name.as_slice())?;
+            for edit in list.list() {
+                let sign: &[u8] = match edit.how {
+                    How::Add => b" +",
+                    How::Delete => b" -",
+                    How::Replace => b" =",
+                };
+                text.extend_from_slice(sign)?;
+                push_attribute(text, &edit.attribute)?;
+            }
+        }
+        Change::Rename(name, rdn, drops, superior) => {
+            push_word(text, b"rename", name.as_slice())?;
+            push_word(text, b" to", rdn.as_slice())?;
+            if *drops {
+                text.extend_from_slice(b" dropping")?;
+            }
+            if let Some(superior) = superior {
+                push_word(text, b" below", superior.as_slice())?;
+            }
+        }
+    }
+    Ok(())
+}
+
+/// The records of the text, each with the number of its last line, and how the reading ends.
+fn told(alloc: Global, text: &[u8]) -> Result<Vec<u8>, NoMemory> {
+    let mut records = Records::new(text, 1);
+    let mut told = Vec::new(alloc);
+    for _ in 0..10 {
+        let end = match records.next(alloc) {
+            Ok(Some(change)) => {
+                push_change(&mut told, &change)?;
+                let line = format!(in alloc; " @{}\n", records.line())?;
+                told.extend_from_slice(line.as_bytes())?;
+                continue;
+            }
+            Ok(None) => format!(in alloc; "end")?,
+            Err(LdifFault::NoMemory) => return Err(AllocError),
+            Err(fault) => format!(in alloc; "{fault:?}")?,
+        };
+        told.extend_from_slice(end.as_bytes())?;
+        return Ok(told);
+    }
+    Ok(told)
+}
+
+/// The examples 1 to 7 of RFC 2849, and what is read of each. Left out are the empty lines that the
+/// ends of pages put into 4, 5 and 6, one comment of 4, and the line of 6 that has a URL.
+const EXAMPLES: [(&str, &str); 7] = [
+    (
+        "version: 1
+dn: cn=Barbara Jensen, ou=Product Development, dc=airius, dc=com
+objectclass: top
+objectclass: person
+objectclass: organizationalPerson
+cn: Barbara Jensen
+cn: Barbara J Jensen
+cn: Babs Jensen
+sn: Jensen
+uid: bjensen
+telephonenumber: +1 408 555 1212
+description: A big sailing fan.
+
+dn: cn=Bjorn Jensen, ou=Accounting, dc=airius, dc=com
+objectclass: top
+objectclass: person
+objectclass: organizationalPerson
+cn: Bjorn Jensen
+sn: Jensen
+telephonenumber: +1 408 555 1212
+",
+        "add cn=Barbara Jensen, ou=Product Development, dc=airius, dc=com objectclass|top|person|organizationalPerson cn|Barbara Jensen|Barbara J Jensen|Babs Jensen sn|Jensen uid|bjensen telephonenumber|+1 408 555 1212 description|A big sailing fan. @12
+add cn=Bjorn Jensen, ou=Accounting, dc=airius, dc=com objectclass|top|person|organizationalPerson cn|Bjorn Jensen sn|Jensen telephonenumber|+1 408 555 1212 @20
+end",
+    ),
+    (
+        "version: 1
+dn:cn=Barbara Jensen, ou=Product Development, dc=airius, dc=com
+objectclass:top
+objectclass:person
+objectclass:organizationalPerson
+cn:Barbara Jensen
+cn:Barbara J Jensen
+cn:Babs Jensen
+sn:Jensen
+uid:bjensen
+telephonenumber:+1 408 555 1212
+description:Babs is a big sailing fan, and travels extensively in sea
+ rch of perfect sailing conditions.
+title:Product Manager, Rod and Reel Division
+",
+        "add cn=Barbara Jensen, ou=Product Development, dc=airius, dc=com objectclass|top|person|organizationalPerson cn|Barbara Jensen|Barbara J Jensen|Babs Jensen sn|Jensen uid|bjensen telephonenumber|+1 408 555 1212 description|Babs is a big sailing fan, and travels extensively in search of perfect sailing conditions. title|Product Manager, Rod and Reel Division @14
+end",
+    ),
+    (
+        "version: 1
+dn: cn=Gern Jensen, ou=Product Testing, dc=airius, dc=com
+objectclass: top
+objectclass: person
+objectclass: organizationalPerson
+cn: Gern Jensen
+cn: Gern O Jensen
+sn: Jensen
+uid: gernj
+telephonenumber: +1 408 555 1212
+description:: V2hhdCBhIGNhcmVmdWwgcmVhZGVyIHlvdSBhcmUhICBUaGlzIHZhbHVl
+ IGlzIGJhc2UtNjQtZW5jb2RlZCBiZWNhdXNlIGl0IGhhcyBhIGNvbnRyb2wgY2hhcmFjdG
+ VyIGluIGl0IChhIENSKS4NICBCeSB0aGUgd2F5LCB5b3Ugc2hvdWxkIHJlYWxseSBnZXQg
+ b3V0IG1vcmUu
+",
+        "add cn=Gern Jensen, ou=Product Testing, dc=airius, dc=com objectclass|top|person|organizationalPerson cn|Gern Jensen|Gern O Jensen sn|Jensen uid|gernj telephonenumber|+1 408 555 1212 description|What a careful reader you are!  This value is base-64-encoded because it has a control character in it (a CR).\r  By the way, you should really get out more. @14
+end",
+    ),
+    // Types are not checked in reading.
+    (
+        "version: 1
+dn:: b3U95Za25qWt6YOoLG89QWlyaXVz
+# dn:: ou=<JapaneseOU>,o=Airius
+objectclass: top
+objectclass: organizationalUnit
+ou:: 5Za25qWt6YOo
+# ou:: <JapaneseOU>
+ou;lang-ja:: 5Za25qWt6YOo
+# ou;lang-ja:: <JapaneseOU>
+ou;lang-ja;phonetic:: 44GI44GE44GO44KH44GG44G2
+# ou;lang-ja:: <JapaneseOU_in_phonetic_representation>
+ou;lang-en: Sales
+description: Japanese office
+
+dn:: dWlkPXJvZ2FzYXdhcmEsb3U95Za25qWt6YOoLG89QWlyaXVz
+# dn:: uid=<uid>,ou=<JapaneseOU>,o=Airius
+userpassword: {SHA}O3HSv1MusyL4kTjP+HKI5uxuNoM=
+objectclass: top
+objectclass: person
+objectclass: organizationalPerson
+objectclass: inetOrgPerson
+uid: rogasawara
+mail: rogasawara@airius.co.jp
+givenname;lang-ja:: 44Ot44OJ44OL44O8
+# givenname;lang-ja:: <JapaneseGivenname>
+sn;lang-ja:: 5bCP56yg5Y6f
+# sn;lang-ja:: <JapaneseSn>
+cn;lang-ja:: 5bCP56yg5Y6fIOODreODieODi+ODvA==
+# cn;lang-ja:: <JapaneseCn>
+title;lang-ja:: 5Za25qWt6YOoIOmDqOmVtw==
+# title;lang-ja:: <JapaneseTitle>
+preferredlanguage: ja
+givenname:: 44Ot44OJ44OL44O8
+# givenname:: <JapaneseGivenname>
+sn:: 5bCP56yg5Y6f
+# sn:: <JapaneseSn>
+cn:: 5bCP56yg5Y6fIOODreODieODi+ODvA==
+# cn:: <JapaneseCn>
+title:: 5Za25qWt6YOoIOmDqOmVtw==
+# title:: <JapaneseTitle>
+givenname;lang-ja;phonetic:: 44KN44Gp44Gr44O8
+sn;lang-ja;phonetic:: 44GK44GM44GV44KP44KJ
+# sn;lang-ja;phonetic:: <JapaneseSn_in_phonetic_representation_kana>
+cn;lang-ja;phonetic:: 44GK44GM44GV44KP44KJIOOCjeOBqeOBq+ODvA==
+# cn;lang-ja;phonetic:: <JapaneseCn_in_phonetic_representation_kana>
+title;lang-ja;phonetic:: 44GI44GE44GO44KH44GG44G2IOOBtuOBoeOCh+OBhg==
+# title;lang-ja;phonetic::
+# <JapaneseTitle_in_phonetic_representation_kana>
+givenname;lang-en: Rodney
+sn;lang-en: Ogasawara
+cn;lang-en: Rodney Ogasawara
+title;lang-en: Sales, Director
+",
+        "add ou=営業部,o=Airius objectclass|top|organizationalUnit ou|営業部 ou;lang-ja|営業部 ou;lang-ja;phonetic|えいぎょうぶ ou;lang-en|Sales description|Japanese office @13
+add uid=rogasawara,ou=営業部,o=Airius userpassword|{SHA}O3HSv1MusyL4kTjP+HKI5uxuNoM= objectclass|top|person|organizationalPerson|inetOrgPerson uid|rogasawara mail|rogasawara@airius.co.jp givenname;lang-ja|ロドニー sn;lang-ja|小笠原 cn;lang-ja|小笠原 ロドニー title;lang-ja|営業部 部長 preferredlanguage|ja givenname|ロドニー sn|小笠原 cn|小笠原 ロドニー title|営業部 部長 givenname;lang-ja;phonetic|ろどにー sn;lang-ja;phonetic|おがさわら cn;lang-ja;phonetic|おがさわら ろどにー title;lang-ja;phonetic|えいぎょうぶ ぶちょう givenname;lang-en|Rodney sn;lang-en|Ogasawara cn;lang-en|Rodney Ogasawara title;lang-en|Sales, Director @52
+end",
+    ),
+    // A URL in place of a value.
+    (
+        "version: 1
+dn: cn=Horatio Jensen, ou=Product Testing, dc=airius, dc=com
+objectclass: top
+objectclass: person
+objectclass: organizationalPerson
+cn: Horatio Jensen
+cn: Horatio N Jensen
+sn: Jensen
+uid: hjensen
+telephonenumber: +1 408 555 1212
+jpegphoto:< file:///usr/local/directory/photos/hjensen.jpg
+",
+        "BadLine(11)",
+    ),
+    (
+        "version: 1
+# Add a new entry
+dn: cn=Fiona Jensen, ou=Marketing, dc=airius, dc=com
+changetype: add
+objectclass: top
+objectclass: person
+objectclass: organizationalPerson
+cn: Fiona Jensen
+sn: Jensen
+uid: fiona
+telephonenumber: +1 408 555 1212
+
+# Delete an existing entry
+dn: cn=Robert Jensen, ou=Marketing, dc=airius, dc=com
+changetype: delete
+
+# Modify an entry's relative distinguished name
+dn: cn=Paul Jensen, ou=Product Development, dc=airius, dc=com
+changetype: modrdn
+newrdn: cn=Paula Jensen
+deleteoldrdn: 1
+
+# Rename an entry and move all of its children to a new location in
+# the directory tree (only implemented by LDAPv3 servers).
+dn: ou=PD Accountants, ou=Product Development, dc=airius, dc=com
+changetype: modrdn
+newrdn: ou=Product Development Accountants
+deleteoldrdn: 0
+newsuperior: ou=Accounting, dc=airius, dc=com
+
+# Modify an entry: add an additional value to the postaladdress
+# attribute, completely delete the description attribute, replace
+# the telephonenumber attribute with two values, and delete a specific
+# value from the facsimiletelephonenumber attribute
+dn: cn=Paula Jensen, ou=Product Development, dc=airius, dc=com
+changetype: modify
+add: postaladdress
+postaladdress: 123 Anystreet $ Sunnyvale, CA $ 94086
+-
+delete: description
+-
+replace: telephonenumber
+telephonenumber: +1 408 555 1234
+telephonenumber: +1 408 555 5678
+-
+delete: facsimiletelephonenumber
+facsimiletelephonenumber: +1 408 555 9876
+-
+
+# Modify an entry: replace the postaladdress attribute with an empty
+# set of values (which will cause the attribute to be removed), and
+# delete the entire description attribute. Note that the first will
+# always succeed, while the second will only succeed if at least
+# one value for the description attribute is present.
+dn: cn=Ingrid Jensen, ou=Product Support, dc=airius, dc=com
+changetype: modify
+replace: postaladdress
+-
+delete: description
+-
+",
+        "add cn=Fiona Jensen, ou=Marketing, dc=airius, dc=com objectclass|top|person|organizationalPerson cn|Fiona Jensen sn|Jensen uid|fiona telephonenumber|+1 408 555 1212 @11
+delete cn=Robert Jensen, ou=Marketing, dc=airius, dc=com @15
+rename cn=Paul Jensen, ou=Product Development, dc=airius, dc=com to cn=Paula Jensen dropping @21
+rename ou=PD Accountants, ou=Product Development, dc=airius, dc=com to ou=Product Development Accountants below ou=Accounting, dc=airius, dc=com @29
+modify cn=Paula Jensen, ou=Product Development, dc=airius, dc=com + postaladdress|123 Anystreet $ Sunnyvale, CA $ 94086 - description = telephonenumber|+1 408 555 1234|+1 408 555 5678 - facsimiletelephonenumber|+1 408 555 9876 @48
+modify cn=Ingrid Jensen, ou=Product Support, dc=airius, dc=com = postaladdress - description @60
+end",
+    ),
+    // What follows the name is no `changetype:`, so these are the attributes of an add.
+    (
+        "version: 1
+# Delete an entry. The operation will attach the LDAPv3
+# Tree Delete Control defined in [9]. The criticality
+# field is \"true\" and the controlValue field is
+# absent, as required by [9].
+dn: ou=Product Development, dc=airius, dc=com
+control: 1.2.840.113556.1.4.805 true
+changetype: delete
+",
+        "add ou=Product Development, dc=airius, dc=com control|1.2.840.113556.1.4.805 true changetype|delete @8
+end",
+    ),
+];
+
+#[test]
+fn examples_are_read(rt: HostRuntime) -> Result<(), Fail> {
+    for (text, want) in EXAMPLES {
+        assert_eq!(rt;
+            told(rt.alloc(), text.as_bytes())?.as_slice(),
+            want.as_bytes()
+        );
+    }
+    Ok(())
+}
+
+const RULES: [(&[u8], &[u8]); 45] = [
+    (b"", b"end"),
+    (b"\n# c\n d\n\n", b"end"),
+    (b"dn: a\r\ncn:  x \r\n", b"add a cn|x  @2\nend"),
+    (b"dn: a\nCN: x\nsn: y\ncn: z", b"add a CN|x|z sn|y @4\nend"),
+    (b"dn: a\ncn: x\n# c\n d\n", b"add a cn|x @2\nend"),
+    (
+        b"dn: a\ncn: x\n \n y\n\n\ndn: b\nsn:",
+        b"add a cn|xy @4\nadd b sn| @8\nend",
+    ),
+    (b"dn:: YQ==\ncn: <x\nsn: :y\n", b"add a cn|<x sn|:y @3\nend"),
+    (
+        b"version: 1\n\n# c\n\ndn: a\nchangetype: delete",
+        b"delete a @6\nend",
+    ),
+    (b"dn: a\nchangetype: modify\n", b"modify a @2\nend"),
+    (
+        b"dn: a\nchangetype: modify\nadd: cn\nCN: x",
+        b"modify a + cn|x @4\nend",
+    ),
+    (
+        b"dn: a\nchangetype: modify\nreplace: cn\n-\n",
+        b"modify a = cn @4\nend",
+    ),
+    (b"dn: a\nchangetype:: ZGVsZXRl\n", b"delete a @2\nend"),
+    (b"dn: a\ncontrol: 1\n", b"add a control|1 @2\nend"),
+    // Lines that are no lines of a record.
+    (b" dn: a\n", b"BadLine(1)"),
+    (b"dn: a\ncn: x\n\n y\n", b"add a cn|x @2\nBadLine(4)"),
+    (b"dn: a\ncn\n", b"BadLine(2)"),
+    (b"dn: a\ncn:< file:///x\n", b"BadLine(2)"),
+    (b"dn: a\ncn:<x\n", b"BadLine(2)"),
+    (b"dn: a\n-\n", b"BadLine(2)"),
+    (b"dn: a\nchangetype: modify\n-\n", b"BadLine(3)"),
+    (b"dn: a\nchangetype: modify\nadd: cn\n-\n-\n", b"BadLine(5)"),
+    (b"dn: a\nchangetype: delete\n-\n", b"BadLine(3)"),
+    // Values that are not in the padded standard form.
+    (b"dn: a\ncn:: eA\n", b"BadBase64(2)"),
+    (b"dn: a\ncn:: eB==\n", b"BadBase64(2)"),
+    (b"dn: a\ncn:: eA==x\n", b"BadBase64(2)"),
+    (b"dn: a\ncn:: eA=\n = \n", b"BadBase64(2)"),
+    // Other departures, at their line or at the last one.
+    (b"version: 1\n# c\n", b"BadChange(1)"),
+    (b"version: 2\ndn: a\ncn: x\n", b"BadChange(1)"),
+    (
+        b"dn: a\ncn: x\n\nversion: 1\ndn: b\n",
+        b"add a cn|x @2\nBadChange(4)",
+    ),
+    (b"cn: a\n", b"BadChange(1)"),
+    (b"DN: a\ncn: x\n", b"BadChange(1)"),
+    (b"dn: a\n b\n# c\n", b"BadChange(2)"),
+    (b"dn: a\nchangetype: add\n", b"BadChange(2)"),
+    (b"dn: a\nchangetype: moved\n", b"BadChange(2)"),
+    (b"dn: a\nchangetype: delete\ncn: x\n", b"BadChange(3)"),
+    (b"dn: a\nchangetype: delete\ncontrol: 1\n", b"BadChange(3)"),
+    (
+        b"dn: a\nchangetype: modify\nadd: cn\ncn: x\nadd: sn\n",
+        b"BadChange(5)",
+    ),
+    (
+        b"dn: a\nchangetype: modify\nincrement: uidNumber\n",
+        b"BadChange(3)",
+    ),
+    (
+        b"dn: a\nchangetype: modify\nadd: cn\nsn: x\n",
+        b"BadChange(4)",
+    ),
+    (b"dn: a\nchangetype: modrdn\n", b"BadChange(2)"),
+    (
+        b"dn: a\nchangetype: modrdn\nnewrdn: b\n \n\n",
+        b"BadChange(4)",
+    ),
+    (
+        b"dn: a\nchangetype: modrdn\nnewrdn: b\ndeleteoldrdn: 2\n",
+        b"BadChange(4)",
+    ),
+    (
+        b"dn: a\nchangetype: modrdn\ndeleteoldrdn: 1\nnewrdn: b\n",
+        b"BadChange(3)",
+    ),
+    (
+        b"dn: a\nchangetype: moddn\nnewrdn: b\ndeleteoldrdn: 1\nsuperior: c\n",
+        b"BadChange(5)",
+    ),
+    (
+        b"dn: a\nchangetype: moddn\nnewrdn: b\ndeleteoldrdn: 1\nnewsuperior: c\ncn: x\n",
+        b"BadChange(6)",
+    ),
+];
+
+#[test]
+fn rules_of_records(rt: HostRuntime) -> Result<(), Fail> {
+    for (text, want) in RULES {
+        assert_eq!(rt; told(rt.alloc(), text)?.as_slice(), want);
+    }
+    Ok(())
+}
+
+#[test]
+fn a_refusal_changes_nothing(rt: HostRuntime) -> Result<(), Fail> {
+    let mut records = Records::new(b"dn: a\ncn: x\n\ndn: b\ncn\n", 7);
+    assert_eq!(rt; records.line(), 7);
+    let _first = records.next(rt.alloc())?;
+    assert_eq!(rt; records.line(), 8);
+    for _ in 0..2 {
+        assert_eq!(rt;
+            records.next(rt.alloc()).err(),
+            Some(LdifFault::BadLine(11))
+        );
+        assert_eq!(rt; records.line(), 8);
+    }
+    Ok(())
+}
+
+/// An entry of these types and values.
+fn entry(alloc: Global, lines: &[(&[u8], &[u8])]) -> Result<Attrs, Fail> {
+    let mut list = RawList::new(alloc);
+    for (name, value) in lines {
+        let mut values = OctetsList::new(alloc);
+        values.push(Octets::from_slice(alloc, value)?)?;
+        let name = Octets::from_slice(alloc, name)?;
+        list.push(RawAttribute { name, values })?;
+    }
+    Ok(Attrs::read(alloc, &list)?)
+}
+
+#[test]
+fn entries_with_marks(rt: HostRuntime) -> Result<(), Fail> {
+    let root = entry(
+        rt.alloc(),
+        &[
+            (b"objectClass", b"organization"),
+            (b"objectClass", b"dcObject"),
+            (b"o", b"X"),
+            (b"dc", b"x"),
+        ],
+    )?;
+    let csn = Csn::parse(b"19700101000000.000000Z#000001#001#000000")?;
+    let marks = Some((0x0000_0000_0001_8000_8000_0000_0000_0001, csn));
+    let text = write_entry(rt.alloc(), b"dc=x", &root, marks)?;
+    let want: &[u8] = b"dn: dc=x
+objectClass: organization
+objectClass: dcObject
+o: X
+dc: x
+entryUUID: 00000000-0001-8000-8000-000000000001
+entryCSN: 19700101000000.000000Z#000001#001#000000
+
+";
+    assert_eq!(rt; text.as_slice(), want);
+    let unit = entry(
+        rt.alloc(),
+        &[(b"objectClass", b"organizationalUnit"), (b"ou", b"a")],
+    )?;
+    let csn = Csn::parse(b"19700101000000.000000Z#000002#001#000000")?;
+    let marks = Some((0x0000_0000_0001_8000_8000_0000_0000_0002, csn));
+    let text = write_entry(rt.alloc(), b"ou=a,dc=x", &unit, marks)?;
+    let want: &[u8] = b"dn: ou=a,dc=x
+objectClass: organizationalUnit
+ou: a
+entryUUID: 00000000-0001-8000-8000-000000000002
+entryCSN: 19700101000000.000000Z#000002#001#000000
+
+";
+    assert_eq!(rt; text.as_slice(), want);
+    Ok(())
+}
+
+/// Names, and the lines that they are written on.
+const NAMES: [(&[u8], &[u8]); 16] = [
+    (b"", b"dn: \n\n"),
+    (b"cn=x", b"dn: cn=x\n\n"),
+    (b"a: b <c>", b"dn: a: b <c>\n\n"),
+    (b"#x", b"dn: #x\n\n"),
+    (b"\x7f", b"dn: \x7f\n\n"),
+    (b"a\tb", b"dn: a\tb\n\n"),
+    (b" ", b"dn:: IA==\n\n"),
+    (b" x", b"dn:: IHg=\n\n"),
+    (b"x ", b"dn:: eCA=\n\n"),
+    (b":x", b"dn:: Ong=\n\n"),
+    (b"<x", b"dn:: PHg=\n\n"),
+    (b"\x00", b"dn:: AA==\n\n"),
+    (b"a\nb", b"dn:: YQpi\n\n"),
+    (b"a\rb", b"dn:: YQ1i\n\n"),
+    (b"\xc3\xa9", b"dn:: w6k=\n\n"),
+    (b"\xff", b"dn:: /w==\n\n"),
+];
+
+#[test]
+fn values_as_lines(rt: HostRuntime) -> Result<(), Fail> {
+    let nothing = Attrs::new(rt.alloc());
+    for (name, want) in NAMES {
+        let text = write_entry(rt.alloc(), name, &nothing, None)?;
+        assert_eq!(rt; text.as_slice(), want);
+    }
+    Ok(())
+}
+
+/// How many values the one attribute of an added entry has, or 0 for any other change.
+fn added_values(change: &Option<Change>) -> usize {
+    match change {
+        Some(Change::Add(_, list)) => match list.list() {
+            [attribute] => attribute.values.list().len(),
+            _ => 0,
+        },
+        _ => 0,
+    }
+}
+
+/// A record of a million lines: comments, values, and what continues those.
+#[test]
+fn a_text_of_a_million_lines(rt: HostRuntime) -> Result<(), Fail> {
+    let mut text = Vec::from_slice(rt.alloc(), b"dn: a\n")?;
+    for _ in 0..333_333 {
+        text.extend_from_slice(b"# c\ncn: x\n y\n")?;
+    }
+    let mut records = Records::new(text.as_slice(), 1);
+    let change = records.next(rt.alloc())?;
+    assert_eq!(rt; added_values(&change), 333_333);
+    assert_eq!(rt; records.line(), 1_000_000);
+    Ok(())
+}

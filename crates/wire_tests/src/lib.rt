@@ -1,0 +1,10 @@
+//! Tests of the layers that handle bytes: elements of BER, sources and sinks, and the values of
+//! content synchronization. Each file tests the crate that it is named for, by its public calls.
+#![tactic(auto)]
+
+#[cfg(test)]
+mod ldap_ber_tests;
+#[cfg(test)]
+mod sync_io_tests;
+#[cfg(test)]
+mod sync_messages_tests;
