@@ -1,0 +1,67 @@
+-- Accepted writes leave entries that can be sent, one after another.
+use Rattle.std.proofs.Common.{◌≡◌, ◌<◌, ◌+◌, ◌^◌, ℕ, suc, List, [], ◌∷◌, ◌++◌, length, take, get_or, refl, inl, inr, subst, arith}
+use Rattle.std.specs.List.{All}
+use Rattle.std.proofs.lemmas.Bool.{cases_lt}
+use Rattle.std.proofs.lemmas.List.{take-take, take-append-le, get_or-take, get_or_append_left, get_or_push, length-take, length-append}
+use Rattle.std.proofs.lemmas.List.Elements.{All-nil}
+use Rattle.dn_names.specs.Names.{TypeAndValue}
+use Rattle.entry_tree.specs.declared.entry.Entry.{Entry}
+use Rattle.entry_tree.specs.declared.op.Write.{Write}
+use Rattle.entry_tree.specs.Effects.{effect}
+use Rattle.entry_tree.specs.History.{identity, state_from, state_of}
+use Rattle.directory_laws.specs.Accepted.{IsAccepted, WereAccepted}
+use Rattle.sync_wire.specs.CanBeSent.{CanBeSent}
+use Rattle.directory_laws.proofs.Writing.{sent-effect}
+
+identity-below : (history number : ℕ) → identity history number < 2 ^ 128
+identity-below history number = omega arith
+
+-- each of these writes was accepted in the entries that those before it left
+abbrev pub AllAccepted : List (List TypeAndValue) → ℕ → List Entry → ℕ → List Write → Type 0
+AllAccepted suffix history entries before writes =
+    (number : ℕ) (other : Write) → number < length writes → IsAccepted suffix (state_from history entries before (take number writes)) (get_or writes number other)
+
+sent-state_from : (writes : List Write) (suffix : List (List TypeAndValue)) (history : ℕ) (entries : List Entry) (before : ℕ) → All CanBeSent entries
+    → AllAccepted suffix history entries before writes → All CanBeSent (state_from history entries before writes)
+unfolding state_from
+sent-state_from [] suffix history entries before sound accepted = sound
+sent-state_from (write ∷ writes) suffix history entries before sound accepted =
+    let uuid = identity history (before + 1) in
+    sent-state_from writes suffix history (effect entries write.op uuid write.csn) (before + 1)
+    (sent-effect suffix entries write uuid sound (accepted 0 write (omega arith)) (identity-below history (before + 1)))
+    (λ number other low. accepted (suc number) other (omega arith))
+
+-- the first writes of a list were accepted too
+pub accepted-take : (suffix : List (List TypeAndValue)) (history : ℕ) (writes : List Write) (count : ℕ) → WereAccepted suffix history writes
+    → AllAccepted suffix history [] 0 (take count writes)
+accepted-take suffix history writes count accepted number other low =
+    let within : number < count = omega (arith, length-take count writes) in
+    rw (take-take number count writes (omega arith), get_or-take count writes number other within) (accepted number other (omega (arith, length-take count writes)))
+
+pub sent-state_of : (suffix : List (List TypeAndValue)) (history : ℕ) (writes : List Write) (number : ℕ) → WereAccepted suffix history writes → All CanBeSent (state_of history writes number)
+sent-state_of suffix history writes number accepted =
+    sent-state_from (take number writes) suffix history [] 0 (All-nil CanBeSent) (accepted-take suffix history writes number accepted)
+
+-- ---- one more write
+
+pub WereAccepted-push : (suffix : List (List TypeAndValue)) (history : ℕ) (writes : List Write) (write : Write) → WereAccepted suffix history writes
+    → IsAccepted suffix (state_of history writes (length writes)) write → WereAccepted suffix history (writes ++ write ∷ [])
+WereAccepted-push suffix history writes write accepted last number other low =
+    elim (cases_lt number (length writes)) [
+      | inl earlier ↦
+          rw (take-append-le number writes (write ∷ []) (omega arith), get_or_append_left writes (write ∷ []) other number earlier) (accepted number other earlier)
+      | inr past ↦
+          let here : number ≡ length writes = omega (arith, length-append writes (write ∷ [])) in
+          rw (here, take-append-le (length writes) writes (write ∷ []) (omega arith), get_or_push writes write other (length writes) refl) last
+    ]
+
+-- ---- fewer writes
+
+pub WereAccepted-front : (suffix : List (List TypeAndValue)) (history : ℕ) (writes more : List Write) → WereAccepted suffix history (writes ++ more) → WereAccepted suffix history writes
+WereAccepted-front suffix history writes more accepted number other low =
+    subst (IsAccepted suffix (state_of history writes number)) (get_or_append_left writes more other number low)
+    (subst (λ before. IsAccepted suffix (state_from history [] 0 before) (get_or (writes ++ more) number other)) (take-append-le number writes more (omega (arith, low)))
+    (accepted number other (omega (arith, low, length-append writes more))))
+
+pub WereAccepted-take : (suffix : List (List TypeAndValue)) (history : ℕ) (writes : List Write) (count : ℕ) → WereAccepted suffix history writes → WereAccepted suffix history (take count writes)
+WereAccepted-take suffix history writes count accepted = accepted-take suffix history writes count accepted

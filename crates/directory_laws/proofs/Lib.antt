@@ -1,0 +1,24 @@
+-- Lemmas of the crate.
+pub mod Branches
+pub mod Codes
+pub mod EqualNames
+pub mod Given
+pub mod Histories
+pub mod Members
+pub mod Names
+pub mod NewRdn
+pub mod Numbers
+pub mod ReadAttributes
+pub mod ReadEdits
+pub mod ReadNames
+pub mod ReadWrites
+pub mod Renaming
+pub mod Results
+pub mod Sending
+pub mod Sizes
+pub mod Stamps
+pub mod States
+pub mod TreeMoves
+pub mod TreeWrites
+pub mod Trees
+pub mod Writing

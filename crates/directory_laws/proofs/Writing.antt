@@ -1,0 +1,95 @@
+-- An accepted write leaves entries that can be sent.
+use Rattle.std.proofs.Common.{◌≡◌, ◌≤◌, ◌<◌, ◌^◌, ℕ, Bool, true, not, cond, nat_lt, List, [], ◌∷◌, refl, Option, Some, None}
+use Rattle.std.specs.Prelude.{IfSome}
+use Rattle.std.specs.List.{All, filter, find, list_all}
+use Rattle.std.proofs.lemmas.Bool.{cond_both}
+use Rattle.std.proofs.lemmas.List.Elements.{All-cons, All-append, All-filter, All-head, All-tail, All-map, All-weaker}
+use Rattle.schema_rules.specs.declared.attributes.Attribute.{Attribute}
+use Rattle.schema_rules.specs.Attributes.{is_given, is_sound, repeats_value, weight_of}
+use Rattle.csn_cookie.specs.Csn.{Stamp, IsCsn}
+use Rattle.dn_names.specs.Names.{TypeAndValue}
+use Rattle.entry_tree.specs.declared.edit.Edit.{Edit}
+use Rattle.entry_tree.specs.declared.entry.Entry.{Entry}
+use Rattle.entry_tree.specs.declared.op.Op.{Op}
+use Rattle.entry_tree.specs.declared.op.Op.TheVariants.{Add, Delete, Modify, Rename}
+use Rattle.entry_tree.specs.declared.op.Write.{Write}
+use Rattle.entry_tree.specs.Codes.{code_of, modify_code}
+use Rattle.entry_tree.specs.Effects.{edited, modified, effect}
+use Rattle.entry_tree.specs.Sound.{is_sound_edit, is_sound_op}
+use Rattle.entry_tree.specs.State.{put, is_identified, is_named, entry_named}
+use Rattle.entry_tree.proofs.AttributeLists.{IsAttributeList-after_edits}
+use Rattle.directory_laws.specs.Accepted.{IsWellFormed, IsAccepted}
+use Rattle.sync_wire.specs.CanBeSent.{CanBeSent}
+use Rattle.directory_laws.proofs.Codes.{light-added, light-edited}
+use Rattle.directory_laws.proofs.Given.{given-after_edits}
+use Rattle.directory_laws.proofs.Renaming.{sent-renamed}
+use Rattle.std.proofs.lemmas.Bool.{and_parts, and_from}
+
+-- what is found among entries that can be sent can be sent
+sent-found : (test : Entry → Bool) (entries : List Entry) → All CanBeSent entries → IfSome (find test entries) CanBeSent
+sent-found test [] sound = tt
+sent-found test (e ∷ entries) sound =
+    cond_both (test e) (Some e) (find test entries) (λ found. IfSome found CanBeSent)
+    (λ _. All-head CanBeSent e entries sound) (λ _. sent-found test entries (All-tail CanBeSent e entries sound))
+
+-- ---- Add
+
+given-sound : (attrs : List Attribute) → list_all is_sound attrs ≡ true → list_all is_given attrs ≡ true
+given-sound [] sound = refl
+given-sound (a ∷ attrs) sound =
+    let parts = and_parts (is_sound a) (list_all is_sound attrs) sound in
+    and_from (is_given a) (list_all is_given attrs) (and_parts (is_given a) (not (repeats_value a)) parts.0).0 (given-sound attrs parts.1)
+
+sent-put : (e : Entry) (entries : List Entry) → CanBeSent e → All CanBeSent entries → All CanBeSent (put e entries)
+sent-put e entries here sound =
+    let lower : List Entry = filter (λ other. nat_lt other.uuid e.uuid) entries in
+    let higher : List Entry = filter (λ other. nat_lt e.uuid other.uuid) entries in
+    All-append CanBeSent lower (e ∷ higher) (All-filter (λ (other : Entry). nat_lt other.uuid e.uuid) CanBeSent entries sound)
+    (All-cons CanBeSent e higher here (All-filter (λ (other : Entry). nat_lt e.uuid other.uuid) CanBeSent entries sound))
+
+-- ---- Modify
+
+CanBeSent-edited : (e : Entry) (edits : List Edit) (csn : Stamp) → CanBeSent e → list_all is_sound_edit edits ≡ true → IsCsn csn
+    → weight_of (edited e edits csn).attrs ≤ 65536 → CanBeSent (edited e edits csn)
+CanBeSent-edited e edits csn sound asked stamp light = record {
+  name = sound.name;
+  listed = IsAttributeList-after_edits e.attrs edits asked sound.listed;
+  given = given-after_edits e.attrs edits asked sound.given;
+  light = light;
+  stamp = stamp;
+  identity = sound.identity;
+}
+
+sent-modified : (entries : List Entry) (found : Option Entry) (edits : List Edit) (csn : Stamp) → All CanBeSent entries → IfSome found CanBeSent
+    → list_all is_sound_edit edits ≡ true → IsCsn csn → modify_code entries found edits ≡ None → All CanBeSent (modified entries found edits csn)
+sent-modified entries None edits csn sound here asked stamp none = sound
+sent-modified entries (Some e) edits csn sound here asked stamp none =
+    All-map CanBeSent (λ (other : Entry). cond (is_identified e.uuid other) (edited e edits csn) other) entries
+    (All-weaker CanBeSent (λ (other : Entry). CanBeSent (cond (is_identified e.uuid other) (edited e edits csn) other))
+    (λ other held. cond_both (is_identified e.uuid other) (edited e edits csn) other CanBeSent
+    (λ _. CanBeSent-edited e edits csn here asked stamp (light-edited entries e edits none)) (λ _. held)) entries sound)
+
+-- ---- each kind of write
+
+sent-op : (op : Op) (suffix : List (List TypeAndValue)) (entries : List Entry) (uuid : ℕ) (csn : Stamp) → All CanBeSent entries → IsWellFormed op → is_sound_op op ≡ true
+    → IsCsn csn → code_of suffix entries op ≡ None → uuid < 2 ^ 128 → All CanBeSent (effect entries op uuid csn)
+sent-op (Add name attrs) suffix entries uuid csn sound formed asked stamp none below =
+    sent-put (record { uuid = uuid; csn = csn; dn = name; attrs = attrs }) entries
+    (record {
+      name = formed.0;
+      listed = formed.1;
+      given = given-sound attrs asked;
+      light = light-added suffix entries name attrs none;
+      stamp = stamp;
+      identity = below;
+    }) sound
+sent-op (Delete name) suffix entries uuid csn sound formed asked stamp none below = All-filter (λ e. not (is_named name e)) CanBeSent entries sound
+sent-op (Modify name edits) suffix entries uuid csn sound formed asked stamp none below =
+    sent-modified entries (entry_named entries name) edits csn sound (sent-found (is_named name) entries sound) asked stamp none
+sent-op (Rename name rdn deletes superior) suffix entries uuid csn sound formed asked stamp none below =
+    sent-renamed suffix entries (entry_named entries name) rdn deletes superior csn sound (sent-found (is_named name) entries sound) formed.0 formed.1 stamp none
+
+pub sent-effect : (suffix : List (List TypeAndValue)) (entries : List Entry) (write : Write) (uuid : ℕ) → All CanBeSent entries → IsAccepted suffix entries write
+    → uuid < 2 ^ 128 → All CanBeSent (effect entries write.op uuid write.csn)
+sent-effect suffix entries write uuid sound accepted below =
+    sent-op write.op suffix entries uuid write.csn sound accepted.formed accepted.sound accepted.stamp accepted.free below

@@ -1,0 +1,71 @@
+//! What holds of a directory after any writes that it accepted: each of its entries is read again as a search sends it
+//! (RFC 4511, section 4.5.2), and all of them keep within the limits. There is no code here but the functions that carry
+//! the laws, and one that tells what holds of a write.
+#![tactic(auto)]
+
+ghost use Rattle.directory_laws.specs.Accepted.{IsWellFormed};
+ghost use Rattle.directory_laws.specs.Law.{EntriesCanBeSent, WritesKeepEntries, SentIsReadAgain, AcceptedWritesGrow, FrontsWereAccepted, StatesAreSmall, StatesAreWithin, DrawnStampsAreInRange, ReadWritesAreSound};
+
+use entry_tree::Op;
+
+/// Each entry of a directory can be sent, after any number of writes that were accepted.
+pub fn entries_can_be_sent()
+    ensures { EntriesCanBeSent }
+{}
+
+/// An accepted write of each kind leaves entries that can be sent, where it found such.
+pub fn writes_keep_entries()
+    ensures { WritesKeepEntries }
+{}
+
+/// The parts of an entry that can be sent are read again as they were written: its name, its stamp and its attributes.
+pub fn sent_is_read_again()
+    ensures { SentIsReadAgain }
+{}
+
+/// Accepted writes and one more, which is accepted behind them, are accepted writes.
+pub fn accepted_writes_grow()
+    ensures { AcceptedWritesGrow }
+{}
+
+/// The first of writes that were accepted one after another were accepted.
+pub fn fronts_were_accepted()
+    ensures { FrontsWereAccepted }
+{}
+
+/// Each state of a directory keeps within the limits: it has at most so many entries, of at most so much weight, after
+/// any number of writes, and no two of one name as long as the identities that writes give do not begin again.
+pub fn states_are_within()
+    ensures small { StatesAreSmall }
+    ensures within { StatesAreWithin }
+{}
+
+/// A directory draws stamps in range alone.
+pub fn drawn_stamps_are_in_range()
+    ensures { DrawnStampsAreInRange }
+{}
+
+/// What a change is read as is a write that the laws speak of.
+pub fn read_writes_are_sound()
+    ensures { ReadWritesAreSound }
+{}
+
+/// Tells that the names of a write are names, and what it adds is a list of attributes. It does nothing.
+pub fn is_well_formed(op: &Op)
+    ensures { IsWellFormed op.now }
+{
+    match op {
+        Op::Add(name, attrs) => {
+            let _rdns = name.rdns();
+            let _list = attrs.list();
+        }
+        Op::Delete(_) => {}
+        Op::Modify(_, _) => {}
+        Op::Rename(_, rdn, _, superior) => {
+            let _pairs = rdn.list();
+            if let Some(above) = superior {
+                let _rdns = above.rdns();
+            }
+        }
+    }
+}

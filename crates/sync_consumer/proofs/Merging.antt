@@ -1,0 +1,175 @@
+-- The effect of changes in ascending order on entries in ascending order: what is below the first change comes first,
+-- then its entry, and then the effect of the others on what is above it.
+use Rattle.std.proofs.Common.{◌≡◌, ◌<◌, ◌≤◌, ◌+◌, ℕ, zero, suc, Bool, true, false, not, cond, nat_eq, nat_lt, List, [], ◌∷◌, ◌++◌, length, get_or, take, drop, drop-cons, append_assoc, length-append, subst, Option, Some, None, refl, sym, ap, ◌∙◌, ◌⊎◌, inl, inr, arith}
+use Rattle.std.specs.List.{filter, list_all}
+use Rattle.std.specs.Map.{keys_of}
+use Rattle.std.proofs.lemmas.Bool.{and_parts, and_from, lt-ltb, ltb-true, ltb-false, le-ltb, eq-eqb, ne_eqb, cases_order}
+use Rattle.std.proofs.lemmas.List.Folds.{list_all-append}
+use Rattle.entry_tree.specs.declared.entry.Entry.{Entry}
+use Rattle.entry_tree.specs.State.{ascends, put, is_identified}
+use Rattle.entry_tree.proofs.Directory.{above_filter}
+use Rattle.entry_tree.proofs.Identities.{above, above_lower}
+use Rattle.sync_model.specs.Copy.{put_or_dropped, effected}
+use Rattle.sync_consumer.specs.declared.stage.Staged.{Staged}
+use Rattle.sync_consumer.specs.declared.stage.Staged.TheVariants.{Put, Gone}
+use Rattle.sync_consumer.specs.Staging.{change_of, changes_of, put_alone, rises, lower, higher}
+use Rattle.sync_consumer.proofs.Rising.{below_all, below_lower, head_below, tail_rises}
+
+abbrev pub own : Staged → ℕ
+own s = (change_of s).0
+
+abbrev one_effect : List Entry → Staged → List Entry
+one_effect es s = put_or_dropped es (change_of s).0 (change_of s).1
+
+abbrev keys : List Staged → List ℕ
+keys ss = keys_of (changes_of ss)
+
+-- ---- entries above an identity
+
+pub none_lower : (u : ℕ) (es : List Entry) → above u es ≡ true → lower u es ≡ []
+none_lower u [] h = refl
+none_lower u (x ∷ es) h =
+    let p = and_parts (nat_lt u x.uuid) (above u es) h in
+    let far : u < x.uuid = ltb-true u x.uuid p.0 in
+    ap (λ b. cond b (x ∷ lower u es) (lower u es)) (le-ltb x.uuid u (omega (arith, far))) ∙ none_lower u es p.1
+
+pub all_higher : (u : ℕ) (es : List Entry) → above u es ≡ true → higher u es ≡ es
+all_higher u [] h = refl
+all_higher u (x ∷ es) h =
+    let p = and_parts (nat_lt u x.uuid) (above u es) h in
+    ap (λ b. cond b (x ∷ higher u es) (higher u es)) p.0 ∙ ap (λ xs. x ∷ xs) (all_higher u es p.1)
+
+none_identified : (u : ℕ) (es : List Entry) → above u es ≡ true → filter (λ entry. not (is_identified u entry)) es ≡ es
+none_identified u [] h = refl
+none_identified u (x ∷ es) h =
+    let p = and_parts (nat_lt u x.uuid) (above u es) h in
+    let far : u < x.uuid = ltb-true u x.uuid p.0 in
+    let rest = filter (λ entry. not (is_identified u entry)) es in
+    ap (λ b. cond (not b) (x ∷ rest) rest) (ne_eqb x.uuid u (λ same. omega (arith, far, same))) ∙ ap (λ xs. x ∷ xs) (none_identified u es p.1)
+
+pub above_all : (u : ℕ) (x : Entry) (es : List Entry) → u < x.uuid → above x.uuid es ≡ true → above u (x ∷ es) ≡ true
+above_all u x es less later = and_from (nat_lt u x.uuid) (above u es) (lt-ltb u x.uuid less) (above_lower es u x.uuid less later)
+
+above_put : (u : ℕ) (e : Entry) (es : List Entry) → u < e.uuid → above u es ≡ true → above u (put e es) ≡ true
+above_put u e es less later =
+    list_all-append (λ (x : Entry). nat_lt u x.uuid) (lower e.uuid es) (e ∷ higher e.uuid es)
+    ∙ and_from (above u (lower e.uuid es)) (above u (e ∷ higher e.uuid es)) (above_filter (λ (x : Entry). nat_lt x.uuid e.uuid) u es later)
+    (and_from (nat_lt u e.uuid) (above u (higher e.uuid es)) (lt-ltb u e.uuid less) (above_filter (λ (x : Entry). nat_lt e.uuid x.uuid) u es later))
+
+above_effect : (u : ℕ) (s : Staged) (es : List Entry) → u < own s → above u es ≡ true → above u (one_effect es s) ≡ true
+above_effect u (Put e) es less later = above_put u e es less later
+above_effect u (Gone v) es less later = above_filter (λ (entry : Entry). not (is_identified v entry)) u es later
+
+above_effected : (u : ℕ) (ss : List Staged) (es : List Entry) → below_all u (keys ss) ≡ true → above u es ≡ true → above u (effected es (changes_of ss)) ≡ true
+above_effected u [] es below later = later
+above_effected u (s ∷ ss) es below later =
+    let p = and_parts (nat_lt u (own s)) (below_all u (keys ss)) below in
+    above_effect u s (effected es (changes_of ss)) (ltb-true u (own s) p.0) (above_effected u ss es p.1 later)
+
+-- ---- one change, above the first entry, at it, or below all
+
+effect_behind : (x : Entry) (es : List Entry) (s : Staged) → x.uuid < own s → one_effect (x ∷ es) s ≡ x ∷ one_effect es s
+effect_behind x es (Put e) less =
+    ap (λ b. cond b (x ∷ lower e.uuid es) (lower e.uuid es) ++ e ∷ higher e.uuid (x ∷ es)) (lt-ltb x.uuid e.uuid less)
+    ∙ ap (λ b. (x ∷ lower e.uuid es) ++ e ∷ cond b (x ∷ higher e.uuid es) (higher e.uuid es)) (le-ltb e.uuid x.uuid (omega (arith, less)))
+effect_behind x es (Gone u) less =
+    let rest = filter (λ entry. not (is_identified u entry)) es in
+    ap (λ b. cond (not b) (x ∷ rest) rest) (ne_eqb x.uuid u (λ same. omega (arith, less, same)))
+
+effect_before : (es : List Entry) (s : Staged) → above (own s) es ≡ true → one_effect es s ≡ put_alone s ++ es
+effect_before es (Put e) later = λ i. none_lower e.uuid es later i ++ e ∷ all_higher e.uuid es later i
+effect_before es (Gone u) later = none_identified u es later
+
+effect_there : (x : Entry) (es : List Entry) (s : Staged) → x.uuid ≡ own s → above (own s) es ≡ true → one_effect (x ∷ es) s ≡ put_alone s ++ es
+effect_there x es (Put e) same later =
+    ap (λ b. cond b (x ∷ lower e.uuid es) (lower e.uuid es) ++ e ∷ higher e.uuid (x ∷ es)) (le-ltb x.uuid e.uuid (omega (arith, same)))
+    ∙ ap (λ b. lower e.uuid es ++ e ∷ cond b (x ∷ higher e.uuid es) (higher e.uuid es)) (le-ltb e.uuid x.uuid (omega (arith, same)))
+    ∙ (λ i. none_lower e.uuid es later i ++ e ∷ all_higher e.uuid es later i)
+effect_there x es (Gone u) same later =
+    let rest = filter (λ entry. not (is_identified u entry)) es in
+    ap (λ b. cond (not b) (x ∷ rest) rest) (eq-eqb x.uuid u same) ∙ none_identified u es later
+
+-- ---- some changes
+
+-- an entry below all of them comes first
+effected_behind : (ss : List Staged) (x : Entry) (es : List Entry) → below_all x.uuid (keys ss) ≡ true → effected (x ∷ es) (changes_of ss) ≡ x ∷ effected es (changes_of ss)
+effected_behind [] x es below = refl
+effected_behind (s ∷ ss) x es below =
+    let p = and_parts (nat_lt x.uuid (own s)) (below_all x.uuid (keys ss)) below in
+    ap (λ es'. one_effect es' s) (effected_behind ss x es p.1) ∙ effect_behind x (effected es (changes_of ss)) s (ltb-true x.uuid (own s) p.0)
+
+-- the first change with the others
+pub effected-cons : (es : List Entry) (s : Staged) (ss : List Staged) → ascends es ≡ true → rises (keys (s ∷ ss)) ≡ true
+    → effected es (changes_of (s ∷ ss)) ≡ lower (own s) es ++ (put_alone s ++ effected (higher (own s) es) (changes_of ss))
+effected-cons [] s ss asc up = effect_before (effected [] (changes_of ss)) s (above_effected (own s) ss [] (head_below (own s) (keys ss) up) refl)
+effected-cons (x ∷ es) s ss asc up =
+    let p = and_parts (above x.uuid es) (ascends es) asc in
+    by p.0 p.1 (head_below (own s) (keys ss) up) (effected-cons es s ss p.1 up) (cases_order x.uuid (own s))
+  where
+    after : List Entry → List Entry → List Entry
+    after low high = low ++ (put_alone s ++ effected high (changes_of ss))
+
+    by : above x.uuid es ≡ true → ascends es ≡ true → below_all (own s) (keys ss) ≡ true
+        → effected es (changes_of (s ∷ ss)) ≡ after (lower (own s) es) (higher (own s) es)
+        → (x.uuid ≡ own s) ⊎ ((x.uuid < own s) ⊎ (own s < x.uuid))
+        → effected (x ∷ es) (changes_of (s ∷ ss)) ≡ after (lower (own s) (x ∷ es)) (higher (own s) (x ∷ es))
+    by later rest below ih (inl same) =
+        let far : above (own s) es ≡ true = ap (λ n. above n es) (sym same) ∙ later in
+        let low : below_all x.uuid (keys ss) ≡ true = ap (λ n. below_all n (keys ss)) same ∙ below in
+        ap (λ es'. one_effect es' s) (effected_behind ss x es low)
+        ∙ effect_there x (effected es (changes_of ss)) s same (above_effected (own s) ss es below far)
+        ∙ sym (ap (λ b. after (cond b (x ∷ lower (own s) es) (lower (own s) es)) (higher (own s) (x ∷ es))) (le-ltb x.uuid (own s) (omega (arith, same)))
+        ∙ ap (λ b. after (lower (own s) es) (cond b (x ∷ higher (own s) es) (higher (own s) es))) (le-ltb (own s) x.uuid (omega (arith, same)))
+        ∙ (λ i. after (none_lower (own s) es far i) (all_higher (own s) es far i)))
+    by later rest below ih (inr (inl less)) =
+        let low : below_all x.uuid (keys (s ∷ ss)) ≡ true = and_from (nat_lt x.uuid (own s)) (below_all x.uuid (keys ss)) (lt-ltb x.uuid (own s) less) (below_lower x.uuid (own s) (keys ss) less below) in
+        effected_behind (s ∷ ss) x es low
+        ∙ ap (λ xs. x ∷ xs) ih
+        ∙ sym (ap (λ b. after (cond b (x ∷ lower (own s) es) (lower (own s) es)) (higher (own s) (x ∷ es))) (lt-ltb x.uuid (own s) less)
+        ∙ ap (λ b. after (x ∷ lower (own s) es) (cond b (x ∷ higher (own s) es) (higher (own s) es))) (le-ltb (own s) x.uuid (omega (arith, less))))
+    by later rest below ih (inr (inr more)) =
+        let far : above (own s) (x ∷ es) ≡ true = above_all (own s) x es more later in
+        effect_before (effected (x ∷ es) (changes_of ss)) s (above_effected (own s) ss (x ∷ es) below far)
+        ∙ sym (λ i. after (none_lower (own s) (x ∷ es) far i) (all_higher (own s) (x ∷ es) far i))
+
+-- ---- one change after another
+
+-- the entries so far, and the effect of the changes that are left on the entries that are left
+pub more_merged : (done rest : List Entry) (stage : List Staged) (k : ℕ) (s : Staged) (all : List Entry) → k < length stage → s ≡ get_or stage k s → ascends rest ≡ true
+    → rises (keys (drop k stage)) ≡ true → done ++ effected rest (changes_of (drop k stage)) ≡ all
+    → ((done ++ lower (own s) rest) ++ put_alone s) ++ effected (higher (own s) rest) (changes_of (drop (suc k) stage)) ≡ all
+more_merged done rest stage k s all low same asc up so_far =
+    let first = first_is stage k s low same in
+    let more = drop (suc k) stage in
+    let left : List Entry = effected (higher (own s) rest) (changes_of more) in
+    append_assoc (done ++ lower (own s) rest) (put_alone s) left
+    ∙ append_assoc done (lower (own s) rest) (put_alone s ++ left)
+    ∙ ap (λ es. done ++ es) (sym (effected-cons rest s more asc (sym (ap (λ ss. rises (keys ss)) first) ∙ up)))
+    ∙ sym (ap (λ ss. done ++ effected rest (changes_of ss)) first)
+    ∙ so_far
+  where
+    first_is : (stage : List Staged) (k : ℕ) (s : Staged) → k < length stage → s ≡ get_or stage k s → drop k stage ≡ s ∷ drop (suc k) stage
+    first_is stage k s low same = drop-cons stage k s low ∙ ap (λ x. x ∷ drop (suc k) stage) (sym same)
+
+pub more_rises : (stage : List Staged) (k : ℕ) → k < length stage → rises (keys (drop k stage)) ≡ true → rises (keys (drop (suc k) stage)) ≡ true
+more_rises [] k low up = absurd (omega (arith, low))
+more_rises (s ∷ stage) k low up = tail_rises (own (get_or (s ∷ stage) k s)) (keys (drop k stage)) (sym (ap (λ ss. rises (keys ss)) (drop-cons (s ∷ stage) k s low)) ∙ up)
+
+-- the parts are no longer than the whole
+pub parts_fit : (a b c d all : List Entry) → ((a ++ b) ++ c) ++ d ≡ all → (length a + length b ≤ length all) × (length a + length b + length c ≤ length all)
+parts_fit a b c d all whole =
+    let whole_long = ap length whole in
+    let three = length-append ((a ++ b) ++ c) d in
+    let two = length-append (a ++ b) c in
+    let one = length-append a b in
+    (omega (arith, whole_long, three, two, one), omega (arith, whole_long, three, two, one))
+
+-- ---- the first entry
+
+pub above_first : (es : List Entry) (u : ℕ) (e : Entry) → ascends es ≡ true → e ≡ get_or es 0 e → u < e.uuid → above u es ≡ true
+above_first [] u e asc is less = refl
+above_first (x ∷ es) u e asc is less = above_all u x es (subst (λ (y : Entry). u < y.uuid) is less) (and_parts (above x.uuid es) (ascends es) asc).0
+
+pub no_first : (es : List Entry) (u : ℕ) → nat_lt 0 (length es) ≡ false → above u es ≡ true
+no_first [] u none = refl
+no_first (x ∷ es) u none = let short = ltb-false 0 (length (x ∷ es)) none in absurd (omega (arith, short))

@@ -1,0 +1,236 @@
+-- Stages with their counts and weights, as changes are laid and taken back.
+use Rattle.std.proofs.Common.{◌≡◌, ◌<◌, ◌≤◌, ◌+◌, ◌*◌, ◌-◌, ◌^◌, ℕ, zero, suc, true, nat_eq, List, [], ◌∷◌, ◌++◌, length, get_or, set, map, Vec, Global, Bor, Option, Some, None, refl, sym, ap, subst, ◌∙◌, arith}
+use Rattle.std.specs.Prelude.{is_some}
+use Rattle.std.specs.Option.{option_copied, option_and_then}
+use Rattle.std.specs.List.{sum_by, insert, remove}
+use Rattle.std.specs.Map.{keys_of, remove_entry, set_value}
+use Rattle.std.proofs.lemmas.List.{get_or_default, length-map, map-set, map_push}
+use Rattle.std.proofs.lemmas.List.Sums.{sum_by-cons, fold_push}
+use Rattle.std.proofs.lemmas.Map.{keys-set_value}
+use Rattle.entry_tree.specs.declared.entry.Entry.{Entry}
+use Rattle.sync_model.specs.Copy.{Stage, slot, is_put}
+use Rattle.sync_consumer.specs.declared.stage.Staged.{Staged}
+use Rattle.sync_consumer.specs.declared.stage.Staged.TheVariants.{Put, Gone}
+use Rattle.sync_consumer.specs.declared.stage.Before.{Before}
+use Rattle.sync_consumer.specs.declared.stage.Before.TheVariants.{Had, Nothing}
+use Rattle.sync_consumer.specs.Staging.{rises, IsAt, IsGapFor, IsStage, count_of, weight_within, entry_staged, change_of, changes_of, laid_one, laid, put_back, undone}
+use Rattle.sync_consumer.proofs.Keyed.{total, at_slot, total-laid, total-removed, total-valued, rises-laid, rises-removed, lookup_at, lookup_gap, insert_gap, set_at, value_at, value_none, removed_at, removed_none, back_at, back_gap}
+use Rattle.sync_consumer.proofs.Searches.{get_or-map, keys-changes}
+
+abbrev pub IsOf : Before → ℕ → Type 0
+IsOf (Had s) uuid = (change_of s).0 ≡ uuid
+IsOf (Nothing v) uuid = v ≡ uuid
+
+-- ---- no more than so many, and no heavier
+
+pub few : (stage : Stage) → total count_of stage ≤ length stage
+few [] = omega arith
+few (c ∷ stage) = let ih = few stage in let n = one c.1 in omega (arith, ih, n, sum_by-cons (λ (e : ℕ × Option Entry). count_of e.1) c stage)
+  where
+    one : (o : Option Entry) → count_of o ≤ 1
+    one None = omega arith
+    one (Some entry) = omega arith
+
+pub light : (stage : Stage) → total weight_within stage ≤ (2 ^ 64 - 1) * length stage
+light [] = omega arith
+light (c ∷ stage) = let ih = light stage in let n = one c.1 in omega (arith, ih, n, sum_by-cons (λ (e : ℕ × Option Entry). weight_within e.1) c stage)
+  where
+    one : (o : Option Entry) → weight_within o ≤ 2 ^ 64 - 1
+    one None = omega arith
+    one (Some entry) = omega arith
+
+-- a list in memory is short
+pub short : (changes : Vec Staged Global) → length (changes_of changes.items) < 2 ^ 63
+short changes =
+    let long = length-map changes.items change_of in
+    let kept = changes.ok in
+    let small = changes.small in
+    omega (arith, long, kept.0, kept.1, small)
+
+pub within : (stage : Stage) (count weight : ℕ) → IsStage stage count weight → length stage < 2 ^ 63 → (count < 2 ^ 63) × (weight < 2 ^ 127)
+within stage count weight is short =
+    let c = is.counted in
+    let w = is.weighed in
+    let f = few stage in
+    let l = light stage in
+    (omega (arith, c, f, short), omega (arith, w, l, short))
+
+-- ---- a change laid
+
+pub laid_enough : (stage : Stage) (change : ℕ × Option Entry) (count weight : ℕ) → IsStage stage count weight → (was : Option (Option Entry)) → was ≡ slot stage change.0
+    → (at_slot count_of was ≤ count + count_of change.1) × (at_slot weight_within was ≤ weight + weight_within change.1)
+laid_enough stage change count weight is was same =
+    let c = is.counted in
+    let w = is.weighed in
+    let counts = total-laid count_of stage change.0 change.1 is.ordered in
+    let weighs = total-laid weight_within stage change.0 change.1 is.ordered in
+    let n = ap (at_slot count_of) same in
+    let m = ap (at_slot weight_within) same in
+    (omega (arith, c, counts, n), omega (arith, w, weighs, m))
+
+pub laid_stage : (stage : Stage) (change : ℕ × Option Entry) (count weight : ℕ) → IsStage stage count weight → (was : Option (Option Entry)) → was ≡ slot stage change.0
+    → (now heavy : ℕ) → now ≡ count + count_of change.1 - at_slot count_of was → heavy ≡ weight + weight_within change.1 - at_slot weight_within was
+    → IsStage (laid_one stage change) now heavy
+laid_stage stage change count weight is was same now heavy counted weighed =
+    let c = is.counted in
+    let w = is.weighed in
+    let counts = total-laid count_of stage change.0 change.1 is.ordered in
+    let weighs = total-laid weight_within stage change.0 change.1 is.ordered in
+    let n = ap (at_slot count_of) same in
+    let m = ap (at_slot weight_within) same in
+    record {
+      ordered = rises-laid stage change.0 change.1 is.ordered;
+      counted = omega (arith, c, counts, n, counted);
+      weighed = omega (arith, w, weighs, m, weighed);
+    }
+
+-- ---- a change removed, or put in the place of another
+
+pub removed_enough : (stage : Stage) (uuid count weight : ℕ) → IsStage stage count weight → (was : Option Entry) → slot stage uuid ≡ Some was
+    → (count_of was ≤ count) × (weight_within was ≤ weight)
+removed_enough stage uuid count weight is was found =
+    let c = is.counted in
+    let w = is.weighed in
+    let counts = total-removed count_of stage uuid in
+    let weighs = total-removed weight_within stage uuid in
+    let n = ap (at_slot count_of) found in
+    let m = ap (at_slot weight_within) found in
+    (omega (arith, c, counts, n), omega (arith, w, weighs, m))
+
+pub removed_stage : (stage : Stage) (uuid count weight : ℕ) → IsStage stage count weight → (was : Option Entry) → slot stage uuid ≡ Some was
+    → (now heavy : ℕ) → now ≡ count - count_of was → heavy ≡ weight - weight_within was → IsStage (remove_entry (nat_eq uuid) stage) now heavy
+removed_stage stage uuid count weight is was found now heavy counted weighed =
+    let c = is.counted in
+    let w = is.weighed in
+    let counts = total-removed count_of stage uuid in
+    let weighs = total-removed weight_within stage uuid in
+    let n = ap (at_slot count_of) found in
+    let m = ap (at_slot weight_within) found in
+    record {
+      ordered = rises-removed stage uuid is.ordered;
+      counted = omega (arith, c, counts, n, counted);
+      weighed = omega (arith, w, weighs, m, weighed);
+    }
+
+pub valued_stage : (stage : Stage) (uuid : ℕ) (change : Option Entry) (count weight : ℕ) → IsStage stage count weight → (was : Option Entry) → slot stage uuid ≡ Some was
+    → (now heavy : ℕ) → now ≡ count + count_of change - count_of was → heavy ≡ weight + weight_within change - weight_within was
+    → IsStage (set_value (nat_eq uuid) stage change) now heavy
+valued_stage stage uuid change count weight is was found now heavy counted weighed =
+    let c = is.counted in
+    let w = is.weighed in
+    let counts = total-valued count_of stage uuid change was found in
+    let weighs = total-valued weight_within stage uuid change was found in
+    record {
+      ordered = ap rises (keys-set_value (nat_eq uuid) stage change) ∙ is.ordered;
+      counted = omega (arith, c, counts, counted);
+      weighed = omega (arith, w, weighs, weighed);
+    }
+
+-- ---- in the list of changes
+
+abbrev keys : List Staged → List ℕ
+keys items = keys_of (changes_of items)
+
+-- the change at the place is what is staged of its identity
+pub slot_at : (items : List Staged) (uuid place : ℕ) (was : Staged) → rises (keys items) ≡ true → IsAt (keys items) uuid place → was ≡ get_or items place was
+    → slot (changes_of items) uuid ≡ Some (change_of was).1
+slot_at items uuid place was up at same =
+    lookup_at (changes_of items) uuid place (change_of was) up at
+    ∙ ap (λ (e : ℕ × Option Entry). Some e.1) (get_or-map change_of items place was ∙ sym (ap change_of same))
+
+-- and it is of the identity
+pub uuid_at : (items : List Staged) (uuid place : ℕ) (was : Staged) → IsAt (keys items) uuid place → was ≡ get_or items place was → (change_of was).0 ≡ uuid
+uuid_at items uuid place was at same =
+    ap (λ (s : Staged). (change_of s).0) same
+    ∙ sym (get_or-map (λ (s : Staged). (change_of s).0) items place was)
+    ∙ ap (λ ks. get_or ks place (change_of was).0) (keys-changes items)
+    ∙ get_or_default (keys items) place (change_of was).0 0 at.within
+    ∙ at.has
+
+map-insert : (items : List Staged) (place : ℕ) (s : Staged) → changes_of (insert items place s) ≡ insert (changes_of items) place (change_of s)
+map-insert items zero s = refl
+map-insert [] (suc place) s = refl
+map-insert (i ∷ items) (suc place) s = ap (λ cs. change_of i ∷ cs) (map-insert items place s)
+
+map-remove : (items : List Staged) (place : ℕ) → changes_of (remove items place) ≡ remove (changes_of items) place
+map-remove [] zero = refl
+map-remove (i ∷ items) zero = refl
+map-remove [] (suc place) = refl
+map-remove (i ∷ items) (suc place) = ap (λ cs. change_of i ∷ cs) (map-remove items place)
+
+-- a change put in the place of one of its identity
+pub laid_at : (items : List Staged) (change : Staged) (place : ℕ) → rises (keys items) ≡ true → IsAt (keys items) (change_of change).0 place
+    → changes_of (set items place change) ≡ laid_one (changes_of items) (change_of change)
+laid_at items change place up at = map-set change_of items place change ∙ set_at (changes_of items) (change_of change).0 (change_of change).1 place up at
+
+pub valued_at : (items : List Staged) (change : Staged) (place : ℕ) → rises (keys items) ≡ true → IsAt (keys items) (change_of change).0 place
+    → changes_of (set items place change) ≡ put_back (changes_of items) (Had change)
+valued_at items change place up at = map-set change_of items place change ∙ value_at (changes_of items) (change_of change).0 (change_of change).1 place up at
+
+pub valued_back : (items : List Staged) (change was : Staged) (place : ℕ) → rises (keys items) ≡ true → IsAt (keys items) (change_of change).0 place → was ≡ get_or items place was
+    → put_back (changes_of (set items place change)) (Had was) ≡ changes_of items
+valued_back items change was place up at same =
+    ap (λ cs. put_back cs (Had was)) (map-set change_of items place change)
+    ∙ ap (λ n. set_value (nat_eq n) (set (changes_of items) place (change_of change)) (change_of was).1) (uuid_at items (change_of change).0 place was at same)
+    ∙ back_at (changes_of items) (change_of change).0 (change_of change).1 place (change_of was) up at (ap change_of same ∙ sym (get_or-map change_of items place was))
+
+-- a change put in its gap
+pub laid_gap : (items : List Staged) (change : Staged) (place : ℕ) → IsGapFor (keys items) (change_of change).0 place
+    → changes_of (insert items place change) ≡ laid_one (changes_of items) (change_of change)
+laid_gap items change place gap = map-insert items place change ∙ insert_gap (changes_of items) (change_of change).0 (change_of change).1 place gap
+
+pub gap_back : (items : List Staged) (change : Staged) (place : ℕ) → IsGapFor (keys items) (change_of change).0 place
+    → put_back (changes_of (insert items place change)) (Nothing (change_of change).0) ≡ changes_of items
+gap_back items change place gap =
+    ap (λ cs. put_back cs (Nothing (change_of change).0)) (map-insert items place change) ∙ back_gap (changes_of items) (change_of change).0 (change_of change).1 place gap
+
+pub slot_gap : (items : List Staged) (uuid place : ℕ) → IsGapFor (keys items) uuid place → slot (changes_of items) uuid ≡ None
+slot_gap items uuid place gap = lookup_gap (changes_of items) uuid place gap
+
+-- a change removed
+pub gone_at : (items : List Staged) (uuid place : ℕ) → rises (keys items) ≡ true → IsAt (keys items) uuid place
+    → changes_of (remove items place) ≡ put_back (changes_of items) (Nothing uuid)
+gone_at items uuid place up at = map-remove items place ∙ removed_at (changes_of items) uuid place up at
+
+-- where nothing is staged of the identity nothing is put back
+pub back_nowhere : (items : List Staged) (was : Before) (uuid place : ℕ) → IsOf was uuid → IsGapFor (keys items) uuid place → put_back (changes_of items) was ≡ changes_of items
+back_nowhere items (Had s) uuid place of gap =
+    ap (λ n. set_value (nat_eq n) (changes_of items) (change_of s).1) of ∙ value_none (changes_of items) uuid (change_of s).1 (slot_gap items uuid place gap)
+back_nowhere items (Nothing v) uuid place of gap = ap (λ n. remove_entry (nat_eq n) (changes_of items)) of ∙ removed_none (changes_of items) uuid (slot_gap items uuid place gap)
+
+-- ---- the latest is taken back first
+
+pub undone-push : (stage : Stage) (undo : List Before) (last : Before) → undone stage (undo ++ last ∷ []) ≡ undone (put_back stage last) undo
+undone-push stage [] last = refl
+undone-push stage (b ∷ undo) last = ap (λ s. put_back s b) (undone-push stage undo last)
+
+-- ---- nothing staged, and what is staged of an identity
+
+pub empty_stage : (changes : List Staged) → changes ≡ [] → IsStage (changes_of changes) 0 0
+empty_stage changes none = subst (λ (cs : List Staged). IsStage (changes_of cs) 0 0) (sym none) (record { ordered = refl; counted = refl; weighed = refl })
+
+pub put_is : (found : Option (Bor Entry)) (stage : Stage) (uuid : ℕ) → option_copied found ≡ entry_staged stage uuid → is_some found ≡ is_put (slot stage uuid)
+put_is found stage uuid same = by found (slot stage uuid) same where
+  by : (found : Option (Bor Entry)) (s : Option (Option Entry)) → option_copied found ≡ option_and_then (λ entry. entry) s → is_some found ≡ is_put s
+  by None None h = refl
+  by None (Some None) h = refl
+  by None (Some (Some e)) h = cc
+  by (Some f) None h = cc
+  by (Some f) (Some None) h = cc
+  by (Some f) (Some (Some e)) h = refl
+
+pub found_is : (found : Option (Bor Entry)) (o : Option Entry) → option_copied found ≡ o → is_some found ≡ is_some o
+found_is None o same = ap is_some same
+found_is (Some f) o same = ap is_some same
+
+pub staged_slot : (stage : Stage) (uuid : ℕ) (entry : Entry) → Some entry ≡ entry_staged stage uuid → slot stage uuid ≡ Some (Some entry)
+staged_slot stage uuid entry same = by (slot stage uuid) same where
+  by : (s : Option (Option Entry)) → Some entry ≡ option_and_then (λ entry. entry) s → s ≡ Some (Some entry)
+  by None h = cc
+  by (Some None) h = cc
+  by (Some (Some f)) h = ap (λ (o : Option Entry). Some o) (sym h)
+
+-- ---- changes one after another
+
+pub laid-push : (stage : Stage) (xs : List Staged) (x : Staged) → laid stage (changes_of (xs ++ x ∷ [])) ≡ laid_one (laid stage (changes_of xs)) (change_of x)
+laid-push stage xs x = ap (laid stage) (map_push change_of xs x) ∙ fold_push laid_one stage (changes_of xs) (change_of x)

@@ -1,0 +1,81 @@
+-- What one more element adds to what a loop made of a list so far.
+use Rattle.std.proofs.Common.{◌≡◌, ◌<◌, ◌+◌, ℕ, zero, suc, Bool, true, false, cond, List, [], ◌∷◌, ◌++◌, Bor, length, map, reverse, take, get_or, Option, Some, None, refl, sym, ap, ◌∙◌, arith}
+use Rattle.std.specs.Prelude.{is_some, ◌||◌, not}
+use Rattle.std.specs.List.{filter, find, cons_option}
+use Rattle.std.proofs.lemmas.List.{map_push, reverse-append, reverse-reverse}
+use Rattle.entry_tree.specs.declared.entry.Entry.{Entry}
+use Rattle.entry_tree.specs.Touched.{identities}
+use Rattle.sync_model.specs.Copy.{puts_of, drops_of}
+use Rattle.sync_consumer.specs.declared.stage.Staged.{Staged}
+use Rattle.sync_consumer.specs.declared.stage.Staged.TheVariants.{Put, Gone}
+use Rattle.sync_consumer.specs.Staging.{changes_of, put_alone, dropped_alone}
+
+-- ---- the first that passes a test
+
+pub first_found : {X : Type 0} (p : X → Bool) (xs : List X) (i : ℕ) (x : X) → i < length xs → x ≡ get_or xs i x → find p (take i xs) ≡ None → p x ≡ true → find p xs ≡ Some x
+first_found p [] i x low is none passes = absurd (omega (arith, low))
+first_found p (y ∷ ys) zero x low is none passes = ap (λ z. cond (p z) (Some z) (find p ys)) (sym is) ∙ ap (λ b. cond b (Some x) (find p ys)) passes
+first_found {X} p (y ∷ ys) (suc i) x low is none passes = step (p y) (first_found p ys i x (omega (arith, low)) is) none passes where
+  step : (b : Bool) → (find p (take i ys) ≡ None → p x ≡ true → find p ys ≡ Some x) → cond b (Some y) (find p (take i ys)) ≡ None → p x ≡ true → cond b (Some y) (find p ys) ≡ Some x
+  step true ih h q = cc
+  step false ih h q = ih h q
+
+pub none_more : {X : Type 0} (p : X → Bool) (xs : List X) (i : ℕ) (x : X) → i < length xs → x ≡ get_or xs i x → find p (take i xs) ≡ None → p x ≡ false → find p (take (suc i) xs) ≡ None
+none_more p [] i x low is none fails = absurd (omega (arith, low))
+none_more p (y ∷ ys) zero x low is none fails = ap (λ b. cond b (Some y) None) (ap p (sym is) ∙ fails)
+none_more {X} p (y ∷ ys) (suc i) x low is none fails = step (p y) (none_more p ys i x (omega (arith, low)) is) none fails where
+  step : (b : Bool) → (find p (take i ys) ≡ None → p x ≡ false → find p (take (suc i) ys) ≡ None) → cond b (Some y) (find p (take i ys)) ≡ None → p x ≡ false
+      → cond b (Some y) (find p (take (suc i) ys)) ≡ None
+  step true ih h q = cc
+  step false ih h q = ih h q
+
+-- ---- the identities that pass a test
+
+pub kept_more : (p : ℕ → Bool) (es : List Entry) (i : ℕ) (e : Entry) → i < length es → e ≡ get_or es i e
+    → filter p (identities (take (suc i) es)) ≡ filter p (identities (take i es)) ++ cond (p e.uuid) (e.uuid ∷ []) []
+kept_more p [] i e low is = absurd (omega (arith, low))
+kept_more p (x ∷ es) zero e low is = ap (λ (y : Entry). cond (p y.uuid) (y.uuid ∷ []) []) (sym is)
+kept_more p (x ∷ es) (suc i) e low is = step (p x.uuid) (kept_more p es i e (omega (arith, low)) is) where
+  step : (b : Bool) → filter p (identities (take (suc i) es)) ≡ filter p (identities (take i es)) ++ cond (p e.uuid) (e.uuid ∷ []) []
+      → cond b (x.uuid ∷ filter p (identities (take (suc i) es))) (filter p (identities (take (suc i) es))) ≡ cond b (x.uuid ∷ filter p (identities (take i es))) (filter p (identities (take i es))) ++ cond (p e.uuid) (e.uuid ∷ []) []
+  step true ih = ap (λ us. x.uuid ∷ us) ih
+  step false ih = ih
+
+-- ---- the changes
+
+pub puts_more : (stage : List Staged) (i : ℕ) (s : Staged) → i < length stage → s ≡ get_or stage i s
+    → puts_of (changes_of (take (suc i) stage)) ≡ puts_of (changes_of (take i stage)) ++ put_alone s
+puts_more [] i s low is = absurd (omega (arith, low))
+puts_more (Put e ∷ stage) zero s low is = ap put_alone (sym is)
+puts_more (Gone u ∷ stage) zero s low is = ap put_alone (sym is)
+puts_more (Put e ∷ stage) (suc i) s low is = ap (λ es. e ∷ es) (puts_more stage i s (omega (arith, low)) is)
+puts_more (Gone u ∷ stage) (suc i) s low is = puts_more stage i s (omega (arith, low)) is
+
+pub drops_more : (stage : List Staged) (i : ℕ) (s : Staged) → i < length stage → s ≡ get_or stage i s
+    → drops_of (changes_of (take (suc i) stage)) ≡ drops_of (changes_of (take i stage)) ++ dropped_alone s
+drops_more [] i s low is = absurd (omega (arith, low))
+drops_more (Put e ∷ stage) zero s low is = ap dropped_alone (sym is)
+drops_more (Gone u ∷ stage) zero s low is = ap dropped_alone (sym is)
+drops_more (Put e ∷ stage) (suc i) s low is = drops_more stage i s (omega (arith, low)) is
+drops_more (Gone u ∷ stage) (suc i) s low is = ap (λ us. u ∷ us) (drops_more stage i s (omega (arith, low)) is)
+
+-- ---- entries from the last one on
+
+pub noted_more : {A : Type 0} (entry : A → Entry) (xs : List A) (x : A) → reverse (map entry (xs ++ x ∷ [])) ≡ entry x ∷ reverse (map entry xs)
+noted_more entry xs x = ap reverse (map_push entry xs x) ∙ reverse-append (map entry xs) (entry x ∷ [])
+
+map-reverse : {A B : Type 0} (f : A → B) (xs : List A) → map f (reverse xs) ≡ reverse (map f xs)
+map-reverse f [] = refl
+map-reverse f (x ∷ xs) =
+    ap (map f) (reverse-append (x ∷ []) xs)
+    ∙ map_push f (reverse xs) x
+    ∙ ap (λ ys. ys ++ f x ∷ []) (map-reverse f xs)
+    ∙ sym (reverse-append (f x ∷ []) (map f xs))
+
+pub noted_all : {A : Type 0} (entry : A → Entry) (ys : List (Bor A)) (xs : List A) → map (λ (y : Bor A). y.now) ys ≡ reverse xs → reverse (map (λ (y : Bor A). entry y.now) ys) ≡ map entry xs
+noted_all {A} entry ys xs all =
+    ap reverse (each ys ∙ ap (map entry) all ∙ map-reverse entry xs) ∙ reverse-reverse (map entry xs)
+  where
+    each : (ys : List (Bor A)) → map (λ (y : Bor A). entry y.now) ys ≡ map entry (map (λ (y : Bor A). y.now) ys)
+    each [] = refl
+    each (y ∷ ys) = ap (λ es. entry y.now ∷ es) (each ys)

@@ -1,0 +1,4 @@
+-- What a consumer keeps of its search, and what it makes of each message.
+pub mod Running
+pub mod Staging
+pub mod Taking

@@ -1,0 +1,116 @@
+-- A consumer, what it asks for, and what it makes of each message.
+use Rattle.std.specs.Prelude.{◌≡◌, ⊤, ℕ, Bool, ◌==◌, if◌then◌else◌, [], Option, Some, None, Result, Ok, Err}
+use Rattle.entry_tree.specs.Selection.{Search}
+use Rattle.ldap_messages.specs.declared.message.Message.{Message}
+use Rattle.ldap_messages.specs.Whole.{Whole}
+use Rattle.sync_messages.specs.declared.request.Mode.{Mode}
+use Rattle.sync_model.specs.Message.{SyncMessage}
+use Rattle.sync_model.specs.Copy as model
+use Rattle.sync_model.specs.Copy.{Answer as answer, Fault as fault}
+use Rattle.sync_model.specs.Within.{taken_within}
+use Rattle.sync_wire.specs.Hearing.{said}
+use Rattle.sync_wire.specs.Kind.{tag_of}
+use Rattle.sync_wire.specs.Requesting.{search_request}
+use Rattle.sync_wire.specs.declared.fault.HearingFault.{HearingFault}
+use Rattle.sync_wire.specs.declared.fault.HearingFault.TheVariants as hearing
+use Rattle.sync_consumer.specs.declared.commit.Commit.{Commit}
+use Rattle.sync_consumer.specs.declared.consumer.Taken.{Taken}
+use Rattle.sync_consumer.specs.declared.consumer.Taken.TheVariants.{Staged, Stored, Copied, Over, Fault, NoMemory}
+use Rattle.sync_consumer.specs.declared.fault.PeerFault.{PeerFault}
+use Rattle.sync_consumer.specs.declared.fault.PeerFault.TheVariants as peer
+use Rattle.sync_consumer.specs.declared.fault.Refusal.{Refusal}
+use Rattle.sync_consumer.specs.declared.fault.Refusal.TheVariants as refusal
+
+-- what is wanted, whether it is taken as new where the cookie does not serve, and the copy
+pub record Following : Type 0 where
+  pub spec : Search
+  pub reload : Bool
+  pub copy : model.Copy
+
+-- no entries, no cookie and no search
+abbrev pub nothing : model.Copy
+nothing = record { held = []; cookie = None; running = None }
+
+-- ---- the request
+
+abbrev pub request_of : Following → ℕ → Mode → Whole
+request_of following id mode = search_request following.spec id mode following.reload following.copy.cookie
+
+-- ---- what is told
+
+abbrev pub told_fault : ℕ → model.Fault → PeerFault
+told_fault tag fault.OutOfPlace = peer.OutOfPlace tag
+told_fault tag (fault.PresentUnknown uuid) = peer.PresentUnknown uuid
+told_fault tag fault.StageFull = peer.StageFull
+told_fault tag (fault.DuplicateName one other) = peer.DuplicateName one other
+
+abbrev pub told_commit : model.Commit → Commit
+told_commit commit = record { puts = commit.puts; drops = commit.drops; cookie = commit.cookie }
+
+-- of a message whose operation has this tag
+abbrev pub told : ℕ → model.Answer → Taken
+told tag answer.Staged = Staged
+told tag (answer.Stored commit) = Stored (told_commit commit)
+told tag (answer.Copied commit) = Copied (told_commit commit)
+told tag (answer.Over code) = Over code
+told tag (answer.Refused found) = Fault (told_fault tag found)
+
+-- what is told of a message that says nothing
+abbrev pub refusal_of : HearingFault → Refusal
+refusal_of hearing.OutOfPlace = refusal.OutOfPlace
+refusal_of hearing.BadValue = refusal.Fault peer.BadValue
+refusal_of (hearing.UuidDiffers uuid other) = refusal.Fault (peer.UuidDiffers uuid other)
+refusal_of (hearing.BadEntry code) = refusal.Fault (peer.BadEntry code)
+refusal_of hearing.NoMemory = refusal.NoMemory
+
+abbrev pub told_refusal : ℕ → Refusal → Taken
+told_refusal tag refusal.OutOfPlace = Fault (peer.OutOfPlace tag)
+told_refusal tag (refusal.Fault found) = Fault found
+told_refusal tag refusal.NoMemory = NoMemory
+
+-- ---- each message
+
+abbrev pub without_search : model.Copy → model.Copy
+without_search copy = record copy { running = None }
+
+abbrev pub taken_as : ℕ → ℕ → model.Copy → Result SyncMessage HearingFault → model.Copy × Taken
+taken_as tag id copy (Err found) = (without_search copy, told_refusal tag (refusal_of found))
+taken_as tag id copy (Ok message) = ((taken_within id copy message).0, told tag (taken_within id copy message).1)
+
+-- by the search that runs: the ID of its messages comes first, then what the message says, then what that leads to
+abbrev pub taken_by : Option model.Running → model.Copy → Message → model.Copy × Taken
+taken_by None copy message = (without_search copy, Fault (peer.OutOfPlace (tag_of message.op)))
+taken_by (Some running) copy message =
+    if message.id == running.id
+    then taken_as (tag_of message.op) message.id copy (said running.persisting message)
+    else (without_search copy, Fault (peer.OutOfPlace (tag_of message.op)))
+
+abbrev pub taken_of : model.Copy → Message → model.Copy × Taken
+taken_of copy message = taken_by copy.running copy message
+
+-- the copy before a message and after it, and what is told of it; want of memory leaves all as it was
+abbrev pub Takes : model.Copy → Message → model.Copy → Taken → Type 0
+Takes before message after NoMemory = after ≡ before
+Takes before message after Staged = (after, Staged) ≡ taken_of before message
+Takes before message after (Stored commit) = (after, Stored commit) ≡ taken_of before message
+Takes before message after (Copied commit) = (after, Copied commit) ≡ taken_of before message
+Takes before message after (Over code) = (after, Over code) ≡ taken_of before message
+Takes before message after (Fault found) = (after, Fault found) ≡ taken_of before message
+
+-- the entries are as before, other than where a stage took effect
+abbrev pub KeepsEntries : model.Copy → model.Copy → Taken → Type 0
+KeepsEntries before after Staged = after.held ≡ before.held
+KeepsEntries before after (Stored commit) = ⊤
+KeepsEntries before after (Copied commit) = ⊤
+KeepsEntries before after (Over code) = after.held ≡ before.held
+KeepsEntries before after (Fault found) = after.held ≡ before.held
+KeepsEntries before after NoMemory = after.held ≡ before.held
+
+-- the cookie is as before, other than where one came with a stage that took effect, or the search was refused for it
+abbrev pub KeepsCookie : model.Copy → model.Copy → Taken → Type 0
+KeepsCookie before after Staged = after.cookie ≡ before.cookie
+KeepsCookie before after (Stored commit) = after.cookie ≡ commit.cookie
+KeepsCookie before after (Copied commit) = after.cookie ≡ before.cookie
+KeepsCookie before after (Over code) = after.cookie ≡ (model.over before code).0.cookie
+KeepsCookie before after (Fault found) = after.cookie ≡ before.cookie
+KeepsCookie before after NoMemory = after.cookie ≡ before.cookie

@@ -1,0 +1,66 @@
+//! Stages that took effect.
+
+ghost use Rattle.std.specs.Prelude.{◌≡◌, ◌++◌, IfOk, OnOk};
+ghost use Rattle.sync_model.specs.Copy as model;
+ghost use Rattle.sync_consumer.specs.Staging.{changes_of, put_alone, dropped_alone};
+ghost use Rattle.sync_consumer.specs.Taking.{told_commit};
+
+use crate::stage::Staged;
+use entry_tree::EntryList;
+use ldap_ber::{NoMemory, Octets};
+use std::alloc::Global;
+use sync_messages::IdList;
+
+/// What a stage changed, and the cookie that came with it.
+#[derive(Drop)]
+pub struct Commit {
+    /// The entries that were added or modified, in ascending order of identity.
+    pub puts: EntryList,
+    /// The identities that have no entry now, in ascending order.
+    pub drops: IdList,
+    pub cookie: Option<Octets>,
+}
+
+impl Commit {
+    /// What the stage changes where it takes effect.
+    pub(crate) fn of(
+        alloc: Global,
+        stage: &[Staged],
+        cookie: Option<Octets>,
+    ) -> Result<Commit, NoMemory>
+        ensures { IfOk result
+            (λ commit. commit ≡ told_commit (model.commit_of (changes_of stage.now) cookie)) }
+    {
+        let (puts, drops) = parts_of(alloc, stage)?;
+        Ok(Commit {
+            puts,
+            drops,
+            cookie,
+        })
+    }
+}
+
+/// Copies of the entries that are put, and the identities that have none.
+fn parts_of(alloc: Global, stage: &[Staged]) -> Result<(EntryList, IdList), NoMemory>
+    ensures puts { IfOk result (λ parts. parts.0 ≡ model.puts_of (changes_of stage.now)) }
+    ensures drops { IfOk result (λ parts. parts.1 ≡ model.drops_of (changes_of stage.now)) }
+{
+    let mut puts = EntryList::new(alloc);
+    let mut drops = IdList::new(alloc);
+    for staged in stage {
+        note(staged, &mut puts, &mut drops)?;
+    }
+    Ok((puts, drops))
+}
+
+/// Puts a copy of the change at the end of its list.
+fn note(staged: &Staged, puts: &mut EntryList, drops: &mut IdList) -> Result<(), NoMemory>
+    ensures puts { OnOk result (puts.new ≡ puts.old ++ put_alone staged.now) }
+    ensures drops { OnOk result (drops.new ≡ drops.old ++ dropped_alone staged.now) }
+{
+    match staged {
+        Staged::Put(entry) => puts.push(entry.copy()?)?,
+        Staged::Gone(uuid) => drops.push(*uuid)?,
+    }
+    Ok(())
+}

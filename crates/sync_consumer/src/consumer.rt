@@ -1,0 +1,170 @@
+//! The consumer.
+
+ghost use Rattle.std.specs.Prelude.{◌≡◌, Ok, None, option_map, IfOk, OnOk, OnErr};
+ghost use Rattle.entry_tree.specs.Selection.{search_of};
+ghost use Rattle.ldap_messages.specs.Whole.{whole_of};
+ghost use Rattle.sync_model.specs.Copy as model;
+ghost use Rattle.sync_wire.specs.Kind as kind;
+ghost use Rattle.sync_wire.specs.Requesting.{persists};
+ghost use Rattle.sync_consumer.specs.declared.consumer.Taken.TheVariants.{Fault};
+ghost use Rattle.sync_consumer.specs.declared.fault.PeerFault.TheVariants.{OutOfPlace};
+ghost use Rattle.sync_consumer.specs.Taking as taking;
+
+use crate::commit::Commit;
+use crate::entry_map::EntryMap;
+use crate::fault::{PeerFault, Refusal};
+use crate::held::{Held, copy_of};
+use crate::running::{Running, Step};
+use entry_tree::Spec;
+use ldap_ber::NoMemory;
+use ldap_messages::Message;
+use std::alloc::Global;
+use std::marker::Model;
+use sync_messages::{Mode, SyncRequest};
+use sync_wire::{search_request, tag_of};
+
+/// What came of a message.
+#[derive(Drop)]
+pub enum Taken {
+    /// It was staged, or it changes nothing.
+    Staged,
+    /// The stage took effect, and the cookie is that of its content.
+    Stored(Commit),
+    /// A refresh ended without a cookie: the stage took effect, and the cookie stays.
+    Copied(Commit),
+    /// The search is over, with this result code. The stage is dropped.
+    Over(i64),
+    /// The message is refused, and the search given up. Entries and cookie are as before.
+    Fault(PeerFault),
+    /// All is as before.
+    NoMemory,
+}
+
+/// A copy of what a specification selects from a directory.
+#[derive(Drop)]
+pub struct Consumer {
+    spec: Spec,
+    reload_hint: bool,
+    held: Held,
+    running: Option<Running>,
+}
+
+/// Contracts see the filter as a tree.
+impl Model for Consumer {
+    ghost use Rattle.std.specs.Prelude.{option_map};
+    ghost use Rattle.std.specs.Coded.{codes};
+    ghost use Rattle.entry_tree.specs.FilterCode.{tree_code};
+    ghost use Rattle.entry_tree.specs.Selection.{search_of};
+    ghost use Rattle.sync_consumer.specs.Running.{running_of, copy_of};
+    ghost use Rattle.sync_consumer.specs.Taking.{Following};
+
+    ghost Value = { Following };
+
+    ghost coded = { Prim.hlevel (codes, tree_code) };
+
+    ghost view = { λ c. record {
+      spec = search_of c.spec;
+      reload = c.reload_hint;
+      copy = copy_of c.held (option_map running_of c.running);
+    } };
+}
+
+impl Consumer {
+    /// A consumer without entries, a cookie and a search.
+    pub fn new(alloc: Global, spec: Spec, reload_hint: bool) -> Result<Consumer, NoMemory>
+        ensures { result ≡ Ok (record { spec = search_of spec; reload = reload_hint; copy = taking.nothing }) }
+    {
+        Ok(Consumer {
+            spec,
+            reload_hint,
+            held: Held::new(alloc),
+            running: None,
+        })
+    }
+
+    /// Begins a search, in place of one that runs. The answer asks for it.
+    pub fn request(&mut self, id: u32, mode: Mode) -> Result<Message, NoMemory>
+        ensures message { IfOk result
+            (λ message. whole_of message ≡ taking.request_of self.old id mode) }
+        ensures ok { OnOk result (self.new
+            ≡ record self.old { copy = model.asked id (persists mode) self.old.copy }) }
+        ensures err { OnErr result (self.new ≡ self.old) }
+    {
+        let alloc = self.held.entries.allocator();
+        let sync = SyncRequest {
+            mode,
+            cookie: copy_of(&self.held.cookie)?,
+            reload_hint: self.reload_hint,
+        };
+        let message = search_request(alloc, id, &self.spec, &sync)?;
+        self.running = Some(Running::new(alloc, id, mode));
+        Ok(message)
+    }
+
+    /// Takes a message of the search.
+    pub fn take(&mut self, message: &Message) -> Taken
+        ensures exact { taking.Takes self.old.copy message.now self.new.copy result }
+        ensures entries { taking.KeepsEntries self.old.copy self.new.copy result }
+        ensures cookie { taking.KeepsCookie self.old.copy self.new.copy result }
+        ensures spec { self.new.spec ≡ self.old.spec }
+        ensures reload { self.new.reload ≡ self.old.reload }
+    {
+        let alloc = self.held.entries.allocator();
+        let Some(mut running) = self.running.take() else {
+            return out_of_place(message);
+        };
+        match running.take(alloc, &mut self.held, message) {
+            Ok(Step::Goes(taken)) => {
+                self.running = Some(running);
+                taken
+            }
+            Ok(Step::Ends(taken)) => taken,
+            Err(Refusal::NoMemory) => {
+                self.running = Some(running);
+                Taken::NoMemory
+            }
+            Err(Refusal::OutOfPlace) => out_of_place(message),
+            Err(Refusal::Fault(fault)) => Taken::Fault(fault),
+        }
+    }
+
+    /// Ends the search, and drops what is staged.
+    pub fn cut(&mut self)
+        ensures { self.new ≡ record self.old { copy = taking.without_search self.old.copy } }
+    {
+        self.running = None;
+    }
+
+    pub fn lose_cookie(&mut self)
+        ensures { self.new ≡ record self.old { copy = record self.old.copy { cookie = None } } }
+    {
+        self.held.cookie = None;
+    }
+
+    pub fn entries(&self) -> &EntryMap
+        ensures { result.now ≡ self.now.copy.held }
+    {
+        &self.held.entries
+    }
+
+    pub fn cookie(&self) -> Option<&[u8]>
+        ensures { option_map (λ cookie. cookie.now) result ≡ self.now.copy.cookie }
+    {
+        match &self.held.cookie {
+            Some(cookie) => Some(cookie.as_slice()),
+            None => None,
+        }
+    }
+
+    pub fn spec(&self) -> &Spec
+        ensures { search_of result.now ≡ self.now.spec }
+    {
+        &self.spec
+    }
+}
+
+fn out_of_place(message: &Message) -> Taken
+    ensures { result ≡ Fault (OutOfPlace (kind.tag_of message.now.op)) }
+{
+    Taken::Fault(PeerFault::OutOfPlace(tag_of(&message.op)))
+}

@@ -1,0 +1,61 @@
+//! Why a message is refused.
+
+ghost use Rattle.std.specs.Prelude.{◌≡◌};
+ghost use Rattle.sync_consumer.specs.Taking.{refusal_of};
+ghost use Rattle.sync_consumer.specs.declared.fault.Refusal.TheVariants.{NoMemory};
+
+use std::alloc::AllocError;
+use sync_wire::HearingFault;
+
+/// Why a message of a search is refused, and its search given up.
+#[derive(Clone, Copy, Debug, PartialEq, Eq)]
+pub enum PeerFault {
+    /// The identity is named as present, and its entry is neither held nor staged.
+    PresentUnknown(u128),
+    /// The identity by the Sync State control, and another one by an entryUUID attribute.
+    UuidDiffers(u128, u128),
+    /// The message does not belong here. The number is the tag of its operation.
+    OutOfPlace(u8),
+    /// The value of a control or of a Sync Info message is outside its grammar.
+    BadValue,
+    /// The entry cannot be held: its name is refused (34), a value is not of its type's syntax
+    /// (21), it has no entryCSN (65), or it weighs too much (11).
+    BadEntry(u32),
+    /// There would be more entries than a directory may have, or heavier ones.
+    StageFull,
+    /// Two entries would have one name.
+    DuplicateName(u128, u128),
+}
+
+/// Why a message is refused, or cannot be taken now.
+#[derive(Clone, Copy, Debug, PartialEq, Eq)]
+pub(crate) enum Refusal {
+    /// The message does not belong here.
+    OutOfPlace,
+    Fault(PeerFault),
+    NoMemory,
+}
+
+impl From<AllocError> for Refusal {
+    ghost from_gives = { λ _ refusal. refusal ≡ NoMemory };
+
+    fn from(_error: AllocError) -> Refusal {
+        Refusal::NoMemory
+    }
+}
+
+impl From<HearingFault> for Refusal {
+    ghost from_gives = { λ fault refusal. refusal ≡ refusal_of fault };
+
+    fn from(fault: HearingFault) -> Refusal {
+        match fault {
+            HearingFault::OutOfPlace => Refusal::OutOfPlace,
+            HearingFault::BadValue => Refusal::Fault(PeerFault::BadValue),
+            HearingFault::UuidDiffers(uuid, other) => {
+                Refusal::Fault(PeerFault::UuidDiffers(uuid, other))
+            }
+            HearingFault::BadEntry(code) => Refusal::Fault(PeerFault::BadEntry(code)),
+            HearingFault::NoMemory => Refusal::NoMemory,
+        }
+    }
+}

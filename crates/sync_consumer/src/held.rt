@@ -1,0 +1,118 @@
+//! What a consumer holds between its searches.
+
+ghost use Rattle.std.specs.Prelude.{◌≡◌, [], None, Some, not, find, length, IfOk, IfErr, OnOk, OnErr};
+ghost use Rattle.std.specs.Option.{option_or};
+ghost use Rattle.sync_model.specs.Copy as model;
+ghost use Rattle.sync_model.specs.Within.{against};
+ghost use Rattle.sync_consumer.specs.Running.{RefusesBy};
+ghost use Rattle.sync_consumer.specs.Taking.{told_commit};
+
+use crate::commit::Commit;
+use crate::entry_map::EntryMap;
+use crate::fault::Refusal;
+use crate::limits::check_entries;
+use crate::merge::effected;
+use crate::named::Named;
+use crate::stage::Stage;
+use ldap_ber::{NoMemory, Octets};
+use std::alloc::Global;
+
+/// The entries, and the cookie of the content that they are.
+#[derive(Drop)]
+pub(crate) struct Held {
+    pub(crate) entries: EntryMap,
+    pub(crate) cookie: Option<Octets>,
+}
+
+impl Held {
+    pub(crate) fn new(alloc: Global) -> Held
+        ensures entries { result.entries ≡ [] }
+        ensures cookie { result.cookie ≡ None }
+    {
+        Held {
+            entries: EntryMap::new(alloc),
+            cookie: None,
+        }
+    }
+
+    /// Brings the stage into effect, with the cookie where one came. A refusal leaves both as they
+    /// were.
+    pub(crate) fn settle(
+        &mut self,
+        stage: &mut Stage,
+        cookie: Option<Octets>,
+    ) -> Result<Commit, Refusal>
+        ensures commit { IfOk result (λ commit. commit ≡ told_commit (model.commit_of stage.old cookie)) }
+        ensures entries { OnOk result (self.new.entries ≡ model.effected self.old.entries stage.old) }
+        ensures cookie { OnOk result (self.new.cookie ≡ option_or cookie self.old.cookie) }
+        ensures stage { OnOk result (stage.new ≡ []) }
+        ensures within { OnOk result (against (model.effected self.old.entries stage.old) ≡ None) }
+        ensures fault { IfErr result (RefusesBy (against (model.effected self.old.entries stage.old))) }
+        ensures err { OnErr result (self.new ≡ self.old) }
+        ensures err_stage { OnErr result (stage.new ≡ stage.old) }
+    {
+        let alloc = self.entries.allocator();
+        let room = Vec::with_capacity(alloc, self.checked_len(stage)?)?;
+        let kept = copy_of(&cookie)?;
+        let commit = Commit::of(alloc, stage.changes(), cookie)?;
+        self.entries.settle(stage.take(), room);
+        if kept.is_some() {
+            self.cookie = kept;
+        }
+        Ok(commit)
+    }
+
+    /// How many entries there would be with the stage in effect, where they may be held.
+    fn checked_len(&self, stage: &Stage) -> Result<usize, Refusal>
+        ensures len { IfOk result (λ len. len ≡ length (model.effected self.now.entries stage.now)) }
+        ensures within { OnOk result (against (model.effected self.now.entries stage.now) ≡ None) }
+        ensures fault { IfErr result (RefusesBy (against (model.effected self.now.entries stage.now))) }
+    {
+        let alloc = self.entries.allocator();
+        let after = effected(alloc, self.entries.list(), stage.changes())?;
+        check_entries(alloc, &after)?;
+        Ok(after.len())
+    }
+
+    /// The first of the identities that is neither held nor staged with an entry.
+    pub(crate) fn unknown(&self, stage: &Stage, uuids: &[u128]) -> Option<u128>
+        ensures { result ≡ find (λ uuid. not (model.is_known self.now.entries stage.now uuid)) uuids.now }
+    {
+        for uuid in uuids {
+            if !self.knows(stage, *uuid) {
+                return Some(*uuid);
+            }
+        }
+        None
+    }
+
+    /// Whether the identity is held, or staged with an entry.
+    #[tactic(auto, using(crate::proofs::Stages::found_is))]
+    fn knows(&self, stage: &Stage, uuid: u128) -> bool
+        ensures { result ≡ model.is_known self.now.entries stage.now uuid }
+    {
+        self.entries.get(uuid).is_some() || stage.has_entry(uuid)
+    }
+
+    /// The identities that are held, and were neither named nor sent.
+    pub(crate) fn unspoken(&self, named: &Named, stage: &Stage) -> Result<Vec<u128>, NoMemory>
+        ensures { IfOk result (λ uuids. uuids.items ≡ model.unspoken named.now stage.now self.now.entries) }
+    {
+        let mut uuids = Vec::new(self.entries.allocator());
+        for entry in self.entries.list() {
+            if !named.has(entry.uuid) && !stage.has_entry(entry.uuid) {
+                uuids.push(entry.uuid)?;
+            }
+        }
+        Ok(uuids)
+    }
+}
+
+pub(crate) fn copy_of(cookie: &Option<Octets>) -> Result<Option<Octets>, NoMemory>
+    ensures { IfOk result (λ copy. copy ≡ cookie.now) }
+{
+    match cookie {
+        Some(cookie) => Ok(Some(cookie.copy()?)),
+        None => Ok(None),
+    }
+}

@@ -1,0 +1,163 @@
+//! The ends of phases, of a refresh and of a search (RFC 4533, sections 3.3 and 3.4).
+
+ghost use Rattle.std.specs.Prelude.{◌≡◌, ◌||◌, ◌&&◌, pos, not, false, cond, None, IfOk};
+ghost use Rattle.std.specs.Ordering.{int_eq};
+ghost use Rattle.sync_model.specs.Message.SyncMessage.{PhaseEnds, Done};
+ghost use Rattle.sync_wire.specs.Hearing.{control_said};
+ghost use Rattle.sync_wire.specs.Requesting.{persists};
+ghost use Rattle.sync_consumer.specs.Running.{running_of, copy_with, within, last_changes, refresh_ended, StepsTo, StepsBy};
+ghost use Rattle.sync_consumer.specs.Staging.{changes_of};
+ghost use Rattle.sync_consumer.specs.declared.consumer.Taken.TheVariants.{Stored, Copied, Over};
+ghost use Rattle.sync_consumer.specs.declared.running.Step.TheVariants.{Goes, Ends};
+
+use crate::commit::Commit;
+use crate::consumer::Taken;
+use crate::fault::Refusal;
+use crate::held::Held;
+use crate::running::{Running, Step};
+use crate::stage::{Staged, drops_of};
+use ldap_ber::{NoMemory, Octets};
+use sync_messages::SyncDone;
+
+/// syncRefreshRequired (RFC 4533, section 2.6): the cookie is of no use.
+const REFRESH_REQUIRED: i64 = 4096;
+
+impl Running {
+    /// A delete phase ends, or else a present phase, and with it the refresh or not.
+    pub(crate) fn end_phase(
+        &mut self,
+        held: &mut Held,
+        deletes: bool,
+        done: bool,
+        cookie: Option<Octets>,
+    ) -> Result<Step, Refusal>
+        ensures { StepsBy held.old self.old held.new self.new result (PhaseEnds deletes done cookie) }
+    {
+        if self.is_misplaced(deletes, done) {
+            return Err(Refusal::OutOfPlace);
+        }
+        if done {
+            return self.end_refresh(held, deletes, cookie);
+        }
+        let changes = self.last_changes(held, deletes)?;
+        let _ = self.stage.lay(changes)?;
+        self.ended |= !deletes;
+        Ok(Step::Goes(Taken::Staged))
+    }
+
+    /// Whether no such phase ends here: after the refresh none does, a refresh is not done by it
+    /// where the search ends with it, and a present phase ends once.
+    fn is_misplaced(&self, deletes: bool, done: bool) -> bool
+        ensures { result ≡ (self.now.persisting || ((done && not (persists self.now.mode)) || (not deletes && self.now.ended))) }
+    {
+        self.persisting || (done && !self.persists()) || self.ends_again(deletes)
+    }
+
+    /// Whether a present phase would end a second time.
+    fn ends_again(&self, deletes: bool) -> bool
+        ensures { result ≡ (not deletes && self.now.ended) }
+    {
+        !deletes && self.ended
+    }
+
+    /// The search ends.
+    pub(crate) fn end_search(
+        &mut self,
+        held: &mut Held,
+        code: i64,
+        control: Option<SyncDone>,
+    ) -> Result<Step, Refusal>
+        ensures { StepsBy held.old self.old held.new self.new result (Done code (control_said control)) }
+    {
+        if self.is_over(code) {
+            return Ok(Step::Ends(over(held, code)));
+        }
+        let Some(done) = control else {
+            return Err(Refusal::OutOfPlace);
+        };
+        if self.ends_again(done.refresh_deletes) {
+            return Err(Refusal::OutOfPlace);
+        }
+        self.end_refresh(held, done.refresh_deletes, done.cookie)
+    }
+
+    /// Whether the search is over without the end of a refresh.
+    fn is_over(&self, code: i64) -> bool
+        ensures { result ≡ (persists self.now.mode || not (int_eq code (pos 0))) }
+    {
+        self.persists() || code != 0
+    }
+
+    /// The refresh ends in a delete phase, or else in a present phase, and the search with it where
+    /// it does not persist.
+    fn end_refresh(
+        &mut self,
+        held: &mut Held,
+        deletes: bool,
+        cookie: Option<Octets>,
+    ) -> Result<Step, Refusal>
+        ensures { StepsTo held.old self.old held.new self.new result
+            (within false held.old self.old (refresh_ended (copy_with held.old self.old) (running_of self.old) deletes cookie)) }
+    {
+        let changes = self.last_changes(held, deletes)?;
+        let undo = self.stage.lay(changes)?;
+        let has_cookie = cookie.is_some();
+        match held.settle(&mut self.stage, cookie) {
+            Ok(commit) => {
+                self.named.clear();
+                self.ended |= !deletes;
+                self.persisting = true;
+                Ok(self.after_refresh(took_effect(commit, has_cookie)))
+            }
+            Err(refusal) => {
+                self.stage.undo(undo);
+                Err(refusal)
+            }
+        }
+    }
+
+    /// Whether the search goes on after its refresh.
+    fn after_refresh(&self, taken: Taken) -> Step
+        ensures { result ≡ cond (persists self.now.mode) (Goes taken) (Ends taken) }
+    {
+        if self.persists() {
+            Step::Goes(taken)
+        } else {
+            Step::Ends(taken)
+        }
+    }
+
+    /// What the end of a phase stages: a delete phase nothing.
+    fn last_changes(&self, held: &Held, deletes: bool) -> Result<Vec<Staged>, NoMemory>
+        ensures { IfOk result (λ changes. changes_of changes.items ≡ last_changes held.now.entries (running_of self.now) deletes) }
+    {
+        let alloc = held.entries.allocator();
+        if deletes {
+            return Ok(Vec::new(alloc));
+        }
+        drops_of(alloc, &held.unspoken(&self.named, &self.stage)?)
+    }
+}
+
+/// What is told of a search that is over with this code, which may say that the cookie is of no use.
+fn over(held: &mut Held, code: i64) -> Taken
+    ensures told { result ≡ Over code }
+    ensures entries { held.new.entries ≡ held.old.entries }
+    ensures cookie { held.new.cookie ≡ cond (int_eq code (pos 4096)) None held.old.cookie }
+{
+    if code == REFRESH_REQUIRED {
+        held.cookie = None;
+    }
+    Taken::Over(code)
+}
+
+/// What is told of the end of a refresh, with or without a cookie.
+fn took_effect(commit: Commit, has_cookie: bool) -> Taken
+    ensures { result ≡ cond has_cookie (Stored commit) (Copied commit) }
+{
+    if has_cookie {
+        Taken::Stored(commit)
+    } else {
+        Taken::Copied(commit)
+    }
+}

@@ -1,0 +1,208 @@
+//! What a search has sent and what has not taken effect yet.
+
+ghost use Rattle.std.specs.Prelude.{◌≡◌, ◌∷◌, [], ◌+◌, ◌<◌, ◌^◌, Some, None, true, not, map, IfOk, OnErr, OnOk};
+ghost use Rattle.std.specs.Map.{keys_of};
+ghost use Rattle.std.specs.Option.{option_copied};
+ghost use Rattle.sync_model.specs.Copy as model;
+ghost use Rattle.sync_model.specs.Within.{is_crowded};
+ghost use Rattle.sync_consumer.specs.Staging as spec;
+ghost use Rattle.sync_consumer.specs.Staging.{change_of, changes_of, rises, laid, undone, IsStage};
+
+use crate::changes::{Load, put_back, set};
+use crate::places::place_of_change;
+use entry_tree::Entry;
+use ldap_ber::NoMemory;
+use std::alloc::Global;
+use std::marker::Model;
+use std::mem;
+
+/// The most entries that are staged.
+const MOST_ENTRIES: usize = 20_000;
+
+/// The most that the staged entries weigh.
+const MOST_WEIGHT: u128 = 67_108_864;
+
+/// What is staged of an identity: its entry, or that it has none.
+#[derive(Drop)]
+pub(crate) enum Staged {
+    Put(Entry),
+    Gone(u128),
+}
+
+impl Staged {
+    pub(crate) fn uuid(&self) -> u128
+        ensures { result ≡ (change_of self.now).0 }
+    {
+        match self {
+            Staged::Put(entry) => entry.uuid,
+            Staged::Gone(uuid) => *uuid,
+        }
+    }
+
+    pub(crate) fn entry(&self) -> Option<&Entry>
+        ensures { option_copied result ≡ (change_of self.now).1 }
+    {
+        match self {
+            Staged::Put(entry) => Some(entry),
+            Staged::Gone(_) => None,
+        }
+    }
+}
+
+/// That the identity has this entry.
+pub(crate) fn put_of(alloc: Global, entry: Entry) -> Result<Vec<Staged>, NoMemory>
+    ensures { IfOk result (λ changes. changes_of changes.items ≡ (entry.uuid, Some entry) ∷ []) }
+{
+    let mut changes = Vec::new(alloc);
+    changes.push(Staged::Put(entry))?;
+    Ok(changes)
+}
+
+/// That these identities have no entry.
+pub(crate) fn drops_of(alloc: Global, uuids: &[u128]) -> Result<Vec<Staged>, NoMemory>
+    ensures { IfOk result
+        (λ changes. changes_of changes.items ≡ map (λ uuid. (uuid, None)) uuids.now) }
+{
+    let mut changes = Vec::new(alloc);
+    for uuid in uuids {
+        changes.push(Staged::Gone(*uuid))?;
+    }
+    Ok(changes)
+}
+
+/// What was staged of an identity before a change.
+#[derive(Drop)]
+pub(crate) enum Before {
+    Had(Staged),
+    Nothing(u128),
+}
+
+/// What is staged, in ascending order of identity. The latest of an identity counts.
+#[derive(Drop)]
+pub(crate) struct Stage {
+    changes: Vec<Staged>,
+    load: Load,
+}
+
+impl Model for Stage {
+    ghost use Rattle.sync_model.specs.Copy as copy;
+    ghost use Rattle.sync_consumer.specs.Staging.{IsStage, changes_of};
+
+    ghost Value = { copy.Stage };
+
+    ghost view = { λ s. changes_of s.changes.items };
+
+    ghost invariant = { λ s. IsStage (changes_of s.changes.items) s.load.count s.load.weight };
+}
+
+impl Stage {
+    #[tactic(auto, using(crate::proofs::Stages::empty_stage))]
+    pub(crate) fn new(alloc: Global) -> Stage
+        ensures { result ≡ [] }
+    {
+        Stage {
+            changes: Vec::new(alloc),
+            load: Load {
+                count: 0,
+                weight: 0,
+            },
+        }
+    }
+
+    pub(crate) fn changes(&self) -> &[Staged]
+        ensures value { changes_of result.now ≡ self.now }
+        ensures ordered { rises (keys_of self.now) ≡ true }
+    {
+        self.changes.as_slice()
+    }
+
+    /// Whether an entry of the identity is staged.
+    #[tactic(auto, using(crate::proofs::Stages::put_is))]
+    pub(crate) fn has_entry(&self, uuid: u128) -> bool
+        ensures { result ≡ model.is_put (model.slot self.now uuid) }
+    {
+        self.entry(uuid).is_some()
+    }
+
+    /// The staged entry of the identity.
+    fn entry(&self, uuid: u128) -> Option<&Entry>
+        ensures { option_copied result ≡ spec.entry_staged self.now uuid }
+    {
+        entry_in(&self.changes, uuid)
+    }
+
+    /// Whether there is room for the entry, in place of the one that is staged of its identity.
+    pub(crate) fn has_room(&self, entry: &Entry) -> bool
+        ensures { result ≡ not (is_crowded (model.puts_of (model.staged entry.now.uuid (Some entry.now) self.now))) }
+    {
+        let load = load_without(&self.changes, &self.load, entry.uuid);
+        load.count < MOST_ENTRIES && load.weight + u128::from(entry.attrs.weight()) <= MOST_WEIGHT
+    }
+
+    /// Stages the changes, or none of them. What was staged before is answered, in their order.
+    pub(crate) fn lay(&mut self, changes: Vec<Staged>) -> Result<Vec<Before>, NoMemory>
+        ensures ok { OnOk result (self.new ≡ laid self.old (changes_of changes.items)) }
+        ensures undo { IfOk result (λ undo. undone self.new undo.items ≡ self.old) }
+        ensures err { OnErr result (self.new ≡ self.old) }
+    {
+        let mut undo = Vec::with_capacity(*self.changes.allocator(), changes.len())?;
+        self.changes.reserve(changes.len())?;
+        for change in changes {
+            undo.push_reserved(set(&mut self.changes, &mut self.load, change));
+        }
+        Ok(undo)
+    }
+
+    /// Takes back what was staged, the latest first. It takes no memory.
+    pub(crate) fn undo(&mut self, undo: Vec<Before>)
+        ensures { self.new ≡ undone self.old undo.items }
+    {
+        let mut left = undo;
+        while let Some(before) = left.pop() {
+            put_back(&mut self.changes, &mut self.load, before);
+        }
+    }
+
+    /// Takes all that is staged.
+    #[tactic(auto, using(crate::proofs::Stages::empty_stage))]
+    pub(crate) fn take(&mut self) -> Vec<Staged>
+        ensures taken { changes_of result.items ≡ self.old }
+        ensures emptied { self.new ≡ [] }
+    {
+        let alloc = *self.changes.allocator();
+        self.load = Load {
+            count: 0,
+            weight: 0,
+        };
+        mem::replace(&mut self.changes, Vec::new(alloc))
+    }
+}
+
+/// The entry of the identity among the changes.
+fn entry_in(changes: &[Staged], uuid: u128) -> Option<&Entry>
+    requires { rises (keys_of (changes_of changes.now)) ≡ true }
+    ensures { option_copied result ≡ spec.entry_staged (changes_of changes.now) uuid }
+{
+    match place_of_change(changes, uuid) {
+        Ok(place) => changes[place].entry(),
+        Err(_) => None,
+    }
+}
+
+/// The load of the changes without the entry of the identity.
+fn load_without(changes: &[Staged], load: &Load, uuid: u128) -> Load
+    requires { IsStage (changes_of changes.now) load.now.count load.now.weight }
+    ensures count { result.count + spec.count_of (spec.entry_staged (changes_of changes.now) uuid) ≡ load.now.count }
+    ensures weight { result.weight + spec.weight_within (spec.entry_staged (changes_of changes.now) uuid) ≡ load.now.weight }
+{
+    match entry_in(changes, uuid) {
+        Some(entry) => Load {
+            count: load.count - 1,
+            weight: load.weight - u128::from(entry.attrs.weight()),
+        },
+        None => Load {
+            count: load.count,
+            weight: load.weight,
+        },
+    }
+}

@@ -1,0 +1,55 @@
+-- The answer to a search that is asked for, by what is against it.
+use Rattle.std.proofs.Common.{◌≡◌, ◌≢◌, ℕ, Bool, true, false, cond, List, length, Some, None, refl, ap, ◌∙◌}
+use Rattle.std.specs.Prelude.{Ok}
+use Rattle.dn_names.specs.Names.{is_at_or_below}
+use Rattle.sync_messages.specs.Gives.{Fails}
+use Rattle.sync_messages.specs.Request.{request_of}
+use Rattle.sync_messages.specs.declared.fault.SyncFault.{SyncFault}
+use Rattle.sync_messages.specs.declared.fault.SyncFault.TheVariants as faults
+use Rattle.sync_messages.specs.declared.request.SyncRequest.{SyncRequest}
+use Rattle.sync_provider.specs.Accepting.{free_number, request_code, refused_or_opened, numbered, answer_to_request, answer_to}
+use Rattle.sync_provider.specs.Directory.{DirectoryState}
+use Rattle.sync_provider.specs.Search.{SearchState}
+use Rattle.sync_provider.specs.declared.searches.Accepted.TheVariants.{Opened, Refused}
+use Rattle.sync_provider.specs.declared.searches.SyncSearch.{SyncSearch}
+
+abbrev Searches : Type 0
+Searches = List (ℕ × SearchState)
+
+-- ---- the control's value
+
+pub value_refused : (d : DirectoryState) (es : Searches) (ask : SyncSearch) (fault : SyncFault) → fault ≢ faults.NoMemory → Fails fault (request_of ask.control)
+    → answer_to d es ask ≡ Refused 2
+value_refused d es ask (faults.Ber fault) other h = ap (answer_to_request d es ask) h
+value_refused d es ask (faults.BadMode number) other h = ap (answer_to_request d es ask) h
+value_refused d es ask (faults.BadUuidLength count) other h = ap (answer_to_request d es ask) h
+value_refused d es ask (faults.BadState number) other h = ap (answer_to_request d es ask) h
+value_refused d es ask faults.NoMemory other h = absurd (other refl)
+
+pub value_read : (d : DirectoryState) (es : Searches) (ask : SyncSearch) (request : SyncRequest) → request_of ask.control ≡ Ok request
+    → answer_to d es ask ≡ answer_to_request d es ask (Ok request)
+value_read d es ask request h = ap (answer_to_request d es ask) h
+
+-- ---- the base, the numbers and the request
+
+base_outside : (d : DirectoryState) (es : Searches) (ask : SyncSearch) (request : SyncRequest) (b : Bool) → is_at_or_below ask.spec.base d.suffix ≡ b
+    → answer_to_request d es ask (Ok request) ≡ cond b (numbered d request (free_number es)) (Refused 32)
+base_outside d es ask request b h = ap (λ inside. cond inside (numbered d request (free_number es)) (Refused 32)) h
+
+pub outside : (d : DirectoryState) (es : Searches) (ask : SyncSearch) (request : SyncRequest) → is_at_or_below ask.spec.base d.suffix ≡ false
+    → answer_to_request d es ask (Ok request) ≡ Refused 32
+outside d es ask request h = base_outside d es ask request false h
+
+pub crowded : (d : DirectoryState) (es : Searches) (ask : SyncSearch) (request : SyncRequest) → is_at_or_below ask.spec.base d.suffix ≡ true → free_number es ≡ None
+    → answer_to_request d es ask (Ok request) ≡ Refused 11
+crowded d es ask request h none = base_outside d es ask request true h ∙ ap (numbered d request) none
+
+pub opposed : (d : DirectoryState) (es : Searches) (ask : SyncSearch) (request : SyncRequest) (number code : ℕ) → is_at_or_below ask.spec.base d.suffix ≡ true
+    → free_number es ≡ Some number → request_code request ≡ Some code → answer_to_request d es ask (Ok request) ≡ Refused code
+opposed d es ask request number code h free against =
+    base_outside d es ask request true h ∙ ap (numbered d request) free ∙ ap (refused_or_opened d number) against
+
+pub admitted : (d : DirectoryState) (es : Searches) (ask : SyncSearch) (request : SyncRequest) (number : ℕ) → is_at_or_below ask.spec.base d.suffix ≡ true
+    → free_number es ≡ Some number → request_code request ≡ None → answer_to_request d es ask (Ok request) ≡ Opened number (length d.writes)
+admitted d es ask request number h free against =
+    base_outside d es ask request true h ∙ ap (numbered d request) free ∙ ap (refused_or_opened d number) against

@@ -1,0 +1,163 @@
+-- Open searches by their numbers.
+use Rattle.std.proofs.Common.{◌≡◌, ◌≢◌, ◌<◌, ◌⊎◌, ℕ, Bool, true, false, cond, List, [], ◌∷◌, Some, None, refl, ap, sym, ◌∙◌, inl, inr, arith, subst}
+use Rattle.std.specs.Cmp.{nat_cmp_is}
+use Rattle.std.specs.Map.{set_value}
+use Rattle.std.specs.BTreeMap.{insert_entry, is_at}
+use Rattle.std.specs.Ordering.{nat_cmp, is_eq, match_ordering}
+use Rattle.std.specs.declared.cmp.Ordering.{Ordering}
+use Rattle.std.specs.declared.cmp.Ordering.TheVariants.{Less, Equal, Greater}
+use Rattle.std.proofs.lemmas.Bool.{cases_order, false≢true}
+use Rattle.sync_provider.specs.HandingOut.{search_at, closed}
+use Rattle.sync_provider.specs.Law.{EachSearch}
+use Rattle.sync_provider.specs.Search.{SearchState}
+
+abbrev Searches : Type 0
+Searches = List (ℕ × SearchState)
+
+abbrev Order : ℕ → ℕ → Type 0
+Order a b = (a ≡ b) ⊎ ((a < b) ⊎ (b < a))
+
+pub less_cmp : (a b : ℕ) → a < b → nat_cmp a b ≡ Less
+less_cmp a b h = sym (nat_cmp_is a b Less h)
+
+pub same_cmp : (a b : ℕ) → a ≡ b → nat_cmp a b ≡ Equal
+same_cmp a b h = sym (nat_cmp_is a b Equal h)
+
+more_cmp : (a b : ℕ) → b < a → nat_cmp a b ≡ Greater
+more_cmp a b h = sym (nat_cmp_is a b Greater h)
+
+pub is_at-same : (a b : ℕ) → a ≡ b → is_at (nat_cmp a) b ≡ true
+is_at-same a b h = ap is_eq (same_cmp a b h)
+
+pub is_at-other : (a b : ℕ) → a ≢ b → is_at (nat_cmp a) b ≡ false
+is_at-other a b h = by (cases_order a b)
+  where
+    by : Order a b → is_at (nat_cmp a) b ≡ false
+    by (inl same) = absurd (h same)
+    by (inr (inl less)) = ap is_eq (less_cmp a b less)
+    by (inr (inr more)) = ap is_eq (more_cmp a b more)
+
+pub at-is : (a b : ℕ) → is_at (nat_cmp a) b ≡ true → a ≡ b
+at-is a b h = by (cases_order a b)
+  where
+    by : Order a b → a ≡ b
+    by (inl same) = same
+    by (inr (inl less)) = absurd (false≢true (sym (ap is_eq (less_cmp a b less)) ∙ h))
+    by (inr (inr more)) = absurd (false≢true (sym (ap is_eq (more_cmp a b more)) ∙ h))
+
+-- ---- a search that is opened
+
+pub opened-same : (es : Searches) (k : ℕ) (s : SearchState) → search_at (insert_entry nat_cmp es k s) k ≡ Some s
+opened-same [] k s = ap (λ b. cond b (Some s) None) (is_at-same k k refl)
+opened-same (e ∷ es) k s = by (opened-same es k s) (cases_order k e.0)
+  where
+    by : search_at (insert_entry nat_cmp es k s) k ≡ Some s → Order k e.0 → search_at (insert_entry nat_cmp (e ∷ es) k s) k ≡ Some s
+    by rest (inl same) =
+        ap (λ o. search_at (match_ordering o ((k, s) ∷ e ∷ es) ((e.0, s) ∷ es) (e ∷ insert_entry nat_cmp es k s)) k) (same_cmp k e.0 same)
+        ∙ ap (λ b. cond b (Some s) (search_at es k)) (is_at-same k e.0 same)
+    by rest (inr (inl less)) =
+        ap (λ o. search_at (match_ordering o ((k, s) ∷ e ∷ es) ((e.0, s) ∷ es) (e ∷ insert_entry nat_cmp es k s)) k) (less_cmp k e.0 less)
+        ∙ ap (λ b. cond b (Some s) (search_at (e ∷ es) k)) (is_at-same k k refl)
+    by rest (inr (inr more)) =
+        ap (λ o. search_at (match_ordering o ((k, s) ∷ e ∷ es) ((e.0, s) ∷ es) (e ∷ insert_entry nat_cmp es k s)) k) (more_cmp k e.0 more)
+        ∙ ap (λ b. cond b (Some e.1) (search_at (insert_entry nat_cmp es k s) k)) (is_at-other k e.0 (λ same. omega arith))
+        ∙ rest
+
+pub opened-other : (es : Searches) (k q : ℕ) (s : SearchState) → q ≢ k → search_at (insert_entry nat_cmp es k s) q ≡ search_at es q
+opened-other [] k q s far = ap (λ b. cond b (Some s) None) (is_at-other q k far)
+opened-other (e ∷ es) k q s far = by (opened-other es k q s far) (cases_order k e.0)
+  where
+    by : search_at (insert_entry nat_cmp es k s) q ≡ search_at es q → Order k e.0 → search_at (insert_entry nat_cmp (e ∷ es) k s) q ≡ search_at (e ∷ es) q
+    by rest (inl same) =
+        let apart : is_at (nat_cmp q) e.0 ≡ false = is_at-other q e.0 (λ is. far (is ∙ sym same)) in
+        ap (λ o. search_at (match_ordering o ((k, s) ∷ e ∷ es) ((e.0, s) ∷ es) (e ∷ insert_entry nat_cmp es k s)) q) (same_cmp k e.0 same)
+        ∙ ap (λ b. cond b (Some s) (search_at es q)) apart
+        ∙ sym (ap (λ b. cond b (Some e.1) (search_at es q)) apart)
+    by rest (inr (inl less)) =
+        ap (λ o. search_at (match_ordering o ((k, s) ∷ e ∷ es) ((e.0, s) ∷ es) (e ∷ insert_entry nat_cmp es k s)) q) (less_cmp k e.0 less)
+        ∙ ap (λ b. cond b (Some s) (search_at (e ∷ es) q)) (is_at-other q k far)
+    by rest (inr (inr more)) =
+        ap (λ o. search_at (match_ordering o ((k, s) ∷ e ∷ es) ((e.0, s) ∷ es) (e ∷ insert_entry nat_cmp es k s)) q) (more_cmp k e.0 more)
+        ∙ ap (cond (is_at (nat_cmp q) e.0) (Some e.1)) rest
+
+-- ---- a search that is closed, or goes on
+
+pub closed-other : (es : Searches) (k q : ℕ) → q ≢ k → search_at (closed es k) q ≡ search_at es q
+closed-other [] k q far = refl
+closed-other (e ∷ es) k q far = by (closed-other es k q far) (is_at (nat_cmp k) e.0) refl
+  where
+    by : search_at (closed es k) q ≡ search_at es q → (b : Bool) → is_at (nat_cmp k) e.0 ≡ b → search_at (cond b es (e ∷ closed es k)) q ≡ search_at (e ∷ es) q
+    by rest true hit = sym (ap (λ b. cond b (Some e.1) (search_at es q)) (is_at-other q e.0 (λ is. far (is ∙ sym (at-is k e.0 hit)))))
+    by rest false miss = ap (cond (is_at (nat_cmp q) e.0) (Some e.1)) rest
+
+abbrev pub put_on : Searches → ℕ → SearchState → Searches
+put_on es k s = set_value (is_at (nat_cmp k)) es s
+
+pub put_on-other : (es : Searches) (k q : ℕ) (s : SearchState) → q ≢ k → search_at (put_on es k s) q ≡ search_at es q
+put_on-other [] k q s far = refl
+put_on-other (e ∷ es) k q s far = by (put_on-other es k q s far) (is_at (nat_cmp k) e.0) refl
+  where
+    by : search_at (put_on es k s) q ≡ search_at es q → (b : Bool) → is_at (nat_cmp k) e.0 ≡ b → search_at (cond b ((e.0, s) ∷ es) (e ∷ put_on es k s)) q ≡ search_at (e ∷ es) q
+    by rest true hit =
+        let apart : is_at (nat_cmp q) e.0 ≡ false = is_at-other q e.0 (λ is. far (is ∙ sym (at-is k e.0 hit))) in
+        ap (λ b. cond b (Some s) (search_at es q)) apart ∙ sym (ap (λ b. cond b (Some e.1) (search_at es q)) apart)
+    by rest false miss = ap (cond (is_at (nat_cmp q) e.0) (Some e.1)) rest
+
+pub put_on-same : (es : Searches) (k : ℕ) (s was : SearchState) → search_at es k ≡ Some was → search_at (put_on es k s) k ≡ Some s
+put_on-same [] k s was found = absurd (far found)
+  where
+    far : None ≡ Some was → ⊥
+    far e = cc
+put_on-same (e ∷ es) k s was found = by (put_on-same es k s was) (is_at (nat_cmp k) e.0) refl
+  where
+    by : (search_at es k ≡ Some was → search_at (put_on es k s) k ≡ Some s) → (b : Bool) → is_at (nat_cmp k) e.0 ≡ b
+        → search_at (cond b ((e.0, s) ∷ es) (e ∷ put_on es k s)) k ≡ Some s
+    by rest true hit = ap (λ b. cond b (Some s) (search_at es k)) hit
+    by rest false miss =
+        ap (λ b. cond b (Some e.1) (search_at (put_on es k s) k)) miss
+        ∙ rest (sym (ap (λ b. cond b (Some e.1) (search_at es k)) miss) ∙ found)
+
+-- ---- what holds of each
+
+pub each-opened : (P : SearchState → Type 0) (es : Searches) (k : ℕ) (s : SearchState) → EachSearch P es → P s → EachSearch P (insert_entry nat_cmp es k s)
+each-opened P [] k s each new = (new, tt)
+each-opened P (e ∷ es) k s each new = by (each-opened P es k s each.1 new) (nat_cmp k e.0)
+  where
+    by : EachSearch P (insert_entry nat_cmp es k s) → (o : Ordering) → EachSearch P (match_ordering o ((k, s) ∷ e ∷ es) ((e.0, s) ∷ es) (e ∷ insert_entry nat_cmp es k s))
+    by rest Less = (new, each)
+    by rest Equal = (new, each.1)
+    by rest Greater = (each.0, rest)
+
+pub each-closed : (P : SearchState → Type 0) (es : Searches) (k : ℕ) → EachSearch P es → EachSearch P (closed es k)
+each-closed P [] k each = tt
+each-closed P (e ∷ es) k each = by (each-closed P es k each.1) (is_at (nat_cmp k) e.0)
+  where
+    by : EachSearch P (closed es k) → (b : Bool) → EachSearch P (cond b es (e ∷ closed es k))
+    by rest true = each.1
+    by rest false = (each.0, rest)
+
+pub each-put_on : (P : SearchState → Type 0) (es : Searches) (k : ℕ) (s : SearchState) → EachSearch P es → P s → EachSearch P (put_on es k s)
+each-put_on P [] k s each new = tt
+each-put_on P (e ∷ es) k s each new = by (each-put_on P es k s each.1 new) (is_at (nat_cmp k) e.0)
+  where
+    by : EachSearch P (put_on es k s) → (b : Bool) → EachSearch P (cond b ((e.0, s) ∷ es) (e ∷ put_on es k s))
+    by rest true = (new, each.1)
+    by rest false = (each.0, rest)
+
+pub each-at : (P : SearchState → Type 0) (es : Searches) (k : ℕ) (s : SearchState) → EachSearch P es → search_at es k ≡ Some s → P s
+each-at P [] k s each found = absurd (far found)
+  where
+    far : None ≡ Some s → ⊥
+    far e = cc
+each-at P (e ∷ es) k s each found = by (each-at P es k s each.1) (is_at (nat_cmp k) e.0) refl
+  where
+    same : Some e.1 ≡ Some s → e.1 ≡ s
+    same q = cc
+
+    by : (search_at es k ≡ Some s → P s) → (b : Bool) → is_at (nat_cmp k) e.0 ≡ b → P s
+    by rest true hit = subst P (same (sym (ap (λ b. cond b (Some e.1) (search_at es k)) hit) ∙ found)) each.0
+    by rest false miss = rest (sym (ap (λ b. cond b (Some e.1) (search_at es k)) miss) ∙ found)
+
+pub each-weaker : (P Q : SearchState → Type 0) (es : Searches) → ((s : SearchState) → P s → Q s) → EachSearch P es → EachSearch Q es
+each-weaker P Q [] h each = tt
+each-weaker P Q (e ∷ es) h each = (h e.1 each.0, each-weaker P Q es h each.1)

@@ -1,0 +1,13 @@
+use Rattle.std.proofs.Common.{subst}
+use Rattle.sync_provider.specs.Directory.{StampsRise}
+use Rattle.sync_provider.specs.Machine.{fresh, run}
+use Rattle.sync_provider.proofs.Judged.{run_rises, run_same}
+use Rattle.sync_provider.proofs.Stamps.{rises-none, upto_stamp}
+use Rattle.sync_provider.proofs.laws.cookies_name_their_prefix.Goals as goal
+
+pub returns : goal.returns
+returns c = λ suffix sid history calls.
+    let after = (run (fresh suffix sid history) calls).directory in
+    let same = run_same calls (fresh suffix sid history) in
+    upto_stamp sid after.writes
+    (subst (λ number. StampsRise number after.writes) same.sid (run_rises calls (fresh suffix sid history) (rises-none sid)))

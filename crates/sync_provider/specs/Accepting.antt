@@ -1,0 +1,83 @@
+-- How a search is accepted (RFC 4533, section 3.3).
+use Rattle.std.specs.Prelude.{◌≡◌, ℕ, ◌+◌, zero, suc, Bool, false, not, ◌&&◌, List, [], ◌∷◌, length, find, is_some, Option, Some, None, Result, Ok, Err, if◌then◌else◌}
+use Rattle.std.specs.Ordering.{nat_cmp}
+use Rattle.std.specs.BTreeMap.{insert_entry}
+use Rattle.csn_cookie.specs.Cookie.{is_blank}
+use Rattle.dn_names.specs.Names.{is_at_or_below}
+use Rattle.entry_tree.specs.Selection.{search_of}
+use Rattle.sync_messages.specs.Request.{request_of}
+use Rattle.sync_messages.specs.declared.fault.SyncFault.{SyncFault}
+use Rattle.sync_messages.specs.declared.request.Mode.{Mode}
+use Rattle.sync_messages.specs.declared.request.Mode.TheVariants.{RefreshOnly, RefreshAndPersist}
+use Rattle.sync_messages.specs.declared.request.SyncRequest.{SyncRequest}
+use Rattle.sync_provider.specs.Directory.{DirectoryState}
+use Rattle.sync_provider.specs.HandingOut.{search_at}
+use Rattle.sync_provider.specs.Search.{SearchState, opening}
+use Rattle.sync_provider.specs.declared.searches.Accepted.{Accepted}
+use Rattle.sync_provider.specs.declared.searches.Accepted.TheVariants.{Opened, Refused, NoMemory}
+use Rattle.sync_provider.specs.declared.searches.SyncSearch.{SyncSearch}
+
+-- ---- the number of a search
+
+abbrev pub is_free : List (ℕ × SearchState) → ℕ → Bool
+is_free searches number = not (is_some (search_at searches number))
+
+-- so many numbers from the first on
+abbrev pub numbers_from : ℕ → ℕ → List ℕ
+numbers_from first zero = []
+numbers_from first (suc count) = first ∷ numbers_from (first + 1) count
+
+-- the least number from 1 to 64 that no open search has
+abbrev pub free_number : List (ℕ × SearchState) → Option ℕ
+free_number searches = find (is_free searches) (numbers_from 1 64)
+
+-- ---- what is against it
+
+-- a cookie that is not blank
+abbrev pub has_cookie : Option (List ℕ) → Bool
+has_cookie None = false
+has_cookie (Some cookie) = not (is_blank cookie)
+
+-- unwillingToPerform (53) for a search that would go on after its refresh
+abbrev pub mode_code : Mode → Option ℕ
+mode_code RefreshOnly = None
+mode_code RefreshAndPersist = Some 53
+
+-- e-syncRefreshRequired (4096) where a cookie is to be served, then the mode's
+abbrev pub request_code : SyncRequest → Option ℕ
+request_code request = if has_cookie request.cookie && not request.reload_hint then Some 4096 else mode_code request.mode
+
+abbrev pub refused_or_opened : DirectoryState → ℕ → Option ℕ → Accepted
+refused_or_opened d number None = Opened number (length d.writes)
+refused_or_opened d number (Some code) = Refused code
+
+-- adminLimitExceeded (11) where no number is free, then the request's
+abbrev pub numbered : DirectoryState → SyncRequest → Option ℕ → Accepted
+numbered d request None = Refused 11
+numbered d request (Some number) = refused_or_opened d number (request_code request)
+
+-- protocolError (2) where the control is outside its grammar, then noSuchObject (32) where the base is outside the suffix
+abbrev pub answer_to_request : DirectoryState → List (ℕ × SearchState) → SyncSearch → Result SyncRequest SyncFault → Accepted
+answer_to_request d searches ask (Err fault) = Refused 2
+answer_to_request d searches ask (Ok request) =
+    if is_at_or_below ask.spec.base d.suffix then numbered d request (free_number searches) else Refused 32
+
+-- the answer to a search, where memory suffices
+abbrev pub answer_to : DirectoryState → List (ℕ × SearchState) → SyncSearch → Accepted
+answer_to d searches ask = answer_to_request d searches ask (request_of ask.control)
+
+-- what a call answered is this, unless memory ran out
+abbrev pub Answers : Accepted → Accepted → Type 0
+Answers NoMemory answer = Unit {0}
+Answers (Refused code) answer = answer ≡ Refused code
+Answers (Opened number writes) answer = answer ≡ Opened number writes
+
+-- ---- the searches after it
+
+abbrev pub opened : DirectoryState → List (ℕ × SearchState) → SyncSearch → ℕ → List (ℕ × SearchState)
+opened d searches ask number = insert_entry nat_cmp searches number (opening d ask.id (search_of ask.spec))
+
+abbrev pub after_answer : DirectoryState → List (ℕ × SearchState) → SyncSearch → Accepted → List (ℕ × SearchState)
+after_answer d searches ask (Opened number writes) = opened d searches ask number
+after_answer d searches ask (Refused code) = searches
+after_answer d searches ask NoMemory = searches

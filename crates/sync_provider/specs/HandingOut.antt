@@ -1,0 +1,100 @@
+-- What is handed out of a search.
+use Rattle.std.specs.Prelude.{ℕ, Bool, true, false, ℤ, pos, List, [], ◌∷◌, Option, Some, None}
+use Rattle.std.specs.Ordering.{nat_cmp}
+use Rattle.std.specs.Map.{lookup, remove_entry, set_value}
+use Rattle.std.specs.BTreeMap.{is_at}
+use Rattle.ldap_messages.specs.Whole.{Whole, whole_of}
+use Rattle.sync_model.specs.Message.{SyncMessage}
+use Rattle.sync_model.specs.Message.SyncMessage.{Put, Gone, Present, IdSet, NewCookie, PhaseEnds, Done, Passed}
+use Rattle.sync_wire.specs.Sending.{sent}
+use Rattle.sync_provider.specs.Search.{SearchState, advanced}
+use Rattle.sync_provider.specs.declared.handed.Handed.{Handed}
+use Rattle.sync_provider.specs.declared.handed.Handed.TheVariants as handed
+
+-- what a hand-out answers
+pub data Turn : Type 0 where
+  -- the next message, after which the search goes on
+  Hands : (message : Whole) → Turn
+  -- the end of the search, with its result code
+  Closes : (code : ℤ) (message : Whole) → Turn
+  -- nothing is pending
+  Waits : Turn
+  -- no such search is open
+  Unknown : Turn
+
+abbrev pub turn_of_message : ℕ → SyncMessage → Turn
+turn_of_message id (Put adds entry cookie) = Hands (sent id (Put adds entry cookie))
+turn_of_message id (Gone uuid name cookie) = Hands (sent id (Gone uuid name cookie))
+turn_of_message id (Present uuid cookie) = Hands (sent id (Present uuid cookie))
+turn_of_message id (IdSet deletes uuids cookie) = Hands (sent id (IdSet deletes uuids cookie))
+turn_of_message id (NewCookie cookie) = Hands (sent id (NewCookie cookie))
+turn_of_message id (PhaseEnds deletes done cookie) = Hands (sent id (PhaseEnds deletes done cookie))
+turn_of_message id (Done code control) = Closes code (sent id (Done code control))
+turn_of_message id Passed = Hands (sent id Passed)
+
+-- the message that is pending first is handed out
+abbrev pub turn_of_pending : ℕ → List SyncMessage → Turn
+turn_of_pending id [] = Waits
+turn_of_pending id (message ∷ rest) = turn_of_message id message
+
+abbrev pub turn_of_found : Option SearchState → Turn
+turn_of_found None = Unknown
+turn_of_found (Some s) = turn_of_pending s.id s.pending
+
+abbrev pub search_at : List (ℕ × SearchState) → ℕ → Option SearchState
+search_at searches number = lookup (is_at (nat_cmp number)) searches
+
+-- the turn of the search with this number
+abbrev pub turn_at : List (ℕ × SearchState) → ℕ → Turn
+turn_at searches number = turn_of_found (search_at searches number)
+
+-- what a call answered; want of memory is no turn
+abbrev pub turn_of : Handed → Option Turn
+turn_of (handed.Message message) = Some (Hands (whole_of message))
+turn_of (handed.Ended code message) = Some (Closes (pos code) (whole_of message))
+turn_of handed.Nothing = Some Waits
+turn_of handed.NoSuchSearch = Some Unknown
+turn_of handed.NoMemory = None
+
+-- it is the end of the search
+abbrev pub is_closing : Option Turn → Bool
+is_closing None = false
+is_closing (Some (Hands message)) = false
+is_closing (Some (Closes code message)) = true
+is_closing (Some Waits) = false
+is_closing (Some Unknown) = false
+
+-- ---- the searches after it
+
+abbrev pub after_first : SearchState → List SyncMessage → SearchState
+after_first s [] = s
+after_first s (message ∷ rest) = advanced s rest
+
+abbrev pub without_first : SearchState → SearchState
+without_first s = after_first s s.pending
+
+-- the search itself after its turn
+abbrev pub after_own_turn : SearchState → Option Turn → SearchState
+after_own_turn s None = s
+after_own_turn s (Some (Hands message)) = without_first s
+after_own_turn s (Some (Closes code message)) = s
+after_own_turn s (Some Waits) = s
+after_own_turn s (Some Unknown) = s
+
+abbrev pub closed : List (ℕ × SearchState) → ℕ → List (ℕ × SearchState)
+closed searches number = remove_entry (is_at (nat_cmp number)) searches
+
+abbrev pub handed_on : List (ℕ × SearchState) → ℕ → Option SearchState → List (ℕ × SearchState)
+handed_on searches number None = searches
+handed_on searches number (Some s) = set_value (is_at (nat_cmp number)) searches (without_first s)
+
+abbrev pub after_turn : List (ℕ × SearchState) → ℕ → Turn → List (ℕ × SearchState)
+after_turn searches number (Hands message) = handed_on searches number (search_at searches number)
+after_turn searches number (Closes code message) = closed searches number
+after_turn searches number Waits = searches
+after_turn searches number Unknown = searches
+
+-- where memory ran out, all is as before
+abbrev pub after_answer : List (ℕ × SearchState) → ℕ → Option Turn → List (ℕ × SearchState)
+after_answer searches number None = searches
+after_answer searches number (Some turn) = after_turn searches number turn

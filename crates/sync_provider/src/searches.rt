@@ -1,0 +1,150 @@
+//! How a search is accepted (RFC 4533, section 3.3).
+
+ghost use Rattle.std.specs.Prelude.{◌≡◌, length, Ok, IfOk, OnOk, OnErr};
+ghost use Rattle.entry_tree.specs.Selection.{search_of};
+ghost use Rattle.std.specs.Ordering.{nat_cmp};
+ghost use Rattle.std.specs.BTreeMap.{insert_entry};
+ghost use Rattle.sync_provider.specs.Accepting as accepting;
+ghost use Rattle.sync_provider.specs.Search.{opening};
+
+use crate::directory::ADMIN_LIMIT_EXCEEDED;
+use crate::open_search::OpenSearch;
+use crate::provider::Provider;
+use csn_cookie::is_blank;
+use entry_tree::Spec;
+use ldap_ber::{NoMemory, Octets};
+use std::alloc::Global;
+use sync_messages::{Mode, SyncFault, SyncRequest};
+
+/// protocolError: the control's value is outside its grammar.
+const PROTOCOL_ERROR: u32 = 2;
+
+/// noSuchObject: the base is not at or below the suffix.
+const NO_SUCH_OBJECT: u32 = 32;
+
+/// unwillingToPerform: a search that goes on after its refresh.
+const UNWILLING_TO_PERFORM: u32 = 53;
+
+/// e-syncRefreshRequired: the cookie cannot be served.
+const REFRESH_REQUIRED: u32 = 4096;
+
+/// The greatest number of a search, and so the most searches that are open at once.
+const MOST_SEARCHES: u64 = 64;
+
+/// A search with a Sync Request control that is asked for.
+#[derive(Drop)]
+pub struct SyncSearch {
+    /// The message ID, which numbers the search's messages.
+    pub id: u32,
+    pub spec: Spec,
+    /// The control's value as it came.
+    pub control: Octets,
+}
+
+/// What becomes of a search that was asked for.
+#[derive(Clone, Copy, Debug, PartialEq, Eq)]
+pub enum Accepted {
+    /// The search's number, and how many writes the directory has.
+    Opened(u64, u64),
+    /// The result code that is against it.
+    Refused(u32),
+    NoMemory,
+}
+
+impl Provider {
+    /// Opens a search, or tells the first code that is against it: 2 where the control's value is
+    /// outside its grammar; 32 where the base is not at or below the suffix; 11 where each number
+    /// from 1 to 64 is that of an open search; 4096 where a cookie is given that is not blank, and
+    /// not to be left aside by the client's hint; 53 where the search is to go on after its
+    /// refresh. Its number is the least from 1 to 64 that no open search has.
+    #[tactic(auto, using(crate::proofs::Asking::value_refused, crate::proofs::Asking::value_read))]
+    pub fn accept(&mut self, alloc: Global, ask: SyncSearch) -> Accepted
+        ensures answer { accepting.Answers result
+            (accepting.answer_to self.old.directory self.old.searches ask) }
+        ensures state { self.new ≡ record self.old {
+          searches = accepting.after_answer self.old.directory self.old.searches ask result;
+        } }
+    {
+        match SyncRequest::read(alloc, ask.control.as_slice()) {
+            Ok(request) => self.accept_request(alloc, &request, ask),
+            Err(SyncFault::NoMemory) => Accepted::NoMemory,
+            Err(_) => Accepted::Refused(PROTOCOL_ERROR),
+        }
+    }
+
+    /// The same, with the request that the control's value spells.
+    #[tactic(auto, using(crate::proofs::Asking::outside, crate::proofs::Asking::crowded, crate::proofs::Asking::opposed, crate::proofs::Asking::admitted))]
+    fn accept_request(&mut self, alloc: Global, request: &SyncRequest, ask: SyncSearch) -> Accepted
+        ensures answer { accepting.Answers result
+            (accepting.answer_to_request self.old.directory self.old.searches ask (Ok request.now)) }
+        ensures state { self.new ≡ record self.old {
+          searches = accepting.after_answer self.old.directory self.old.searches ask result;
+        } }
+    {
+        if !ask.spec.base.is_at_or_below(self.directory.suffix()) {
+            return Accepted::Refused(NO_SUCH_OBJECT);
+        }
+        let Some(number) = self.free_number() else {
+            return Accepted::Refused(ADMIN_LIMIT_EXCEEDED);
+        };
+        if let Some(code) = code_of(request) {
+            return Accepted::Refused(code);
+        }
+        match self.open(alloc, number, ask.id, ask.spec) {
+            Ok(writes) => Accepted::Opened(number, writes),
+            Err(_) => Accepted::NoMemory,
+        }
+    }
+
+    /// Opens a search with this number, and answers how many writes the directory has.
+    fn open(&mut self, alloc: Global, number: u64, id: u32, spec: Spec) -> Result<u64, NoMemory>
+        ensures writes { IfOk result (λ writes. writes ≡ length self.old.directory.writes) }
+        ensures ok { OnOk result (self.new ≡ record self.old {
+          searches = insert_entry nat_cmp self.old.searches number
+              (opening self.old.directory id (search_of spec));
+        }) }
+        ensures err { OnErr result (self.new ≡ self.old) }
+    {
+        let content = self.directory.select(alloc, &spec)?;
+        let writes = self.writes();
+        let search = OpenSearch::new(id, spec, writes, content, self.directory.cookie());
+        self.searches.insert(number, search)?;
+        Ok(writes)
+    }
+
+    /// The least number from 1 to 64 that no open search has.
+    #[tactic(auto, using(crate::proofs::Numbers::found_here, crate::proofs::Numbers::found_later, crate::proofs::Numbers::found_none))]
+    fn free_number(&self) -> Option<u64>
+        ensures { result ≡ accepting.free_number self.now.searches }
+    {
+        for number in 1..=MOST_SEARCHES {
+            if !self.searches.contains_key(&number) {
+                return Some(number);
+            }
+        }
+        None
+    }
+}
+
+/// The code that is against what a control asks for.
+fn code_of(request: &SyncRequest) -> Option<u32>
+    ensures { result ≡ accepting.request_code request.now }
+{
+    if asks_with_cookie(request) && !request.reload_hint {
+        return Some(REFRESH_REQUIRED);
+    }
+    match request.mode {
+        Mode::RefreshOnly => None,
+        Mode::RefreshAndPersist => Some(UNWILLING_TO_PERFORM),
+    }
+}
+
+/// Whether a cookie is given that is not blank.
+fn asks_with_cookie(request: &SyncRequest) -> bool
+    ensures { result ≡ accepting.has_cookie request.now.cookie }
+{
+    match &request.cookie {
+        None => false,
+        Some(cookie) => !is_blank(cookie.as_slice()),
+    }
+}

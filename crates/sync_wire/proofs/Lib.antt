@@ -1,0 +1,9 @@
+pub mod Lists
+pub mod Texts
+pub mod Keeping
+pub mod Listed
+pub mod Sizes
+pub mod Marks
+pub mod Told
+pub mod Passing
+pub mod Operations

@@ -1,0 +1,142 @@
+//! The messages of a search (RFC 4511, section 4.5.2; RFC 4533, sections 2.3 and 2.4).
+ghost use Rattle.std.specs.Prelude.{◌≡◌, ◌<◌, ◌∷◌, ◌++◌, [], true, false, pos, Some, None, IfOk, OnOk, codes};
+ghost use Rattle.csn_cookie.specs.Cookie.{cookie_text};
+ghost use Rattle.ldap_messages.specs.Whole.{whole_of};
+ghost use Rattle.sync_model.specs.Message.SyncMessage.{Put, Done};
+ghost use Rattle.sync_wire.specs.Sending.{sent, attributes_of, marks_of, single as attribute, result_of, uuid_text};
+
+use csn_cookie::Cookie;
+use entry_tree::Entry;
+use ldap_ber::{NoMemory, Octets, OctetsList};
+use ldap_messages::{Control, ControlList, LdapResult, Message, Protocol};
+use schema_rules::{RawAttribute, RawList};
+use std::alloc::Global;
+use sync_messages::{State, SyncDone, SyncState};
+use uuid::Uuid;
+
+/// The name of the Sync State control.
+const SYNC_STATE: &[u8] = b"1.3.6.1.4.1.4203.1.9.1.2";
+
+/// The name of the Sync Done control.
+const SYNC_DONE: &[u8] = b"1.3.6.1.4.1.4203.1.9.1.3";
+
+/// The end of a search, with this result code and no control.
+#[tactic(auto, using(crate::proofs::Operations::done_operation))]
+pub fn done_message(alloc: Global, id: u32, code: u32) -> Result<Message, NoMemory>
+    ensures { IfOk result (λ message. whole_of message ≡ sent id (Done (pos code) None)) }
+{
+    let result = result_of(alloc, code)?;
+    Ok(Message {
+        id,
+        op: Protocol::SearchResultDone(result),
+        controls: ControlList::new(alloc),
+    })
+}
+
+/// The end of a refresh that succeeded and told what is present, with the cookie of its content.
+#[tactic(auto, using(crate::proofs::Operations::done_operation))]
+pub fn end_message(alloc: Global, id: u32, cookie: &Cookie) -> Result<Message, NoMemory>
+    requires rid { cookie.now.rid < 1000 }
+    requires sid { cookie.now.sid < 4096 }
+    ensures { IfOk result (λ message. whole_of message ≡ sent id (Done (pos 0) (Some (false, Some (cookie_text cookie.now))))) }
+{
+    let done = SyncDone {
+        cookie: Some(Octets::from_slice(alloc, &cookie.write())?),
+        refresh_deletes: false,
+    };
+    let controls = one_control(alloc, SYNC_DONE, done.write(alloc)?)?;
+    let result = result_of(alloc, 0)?;
+    Ok(Message {
+        id,
+        op: Protocol::SearchResultDone(result),
+        controls,
+    })
+}
+
+/// The whole entry in the state add, without a cookie.
+#[tactic(auto, using(crate::proofs::Operations::entry_operation))]
+pub fn entry_message(alloc: Global, id: u32, entry: &Entry) -> Result<Message, NoMemory>
+    ensures { IfOk result (λ message. whole_of message ≡ sent id (Put true entry.now None)) }
+{
+    let state = SyncState {
+        state: State::Add,
+        uuid: entry.uuid,
+        cookie: None,
+    };
+    let controls = one_control(alloc, SYNC_STATE, state.write(alloc)?)?;
+    let name = entry.dn.write()?;
+    let attributes = attributes_of(alloc, entry)?;
+    Ok(Message {
+        id,
+        op: Protocol::SearchResultEntry { name, attributes },
+        controls,
+    })
+}
+
+/// The attributes in the order held, then `entryUUID` (RFC 4530) and `entryCSN`.
+fn attributes_of(alloc: Global, entry: &Entry) -> Result<RawList, NoMemory>
+    ensures { IfOk result (λ list. list ≡ attributes_of entry.now) }
+{
+    let mut list = RawList::new(alloc);
+    for attribute in entry.attrs.list() {
+        list.push(RawAttribute {
+            name: Octets::from_slice(alloc, attribute.kind.name())?,
+            values: attribute.values.copy()?,
+        })?;
+    }
+    push_marks(alloc, &mut list, entry)?;
+    Ok(list)
+}
+
+fn push_marks(alloc: Global, list: &mut RawList, entry: &Entry) -> Result<(), NoMemory>
+    ensures { OnOk result (list.new ≡ list.old ++ marks_of entry.now) }
+{
+    list.push(uuid_mark(alloc, entry.uuid)?)?;
+    list.push(single(alloc, b"entryCSN", &entry.csn.write())?)
+}
+
+/// The identity as an attribute.
+fn uuid_mark(alloc: Global, uuid: u128) -> Result<RawAttribute, NoMemory>
+    ensures { IfOk result (λ mark. mark ≡ attribute (codes "entryUUID") (uuid_text uuid)) }
+{
+    let mut buffer = Uuid::encode_buffer();
+    let uuid = Uuid::from_u128(uuid).hyphenated().encode_lower(&mut buffer);
+    single(alloc, b"entryUUID", uuid.as_bytes())
+}
+
+/// The attribute of this name with this one value.
+fn single(alloc: Global, name: &[u8], value: &[u8]) -> Result<RawAttribute, NoMemory>
+    ensures { IfOk result (λ single. single ≡ attribute name.now value.now) }
+{
+    let mut values = OctetsList::new(alloc);
+    values.push(Octets::from_slice(alloc, value)?)?;
+    Ok(RawAttribute {
+        name: Octets::from_slice(alloc, name)?,
+        values,
+    })
+}
+
+/// A list of this control alone, which is not critical.
+fn one_control(alloc: Global, name: &[u8], value: Octets) -> Result<ControlList, NoMemory>
+    ensures { IfOk result (λ controls. controls ≡ record { name = name.now; critical = false; value = Some value } ∷ []) }
+{
+    let mut controls = ControlList::new(alloc);
+    controls.push(Control {
+        name: Octets::from_slice(alloc, name)?,
+        critical: false,
+        value: Some(value),
+    })?;
+    Ok(controls)
+}
+
+/// The result with this code, with empty texts and no referral.
+fn result_of(alloc: Global, code: u32) -> Result<LdapResult, NoMemory>
+    ensures { IfOk result (λ outcome. outcome ≡ result_of (pos code)) }
+{
+    Ok(LdapResult {
+        code: i64::from(code),
+        matched: Octets::from_slice(alloc, b"")?,
+        message: Octets::from_slice(alloc, b"")?,
+        referral: None,
+    })
+}

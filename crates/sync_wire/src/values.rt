@@ -1,0 +1,84 @@
+//! The values of controls and of Sync Info messages (RFC 4533, section 2).
+
+ghost use Rattle.std.specs.Prelude.{◌≡◌};
+ghost use Rattle.std.specs.Option.{option_copied};
+ghost use Rattle.sync_wire.specs.Refusals.{Gives};
+ghost use Rattle.sync_wire.specs.Values as spec;
+
+use crate::fault::HearingFault;
+use ldap_ber::Octets;
+use ldap_messages::Control;
+use std::alloc::Global;
+use sync_messages::{SyncDone, SyncFault, SyncInfo, SyncState};
+
+/// The Sync State control.
+const SYNC_STATE: &[u8] = b"1.3.6.1.4.1.4203.1.9.1.2";
+
+/// The Sync Done control.
+const SYNC_DONE: &[u8] = b"1.3.6.1.4.1.4203.1.9.1.3";
+
+impl From<SyncFault> for HearingFault {
+    ghost from_gives = { λ fault refusal. refusal ≡ spec.refusal_of fault };
+
+    fn from(fault: SyncFault) -> HearingFault {
+        match fault {
+            SyncFault::NoMemory => HearingFault::NoMemory,
+            SyncFault::Ber(_)
+            | SyncFault::BadMode(_)
+            | SyncFault::BadUuidLength(_)
+            | SyncFault::BadState(_) => HearingFault::BadValue,
+        }
+    }
+}
+
+/// The first control of that name.
+fn control_named<'a>(controls: &'a [Control], name: &[u8]) -> Option<&'a Control>
+    ensures { option_copied result ≡ spec.control_named name.now controls.now }
+{
+    controls
+        .iter()
+        .find(|control| control.name.as_slice() == name)
+}
+
+/// The bytes of a value, which have to be there.
+fn given(value: &Option<Octets>) -> Result<&[u8], HearingFault>
+    ensures { Gives (λ bytes. bytes.now) result (spec.given_value value.now) }
+{
+    match value {
+        Some(value) => Ok(value.as_slice()),
+        None => Err(HearingFault::BadValue),
+    }
+}
+
+/// What the Sync State control says, where an entry has one.
+pub(crate) fn sync_state(alloc: Global, controls: &[Control]) -> Result<SyncState, HearingFault>
+    ensures { Gives (λ state. state) result (spec.sync_state controls.now) }
+{
+    let Some(control) = control_named(controls, SYNC_STATE) else {
+        return Err(HearingFault::OutOfPlace);
+    };
+    let value = given(&control.value)?;
+    Ok(SyncState::read(alloc, value)?)
+}
+
+/// What the Sync Done control says, where the end of a search has one.
+pub(crate) fn sync_done(
+    alloc: Global,
+    controls: &[Control],
+) -> Result<Option<SyncDone>, HearingFault>
+    ensures { Gives (λ done. done) result (spec.sync_done controls.now) }
+{
+    let Some(control) = control_named(controls, SYNC_DONE) else {
+        return Ok(None);
+    };
+    let value = given(&control.value)?;
+    Ok(Some(SyncDone::read(alloc, value)?))
+}
+
+/// What a Sync Info message says.
+pub(crate) fn sync_info(alloc: Global, value: &Option<Octets>) -> Result<SyncInfo, HearingFault>
+    ensures { Gives (λ info. info) result (spec.sync_info value.now) }
+{
+    let value = given(value)?;
+    Ok(SyncInfo::read(alloc, value)?)
+}

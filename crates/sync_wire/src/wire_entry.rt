@@ -1,0 +1,137 @@
+//! Entries as they are sent.
+
+ghost use Rattle.std.specs.Prelude.{◌≡◌, IfOk};
+ghost use Rattle.std.specs.List.{list_all};
+ghost use Rattle.schema_rules.specs.Schema.{type_rule};
+ghost use Rattle.sync_wire.specs.Refusals.{Gives};
+ghost use Rattle.sync_wire.specs.WireEntry as spec;
+
+use crate::fault::{
+    ADMIN_LIMIT_EXCEEDED, HearingFault, INVALID_ATTRIBUTE_SYNTAX, INVALID_DN_SYNTAX,
+};
+use crate::operational::{are_uuids, stamp_of};
+use dn_names::{Dn, NameFault};
+use entry_tree::Entry;
+use ldap_ber::{NoMemory, Octets, OctetsList};
+use schema_rules::{
+    Attribute, AttributeType, Attrs, RawAttribute, Rule, add_values, are_of_syntax, known_key,
+};
+use std::alloc::Global;
+
+/// The most that an entry weighs.
+const MOST_ENTRY_WEIGHT: u64 = 65_536;
+
+/// The entry of an identity that was sent with this name and these attributes.
+pub(crate) fn entry_of(
+    alloc: Global,
+    uuid: u128,
+    name: &Octets,
+    raws: &[RawAttribute],
+) -> Result<Entry, HearingFault>
+    ensures { Gives (λ entry. entry) result (spec.entry_of uuid name.now raws.now) }
+{
+    let dn = name_of(alloc, name)?;
+    let attrs = attributes_of(alloc, raws)?;
+    if !are_uuids(alloc, raws)? || !are_of_their_syntax(alloc, attrs.list())? {
+        return Err(HearingFault::BadEntry(INVALID_ATTRIBUTE_SYNTAX));
+    }
+    let csn = stamp_of(alloc, raws)?;
+    if attrs.weight() > MOST_ENTRY_WEIGHT {
+        return Err(HearingFault::BadEntry(ADMIN_LIMIT_EXCEEDED));
+    }
+    Ok(Entry {
+        uuid,
+        csn,
+        dn,
+        attrs,
+    })
+}
+
+fn name_of(alloc: Global, text: &Octets) -> Result<Dn, HearingFault>
+    ensures { Gives (λ dn. dn) result (spec.name_of text.now) }
+{
+    match Dn::parse(alloc, text.as_slice()) {
+        Ok(dn) => Ok(dn),
+        Err(NameFault::NoMemory) => Err(HearingFault::NoMemory),
+        Err(NameFault::BadName(_) | NameFault::UnknownType(_) | NameFault::TooLong(_)) => {
+            Err(HearingFault::BadEntry(INVALID_DN_SYNTAX))
+        }
+    }
+}
+
+/// The attributes of types that a client may give, with those values that are kept. Those of one
+/// type are joined in order.
+fn attributes_of(alloc: Global, raws: &[RawAttribute]) -> Result<Attrs, NoMemory>
+    ensures { IfOk result (λ attrs. attrs ≡ spec.attributes_of raws.now) }
+{
+    let mut items = Vec::new(alloc);
+    for raw in raws {
+        if let Some(attribute) = kept(alloc, raw)? {
+            add_values(&mut items, attribute.kind, attribute.values.list())?;
+        }
+    }
+    Ok(Attrs::of(items))
+}
+
+/// What is kept of an attribute: nothing where its type is unknown or operational, or where it
+/// has no value that is kept.
+fn kept(alloc: Global, raw: &RawAttribute) -> Result<Option<Attribute>, NoMemory>
+    ensures { IfOk result (λ attribute. attribute ≡ spec.kept raw.now) }
+{
+    let Some(kind) = AttributeType::find(raw.name.as_slice()) else {
+        return Ok(None);
+    };
+    if kind.operational() {
+        return Ok(None);
+    }
+    let values = kept_values(alloc, kind, raw.values.list())?;
+    if values.list().is_empty() {
+        return Ok(None);
+    }
+    Ok(Some(Attribute { kind, values }))
+}
+
+/// The values without names of unknown object classes.
+fn kept_values(
+    alloc: Global,
+    kind: AttributeType,
+    values: &[Octets],
+) -> Result<OctetsList, NoMemory>
+    ensures { IfOk result (λ list. list ≡ spec.kept_values kind values.now) }
+{
+    let mut list = OctetsList::new(alloc);
+    for value in values {
+        if is_kept(alloc, kind, value)? {
+            list.push(value.copy()?)?;
+        }
+    }
+    Ok(list)
+}
+
+/// Whether the value is kept: of a type of object classes only the name of one.
+#[tactic(auto, using(crate::proofs::Keeping::known_class))]
+fn is_kept(alloc: Global, kind: AttributeType, value: &Octets) -> Result<bool, NoMemory>
+    ensures { IfOk result (λ is_kept. is_kept ≡ spec.is_kept_by (type_rule kind) value.now) }
+{
+    match kind.rule() {
+        Rule::Class => Ok(known_key(alloc, kind, value.as_slice())?.is_some()),
+        Rule::Folded
+        | Rule::FoldedAscii
+        | Rule::ExactAscii
+        | Rule::Whole
+        | Rule::Flag
+        | Rule::Time
+        | Rule::Operational => Ok(true),
+    }
+}
+
+fn are_of_their_syntax(alloc: Global, attributes: &[Attribute]) -> Result<bool, NoMemory>
+    ensures { IfOk result (λ all. all ≡ list_all spec.is_of_its_syntax attributes.now) }
+{
+    for attribute in attributes {
+        if !are_of_syntax(alloc, attribute.kind, attribute.values.list())? {
+            return Ok(false);
+        }
+    }
+    Ok(true)
+}
