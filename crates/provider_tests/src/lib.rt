@@ -1,0 +1,5 @@
+//! Tests of a provider: the crate `sync_provider`, by its public calls.
+#![tactic(auto)]
+
+#[cfg(test)]
+mod sync_provider_tests;
