@@ -23,10 +23,9 @@ accepted_from-push history suffix name time writes [] order = refl
 accepted_from-push history suffix name time writes (o ∷ orders) order =
     accepted_from-push history suffix name (time_after time o) (with_accepted history suffix name time writes o) orders order
 
--- an order that is no write to the directory of that name, and no settling of the consumer of that name
+-- an order that is no write to the directory of that name
 abbrev pub Untouched : Order → List ℕ → Type 0
 Untouched (asks.Write target change) name = bytes_eq target name ≡ false
-Untouched (asks.Settle other) name = bytes_eq other name ≡ false
 Untouched _ name = Unit {0}
 
 pub with_accepted-untouched : (history : ℕ) (suffix : List (List TypeAndValue)) (name : List ℕ) (time : ℕ) (writes : List Write) (order : Order)
@@ -35,6 +34,10 @@ with_accepted-untouched history suffix name time writes (asks.Provider other bas
 with_accepted-untouched history suffix name time writes (asks.Consumer other source search) h = refl
 with_accepted-untouched history suffix name time writes (asks.Clock new) h = refl
 with_accepted-untouched history suffix name time writes (asks.Write target change) h = rw h refl
+with_accepted-untouched history suffix name time writes (asks.OpenOnce other) h = refl
+with_accepted-untouched history suffix name time writes (asks.Send other count) h = refl
+with_accepted-untouched history suffix name time writes (asks.Take other count) h = refl
+with_accepted-untouched history suffix name time writes (asks.Cut other) h = refl
 with_accepted-untouched history suffix name time writes (asks.Settle other) h = refl
 with_accepted-untouched history suffix name time writes (asks.Show other) h = refl
 

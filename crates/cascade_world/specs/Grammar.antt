@@ -5,7 +5,7 @@ use Rattle.entry_tree.specs.Selection.{Search}
 use Rattle.cascade_world.specs.declared.grammar.Heading.{Heading}
 use Rattle.cascade_world.specs.declared.grammar.Heading.TheVariants as heading
 use Rattle.cascade_world.specs.Orders.{Order, order_of}
-use Rattle.cascade_world.specs.Orders.Order.{Provider, Consumer, Clock, Settle, Show}
+use Rattle.cascade_world.specs.Orders.Order.{Provider, Consumer, Clock, OpenOnce, Send, Take, Cut, Settle, Show}
 use Rattle.cascade_world.specs.Words.{◌>>=◌, guarded, otherwise, until, stripped, node_name, named, number, greatest_number, quoted, at_end, name_in, search_in}
 
 -- what a line says: an order, a write whose record follows, or a command that is of the language but is not done yet
@@ -88,24 +88,52 @@ later_name text = do
   _ ← node_name text
   Some Later
 
--- `C once` or `C stay`
+-- `C once`, or `C stay` for a search that goes on after its refresh, which is not done yet
+abbrev pub opening_of : List ℕ → List ℕ → Option Saying
+opening_of name mode =
+    if bytes_eq mode (codes "stay") then Some Later
+    else (do
+      _ ← guarded (bytes_eq mode (codes "once"))
+      Some (Orders (OpenOnce name)))
+
 unfoldable pub open_line : List ℕ → Option Saying
 open_line text = do
   node ← named text
-  _ ← guarded (bytes_eq node.1 (codes "once") || bytes_eq node.1 (codes "stay"))
+  opening_of node.0 node.1
+
+-- `P N`, of a command that is not done yet
+unfoldable pub later_number : List ℕ → Option Saying
+later_number text = do
+  node ← named text
+  _ ← number most_count node.1
   Some Later
 
--- `P N`, where N may be from this number on
-unfoldable pub later_number : ℕ → List ℕ → Option Saying
-later_number least text = do
+-- `C N`, where N is not 0
+abbrev pub name_and_count : List ℕ → Option (List ℕ × ℕ)
+name_and_count text = do
   node ← named text
   count ← number most_count node.1
-  _ ← guarded (nat_le least count)
-  Some Later
+  _ ← guarded (nat_le 1 count)
+  Some (node.0, count)
 
--- `C` or `C N`
-unfoldable pub counted_line : List ℕ → Option Saying
-counted_line text = otherwise (node_name text) (λ name. Some Later) (later_number 1 text)
+-- `C`, which stands for `C 1`, or `C N`
+unfoldable pub counted : List ℕ → Option (List ℕ × ℕ)
+counted text = otherwise (node_name text) (λ name. Some (name, 1)) (name_and_count text)
+
+unfoldable pub send_line : List ℕ → Option Saying
+send_line text = do
+  x ← counted text
+  Some (Orders (Send x.0 x.1))
+
+unfoldable pub take_line : List ℕ → Option Saying
+take_line text = do
+  x ← counted text
+  Some (Orders (Take x.0 x.1))
+
+unfoldable pub cut_line : List ℕ → Option Saying
+cut_line text = do
+  name ← node_name text
+  Some (Orders (Cut name))
 
 -- `C "TEXT"`
 unfoldable pub cookie_line : List ℕ → Option Saying
@@ -143,13 +171,13 @@ keyword word says = record { word = word; says = says }
 unfoldable pub holding_keywords : List Keyword
 holding_keywords =
     keyword (codes "cookie") cookie_line ∷ keyword (codes "repoint") repoint_line ∷ keyword (codes "respec") respec_line
-    ∷ keyword (codes "log") (later_number 0) ∷ keyword (codes "queue") (later_number 0) ∷ []
+    ∷ keyword (codes "log") later_number ∷ keyword (codes "queue") later_number ∷ []
 
 -- those, and before them the words of searches and their messages
 unfoldable pub search_keywords : List Keyword
 search_keywords =
-    keyword (codes "open") open_line ∷ keyword (codes "send") counted_line ∷ keyword (codes "take") counted_line
-    ∷ keyword (codes "cut") later_name ∷ keyword (codes "lose") later_name ∷ holding_keywords
+    keyword (codes "open") open_line ∷ keyword (codes "send") send_line ∷ keyword (codes "take") take_line
+    ∷ keyword (codes "cut") cut_line ∷ keyword (codes "lose") later_name ∷ holding_keywords
 
 -- all words
 abbrev pub keywords : List Keyword

@@ -11,6 +11,10 @@ pub data Order : Type 0 where
   Consumer : List ℕ → List ℕ → Search → Order
   Clock : ℕ → Order
   Write : List ℕ → Change → Order
+  OpenOnce : List ℕ → Order
+  Send : List ℕ → ℕ → Order
+  Take : List ℕ → ℕ → Order
+  Cut : List ℕ → Order
   Settle : List ℕ → Order
   Show : List ℕ → Order
 
@@ -19,5 +23,9 @@ order_of (command.Provider name suffix) = Provider name suffix
 order_of (command.Consumer name source spec) = Consumer name source (search_of spec)
 order_of (command.Clock time) = Clock time
 order_of (command.Write name change) = Write name change
+order_of (command.OpenOnce name) = OpenOnce name
+order_of (command.Send name count) = Send name count
+order_of (command.Take name count) = Take name count
+order_of (command.Cut name) = Cut name
 order_of (command.Settle name) = Settle name
 order_of (command.Show name) = Show name

@@ -1,6 +1,6 @@
 -- The lines of a report.
-use Rattle.std.specs.Prelude.{ℕ, List, [], ◌∷◌, ◌++◌, Option, Some, length, codes}
-use Rattle.std.specs.Fmt.{decimal}
+use Rattle.std.specs.Prelude.{ℕ, ℤ, List, [], ◌∷◌, ◌++◌, Option, Some, length, codes}
+use Rattle.std.specs.Fmt.{decimal, signed_decimal}
 use Rattle.std.specs.List.{flat_map}
 use Rattle.hex.specs.Hex.{encode_lower}
 use Rattle.sha2.specs.Sha256.{sha256}
@@ -16,33 +16,109 @@ entry_text e = ldif.entry_text (name_text e.dn) e.attrs (Some (e.uuid, e.csn))
 unfoldable pub text_of : List Entry → List ℕ
 text_of entries = flat_map entry_text entries
 
--- what a line tells: a write with its code and the accepted writes after it; a consumer's entries with the
--- number of the prefix that they are of; the provider's accepted writes at the end of a settling; the
--- entries of a node as text
+-- what a line tells
 pub data Told : Type 0 where
-  Wrote : List ℕ → ℕ → ℕ → Told
-  Stored : List ℕ → ℕ → List Entry → Told
-  Settled : List ℕ → ℕ → Told
-  Shown : List ℕ → List Entry → Told
+  -- a write to a provider, with its code and the accepted writes after it
+  Wrote : (name : List ℕ) (code writes : ℕ) → Told
+  -- a search that is open, with the provider's accepted writes, or that is refused, with the code
+  Opened : (name : List ℕ) (writes : ℕ) → Told
+  Refused : (name : List ℕ) (code : ℕ) → Told
+  -- the bytes of a message that went into the link
+  Sent : (name message : List ℕ) → Told
+  -- a message that was taken, and changed no entries; entries with the number of the prefix that they are of, and the
+  -- root with the prefix of its writes; a search that is over, with the result code; a message that was refused
+  Taken : (name : List ℕ) → Told
+  Stored : (name : List ℕ) (number : ℕ) (entries : List Entry) (root : List ℕ) (origin : ℕ) → Told
+  Ended : (name : List ℕ) (code : ℤ) → Told
+  Faulted : (name fault : List ℕ) → Told
+  -- a search that was dropped
+  Cut : (name : List ℕ) → Told
+  -- nothing to send, to take or to cut
+  Nothing : (name : List ℕ) → Told
+  -- the provider's accepted writes at the end of a settling
+  Settled : (name : List ℕ) (writes : ℕ) → Told
+  -- the entries of a node as text
+  Shown : (name : List ℕ) (entries : List Entry) → Told
+
+-- `WORD NAME`, without the end of the line
+abbrev pub front : List ℕ → List ℕ → List ℕ
+front word name = word ++ 32 ∷ [] ++ name
+
+-- `WORD NAME`
+abbrev pub named_line : List ℕ → List ℕ → List ℕ
+named_line word name = front word name ++ 10 ∷ []
+
+-- `WORD NAME N`
+abbrev pub numbered_line : List ℕ → List ℕ → ℕ → List ℕ
+numbered_line word name number = front word name ++ 32 ∷ [] ++ decimal number ++ 10 ∷ []
 
 -- `wrote P CODE N`
 abbrev pub wrote_line : List ℕ → ℕ → ℕ → List ℕ
-wrote_line name code n = codes "wrote " ++ name ++ 32 ∷ [] ++ decimal code ++ 32 ∷ [] ++ decimal n ++ 10 ∷ []
+wrote_line name code writes = front (codes "wrote") name ++ 32 ∷ [] ++ decimal code ++ 32 ∷ [] ++ decimal writes ++ 10 ∷ []
 
--- `stored C N entries E sha256 H`: E entries, whose text has the SHA-256 digest H
-abbrev pub stored_line : List ℕ → ℕ → List Entry → List ℕ
-stored_line name n entries =
-    codes "stored " ++ name ++ 32 ∷ [] ++ decimal n ++ codes " entries " ++ decimal (length entries) ++ codes " sha256 "
-    ++ encode_lower (sha256 (text_of entries)) ++ 10 ∷ []
+-- `opened C N`
+abbrev pub opened_line : List ℕ → ℕ → List ℕ
+opened_line name writes = numbered_line (codes "opened") name writes
+
+-- `refused C CODE`
+abbrev pub refused_line : List ℕ → ℕ → List ℕ
+refused_line name code = numbered_line (codes "refused") name code
+
+-- `sent C HEX`, with the bytes in lower-case hexadecimal digits
+abbrev pub sent_line : List ℕ → List ℕ → List ℕ
+sent_line name message = front (codes "sent") name ++ 32 ∷ [] ++ encode_lower message ++ 10 ∷ []
+
+-- `taken C`
+abbrev pub taken_line : List ℕ → List ℕ
+taken_line name = named_line (codes "taken") name
+
+-- ` N entries E sha256 H`: E entries, whose text has the SHA-256 digest H
+abbrev pub content_text : ℕ → List Entry → List ℕ
+content_text number entries =
+    32 ∷ [] ++ decimal number ++ codes " entries " ++ decimal (length entries) ++ codes " sha256 "
+    ++ encode_lower (sha256 (text_of entries))
+
+-- ` origin P N`, and the end of the line
+abbrev pub origin_text : List ℕ → ℕ → List ℕ
+origin_text root number = codes " origin " ++ root ++ 32 ∷ [] ++ decimal number ++ 10 ∷ []
+
+-- `stored C N entries E sha256 H origin P N`
+abbrev pub stored_line : List ℕ → ℕ → List Entry → List ℕ → ℕ → List ℕ
+stored_line name number entries root origin =
+    front (codes "stored") name ++ content_text number entries ++ origin_text root origin
+
+-- `ended C CODE`
+abbrev pub ended_line : List ℕ → ℤ → List ℕ
+ended_line name code = front (codes "ended") name ++ 32 ∷ [] ++ signed_decimal code ++ 10 ∷ []
+
+-- `fault C NAME`
+abbrev pub fault_line : List ℕ → List ℕ → List ℕ
+fault_line name fault = front (codes "fault") name ++ 32 ∷ [] ++ fault ++ 10 ∷ []
+
+-- `cut C`
+abbrev pub cut_line : List ℕ → List ℕ
+cut_line name = named_line (codes "cut") name
+
+-- `nothing C`
+abbrev pub nothing_line : List ℕ → List ℕ
+nothing_line name = named_line (codes "nothing") name
 
 -- `settled C N`
 abbrev pub settled_line : List ℕ → ℕ → List ℕ
-settled_line name n = codes "settled " ++ name ++ 32 ∷ [] ++ decimal n ++ 10 ∷ []
+settled_line name writes = numbered_line (codes "settled") name writes
 
 abbrev pub line_of : Told → List ℕ
-line_of (Wrote name code n) = wrote_line name code n
-line_of (Stored name n entries) = stored_line name n entries
-line_of (Settled name n) = settled_line name n
+line_of (Wrote name code writes) = wrote_line name code writes
+line_of (Opened name writes) = opened_line name writes
+line_of (Refused name code) = refused_line name code
+line_of (Sent name message) = sent_line name message
+line_of (Taken name) = taken_line name
+line_of (Stored name number entries root origin) = stored_line name number entries root origin
+line_of (Ended name code) = ended_line name code
+line_of (Faulted name fault) = fault_line name fault
+line_of (Cut name) = cut_line name
+line_of (Nothing name) = nothing_line name
+line_of (Settled name writes) = settled_line name writes
 line_of (Shown name entries) = text_of entries
 
 -- the bytes of some lines

@@ -2,10 +2,12 @@
 use Rattle.std.specs.Prelude.{◌≡◌, ◌⊎◌, ℕ, Ok, Err, List, [], ◌∷◌}
 use Rattle.cascade_world.specs.declared.fault.Cause.{Cause}
 use Rattle.cascade_world.specs.Fault.{fault_at}
+use Rattle.cascade_world.specs.Headline.{LinesAreRight}
 use Rattle.cascade_world.specs.Orders.{Order}
 use Rattle.cascade_world.specs.Reader.{Reader, Next, next_in, reader_of}
 use Rattle.cascade_world.specs.Reader.Next.{Ended, Refused, Got}
 use Rattle.cascade_world.specs.Report.{Told}
+use Rattle.cascade_world.specs.Trace.{AreTraced, all_lines}
 use Rattle.cascade_world.specs.World.{State, no_nodes, step}
 
 -- from this state and reader on these orders come, they tell these lines, and leave this state and the rest of the script
@@ -31,3 +33,15 @@ pub record IsScript (text : List ℕ) : Type 0 where
   pub rest : Reader
   pub run : Runs no_nodes (reader_of text) orders report end rest
   pub whole : next_in rest ≡ Ended
+
+-- each line of each run from no nodes is right for the orders and the lines before it
+abbrev pub RunsAreRight : Type 0
+RunsAreRight =
+    (reader : Reader) (orders : List Order) (report : List (List Told)) (end : State) (rest : Reader)
+    → Runs no_nodes reader orders report end rest → LinesAreRight [] [] orders report
+
+-- the lines of each run from no nodes tell all that happened to the links and the copies of the consumers
+abbrev pub LinesTellAll : Type 0
+LinesTellAll =
+    (reader : Reader) (orders : List Order) (report : List (List Told)) (end : State) (rest : Reader)
+    → Runs no_nodes reader orders report end rest → AreTraced (all_lines report) end.followers

@@ -1,155 +1,189 @@
 -- The nodes of a script, and what an order does to them.
-use Rattle.std.specs.Prelude.{◌≡◌, ℕ, ◌+◌, Bool, true, not, nat_le, find, Option, Some, None, Result, Ok, Err, List, [], ◌∷◌, ◌++◌, length, if◌then◌else◌}
+use Rattle.std.specs.Prelude.{◌≡◌, ℕ, ◌+◌, Bool, true, false, not, ◌||◌, nat_le, find, Option, Some, None, Result, Ok, Err, List, [], ◌∷◌, ◌++◌, length, if◌then◌else◌}
 use Rattle.std.specs.Str.{bytes_eq}
 use Rattle.std.specs.List.{list_any}
 use Rattle.dn_names.specs.Names.{TypeAndValue, is_at_or_below}
-use Rattle.entry_tree.specs.Selection.{Search, select}
+use Rattle.entry_tree.specs.Selection.{Search}
 use Rattle.entry_tree.specs.declared.entry.Entry.{Entry}
 use Rattle.schema_rules.specs.declared.raw.Change.{Change}
+use Rattle.sync_consumer.specs.Taking.{nothing}
+use Rattle.sync_provider.specs.Directory.{entries_of}
+use Rattle.sync_provider.specs.Machine.{ProviderState, fresh}
 use Rattle.cascade_world.specs.declared.fault.ScriptFault.{ScriptFault}
 use Rattle.cascade_world.specs.declared.fault.Cause.{Cause}
-use Rattle.cascade_world.specs.declared.fault.Cause.TheVariants.{NameTaken, UnknownNode, OutsideSuffix, LimitReached}
-use Rattle.cascade_world.specs.declared.node.Node.{Node}
-use Rattle.cascade_world.specs.declared.node.Part.{Part}
-use Rattle.cascade_world.specs.declared.node.Part.TheVariants.{Root, Copy}
-use Rattle.cascade_world.specs.Directory.{History, entries_of, code_at, written}
+use Rattle.cascade_world.specs.declared.fault.Cause.TheVariants.{NameTaken, UnknownNode, OutsideSuffix, LimitReached, NoMemory}
+use Rattle.cascade_world.specs.declared.node.Root.{Root}
+use Rattle.cascade_world.specs.declared.node.Follower.{Follower}
+use Rattle.cascade_world.specs.Directory.{change_code, changed}
+use Rattle.cascade_world.specs.Exchange.{Pair, Outcome, sent, takes, cut, opens, settles}
 use Rattle.cascade_world.specs.Fault.{RefusedAt}
 use Rattle.cascade_world.specs.Orders.{Order}
-use Rattle.cascade_world.specs.Orders.Order.{Provider, Consumer, Clock, Write, Settle, Show}
-use Rattle.cascade_world.specs.Holding.{Holding}
+use Rattle.cascade_world.specs.Orders.{Order as asks}
 use Rattle.cascade_world.specs.Report.{Told, lines_text}
-use Rattle.cascade_world.specs.Report.Told.{Wrote, Stored, Settled, Shown}
+use Rattle.cascade_world.specs.Report.Told.{Wrote, Shown}
 
--- the time, in microseconds from the first moment of 1970 on, and the nodes in the order of their declaration
+-- the time, in microseconds from the first moment of 1970 on, and the providers and consumers, each in the order of
+-- their declaration
 pub record State : Type 0 where
   pub clock : ℕ
-  pub nodes : List Node
+  pub roots : List Root
+  pub followers : List Follower
 
 -- no node, and the time 0
 abbrev pub no_nodes : State
-no_nodes = record { clock = 0; nodes = [] }
+no_nodes = record { clock = 0; roots = []; followers = [] }
 
 -- the most nodes of a script
 abbrev pub most_nodes : ℕ
 most_nodes = 16
 
-abbrev pub is_named : List ℕ → Node → Bool
-is_named name node = bytes_eq name node.name
+abbrev pub count_nodes : State → ℕ
+count_nodes state = length state.roots + length state.followers
 
-abbrev pub has_node : List ℕ → List Node → Bool
-has_node name nodes = list_any (is_named name) nodes
+-- ---- nodes by their names
 
-abbrev pub node_named : List ℕ → List Node → Option Node
-node_named name nodes = find (is_named name) nodes
+abbrev pub is_root : List ℕ → Root → Bool
+is_root name root = bytes_eq name root.name
 
-abbrev pub root_in : Part → Option History
-root_in (Root directory) = Some directory
-root_in (Copy follower) = None
+abbrev pub is_follower : List ℕ → Follower → Bool
+is_follower name follower = bytes_eq name follower.name
 
-abbrev pub copy_in : Part → Option Holding
-copy_in (Root directory) = None
-copy_in (Copy follower) = Some follower
+abbrev pub has_node : List ℕ → State → Bool
+has_node name state = list_any (is_root name) state.roots || list_any (is_follower name) state.followers
 
--- the root or the consumer of that name
-abbrev pub root_of : Option Node → Option History
-root_of None = None
-root_of (Some node) = root_in node.part
+abbrev pub root_named : List ℕ → State → Option Root
+root_named name state = find (is_root name) state.roots
 
-abbrev pub copy_of : Option Node → Option Holding
-copy_of None = None
-copy_of (Some node) = copy_in node.part
+abbrev pub follower_named : List ℕ → State → Option Follower
+follower_named name state = find (is_follower name) state.followers
 
-abbrev pub root_named : List ℕ → List Node → Option History
-root_named name nodes = root_of (node_named name nodes)
+-- the first that the test picks is changed
+abbrev pub first_changed : {X : Type 0} → (X → Bool) → (X → X) → List X → List X
+first_changed test change [] = []
+first_changed test change (x ∷ xs) = if test x then change x ∷ xs else x ∷ first_changed test change xs
 
-abbrev pub copy_named : List ℕ → List Node → Option Holding
-copy_named name nodes = copy_of (node_named name nodes)
+-- the providers where that of the name is now this, and the consumers
+abbrev pub with_provider : List ℕ → ProviderState → List Root → List Root
+with_provider name provider roots = first_changed (is_root name) (λ (root : Root). record root { provider = provider }) roots
 
--- the entries of a node
-abbrev pub entries_in : Part → List Entry
-entries_in (Root directory) = entries_of directory
-entries_in (Copy follower) = follower.entries
-
--- the nodes where that of the name is now this
-abbrev pub with_part : List ℕ → Part → List Node → List Node
-with_part name part [] = []
-with_part name part (node ∷ nodes) = if is_named name node then record node { part = part } ∷ nodes else node ∷ with_part name part nodes
+abbrev pub with_follower : List ℕ → Follower → List Follower → List Follower
+with_follower name after followers = first_changed (is_follower name) (λ (follower : Follower). after) followers
 
 -- the state after an order with the lines that it tells, or why the order is refused
 abbrev pub Step : Type 0
 Step = Result (State × List Told) Cause
 
--- one more node, where there is room
-abbrev pub declared : State → List ℕ → Part → Step
-declared state name part =
-    if nat_le most_nodes (length state.nodes) then Err (LimitReached most_nodes)
-    else Ok (record state { nodes = state.nodes ++ record { name = name; part = part } ∷ [] }, [])
+-- ---- declarations
 
--- node number k is a root of the history k
+abbrev pub where_room : State → State → Step
+where_room state after = if nat_le most_nodes (count_nodes state) then Err (LimitReached most_nodes) else Ok (after, [])
+
+-- node number k is a provider of the history k
+abbrev pub new_root : State → List ℕ → List (List TypeAndValue) → Root
+new_root state name suffix =
+    record { name = name; provider = fresh suffix (count_nodes state + 1) (count_nodes state + 1) }
+
 abbrev pub declare_root : State → List ℕ → List (List TypeAndValue) → Step
 declare_root state name suffix =
-    if has_node name state.nodes then Err NameTaken
-    else declared state name (Root (record { id = length state.nodes + 1; suffix = suffix; writes = [] }))
+    if has_node name state then Err NameTaken
+    else where_room state (record state { roots = state.roots ++ new_root state name suffix ∷ [] })
 
--- a consumer of a root, with a base at or below that root's suffix; it has no entries at first
-abbrev pub follow : State → List ℕ → List ℕ → Search → Option History → Step
+-- a consumer has no entries, no cookie and no search at first
+abbrev pub new_follower : List ℕ → List ℕ → Search → Follower
+new_follower name source search =
+    record { name = name; source = source; consumer = record { spec = search; reload = false; copy = nothing }; link = []; search = None }
+
+-- a consumer of a provider, with a base at or below that provider's suffix
+abbrev pub follow : State → List ℕ → List ℕ → Search → Option Root → Step
 follow state name source search None = Err UnknownNode
-follow state name source search (Some directory) =
-    if not (is_at_or_below search.base directory.suffix) then Err OutsideSuffix
-    else declared state name (Copy (record { source = source; search = search; entries = [] }))
+follow state name source search (Some root) =
+    if not (is_at_or_below search.base root.provider.directory.suffix) then Err OutsideSuffix
+    else where_room state (record state { followers = state.followers ++ new_follower name source search ∷ [] })
 
-abbrev pub declare_copy : State → List ℕ → List ℕ → Search → Step
-declare_copy state name source search =
-    if has_node name state.nodes then Err NameTaken else follow state name source search (root_named source state.nodes)
+abbrev pub declare_follower : State → List ℕ → List ℕ → Search → Step
+declare_follower state name source search =
+    if has_node name state then Err NameTaken else follow state name source search (root_named source state)
 
--- a write to a root
-abbrev pub write_to : State → List ℕ → Change → Option History → Step
+-- ---- writes
+
+abbrev pub write_to : State → List ℕ → Change → Option Root → Step
 write_to state name change None = Err UnknownNode
-write_to state name change (Some directory) =
-    let after = written directory state.clock change in
-    Ok (record state { nodes = with_part name (Root after) state.nodes }, Wrote name (code_at directory state.clock change) (length after.writes) ∷ [])
-
--- a consumer gets all that it wants of its provider's entries
-abbrev pub settle_from : State → List ℕ → Holding → Option History → Step
-settle_from state name holding None = Err UnknownNode
-settle_from state name holding (Some directory) =
-    let entries = select holding.search (entries_of directory) in
+write_to state name change (Some root) =
+    let after = changed root.provider.directory state.clock change in
     Ok (
-      record state { nodes = with_part name (Copy (record holding { entries = entries })) state.nodes },
-      Stored name (length directory.writes) entries ∷ Settled name (length directory.writes) ∷ [],
+      record state { roots = with_provider name (record root.provider { directory = after }) state.roots },
+      Wrote name (change_code root.provider.directory state.clock change) (length after.writes) ∷ [],
     )
 
-abbrev pub settle_to : State → List ℕ → Option Holding → Step
-settle_to state name None = Err UnknownNode
-settle_to state name (Some holding) = settle_from state name holding (root_named holding.source state.nodes)
+-- ---- consumers
 
-abbrev pub show_of : State → List ℕ → Option Node → Step
+-- the state where a provider and its consumer are now these
+abbrev pub with_pair : State → Pair → State
+with_pair state pair =
+    record state {
+      roots = with_provider pair.follower.source pair.provider state.roots;
+      followers = with_follower pair.follower.name pair.follower state.followers;
+    }
+
+abbrev pub with_outcome : State → Outcome → Step
+with_outcome state (Ok next) = Ok (with_pair state next.0, next.1)
+with_outcome state (Err cause) = Err cause
+
+abbrev pub between : State → Follower → (Pair → Outcome) → Option Root → Step
+between state follower part None = Err UnknownNode
+between state follower part (Some root) = with_outcome state (part (record { provider = root.provider; follower = follower }))
+
+-- what goes on between a consumer and its provider
+abbrev pub exchange_of : State → (Pair → Outcome) → Option Follower → Step
+exchange_of state part None = Err UnknownNode
+exchange_of state part (Some follower) = between state follower part (root_named follower.source state)
+
+abbrev pub exchange : State → List ℕ → (Pair → Outcome) → Step
+exchange state name part = exchange_of state part (follower_named name state)
+
+-- ---- entries
+
+-- the entries of a node: those of the provider, or else of the consumer
+abbrev pub shown_of : Option Root → Option Follower → Option (List Entry)
+shown_of (Some root) found = Some (entries_of root.provider.directory)
+shown_of None (Some follower) = Some follower.consumer.copy.held
+shown_of None None = None
+
+abbrev pub show_of : State → List ℕ → Option (List Entry) → Step
 show_of state name None = Err UnknownNode
-show_of state name (Some node) = Ok (state, Shown name (entries_in node.part) ∷ [])
+show_of state name (Some entries) = Ok (state, Shown name entries ∷ [])
+
+-- ---- orders
 
 abbrev pub step : State → Order → Step
-step state (Provider name suffix) = declare_root state name suffix
-step state (Consumer name source search) = declare_copy state name source search
-step state (Clock time) = Ok (record state { clock = time }, [])
-step state (Write name change) = write_to state name change (root_named name state.nodes)
-step state (Settle name) = settle_to state name (copy_named name state.nodes)
-step state (Show name) = show_of state name (node_named name state.nodes)
+step state (asks.Provider name suffix) = declare_root state name suffix
+step state (asks.Consumer name source search) = declare_follower state name source search
+step state (asks.Clock time) = Ok (record state { clock = time }, [])
+step state (asks.Write name change) = write_to state name change (root_named name state)
+step state (asks.OpenOnce name) = exchange state name opens
+step state (asks.Send name count) = exchange state name (sent count)
+step state (asks.Take name count) = exchange state name (takes count)
+step state (asks.Cut name) = exchange state name cut
+step state (asks.Settle name) = exchange state name settles
+step state (asks.Show name) = show_of state name (shown_of (root_named name state) (follower_named name state))
 
--- the state where the consumer of the name, if there is one, has these entries
-abbrev pub stored : List ℕ → List Entry → State → Option Holding → State
-stored name entries state None = state
-stored name entries state (Some holding) = record state { nodes = with_part name (Copy (record holding { entries = entries })) state.nodes }
+-- ---- what the code answers
 
 -- the state and the lines are those of a step that is done
 abbrev pub IsStep : Step → State → List ℕ → Type 0
 IsStep (Err cause) new text = ⊥
 IsStep (Ok next) new text = (new ≡ next.0) × (text ≡ lines_text next.1)
 
--- what a part of a step answers and leaves
+-- what a part of a step answers and leaves; want of memory says nothing
+abbrev pub Does : Step → State → Result (List ℕ) Cause → Type 0
+Does next new (Ok text) = IsStep next new text
+Does next new (Err NoMemory) = Unit {0}
+Does next new (Err cause) = next ≡ Err cause
+
+-- what a step answers and leaves
 abbrev pub Answers : ℕ → Step → State → Result (List ℕ) ScriptFault → Type 0
 Answers line next new (Ok text) = IsStep next new text
 Answers line next new (Err fault) = RefusedAt line fault.line fault.cause next
 
--- what a step answers and leaves
 abbrev pub StepsBy : State → ℕ → Order → State → Result (List ℕ) ScriptFault → Type 0
 StepsBy old line order new result = Answers line (step old order) new result

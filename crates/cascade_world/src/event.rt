@@ -15,6 +15,14 @@ pub enum Command {
     Clock(u64),
     /// A write to a provider.
     Write(Octets, Change),
+    /// Opens a search of a consumer that ends with its refresh.
+    OpenOnce(Octets),
+    /// Hands out so many messages of a consumer's search into its link.
+    Send(Octets, u64),
+    /// A consumer takes so many messages from its link.
+    Take(Octets, u64),
+    /// Drops a consumer's search and what its link holds.
+    Cut(Octets),
     /// Brings a consumer up to its provider.
     Settle(Octets),
     /// Prints the entries of a node.

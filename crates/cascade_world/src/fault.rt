@@ -15,7 +15,7 @@ pub enum Cause {
     NameTaken,
     /// What follows a `write` is not one record.
     BadRecord,
-    /// The script has more bytes, lines or nodes than this.
+    /// The script has more bytes, lines or nodes than this, or a link more bytes.
     LimitReached(u64),
     /// The base of a consumer is not at or below its provider's suffix.
     OutsideSuffix,
@@ -63,5 +63,21 @@ impl<T: Drop> From<AllocFailed<T>> for ScriptFault {
             line: 0,
             cause: Cause::NoMemory,
         }
+    }
+}
+
+impl From<AllocError> for Cause {
+    ghost from_gives = { λ _ cause. cause ≡ NoMemory };
+
+    fn from(_: AllocError) -> Self {
+        Cause::NoMemory
+    }
+}
+
+impl<T: Drop> From<AllocFailed<T>> for Cause {
+    ghost from_gives = { λ _ cause. cause ≡ NoMemory };
+
+    fn from(_: AllocFailed<T>) -> Self {
+        Cause::NoMemory
     }
 }

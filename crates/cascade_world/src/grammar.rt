@@ -1,5 +1,5 @@
 //! The commands of the language, each on its line.
-ghost use Rattle.std.specs.Prelude.{◌≡◌, ◌≤◌};
+ghost use Rattle.std.specs.Prelude.{◌≡◌};
 ghost use Rattle.entry_tree.specs.Selection.{search_of};
 ghost use Rattle.cascade_world.specs.Fault.{Gives};
 ghost use Rattle.cascade_world.specs.Grammar as spec;
@@ -83,13 +83,13 @@ fn said_of_search(
         return open_line(alloc, rest, line);
     }
     if word == b"send".as_slice() {
-        return counted_line(alloc, rest, line);
+        return send_line(alloc, rest, line);
     }
     if word == b"take".as_slice() {
-        return counted_line(alloc, rest, line);
+        return take_line(alloc, rest, line);
     }
     if word == b"cut".as_slice() {
-        return later_name(rest, line);
+        return cut_line(alloc, rest, line);
     }
     if word == b"lose".as_slice() {
         return later_name(rest, line);
@@ -117,10 +117,10 @@ fn said_of_holding(
         return respec_line(alloc, rest, line);
     }
     if word == b"log".as_slice() {
-        return later_number(alloc, rest, 0, line);
+        return later_number(alloc, rest, line);
     }
     if word == b"queue".as_slice() {
-        return later_number(alloc, rest, 0, line);
+        return later_number(alloc, rest, line);
     }
     Err(ScriptFault::bad_command(line))
 }
@@ -225,39 +225,65 @@ fn later_name(text: &[u8], line: u64) -> Result<Heading, ScriptFault>
     Ok(Heading::Later)
 }
 
-/// `C once` or `C stay`.
+/// `C once` or `C stay`. A search that goes on after its refresh is not done yet.
 #[tactic(auto, unfolding(crate::specs::Grammar::open_line))]
 fn open_line(alloc: Global, text: &[u8], line: u64) -> Result<Heading, ScriptFault>
     ensures { Gives line saying_of result (spec.open_line text.now) }
 {
-    let (_, mode) = named(alloc, text, line)?;
-    only_if(
-        mode == b"once".as_slice() || mode == b"stay".as_slice(),
-        line,
-    )?;
-    Ok(Heading::Later)
-}
-
-/// `P N`, where N may be from this number on.
-#[tactic(auto, unfolding(crate::specs::Grammar::later_number))]
-fn later_number(alloc: Global, text: &[u8], least: u64, line: u64) -> Result<Heading, ScriptFault>
-    ensures { Gives line saying_of result (spec.later_number least text.now) }
-{
-    let (_, rest) = named(alloc, text, line)?;
-    let count = number(rest, MOST_COUNT, line)?;
-    only_if(least <= count, line)?;
-    Ok(Heading::Later)
-}
-
-/// `C` or `C N`.
-#[tactic(auto, unfolding(crate::specs::Grammar::counted_line, crate::specs::Words::node_name))]
-fn counted_line(alloc: Global, text: &[u8], line: u64) -> Result<Heading, ScriptFault>
-    ensures { Gives line saying_of result (spec.counted_line text.now) }
-{
-    if spells_node_name(text) {
+    let (name, mode) = named(alloc, text, line)?;
+    if mode == b"stay".as_slice() {
         return Ok(Heading::Later);
     }
-    later_number(alloc, text, 1, line)
+    only_if(mode == b"once".as_slice(), line)?;
+    Ok(Heading::Whole(Command::OpenOnce(name)))
+}
+
+/// `P N`, of a command that is not done yet.
+#[tactic(auto, unfolding(crate::specs::Grammar::later_number))]
+fn later_number(alloc: Global, text: &[u8], line: u64) -> Result<Heading, ScriptFault>
+    ensures { Gives line saying_of result (spec.later_number text.now) }
+{
+    let (_, rest) = named(alloc, text, line)?;
+    number(rest, MOST_COUNT, line)?;
+    Ok(Heading::Later)
+}
+
+/// `C`, which stands for `C 1`, or `C N`.
+#[tactic(auto, unfolding(crate::specs::Grammar::counted, crate::specs::Words::node_name))]
+fn counted(alloc: Global, text: &[u8], line: u64) -> Result<(Octets, u64), ScriptFault>
+    ensures { Gives line (λ x. x) result (spec.counted text.now) }
+{
+    if spells_node_name(text) {
+        return Ok((Octets::from_slice(alloc, text)?, 1));
+    }
+    let (name, rest) = named(alloc, text, line)?;
+    let count = number(rest, MOST_COUNT, line)?;
+    only_if(1 <= count, line)?;
+    Ok((name, count))
+}
+
+#[tactic(auto, unfolding(crate::specs::Grammar::send_line))]
+fn send_line(alloc: Global, text: &[u8], line: u64) -> Result<Heading, ScriptFault>
+    ensures { Gives line saying_of result (spec.send_line text.now) }
+{
+    let (name, count) = counted(alloc, text, line)?;
+    Ok(Heading::Whole(Command::Send(name, count)))
+}
+
+#[tactic(auto, unfolding(crate::specs::Grammar::take_line))]
+fn take_line(alloc: Global, text: &[u8], line: u64) -> Result<Heading, ScriptFault>
+    ensures { Gives line saying_of result (spec.take_line text.now) }
+{
+    let (name, count) = counted(alloc, text, line)?;
+    Ok(Heading::Whole(Command::Take(name, count)))
+}
+
+#[tactic(auto, unfolding(crate::specs::Grammar::cut_line))]
+fn cut_line(alloc: Global, text: &[u8], line: u64) -> Result<Heading, ScriptFault>
+    ensures { Gives line saying_of result (spec.cut_line text.now) }
+{
+    let name = node_name(alloc, text, line)?;
+    Ok(Heading::Whole(Command::Cut(name)))
 }
 
 /// `C "TEXT"`.

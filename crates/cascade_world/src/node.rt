@@ -1,113 +1,54 @@
 //! The nodes of a script.
-ghost use Rattle.std.specs.Prelude.{◌≡◌, [], IfOk};
-ghost use Rattle.std.specs.Option.{option_copied};
-ghost use Rattle.entry_tree.specs.Selection.{search_of};
+ghost use Rattle.std.specs.Prelude.{◌≡◌, [], None, IfOk};
 
-use crate::NoMemory;
-use crate::directory::Directory;
-use entry_tree::{EntryList, Spec};
-use ldap_ber::Octets;
+use crate::link::Link;
+use crate::source::Source;
+use ldap_ber::{NoMemory, Octets};
 use std::alloc::Global;
-use std::marker::Model;
+use sync_consumer::Consumer;
 
-/// A node of a script.
+/// A provider.
 #[derive(Drop)]
-pub struct Node {
+pub struct Root {
     pub name: Octets,
-    pub part: Part,
+    pub provider: Source,
 }
 
-/// What a node is.
-#[derive(Drop)]
-pub enum Part {
-    /// A provider.
-    Root(Directory),
-    /// A consumer.
-    Copy(Follower),
-}
-
-impl Part {
-    ghost use Rattle.cascade_world.specs.World.{root_in, copy_in};
-
-    /// The directory of a provider.
-    pub fn root(&self) -> Option<&Directory>
-        ensures { option_copied result ≡ root_in self.now }
-    {
-        match self {
-            Part::Root(directory) => Some(directory),
-            Part::Copy(_) => None,
-        }
-    }
-
-    /// What a consumer holds.
-    pub fn copy(&self) -> Option<&Follower>
-        ensures { option_copied result ≡ copy_in self.now }
-    {
-        match self {
-            Part::Root(_) => None,
-            Part::Copy(follower) => Some(follower),
-        }
-    }
-}
-
-/// A consumer: its provider's name, what it wants, and its entries.
+/// A consumer with its provider's name, its copy, its link, and the number of the search that is
+/// open for it at its provider.
 #[derive(Drop)]
 pub struct Follower {
-    source: Octets,
-    spec: Spec,
-    entries: EntryList,
-}
-
-/// Contracts see the filter as a tree.
-impl Model for Follower {
-    ghost use Rattle.std.specs.Coded.{codes};
-    ghost use Rattle.cascade_world.specs.Holding.{Holding};
-    ghost use Rattle.entry_tree.specs.FilterCode.{tree_code};
-    ghost use Rattle.entry_tree.specs.Selection.{search_of};
-
-    ghost Value = { Holding };
-
-    ghost coded = { Prim.hlevel (codes, tree_code) };
-
-    ghost view = { λ f. record { source = f.source; search = search_of f.spec; entries = f.entries } };
+    pub name: Octets,
+    pub source: Octets,
+    pub consumer: Consumer,
+    pub link: Link,
+    pub search: Option<u64>,
 }
 
 impl Follower {
-    /// A consumer without entries.
-    pub fn new(alloc: Global, source: Octets, spec: Spec) -> Follower
-        ensures { result ≡ record { source = source; search = search_of spec; entries = [] } }
+    /// A consumer without entries and without a search.
+    pub fn new(alloc: Global, name: Octets, source: Octets, consumer: Consumer) -> Follower
+        ensures { result ≡ record { name = name; source = source; consumer = consumer; link = []; search = None } }
     {
         Follower {
+            name,
             source,
-            spec,
-            entries: EntryList::new(alloc),
+            consumer,
+            link: Link::new(alloc),
+            search: None,
         }
     }
-
-    /// The name of its provider.
-    pub fn source(&self) -> &Octets
-        ensures { result.now ≡ self.now.source }
+    /// A consumer that goes on as this one does.
+    pub fn copy(&self, alloc: Global) -> Result<Follower, NoMemory>
+        ensures { IfOk result (λ copy. copy ≡ self.now) }
     {
-        &self.source
-    }
-
-    /// What it wants.
-    pub fn spec(&self) -> &Spec
-        ensures { search_of result.now ≡ self.now.search }
-    {
-        &self.spec
-    }
-
-    pub fn entries(&self) -> &EntryList
-        ensures { result.now ≡ self.now.entries }
-    {
-        &self.entries
-    }
-
-    /// Gives it these entries in place of those that it has.
-    pub fn store(&mut self, entries: EntryList)
-        ensures { self.new ≡ record self.old { entries = entries } }
-    {
-        self.entries = entries;
+        let search = self.search;
+        Ok(Follower {
+            name: self.name.copy()?,
+            source: self.source.copy()?,
+            consumer: self.consumer.copy()?,
+            link: self.link.copy(alloc)?,
+            search,
+        })
     }
 }

@@ -7,6 +7,7 @@ ghost use Rattle.sha2.specs.Sha256.{sha256};
 ghost use Rattle.cascade_world.specs.Report as spec;
 
 use crate::NoMemory;
+use crate::node::Follower;
 use entry_tree::Entry;
 use ldif_text::write_entry;
 use sha2::{Digest, Sha256};
@@ -50,6 +51,41 @@ fn push_entry(alloc: Global, out: &mut Vec<u8>, entry: &Entry) -> Result<(), NoM
     out.extend_from_slice(&record)
 }
 
+/// `WORD NAME`, without the end of the line.
+fn push_front(out: &mut Vec<u8>, word: &[u8], name: &[u8]) -> Result<(), NoMemory>
+    ensures { OnOk result (out.new.items ≡ out.old.items ++ spec.front word.now name.now) }
+{
+    out.extend_from_slice(word)?;
+    out.push(b' ')?;
+    out.extend_from_slice(name)
+}
+
+/// `WORD NAME`.
+fn push_named(out: &mut Vec<u8>, word: &[u8], name: &[u8]) -> Result<(), NoMemory>
+    ensures { OnOk result (out.new.items ≡ out.old.items ++ spec.named_line word.now name.now) }
+{
+    push_front(out, word, name)?;
+    out.push(b'\n')?;
+    Ok(())
+}
+
+/// `WORD NAME N`.
+fn push_numbered(
+    alloc: Global,
+    out: &mut Vec<u8>,
+    word: &[u8],
+    name: &[u8],
+    number: u64,
+) -> Result<(), NoMemory>
+    ensures { OnOk result (out.new.items ≡ out.old.items ++ spec.numbered_line word.now name.now number) }
+{
+    push_front(out, word, name)?;
+    out.push(b' ')?;
+    push_number(alloc, out, number)?;
+    out.push(b'\n')?;
+    Ok(())
+}
+
 /// `wrote P CODE N`.
 pub fn push_wrote(
     alloc: Global,
@@ -60,8 +96,7 @@ pub fn push_wrote(
 ) -> Result<(), NoMemory>
     ensures { OnOk result (out.new.items ≡ out.old.items ++ spec.wrote_line name.now code number) }
 {
-    out.extend_from_slice(b"wrote ")?;
-    out.extend_from_slice(name)?;
+    push_front(out, b"wrote", name)?;
     out.push(b' ')?;
     push_number(alloc, out, u64::from(code))?;
     out.push(b' ')?;
@@ -70,28 +105,136 @@ pub fn push_wrote(
     Ok(())
 }
 
-/// `stored C N entries E sha256 H`.
-pub fn push_stored(
+/// `opened C N`.
+pub fn push_opened(
     alloc: Global,
     out: &mut Vec<u8>,
     name: &[u8],
     number: u64,
+) -> Result<(), NoMemory>
+    ensures { OnOk result (out.new.items ≡ out.old.items ++ spec.opened_line name.now number) }
+{
+    push_numbered(alloc, out, b"opened", name, number)
+}
+
+/// `refused C CODE`.
+pub fn push_refused(
+    alloc: Global,
+    out: &mut Vec<u8>,
+    name: &[u8],
+    code: u32,
+) -> Result<(), NoMemory>
+    ensures { OnOk result (out.new.items ≡ out.old.items ++ spec.refused_line name.now code) }
+{
+    push_numbered(alloc, out, b"refused", name, u64::from(code))
+}
+
+/// `sent C HEX`: the bytes of a message in lower-case hexadecimal digits.
+pub fn push_sent(
+    alloc: Global,
+    out: &mut Vec<u8>,
+    name: &[u8],
+    message: &[u8],
+) -> Result<(), NoMemory>
+    ensures { OnOk result (out.new.items ≡ out.old.items ++ spec.sent_line name.now message.now) }
+{
+    let digits = hex::encode(alloc, message)?;
+    push_front(out, b"sent", name)?;
+    out.push(b' ')?;
+    out.extend_from_slice(digits.as_bytes())?;
+    out.push(b'\n')?;
+    Ok(())
+}
+
+/// `taken C`.
+pub fn push_taken(out: &mut Vec<u8>, name: &[u8]) -> Result<(), NoMemory>
+    ensures { OnOk result (out.new.items ≡ out.old.items ++ spec.taken_line name.now) }
+{
+    push_named(out, b"taken", name)
+}
+
+/// `stored C N entries E sha256 H origin P N`.
+pub fn push_stored(
+    alloc: Global,
+    out: &mut Vec<u8>,
+    follower: &Follower,
+    number: u64,
+) -> Result<(), NoMemory>
+    ensures { OnOk result (out.new.items ≡ out.old.items
+        ++ spec.stored_line follower.now.name number follower.now.consumer.copy.held follower.now.source number) }
+{
+    let entries = follower.consumer.entries().list();
+    push_front(out, b"stored", follower.name.as_slice())?;
+    push_content(alloc, out, number, entries)?;
+    push_origin(alloc, out, follower.source.as_slice(), number)
+}
+
+/// ` N entries E sha256 H`.
+fn push_content(
+    alloc: Global,
+    out: &mut Vec<u8>,
+    number: u64,
     entries: &[Entry],
 ) -> Result<(), NoMemory>
-    ensures { OnOk result (out.new.items ≡ out.old.items ++ spec.stored_line name.now number entries.now) }
+    ensures { OnOk result (out.new.items ≡ out.old.items ++ spec.content_text number entries.now) }
 {
     let text = text_of(alloc, entries)?;
     let digest = digest_text(alloc, &text)?;
-    out.extend_from_slice(b"stored ")?;
-    out.extend_from_slice(name)?;
     out.push(b' ')?;
     push_number(alloc, out, number)?;
     out.extend_from_slice(b" entries ")?;
     push_number(alloc, out, entries.len() as u64)?;
     out.extend_from_slice(b" sha256 ")?;
-    out.extend_from_slice(digest.as_bytes())?;
+    out.extend_from_slice(digest.as_bytes())
+}
+
+/// ` origin P N`, and the end of the line.
+fn push_origin(alloc: Global, out: &mut Vec<u8>, root: &[u8], number: u64) -> Result<(), NoMemory>
+    ensures { OnOk result (out.new.items ≡ out.old.items ++ spec.origin_text root.now number) }
+{
+    out.extend_from_slice(b" origin ")?;
+    out.extend_from_slice(root)?;
+    out.push(b' ')?;
+    push_number(alloc, out, number)?;
     out.push(b'\n')?;
     Ok(())
+}
+
+/// `ended C CODE`.
+pub fn push_ended(alloc: Global, out: &mut Vec<u8>, name: &[u8], code: i64) -> Result<(), NoMemory>
+    ensures { OnOk result (out.new.items ≡ out.old.items ++ spec.ended_line name.now code) }
+{
+    let digits = code.to_string(alloc)?;
+    push_front(out, b"ended", name)?;
+    out.push(b' ')?;
+    out.extend_from_slice(digits.as_bytes())?;
+    out.push(b'\n')?;
+    Ok(())
+}
+
+/// `fault C NAME`.
+pub fn push_fault(out: &mut Vec<u8>, name: &[u8], fault: &[u8]) -> Result<(), NoMemory>
+    ensures { OnOk result (out.new.items ≡ out.old.items ++ spec.fault_line name.now fault.now) }
+{
+    push_front(out, b"fault", name)?;
+    out.push(b' ')?;
+    out.extend_from_slice(fault)?;
+    out.push(b'\n')?;
+    Ok(())
+}
+
+/// `cut C`.
+pub fn push_cut(out: &mut Vec<u8>, name: &[u8]) -> Result<(), NoMemory>
+    ensures { OnOk result (out.new.items ≡ out.old.items ++ spec.cut_line name.now) }
+{
+    push_named(out, b"cut", name)
+}
+
+/// `nothing C`.
+pub fn push_nothing(out: &mut Vec<u8>, name: &[u8]) -> Result<(), NoMemory>
+    ensures { OnOk result (out.new.items ≡ out.old.items ++ spec.nothing_line name.now) }
+{
+    push_named(out, b"nothing", name)
 }
 
 /// `settled C N`.
@@ -103,10 +246,5 @@ pub fn push_settled(
 ) -> Result<(), NoMemory>
     ensures { OnOk result (out.new.items ≡ out.old.items ++ spec.settled_line name.now number) }
 {
-    out.extend_from_slice(b"settled ")?;
-    out.extend_from_slice(name)?;
-    out.push(b' ')?;
-    push_number(alloc, out, number)?;
-    out.push(b'\n')?;
-    Ok(())
+    push_numbered(alloc, out, b"settled", name, number)
 }

@@ -1,28 +1,36 @@
 //! The nodes of a script, and what each event does and tells.
-ghost use Rattle.std.specs.Prelude.{◌≡◌, ◌∷◌, ◌++◌, [], find, position, length, IfOk, OnOk, OnErr};
-ghost use Rattle.std.specs.Option.{option_copied};
-ghost use Rattle.entry_tree.specs.Selection.{search_of, select};
-ghost use Rattle.cascade_world.specs.Directory.{code_at, written, entries_of};
+ghost use Rattle.std.specs.Prelude.{◌≡◌, ◌+◌, ◌<◌, ◌≤◌, ◌∷◌, [], length, position, IfOk, IfErr, OnErr, Err};
+ghost use Rattle.std.specs.List.{list_any};
+ghost use Rattle.entry_tree.specs.Selection.{search_of};
+ghost use Rattle.sync_provider.specs.Machine.{ProviderState};
+ghost use Rattle.cascade_world.specs.Directory.{change_code, changed};
 ghost use Rattle.cascade_world.specs.Orders.{order_of};
 ghost use Rattle.cascade_world.specs.Orders.{Order as order};
 ghost use Rattle.cascade_world.specs.Report.{lines_text};
-ghost use Rattle.cascade_world.specs.Report.Told.{Wrote, Stored, Settled};
+ghost use Rattle.cascade_world.specs.Report.Told.{Wrote};
 ghost use Rattle.cascade_world.specs.World as spec;
-ghost use Rattle.cascade_world.specs.World.{StepsBy};
+ghost use Rattle.cascade_world.specs.World.{StepsBy, Does};
+ghost use Rattle.cascade_world.specs.Exchange.{Pair, Outcome, part_of};
+ghost use Rattle.cascade_world.specs.Places.{ArePlaces, Writes};
 
-use crate::directory::Directory;
-use crate::node::{Follower, Node, Part};
-use crate::report::{push_settled, push_stored, push_wrote, text_of};
+use crate::exchange::Exchange;
+use crate::node::{Follower, Root};
+use crate::report::{push_wrote, text_of};
+use crate::source::Source;
 use crate::{Cause, Command, Event, ScriptFault};
 use dn_names::Dn;
-use entry_tree::{Entry, EntryList, Spec};
+use entry_tree::{OpFault, Spec, read_op};
 use ldap_ber::{NoMemory, Octets};
 use schema_rules::Change;
 use std::alloc::Global;
 use std::marker::Model;
+use sync_consumer::Consumer;
 
 /// The most nodes of a script.
 const MOST_NODES: usize = 16;
+
+/// other (RFC 4511, appendix A.1): the provider's answer where memory ran out.
+const OTHER: u32 = 80;
 
 /// The lines of an event as bytes, each ended by a line feed.
 pub type Lines = Octets;
@@ -32,24 +40,26 @@ pub type Lines = Octets;
 pub struct World {
     alloc: Global,
     clock: u64,
-    nodes: Vec<Node>,
+    roots: Vec<Root>,
+    followers: Vec<Follower>,
 }
 
-/// Contracts see the time and the nodes in the order of their declaration: for each its name, and the
-/// accepted writes of a provider, or what a consumer wants and the entries that it holds.
+/// Contracts see the time, and the providers and the consumers, each in the order of their
+/// declaration.
 impl Model for World {
-    ghost use Rattle.std.specs.Prelude.{◌≤◌, length};
+    ghost use Rattle.std.specs.Prelude.{◌≡◌, ◌+◌, ◌≤◌, length};
     ghost use Rattle.std.specs.Coded.{codes};
-    ghost use Rattle.cascade_world.specs.contracts.node.Node as node;
+    ghost use Rattle.cascade_world.specs.contracts.node.Root as root;
+    ghost use Rattle.cascade_world.specs.contracts.node.Follower as follower;
     ghost use Rattle.cascade_world.specs.World.{State, most_nodes};
 
     ghost Value = { State };
 
-    ghost coded = { Prim.hlevel (codes, node.the_row.coded) };
+    ghost coded = { Prim.hlevel (codes, root.the_row.coded, follower.the_row.coded) };
 
-    ghost view = { λ w. record { clock = w.clock; nodes = w.nodes.items } };
+    ghost view = { λ w. record { clock = w.clock; roots = w.roots.items; followers = w.followers.items } };
 
-    ghost invariant = { λ w. length w.nodes.items ≤ most_nodes };
+    ghost invariant = { λ w. length w.roots.items + length w.followers.items ≤ most_nodes };
 }
 
 impl World {
@@ -60,185 +70,194 @@ impl World {
         Ok(World {
             alloc,
             clock: 0,
-            nodes: Vec::new(alloc),
+            roots: Vec::new(alloc),
+            followers: Vec::new(alloc),
         })
     }
 
     /// Does an event, and gives its lines. After a refusal the world is as before.
+    #[tactic(auto, using(crate::proofs::Steps::refused_at))]
     pub fn step(&mut self, event: Event) -> Result<Lines, ScriptFault>
         ensures steps { StepsBy self.old event.line (order_of event.command) self.new result }
         ensures err { OnErr result (self.new ≡ self.old) }
     {
         let line = event.line;
-        match event.command {
-            Command::Provider(name, suffix) => self.declare_root(line, name, suffix),
-            Command::Consumer(name, source, wanted) => self.declare_copy(
-                line, name, source, wanted,
-            ),
+        match self.apply(event.command) {
+            Ok(lines) => Ok(lines),
+            Err(cause) => Err(ScriptFault { line, cause }),
+        }
+    }
+
+    fn apply(&mut self, command: Command) -> Result<Lines, Cause>
+        ensures steps { Does (spec.step self.old (order_of command)) self.new result }
+        ensures err { OnErr result (self.new ≡ self.old) }
+    {
+        match command {
+            Command::Provider(name, suffix) => self.declare_root(name, suffix),
+            Command::Consumer(name, source, wanted) => self.declare_follower(name, source, wanted),
             Command::Clock(time) => {
                 self.clock = time;
                 Ok(no_lines(self.alloc))
             }
-            Command::Write(name, change) => self.write(line, name, change),
-            Command::Settle(name) => self.settle(line, name),
-            Command::Show(name) => self.show(line, name),
+            Command::Write(name, change) => self.write(name, change),
+            Command::OpenOnce(name) => self.exchange(name, Exchange::Open),
+            Command::Send(name, count) => self.exchange(name, Exchange::Send(count)),
+            Command::Take(name, count) => self.exchange(name, Exchange::Take(count)),
+            Command::Cut(name) => self.exchange(name, Exchange::Cut),
+            Command::Settle(name) => self.exchange(name, Exchange::Settle),
+            Command::Show(name) => self.show(&name),
         }
+    }
+
+    // ---- nodes by their names
+
+    fn root_place(&self, name: &Octets) -> Option<usize>
+        ensures { result ≡ position (spec.is_root name.now) self.now.roots }
+    {
+        self.roots.iter().position(|root| *name == root.name)
+    }
+
+    fn follower_place(&self, name: &Octets) -> Option<usize>
+        ensures { result ≡ position (spec.is_follower name.now) self.now.followers }
+    {
+        self.followers
+            .iter()
+            .position(|follower| *name == follower.name)
+    }
+
+    fn has_root(&self, name: &Octets) -> bool
+        ensures { result ≡ list_any (spec.is_root name.now) self.now.roots }
+    {
+        self.roots.iter().any(|root| *name == root.name)
+    }
+
+    fn has_follower(&self, name: &Octets) -> bool
+        ensures { result ≡ list_any (spec.is_follower name.now) self.now.followers }
+    {
+        self.followers.iter().any(|follower| *name == follower.name)
     }
 
     fn has_node(&self, name: &Octets) -> bool
-        ensures { result ≡ spec.has_node name.now self.now.nodes }
+        ensures { result ≡ spec.has_node name.now self.now }
     {
-        self.nodes.iter().any(|node| *name == node.name)
+        self.has_root(name) || self.has_follower(name)
     }
 
-    fn place_of(&self, name: &Octets) -> Option<usize>
-        ensures { result ≡ position (spec.is_named name.now) self.now.nodes }
+    /// The places of a consumer's provider and of the consumer.
+    fn places(&self, name: &Octets) -> Result<(usize, usize), Cause>
+        ensures ok { IfOk result (ArePlaces self.now name.now) }
+        ensures fault { IfErr result (λ cause. (cause ≡ Cause.UnknownNode) × ((part : Pair → Outcome) → spec.exchange self.now name.now part ≡ Err Cause.UnknownNode)) }
     {
-        self.nodes.iter().position(|node| *name == node.name)
-    }
-
-    fn node(&self, name: &Octets) -> Option<&Node>
-        ensures { option_copied result ≡ spec.node_named name.now self.now.nodes }
-    {
-        self.nodes.iter().find(|node| *name == node.name)
-    }
-
-    /// The root of that name.
-    fn root(&self, name: &Octets) -> Option<&Directory>
-        ensures { option_copied result ≡ spec.root_named name.now self.now.nodes }
-    {
-        match self.node(name) {
-            Some(node) => node.part.root(),
-            None => None,
+        let Some(follower) = self.follower_place(name) else {
+            return Err(Cause::UnknownNode);
+        };
+        match self.root_place(&self.followers[follower].source) {
+            Some(root) => Ok((root, follower)),
+            None => Err(Cause::UnknownNode),
         }
     }
 
-    /// What the consumer of that name holds.
-    fn follower(&self, name: &Octets) -> Option<&Follower>
-        ensures { option_copied result ≡ spec.copy_named name.now self.now.nodes }
+    // ---- declarations
+
+    /// The number of the next node, where there is room for one.
+    fn next_number(&self) -> Result<u16, Cause>
+        ensures ok { IfOk result (λ number. (number ≡ spec.count_nodes self.now + 1) × (spec.count_nodes self.now < spec.most_nodes)) }
+        ensures fault { IfErr result (λ cause. (cause ≡ Cause.LimitReached spec.most_nodes) × (spec.most_nodes ≤ spec.count_nodes self.now)) }
     {
-        match self.node(name) {
-            Some(node) => node.part.copy(),
-            None => None,
+        let nodes = self.roots.len() + self.followers.len();
+        if nodes >= MOST_NODES {
+            return Err(Cause::LimitReached(MOST_NODES as u64));
         }
+        Ok(nodes as u16 + 1)
     }
 
-    /// One more node, where there is room.
-    fn declare(&mut self, line: u64, name: Octets, part: Part) -> Result<Lines, ScriptFault>
-        ensures steps { spec.Answers line (spec.declared self.old name part) self.new result }
+    fn declare_root(&mut self, name: Octets, suffix: Dn) -> Result<Lines, Cause>
+        ensures steps { Does (spec.step self.old (order.Provider name suffix)) self.new result }
         ensures err { OnErr result (self.new ≡ self.old) }
     {
-        if self.nodes.len() >= MOST_NODES {
-            return Err(refusal(line, Cause::LimitReached(MOST_NODES as u64)));
+        if self.has_node(&name) {
+            return Err(Cause::NameTaken);
         }
-        self.nodes.push(Node { name, part })?;
+        let number = self.next_number()?;
+        let provider = Source::new(self.alloc, suffix, number)?;
+        self.roots.push(Root { name, provider })?;
         Ok(no_lines(self.alloc))
     }
 
-    fn declare_root(&mut self, line: u64, name: Octets, suffix: Dn) -> Result<Lines, ScriptFault>
-        ensures steps { StepsBy self.old line (order.Provider name suffix) self.new result }
-        ensures err { OnErr result (self.new ≡ self.old) }
-    {
-        if self.has_node(&name) {
-            return Err(refusal(line, Cause::NameTaken));
-        }
-        let number = self.nodes.len() as u16 + 1;
-        let part = Part::Root(Directory::new(self.alloc, suffix, number));
-        self.declare(line, name, part)
-    }
-
-    fn declare_copy(
+    #[tactic(auto, using(crate::proofs::Declaring::no_source, crate::proofs::Declaring::outside, crate::proofs::Declaring::no_room, crate::proofs::Declaring::followed))]
+    fn declare_follower(
         &mut self,
-        line: u64,
         name: Octets,
         source: Octets,
         wanted: Spec,
-    ) -> Result<Lines, ScriptFault>
-        ensures steps { StepsBy self.old line (order.Consumer name source (search_of wanted)) self.new result }
+    ) -> Result<Lines, Cause>
+        ensures steps { Does (spec.step self.old (order.Consumer name source (search_of wanted))) self.new result }
         ensures err { OnErr result (self.new ≡ self.old) }
     {
         if self.has_node(&name) {
-            return Err(refusal(line, Cause::NameTaken));
+            return Err(Cause::NameTaken);
         }
-        let Some(directory) = self.root(&source) else {
-            return Err(refusal(line, Cause::UnknownNode));
+        let Some(root) = self.root_place(&source) else {
+            return Err(Cause::UnknownNode);
         };
-        if !directory.covers(&wanted.base) {
-            return Err(refusal(line, Cause::OutsideSuffix));
+        if !wanted
+            .base
+            .is_at_or_below(self.roots[root].provider.suffix())
+        {
+            return Err(Cause::OutsideSuffix);
         }
-        let part = Part::Copy(Follower::new(self.alloc, source, wanted));
-        self.declare(line, name, part)
+        self.next_number()?;
+        let consumer = Consumer::new(self.alloc, wanted, false)?;
+        let follower = Follower::new(self.alloc, name, source, consumer);
+        self.followers.push(follower)?;
+        Ok(no_lines(self.alloc))
     }
 
-    fn write(&mut self, line: u64, name: Octets, change: Change) -> Result<Lines, ScriptFault>
-        ensures steps { StepsBy self.old line (order.Write name change) self.new result }
+    // ---- writes
+
+    #[tactic(auto, using(crate::proofs::Steps::no_root, crate::proofs::Steps::write_same))]
+    fn write(&mut self, name: Octets, change: Change) -> Result<Lines, Cause>
+        ensures steps { Does (spec.step self.old (order.Write name change)) self.new result }
         ensures err { OnErr result (self.new ≡ self.old) }
     {
-        let alloc = self.alloc;
-        let now = self.clock;
-        match self.place_of(&name) {
-            None => Err(refusal(line, Cause::UnknownNode)),
-            Some(place) => {
-                let node = &mut self.nodes[place];
-                match &mut node.part {
-                    Part::Root(directory) => {
-                        let lines = write_root(alloc, directory, name.as_slice(), now, &change)?;
-                        Ok(lines)
-                    }
-                    Part::Copy(_) => Err(refusal(line, Cause::UnknownNode)),
-                }
-            }
-        }
+        let Some(place) = self.root_place(&name) else {
+            return Err(Cause::UnknownNode);
+        };
+        let provider = &mut self.roots[place].provider;
+        write_root(self.alloc, provider, name.as_slice(), self.clock, &change)
     }
 
-    fn settle(&mut self, line: u64, name: Octets) -> Result<Lines, ScriptFault>
-        ensures steps { StepsBy self.old line (order.Settle name) self.new result }
+    // ---- consumers
+
+    #[tactic(auto, using(crate::proofs::Steps::exchange_same, crate::proofs::Steps::nowhere))]
+    fn exchange(&mut self, name: Octets, exchange: Exchange) -> Result<Lines, Cause>
+        ensures steps { Does (spec.exchange self.old name (part_of exchange)) self.new result }
         ensures err { OnErr result (self.new ≡ self.old) }
     {
-        let Some(follower) = self.follower(&name) else {
-            return Err(refusal(line, Cause::UnknownNode));
-        };
-        let Some(directory) = self.root(follower.source()) else {
-            return Err(refusal(line, Cause::UnknownNode));
-        };
-        let entries = directory.select(self.alloc, follower.spec())?;
-        let number = directory.writes();
-        let lines = settled_lines(self.alloc, name.as_slice(), number, entries.list())?;
-        self.store(&name, entries);
-        Ok(lines)
+        let (root, follower) = self.places(&name)?;
+        exchange.perform(
+            self.alloc,
+            &mut self.roots[root].provider,
+            &mut self.followers[follower],
+        )
     }
 
-    /// Gives a consumer its entries.
-    fn store(&mut self, name: &Octets, entries: EntryList)
-        ensures { self.new ≡ spec.stored name.now entries self.old (spec.copy_named name.now self.old.nodes) }
+    // ---- entries
+
+    #[tactic(auto, using(crate::proofs::Showing::shows_root, crate::proofs::Showing::shows_follower, crate::proofs::Showing::shown_none))]
+    fn show(&self, name: &Octets) -> Result<Lines, Cause>
+        ensures { Does (spec.step self.now (order.Show name.now)) self.now result }
     {
-        if let Some(place) = self.place_of(name) {
-            let node = &mut self.nodes[place];
-            if let Part::Copy(follower) = &mut node.part {
-                follower.store(entries);
-            }
+        if let Some(root) = self.root_place(name) {
+            let entries = self.roots[root].provider.entries();
+            return Ok(Octets::from(text_of(self.alloc, entries)?));
         }
-    }
-
-    fn show(&mut self, line: u64, name: Octets) -> Result<Lines, ScriptFault>
-        ensures steps { StepsBy self.old line (order.Show name) self.new result }
-        ensures same { self.new ≡ self.old }
-    {
-        let text = match self.node(&name) {
-            None => return Err(refusal(line, Cause::UnknownNode)),
-            Some(node) => match &node.part {
-                Part::Root(directory) => text_of(self.alloc, directory.entries())?,
-                Part::Copy(follower) => text_of(self.alloc, follower.entries().list())?,
-            },
+        let Some(follower) = self.follower_place(name) else {
+            return Err(Cause::UnknownNode);
         };
-        Ok(Octets::from(text))
+        let entries = self.followers[follower].consumer.entries().list();
+        Ok(Octets::from(text_of(self.alloc, entries)?))
     }
-}
-
-fn refusal(line: u64, cause: Cause) -> ScriptFault
-    ensures { result ≡ record { line = line; cause = cause } }
-{
-    ScriptFault { line, cause }
 }
 
 fn no_lines(alloc: Global) -> Lines
@@ -248,25 +267,33 @@ fn no_lines(alloc: Global) -> Lines
 }
 
 /// Writes to a root, and tells it.
+#[tactic(auto, using(crate::proofs::Writing::grown, crate::proofs::Writing::refused_same))]
 fn write_root(
     alloc: Global,
-    directory: &mut Directory,
+    provider: &mut Source,
     name: &[u8],
     now: u64,
     change: &Change,
-) -> Result<Lines, NoMemory>
-    ensures lines { IfOk result (λ lines. lines ≡ lines_text (Wrote name.now (code_at directory.old now change.now) (length (written directory.old now change.now).writes) ∷ [])) }
-    ensures ok { OnOk result (directory.new ≡ written directory.old now change.now) }
-    ensures err { OnErr result (directory.new ≡ directory.old) }
+) -> Result<Lines, Cause>
+    ensures { Writes provider.old name.now now change.now provider.new result }
 {
-    // The line of an accepted write is made before the write, which then can't fail any more.
-    let number = directory.writes();
-    let accepted = wrote_lines(alloc, name, 0, number + 1)?;
-    let code = directory.write(alloc, now, change)?;
-    if directory.writes() > number {
-        return Ok(accepted);
+    match read_op(alloc, change) {
+        Ok(op) => {
+            // The line of an accepted write is made before the write, which then can't fail any more.
+            let number = provider.writes();
+            let accepted = wrote_lines(alloc, name, 0, number + 1)?;
+            let reply = provider.write(alloc, op, now);
+            if reply.code == OTHER {
+                return Err(Cause::NoMemory);
+            }
+            if reply.number > number {
+                return Ok(accepted);
+            }
+            Ok(wrote_lines(alloc, name, reply.code, number)?)
+        }
+        Err(OpFault::Code(code)) => Ok(wrote_lines(alloc, name, code, provider.writes())?),
+        Err(OpFault::NoMemory) => Err(Cause::NoMemory),
     }
-    wrote_lines(alloc, name, code, number)
 }
 
 /// The line of a write.
@@ -275,20 +302,5 @@ fn wrote_lines(alloc: Global, name: &[u8], code: u32, number: u64) -> Result<Lin
 {
     let mut lines = Vec::new(alloc);
     push_wrote(alloc, &mut lines, name, code, number)?;
-    Ok(Octets::from(lines))
-}
-
-/// The lines of a settling.
-fn settled_lines(
-    alloc: Global,
-    name: &[u8],
-    number: u64,
-    entries: &[Entry],
-) -> Result<Lines, NoMemory>
-    ensures { IfOk result (λ lines. lines ≡ lines_text (Stored name.now number entries.now ∷ Settled name.now number ∷ [])) }
-{
-    let mut lines = Vec::new(alloc);
-    push_stored(alloc, &mut lines, name, number, entries)?;
-    push_settled(alloc, &mut lines, name, number)?;
     Ok(Octets::from(lines))
 }

@@ -320,6 +320,53 @@ fn dropped_searches_leave_their_numbers(rt: HostRuntime) -> Result<(), Fail> {
     Ok(())
 }
 
+/// What searches hand out in turn: the search, the result code of an end, and the bytes.
+const AFTER_THE_MOMENT: [(u64, Option<u32>, &[u8]); 3] = [
+    (1, None, ENTRY),
+    (2, Some(0), ENTRY_END),
+    (1, Some(0), ENTRY_END),
+];
+
+/// Whether this is handed out, one after another.
+fn are_handed_out(
+    alloc: Global,
+    provider: &mut Provider,
+    rows: &[(u64, Option<u32>, &[u8])],
+) -> Result<bool, Fail> {
+    for (search, code, bytes) in rows {
+        let (ended, message) = handed(alloc, provider, *search)?;
+        if ended != *code || message.as_slice() != *bytes {
+            return Ok(false);
+        }
+    }
+    Ok(true)
+}
+
+#[test]
+fn searches_return_to_an_earlier_moment(rt: HostRuntime) -> Result<(), Fail> {
+    let alloc = rt.alloc();
+    let mut provider = one_entry(alloc)?;
+    assert!(rt; are_opened(alloc, &mut provider, &[1, 2, 3])?);
+    assert!(rt; are_handed_out(alloc, &mut provider, &[(2, None, ENTRY)])?);
+    let moment = provider.open_searches(alloc)?;
+
+    // Two searches come to their end, the third is closed, and one more is opened after a write.
+    assert!(rt; are_handed_out(alloc, &mut provider, &AFTER_THE_MOMENT)?);
+    assert!(rt; provider.drop_search(3));
+    let later = add_unit(alloc, b"ou=a,dc=x", b"a")?;
+    assert_eq!(rt; written(alloc, &mut provider, &later)?, (0, 2));
+    let opened = accepted(alloc, &mut provider, b"dc=x", REFRESH)?;
+    assert_eq!(rt; opened, Accepted::Opened(1, 2));
+
+    provider.return_to(moment);
+    assert!(rt; are_handed_out(alloc, &mut provider, &AFTER_THE_MOMENT)?);
+    for (number, is_open) in [(1, false), (2, false), (3, true)] {
+        assert_eq!(rt; provider.drop_search(number), is_open);
+    }
+    assert_eq!(rt; provider.writes(), 2);
+    Ok(())
+}
+
 /// The code of the deletion of this name, and how many writes are accepted after it.
 fn deleted(alloc: Global, provider: &mut Provider, name: &[u8]) -> Result<(u32, u64), Fail> {
     let change = Change::Delete(octets(alloc, name)?);

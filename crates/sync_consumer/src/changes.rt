@@ -12,7 +12,7 @@ use crate::stage::{Before, Staged};
 use std::mem;
 
 /// How many entries there are among changes, and what they weigh.
-#[derive(Drop)]
+#[derive(Clone, Copy)]
 pub(crate) struct Load {
     pub(crate) count: usize,
     pub(crate) weight: u128,

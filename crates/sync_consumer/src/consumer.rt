@@ -1,6 +1,6 @@
 //! The consumer.
 
-ghost use Rattle.std.specs.Prelude.{◌≡◌, Ok, None, option_map, IfOk, OnOk, OnErr};
+ghost use Rattle.std.specs.Prelude.{◌≡◌, Ok, None, option_map, is_some, IfOk, OnOk, OnErr};
 ghost use Rattle.entry_tree.specs.Selection.{search_of};
 ghost use Rattle.ldap_messages.specs.Whole.{whole_of};
 ghost use Rattle.sync_model.specs.Copy as model;
@@ -8,6 +8,7 @@ ghost use Rattle.sync_wire.specs.Kind as kind;
 ghost use Rattle.sync_wire.specs.Requesting.{persists};
 ghost use Rattle.sync_consumer.specs.declared.consumer.Taken.TheVariants.{Fault};
 ghost use Rattle.sync_consumer.specs.declared.fault.PeerFault.TheVariants.{OutOfPlace};
+ghost use Rattle.sync_consumer.specs.Running.{running_of};
 ghost use Rattle.sync_consumer.specs.Taking as taking;
 
 use crate::commit::Commit;
@@ -82,6 +83,27 @@ impl Consumer {
         })
     }
 
+    /// A consumer that goes on as this one does.
+    pub fn copy(&self) -> Result<Consumer, NoMemory>
+        ensures { IfOk result (λ copy. copy ≡ self.now) }
+    {
+        Ok(Consumer {
+            spec: copy_of_spec(&self.spec)?,
+            reload_hint: self.reload_hint,
+            held: self.held.copy()?,
+            running: self.copy_of_running()?,
+        })
+    }
+
+    fn copy_of_running(&self) -> Result<Option<Running>, NoMemory>
+        ensures { IfOk result (λ copy. option_map running_of copy ≡ self.now.copy.running) }
+    {
+        match &self.running {
+            Some(running) => Ok(Some(running.copy()?)),
+            None => Ok(None),
+        }
+    }
+
     /// Begins a search, in place of one that runs. The answer asks for it.
     pub fn request(&mut self, id: u32, mode: Mode) -> Result<Message, NoMemory>
         ensures message { IfOk result
@@ -128,6 +150,13 @@ impl Consumer {
         }
     }
 
+    /// Whether a search runs.
+    pub fn is_running(&self) -> bool
+        ensures { result ≡ is_some self.now.copy.running }
+    {
+        self.running.is_some()
+    }
+
     /// Ends the search, and drops what is staged.
     pub fn cut(&mut self)
         ensures { self.new ≡ record self.old { copy = taking.without_search self.old.copy } }
@@ -161,6 +190,16 @@ impl Consumer {
     {
         &self.spec
     }
+}
+
+fn copy_of_spec(spec: &Spec) -> Result<Spec, NoMemory>
+    ensures { IfOk result (λ copy. search_of copy ≡ search_of spec.now) }
+{
+    Ok(Spec {
+        base: spec.base.copy()?,
+        scope: spec.scope,
+        filter: spec.filter.copy()?,
+    })
 }
 
 fn out_of_place(message: &Message) -> Taken

@@ -1,6 +1,6 @@
 //! The entries that are held.
 
-ghost use Rattle.std.specs.Prelude.{◌≡◌, ◌==◌, ◌≤◌, [], true, length};
+ghost use Rattle.std.specs.Prelude.{◌≡◌, ◌==◌, ◌≤◌, [], true, length, IfOk};
 ghost use Rattle.std.specs.Map.{keys_of};
 ghost use Rattle.std.specs.Vec.{vec_capacity};
 ghost use Rattle.std.specs.List.{slice_get};
@@ -13,6 +13,7 @@ use crate::merge::merged;
 use crate::places::place_of_entry;
 use crate::stage::Staged;
 use entry_tree::Entry;
+use ldap_ber::NoMemory;
 use std::alloc::Global;
 use std::marker::Model;
 use std::mem;
@@ -42,6 +43,16 @@ impl EntryMap {
         EntryMap {
             entries: Vec::new(alloc),
         }
+    }
+
+    pub(crate) fn copy(&self) -> Result<EntryMap, NoMemory>
+        ensures { IfOk result (λ copy. copy ≡ self.now) }
+    {
+        let mut entries = Vec::new(self.allocator());
+        for entry in self.list() {
+            entries.push(entry.copy()?)?;
+        }
+        Ok(EntryMap { entries })
     }
 
     pub fn len(&self) -> usize

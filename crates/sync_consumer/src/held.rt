@@ -35,6 +35,15 @@ impl Held {
         }
     }
 
+    pub(crate) fn copy(&self) -> Result<Held, NoMemory>
+        ensures { IfOk result (λ copy. copy ≡ self.now) }
+    {
+        Ok(Held {
+            entries: self.entries.copy()?,
+            cookie: copy_of(&self.cookie)?,
+        })
+    }
+
     /// Brings the stage into effect, with the cookie where one came. A refusal leaves both as they
     /// were.
     pub(crate) fn settle(

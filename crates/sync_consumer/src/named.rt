@@ -1,6 +1,6 @@
 //! Identities that were named as present.
 
-ghost use Rattle.std.specs.Prelude.{◌≡◌, ◌+◌, ◌<◌, ◌≤◌, [], true, OnOk, OnErr};
+ghost use Rattle.std.specs.Prelude.{◌≡◌, ◌+◌, ◌<◌, ◌≤◌, [], true, IfOk, OnOk, OnErr};
 ghost use Rattle.std.specs.BTreeSet.{insert_key};
 ghost use Rattle.std.specs.Ordering.{nat_cmp};
 ghost use Rattle.std.specs.Vec.{vec_capacity, vec_len};
@@ -38,6 +38,14 @@ impl Named {
         Named {
             uuids: Vec::new(alloc),
         }
+    }
+
+    pub(crate) fn copy(&self) -> Result<Named, NoMemory>
+        ensures { IfOk result (λ copy. copy ≡ self.now) }
+    {
+        Ok(Named {
+            uuids: self.uuids.clone()?,
+        })
     }
 
     /// Adds these identities, or none of them.

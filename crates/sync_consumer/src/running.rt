@@ -1,6 +1,6 @@
 //! A search that runs.
 
-ghost use Rattle.std.specs.Prelude.{◌≡◌, [], true, false, None, Some};
+ghost use Rattle.std.specs.Prelude.{◌≡◌, [], true, false, None, Some, IfOk};
 ghost use Rattle.sync_model.specs.Copy as model;
 ghost use Rattle.sync_model.specs.Message.SyncMessage.{Put, IdSet};
 ghost use Rattle.sync_wire.specs.Requesting.{persists};
@@ -13,7 +13,7 @@ use crate::held::Held;
 use crate::named::Named;
 use crate::stage::{Stage, Staged, drops_of, put_of};
 use entry_tree::Entry;
-use ldap_ber::Octets;
+use ldap_ber::{NoMemory, Octets};
 use ldap_messages::Message;
 use std::alloc::Global;
 use sync_messages::Mode;
@@ -55,6 +55,19 @@ impl Running {
             named: Named::new(alloc),
             stage: Stage::new(alloc),
         }
+    }
+
+    pub(crate) fn copy(&self) -> Result<Running, NoMemory>
+        ensures { IfOk result (λ copy. copy ≡ self.now) }
+    {
+        Ok(Running {
+            id: self.id,
+            mode: self.mode,
+            persisting: self.persisting,
+            ended: self.ended,
+            named: self.named.copy()?,
+            stage: self.stage.copy()?,
+        })
     }
 
     pub(crate) fn persists(&self) -> bool

@@ -39,6 +39,15 @@ impl Staged {
         }
     }
 
+    fn copy(&self) -> Result<Staged, NoMemory>
+        ensures { IfOk result (λ copy. copy ≡ self.now) }
+    {
+        match self {
+            Staged::Put(entry) => Ok(Staged::Put(entry.copy()?)),
+            Staged::Gone(uuid) => Ok(Staged::Gone(*uuid)),
+        }
+    }
+
     pub(crate) fn entry(&self) -> Option<&Entry>
         ensures { option_copied result ≡ (change_of self.now).1 }
     {
@@ -68,6 +77,16 @@ pub(crate) fn drops_of(alloc: Global, uuids: &[u128]) -> Result<Vec<Staged>, NoM
         changes.push(Staged::Gone(*uuid))?;
     }
     Ok(changes)
+}
+
+fn copies(alloc: Global, changes: &[Staged]) -> Result<Vec<Staged>, NoMemory>
+    ensures { IfOk result (λ copied. copied.items ≡ changes.now) }
+{
+    let mut copied = Vec::new(alloc);
+    for change in changes {
+        copied.push(change.copy()?)?;
+    }
+    Ok(copied)
 }
 
 /// What was staged of an identity before a change.
@@ -107,6 +126,15 @@ impl Stage {
                 weight: 0,
             },
         }
+    }
+
+    pub(crate) fn copy(&self) -> Result<Stage, NoMemory>
+        ensures { IfOk result (λ copy. copy ≡ self.now) }
+    {
+        Ok(Stage {
+            changes: copies(*self.changes.allocator(), &self.changes)?,
+            load: self.load,
+        })
     }
 
     pub(crate) fn changes(&self) -> &[Staged]
@@ -200,9 +228,6 @@ fn load_without(changes: &[Staged], load: &Load, uuid: u128) -> Load
             count: load.count - 1,
             weight: load.weight - u128::from(entry.attrs.weight()),
         },
-        None => Load {
-            count: load.count,
-            weight: load.weight,
-        },
+        None => *load,
     }
 }

@@ -1,6 +1,7 @@
 -- Lemmas of the crate.
 pub mod Asking
 pub mod Blanks
+pub mod Copying
 pub mod Judged
 pub mod Kept
 pub mod Looking

@@ -10,6 +10,7 @@ mod directory;
 mod handed;
 mod laws;
 mod open_search;
+mod open_searches;
 mod provider;
 mod searches;
 mod weights;
@@ -21,6 +22,7 @@ pub use laws::{
 };
 pub use ldap_ber::NoMemory;
 pub use open_search::OpenSearch;
+pub use open_searches::OpenSearches;
 pub use provider::{Kind, Provider, Reply};
 pub use searches::{Accepted, SyncSearch};
 pub use sync_wire::done_message;

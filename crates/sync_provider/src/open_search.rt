@@ -1,5 +1,5 @@
 //! A search that is open.
-ghost use Rattle.std.specs.Prelude.{◌≡◌, ◌<◌, IfSome};
+ghost use Rattle.std.specs.Prelude.{◌≡◌, ◌<◌, IfOk, IfSome};
 ghost use Rattle.csn_cookie.specs.Cookie.{cookie_text};
 ghost use Rattle.entry_tree.specs.Selection.{search_of};
 ghost use Rattle.sync_provider.specs.HandingOut.{turn_of, turn_of_pending, after_own_turn};
@@ -8,6 +8,7 @@ ghost use Rattle.sync_provider.specs.Search.{refresh};
 use crate::handed::Handed;
 use csn_cookie::Cookie;
 use entry_tree::{EntryList, Spec};
+use ldap_ber::NoMemory;
 use std::alloc::Global;
 use std::marker::Model;
 use sync_wire::{end_message, entry_message};
@@ -80,6 +81,20 @@ impl OpenSearch {
         }
     }
 
+    /// A search that goes on as this one does.
+    pub(crate) fn copy(&self, alloc: Global) -> Result<OpenSearch, NoMemory>
+        ensures { IfOk result (λ copy. copy ≡ self.now) }
+    {
+        Ok(OpenSearch {
+            id: self.id,
+            spec: copy_of(&self.spec)?,
+            accepted: self.accepted,
+            content: copy_of_list(alloc, &self.content)?,
+            handed: self.handed,
+            cookie: self.cookie,
+        })
+    }
+
     /// The message that is pending first, which counts as handed out where it is not the last.
     #[tactic(auto, using(crate::proofs::Turns::pending_next, crate::proofs::Turns::pending_end))]
     pub(crate) fn hand_out(&mut self, alloc: Global) -> Handed
@@ -101,4 +116,24 @@ impl OpenSearch {
             },
         }
     }
+}
+
+fn copy_of(spec: &Spec) -> Result<Spec, NoMemory>
+    ensures { IfOk result (λ copy. search_of copy ≡ search_of spec.now) }
+{
+    Ok(Spec {
+        base: spec.base.copy()?,
+        scope: spec.scope,
+        filter: spec.filter.copy()?,
+    })
+}
+
+fn copy_of_list(alloc: Global, entries: &EntryList) -> Result<EntryList, NoMemory>
+    ensures { IfOk result (λ copy. copy ≡ entries.now) }
+{
+    let mut copy = EntryList::new(alloc);
+    for entry in entries.list() {
+        copy.push(entry.copy()?)?;
+    }
+    Ok(copy)
 }

@@ -123,6 +123,12 @@ impl Provider {
         self.searches.remove(&number).is_some()
     }
 
+    pub fn suffix(&self) -> &Dn
+        ensures { result.now ≡ self.now.directory.suffix }
+    {
+        self.directory.suffix()
+    }
+
     /// How many writes were accepted. Each was sound, had nothing against it on the entries before
     /// it, and has a stamp above those before it.
     pub fn writes(&self) -> u64

@@ -29,17 +29,18 @@ front_kept {script} {a} {b} f c k = record {
   rest = f.rest;
   run = f.run;
   right = f.right;
+  traced = f.traced;
   written = (f.written.0, f.written.1, f.written.2, Appends-kept a b c f.written.0 f.written.3 k);
 }
 
 report_kept : {script : Reader} {a b : Option (List ℕ)} {end : State} {rest : Reader} → WritesReport script a b end rest → (c : Option (List ℕ)) → Keeps b c → WritesReport script a c end rest
-report_kept {script} {a} {b} w c k = record { orders = w.orders; report = w.report; run = w.run; right = w.right; written = Appends-kept a b c _ w.written k }
+report_kept {script} {a} {b} w c k = record { orders = w.orders; report = w.report; run = w.run; right = w.right; traced = w.traced; written = Appends-kept a b c _ w.written k }
 
 pub whole_kept : {script : Reader} {a b : Option (List ℕ)} {end : State} → WritesWhole script a b end → (c : Option (List ℕ)) → Keeps b c → WritesWhole script a c end
-whole_kept w c k = (w.0, report_kept w.1 c k, w.2)
+whole_kept w c k = record { rest = w.rest; report = report_kept w.report c k; ended = w.ended }
 
 pub up_to_kept : {script : Reader} {a b : Option (List ℕ)} {end : State} {line : ℕ} {cause : Cause} → WritesUpTo script a b end line cause → (c : Option (List ℕ)) → Keeps b c → WritesUpTo script a c end line cause
-up_to_kept w c k = (w.0, report_kept w.1 c k, w.2)
+up_to_kept w c k = record { rest = w.rest; report = report_kept w.report c k; refusal = w.refusal }
 
 pub rose_before : (a b c : ℕ) → a ≤ b → Rose b c → Rose a c
 rose_before a b c l r = omega arith
@@ -90,11 +91,11 @@ front_of_nothing (Some text) held = nothing_written (reader_of text) held
 -- ---- what is said of the text that was left, by how the run ended
 
 script_of : {old new : Option (List ℕ)} {end : State} (text : List ℕ) → WritesWhole (reader_of text) old new end → IsScript text
-script_of {old} {new} {end} text w = record { orders = w.1.orders; report = w.1.report; end = end; rest = w.0; run = w.1.run; whole = w.2 }
+script_of {old} {new} {end} text w = record { orders = w.report.orders; report = w.report.report; end = end; rest = w.rest; run = w.report.run; whole = w.ended }
 
 no_script : {old new : Option (List ℕ)} {end : State} {line : ℕ} {cause : Cause} (text : List ℕ) → WritesUpTo (reader_of text) old new end line cause → IsScript text → ⊥
 no_script {old} {new} {end} {line} {cause} text w is =
-    refused_not_whole no_nodes (reader_of text) w.1.orders w.1.report end w.0 line cause w.1.run w.2 is.orders is.report is.end is.rest is.run is.whole
+    refused_not_whole no_nodes (reader_of text) w.report.orders w.report.report end w.rest line cause w.report.run w.refusal is.orders is.report is.end is.rest is.run is.whole
 
 short_of : (text : List ℕ) → limit_passed text ≡ None → length text ≤ most_bytes
 short_of text none =

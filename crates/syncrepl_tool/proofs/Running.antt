@@ -17,6 +17,7 @@ use Rattle.cascade_world.specs.Run.{Runs, IsRefusal}
 use Rattle.cascade_world.specs.World.{State, no_nodes, step, IsStep}
 use Rattle.cascade_world.proofs.HeadlineHolds.{runs_lines_right}
 use Rattle.cascade_world.proofs.Runs.{runs-more, step_told}
+use Rattle.cascade_world.proofs.Traces.{runs_traced}
 use Rattle.syncrepl_tool.specs.declared.run.Outcome.{Outcome}
 use Rattle.syncrepl_tool.specs.declared.run.Outcome.TheVariants as outcome
 use Rattle.syncrepl_tool.specs.Cascade.{WritesFront, WritesReport, WritesWhole, WritesUpTo, Ends}
@@ -54,6 +55,7 @@ written_report {script} {reader} {state} s = record {
   report = s.report;
   run = s.run;
   right = runs_lines_right script s.orders s.report state reader s.run;
+  traced = runs_traced script s.orders s.report state reader s.run;
   written = s.written;
 }
 
@@ -65,6 +67,7 @@ front_so_far {script} {reader} {state} s = record {
   rest = reader;
   run = s.run;
   right = runs_lines_right script s.orders s.report state reader s.run;
+  traced = runs_traced script s.orders s.report state reader s.run;
   written = (report_text s.report, [], sym (append-nil (report_text s.report)), s.written);
 }
 
@@ -82,6 +85,7 @@ front_of_next {script} {reader} {state} {old} {new} s line order more next text 
       rest = more;
       run = run;
       right = runs_lines_right script (s.orders ++ order ∷ []) (s.report ++ told.0 ∷ []) next more run;
+      traced = runs_traced script (s.orders ++ order ∷ []) (s.report ++ told.0 ∷ []) next more run;
       written =
           let whole : lines_text told.0 ≡ front.0 ++ front.1 = sym told.2 ∙ front.2 in (
             report_text s.report ++ front.0,
@@ -93,7 +97,7 @@ front_of_next {script} {reader} {state} {old} {new} s line order more next text 
 
 -- the script is read to its end
 pub whole_so_far : {script reader : Reader} {state : State} {old new : Option (List ℕ)} {before now : ℕ} → SoFar script state reader old new before now → next_in reader ≡ Ended → WritesWhole script old new state
-whole_so_far {script} {reader} s ended = (reader, written_report s, ended)
+whole_so_far {script} {reader} s ended = record { rest = reader; report = written_report s; ended = ended }
 
 refused_reading : (n : Next) (line : ℕ) (cause : Cause) → cause ≢ NoMemory → IsRefusalOf n line cause → n ≡ Refused (fault_at line cause)
 refused_reading n line BadCommand known h = h
@@ -108,7 +112,7 @@ refused_reading n line NoMemory known h = absurd (known refl)
 -- a refusal in reading
 pub refused_read : {script reader : Reader} {state : State} {old new : Option (List ℕ)} {before now : ℕ} → SoFar script state reader old new before now
     → (line : ℕ) (cause : Cause) → cause ≢ NoMemory → IsRefusalOf (next_in reader) line cause → WritesUpTo script old new state line cause
-refused_read {script} {reader} s line cause known h = (reader, written_report s, inl (refused_reading (next_in reader) line cause known h))
+refused_read {script} {reader} s line cause known h = record { rest = reader; report = written_report s; refusal = inl (refused_reading (next_in reader) line cause known h) }
 
 refused_answer : {Y : Type 0} (line at : ℕ) (cause : Cause) (answer : Result Y Cause) → cause ≢ NoMemory → RefusedAt line at cause answer → (answer ≡ Err cause) × (at ≡ line)
 refused_answer line at BadCommand answer known h = h
@@ -125,7 +129,7 @@ pub refused_step : {script reader : Reader} {state : State} {old new : Option (L
     → (line at : ℕ) (order : Order) (more : Reader) (cause : Cause) → next_in reader ≡ Got line order more → cause ≢ NoMemory → RefusedAt line at cause (step state order) → WritesUpTo script old new state at cause
 refused_step {script} {reader} {state} {old} {new} s line at order more cause reads known h =
     let is = refused_answer line at cause (step state order) known h in
-    subst (λ l. WritesUpTo script old new state l cause) (sym is.1) (reader, written_report s, inr (order, more, reads, is.0))
+    subst (λ l. WritesUpTo script old new state l cause) (sym is.1) (record { rest = reader; report = written_report s; refusal = inr (order, more, reads, is.0) })
 
 -- nothing was written
 pub nothing_written : (script : Reader) (held : Option (List ℕ)) → WritesFront script held held

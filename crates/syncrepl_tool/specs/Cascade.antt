@@ -15,6 +15,7 @@ use Rattle.cascade_world.specs.Reader.{Reader, next_in}
 use Rattle.cascade_world.specs.Reader.Next.{Ended}
 use Rattle.cascade_world.specs.Report.{Told, report_text}
 use Rattle.cascade_world.specs.Run.{Runs, IsRefusal, IsScript}
+use Rattle.cascade_world.specs.Trace.{AreTraced, all_lines}
 use Rattle.cascade_world.specs.World.{State, no_nodes}
 use Rattle.syncrepl_tool.specs.Texts.{Says, refusal_text, write_fault_text}
 use Rattle.syncrepl_tool.specs.declared.run.Status.{Status}
@@ -23,14 +24,15 @@ use Rattle.syncrepl_tool.specs.declared.run.Outcome.TheVariants.{Done, Refused, 
 use Rattle.syncrepl_tool.specs.declared.run.Input.{Input}
 use Rattle.syncrepl_tool.specs.declared.run.Input.TheVariants.{Text, Failed}
 
--- The headline: of the report of the first orders of the script a front was written, which may end in the midst of a line, and each of these lines is right.
+-- The headline: of the report of the first orders of the script a front was written, which may end in the midst of a line, and each of these lines is right. The wire is used: these lines tell all that happened to the links and the copies of the consumers.
 pub record WritesFront (script : Reader) (old new : Option (List ℕ)) : Type 0 where
   pub orders : List Order
   pub report : List (List Told)
   pub end : State
   pub rest : Reader
   pub run : Runs no_nodes script orders report end rest
-  pub right : LinesAreRight [] orders report
+  pub right : LinesAreRight [] [] orders report
+  pub traced : AreTraced (all_lines report) end.followers
   pub written : AppendsFront old new (report_text report)
 
 -- the whole report of the first orders of the script was written, and the state is that which these orders leave
@@ -38,17 +40,21 @@ pub record WritesReport (script : Reader) (old new : Option (List ℕ)) (end : S
   pub orders : List Order
   pub report : List (List Told)
   pub run : Runs no_nodes script orders report end rest
-  pub right : LinesAreRight [] orders report
+  pub right : LinesAreRight [] [] orders report
+  pub traced : AreTraced (all_lines report) end.followers
   pub written : Appends old new (report_text report)
 
 -- all orders of the script are done and told
-abbrev pub WritesWhole : Reader → Option (List ℕ) → Option (List ℕ) → State → Type 0
-WritesWhole script old new end = (rest : Reader) × WritesReport script old new end rest × (next_in rest ≡ Ended)
+pub record WritesWhole (script : Reader) (old new : Option (List ℕ)) (end : State) : Type 0 where
+  pub rest : Reader
+  pub report : WritesReport script old new end rest
+  pub ended : next_in rest ≡ Ended
 
 -- the orders before the refused one are done and told, and that is refused at this line with this cause
-abbrev pub WritesUpTo : Reader → Option (List ℕ) → Option (List ℕ) → State → ℕ → Cause → Type 0
-WritesUpTo script old new end line cause =
-    (rest : Reader) × WritesReport script old new end rest × IsRefusal end rest line cause
+pub record WritesUpTo (script : Reader) (old new : Option (List ℕ)) (end : State) (line : ℕ) (cause : Cause) : Type 0 where
+  pub rest : Reader
+  pub report : WritesReport script old new end rest
+  pub refusal : IsRefusal end rest line cause
 
 -- how the orders of a script ended
 abbrev pub Ends : Reader → Option (List ℕ) → Option (List ℕ) → State → ℕ → ℕ → Outcome → Type 0

@@ -1,6 +1,8 @@
 //! `syncrepl`: an LDAP directory with replication by content synchronisation, driven by a script.
 #![tactic(auto)]
 
+#[cfg(test)]
+mod link_tests;
 mod run;
 #[cfg(test)]
 mod tests;

@@ -40,9 +40,10 @@ pub fn run<R: Threads + Wait + Sync, I: Source, O: Sink, E: Sink>(
     requires fresh { world.old ≡ no_nodes }
     requires prompt { I.waits input.old ≡ false }
 
-    // Each `stored` line names a prefix of the provider's accepted writes, no shorter than those before
-    // its settling, and the consumer's entries are exactly what its specification selects from it; a
-    // `show` of the consumer prints these until the next one.
+    // Each `stored` line names a prefix of the provider's accepted writes, no shorter than when the
+    // consumer's search was opened, and the consumer's entries are exactly what its specification
+    // selects from it; a `show` of the consumer prints these until the next one. Each consumer is
+    // what the lines of its messages make of it.
     ensures headline { IfSome (I.bytes_left input.old) (λ text.
         WritesFront (reader_of text) (O.bytes_held output.old) (O.bytes_held output.new)) }
 
@@ -134,9 +135,10 @@ pub fn run_cascade<I: Source, O: Sink, E: Sink>(
     requires fresh { world.old ≡ no_nodes }
     requires prompt { I.waits input.old ≡ false }
 
-    // Each `stored` line names a prefix of the provider's accepted writes, no shorter than those before
-    // its settling, and the consumer's entries are exactly what its specification selects from it; a
-    // `show` of the consumer prints these until the next one.
+    // Each `stored` line names a prefix of the provider's accepted writes, no shorter than when the
+    // consumer's search was opened, and the consumer's entries are exactly what its specification
+    // selects from it; a `show` of the consumer prints these until the next one. Each consumer is
+    // what the lines of its messages make of it.
     ensures headline { IfSome (I.bytes_left input.old) (λ text.
         WritesFront (reader_of text) (O.bytes_held output.old) (O.bytes_held output.new)) }
 

@@ -1,0 +1,107 @@
+-- A provider of a script: its answers, and the message ID of its searches.
+use Rattle.std.proofs.Common.{◌≡◌, ◌≤◌, ℕ, Option, Some, None, List, [], ◌∷◌, refl, ap, sym, subst, ◌∙◌, arith}
+use Rattle.std.specs.BTreeMap.{insert_entry}
+use Rattle.std.specs.Ordering.{nat_cmp}
+use Rattle.std.specs.Prelude.{Ok, Err, Result, IfSome}
+use Rattle.entry_tree.specs.Selection.{search_of}
+use Rattle.ldap_messages.specs.Whole.{HasSpelling}
+use Rattle.sync_messages.specs.Request.{request_of}
+use Rattle.sync_messages.specs.declared.fault.SyncFault.{SyncFault}
+use Rattle.sync_messages.specs.declared.request.SyncRequest.{SyncRequest}
+use Rattle.sync_model.specs.Message.{SyncMessage}
+use Rattle.sync_model.specs.Message.SyncMessage.{Put, Gone, Present, IdSet, NewCookie, PhaseEnds, Done, Passed}
+use Rattle.sync_provider.specs.Accepting as accepting
+use Rattle.sync_provider.specs.HandingOut.{Turn, turn_of_message, turn_of_pending, turn_of_found, turn_at, turn_of, search_at, after_first, without_first, closed, handed_on, after_turn, after_answer}
+use Rattle.sync_provider.specs.HandingOut.Turn.{Hands, Closes, Waits, Unknown}
+use Rattle.sync_provider.specs.Machine.{ProviderState}
+use Rattle.sync_provider.specs.Search.{SearchState, opening}
+use Rattle.sync_provider.specs.declared.handed.Handed.{Handed}
+use Rattle.sync_provider.specs.declared.handed.Handed.TheVariants as handed
+use Rattle.sync_provider.specs.declared.searches.Accepted.{Accepted}
+use Rattle.sync_provider.specs.declared.searches.Accepted.TheVariants as accepted
+use Rattle.sync_provider.specs.declared.searches.SyncSearch.{SyncSearch}
+use Rattle.sync_provider.proofs.Looking.{each-opened, each-closed, each-put_on, each-at}
+use Rattle.cascade_world.specs.Opening.{message_id, answer_to, answer_to_request, after_accepted}
+use Rattle.cascade_world.specs.Ours.{IsOurs, AreOurs, IsSpelled}
+
+-- ---- acceptance
+
+by_request : (p : ProviderState) (ask : SyncSearch) (request : Result SyncRequest SyncFault) → accepting.answer_to_request p.directory p.searches ask request ≡ answer_to_request p (search_of ask.spec) request
+by_request p ask (Err fault) = refl
+by_request p ask (Ok request) = refl
+
+pub answered : (p : ProviderState) (ask : SyncSearch) (answer : Accepted) → accepting.Answers answer (accepting.answer_to p.directory p.searches ask) → accepting.Answers answer (answer_to p (search_of ask.spec) ask.control)
+answered p ask answer h = subst (accepting.Answers answer) (by_request p ask (request_of ask.control)) h
+
+pub accepted_ours : (p : ProviderState) (ask : SyncSearch) (answer : Accepted) → ask.id ≡ message_id → AreOurs p.searches → AreOurs (accepting.after_answer p.directory p.searches ask answer)
+accepted_ours p ask (accepted.Opened number writes) id ours = each-opened IsOurs p.searches number _ ours id
+accepted_ours p ask (accepted.Refused code) id ours = ours
+accepted_ours p ask accepted.NoMemory id ours = ours
+
+-- the searches after it, which the messages of a script number
+pub accepted_state : (p after : ProviderState) (ask : SyncSearch) (answer : Accepted) → ask.id ≡ message_id → after ≡ record p { searches = accepting.after_answer p.directory p.searches ask answer } → after ≡ after_accepted p (search_of ask.spec) answer
+accepted_state p after ask (accepted.Opened number writes) id is =
+    is ∙ ap (λ n. record p { searches = insert_entry nat_cmp p.searches number (opening p.directory n (search_of ask.spec)) }) id
+accepted_state p after ask (accepted.Refused code) id is = is
+accepted_state p after ask accepted.NoMemory id is = is
+
+-- ---- turns
+
+first_ours : (s : SearchState) (pending : List SyncMessage) → IsOurs s → IsOurs (after_first s pending)
+first_ours s [] ours = ours
+first_ours s (message ∷ rest) ours = ours
+
+on_ours : (es : List (ℕ × SearchState)) (number : ℕ) (found : Option SearchState) → search_at es number ≡ found → AreOurs es → AreOurs (handed_on es number found)
+on_ours es number None at ours = ours
+on_ours es number (Some s) at ours = each-put_on IsOurs es number (without_first s) ours (first_ours s s.pending (each-at IsOurs es number s ours at))
+
+after_ours : (es : List (ℕ × SearchState)) (number : ℕ) (turn : Turn) → AreOurs es → AreOurs (after_turn es number turn)
+after_ours es number (Hands message) ours = on_ours es number (search_at es number) refl ours
+after_ours es number (Closes code message) ours = each-closed IsOurs es number ours
+after_ours es number Waits ours = ours
+after_ours es number Unknown ours = ours
+
+pub turn_ours : (es : List (ℕ × SearchState)) (number : ℕ) (turn : Option Turn) → AreOurs es → AreOurs (after_answer es number turn)
+turn_ours es number None ours = ours
+turn_ours es number (Some turn) ours = after_ours es number turn ours
+
+pub dropped_ours : (es : List (ℕ × SearchState)) (number : ℕ) → AreOurs es → AreOurs (closed es number)
+dropped_ours es number ours = each-closed IsOurs es number ours
+
+-- ---- spellings
+
+abbrev IsSpelledTurn : Turn → Type 0
+IsSpelledTurn (Hands message) = HasSpelling message
+IsSpelledTurn (Closes code message) = HasSpelling message
+IsSpelledTurn Waits = Unit {0}
+IsSpelledTurn Unknown = Unit {0}
+
+of_message : (id : ℕ) (message : SyncMessage) → id ≤ 2147483647 → IsSpelledTurn (turn_of_message id message)
+of_message id (Put adds entry cookie) small = (small, tt)
+of_message id (Gone uuid name cookie) small = (small, tt)
+of_message id (Present uuid cookie) small = (small, tt)
+of_message id (IdSet deletes uuids cookie) small = (small, tt)
+of_message id (NewCookie cookie) small = (small, tt)
+of_message id (PhaseEnds deletes done cookie) small = (small, tt)
+of_message id (Done code control) small = (small, tt)
+of_message id Passed small = (small, tt)
+
+of_pending : (id : ℕ) (pending : List SyncMessage) → id ≤ 2147483647 → IsSpelledTurn (turn_of_pending id pending)
+of_pending id [] small = tt
+of_pending id (message ∷ rest) small = of_message id message small
+
+of_found : (es : List (ℕ × SearchState)) (number : ℕ) (found : Option SearchState) → search_at es number ≡ found → AreOurs es → IsSpelledTurn (turn_of_found found)
+of_found es number None at ours = tt
+of_found es number (Some s) at ours =
+    let id : s.id ≡ message_id = each-at IsOurs es number s ours at in
+    of_pending s.id s.pending (omega (arith, id))
+
+turn_spelled : (es : List (ℕ × SearchState)) (number : ℕ) → AreOurs es → IsSpelledTurn (turn_at es number)
+turn_spelled es number ours = of_found es number (search_at es number) refl ours
+
+pub spelled : (es : List (ℕ × SearchState)) (number : ℕ) (found : Handed) → AreOurs es → IfSome (turn_of found) (λ turn. turn ≡ turn_at es number) → IsSpelled found
+spelled es number (handed.Message message) ours is = subst IsSpelledTurn (sym is) (turn_spelled es number ours)
+spelled es number (handed.Ended code message) ours is = subst IsSpelledTurn (sym is) (turn_spelled es number ours)
+spelled es number handed.Nothing ours is = tt
+spelled es number handed.NoSuchSearch ours is = tt
+spelled es number handed.NoMemory ours is = tt

@@ -1,0 +1,112 @@
+-- What holds of the nodes after an order for a consumer and its provider, and what its lines tell.
+use Rattle.std.proofs.Common.{◌≡◌, ◌+◌, ℕ, false, Option, Some, None, List, [], ◌∷◌, ◌++◌, length, refl, ap, sym, subst, ◌∙◌}
+use Rattle.std.specs.Prelude.{Ok, Err}
+use Rattle.cascade_world.specs.declared.exchange.Exchange.{Exchange}
+use Rattle.cascade_world.specs.declared.exchange.Exchange.TheVariants as goes
+use Rattle.cascade_world.specs.declared.node.Root.{Root}
+use Rattle.cascade_world.specs.declared.node.Follower.{Follower}
+use Rattle.cascade_world.specs.Exchange.{Pair, Outcome, pair_of, part_of}
+use Rattle.cascade_world.specs.Headline.{time_after, is_declaration, latest_opened, last_stored}
+use Rattle.cascade_world.specs.Orders.{Order}
+use Rattle.cascade_world.specs.Orders.{Order as asks}
+use Rattle.cascade_world.specs.Report.{Told}
+use Rattle.cascade_world.specs.World.{State, root_named, follower_named, with_follower, with_provider, with_pair, with_outcome, between, exchange_of}
+use Rattle.cascade_world.proofs.Accepted.{Untouched}
+use Rattle.cascade_world.proofs.Declarations.{After, time_still}
+use Rattle.cascade_world.proofs.Exchanged.{root_done, other_fed, followers_done, apart_done}
+use Rattle.cascade_world.proofs.Exchanging.{Keeps, KeepsIn, sent_keeps, takes_keeps, cut_keeps, opens_keeps, settles_keeps}
+use Rattle.cascade_world.proofs.Feeding.{IsKept, PartsAreKept}
+use Rattle.cascade_world.proofs.Finding.{IsChanged, roots_by, followers_by, follower_name, provider_changed, follower_changed, length-first_changed}
+use Rattle.cascade_world.proofs.Growing.{count_same, fed_by, roots_changed}
+use Rattle.cascade_world.proofs.Telling.{accepted_at, consumer_of, lines_right}
+use Rattle.cascade_world.proofs.Tracking.{Tracks}
+
+-- the order for each
+abbrev pub asked_by : List ℕ → Exchange → Order
+asked_by name goes.Open = asks.OpenOnce name
+asked_by name (goes.Send count) = asks.Send name count
+asked_by name (goes.Take count) = asks.Take name count
+asked_by name goes.Cut = asks.Cut name
+asked_by name goes.Settle = asks.Settle name
+
+-- an order that declares nothing, writes nothing and sets no clock
+record IsQuiet (order : Order) : Type 0 where
+  untouched : (name : List ℕ) → Untouched order name
+  still : (time : ℕ) → time_after time order ≡ time
+  undeclared : is_declaration order ≡ false
+
+quiet_by : (name : List ℕ) (exchange : Exchange) → IsQuiet (asked_by name exchange)
+quiet_by name goes.Open = record { untouched = λ other. tt; still = λ time. refl; undeclared = refl }
+quiet_by name (goes.Send count) = record { untouched = λ other. tt; still = λ time. refl; undeclared = refl }
+quiet_by name (goes.Take count) = record { untouched = λ other. tt; still = λ time. refl; undeclared = refl }
+quiet_by name goes.Cut = record { untouched = λ other. tt; still = λ time. refl; undeclared = refl }
+quiet_by name goes.Settle = record { untouched = λ other. tt; still = λ time. refl; undeclared = refl }
+
+-- what each keeps
+exchange_keeps : (exchange : Exchange) (pair : Pair) → KeepsIn pair (part_of exchange pair)
+exchange_keeps goes.Open pair = opens_keeps pair
+exchange_keeps (goes.Send count) pair = sent_keeps count pair
+exchange_keeps (goes.Take count) pair = takes_keeps count pair
+exchange_keeps goes.Cut pair = cut_keeps pair
+exchange_keeps goes.Settle pair = settles_keeps pair
+
+pair_tracked : (before : List Order) (order : Order) (said : List Told) (state : State) (name : List ℕ) (f : Follower) (root : Root) (after : Pair) (lines : List Told) → IsQuiet order
+    → follower_named name state ≡ Some f → root_named f.source state ≡ Some root
+    → IsKept root.provider.directory.history root.provider.directory.suffix (pair_of root.provider f) after lines (latest_opened f.name said) (last_stored f.name said) → Keeps (pair_of root.provider f) after lines
+    → Tracks before said state → Tracks (before ++ order ∷ []) (said ++ lines) (with_pair state after)
+pair_tracked before order said state name f root after lines quiet e r kept keeps is =
+    let now : Root = record root { provider = after.provider } in
+    let next = with_provider after.follower.source after.provider state.roots in
+    let next' = with_follower after.follower.name after.follower state.followers in
+    let roots' : IsChanged (roots_by state.roots) (roots_by next) f.source now =
+    subst (λ n. IsChanged (roots_by state.roots) (roots_by (with_provider n after.provider state.roots)) f.source now) (sym keeps.source) (provider_changed state.roots f.source root after.provider r) in
+    let named : after.follower.name ≡ name = keeps.name ∙ sym (follower_name state.followers name f e) in
+    let followers' : IsChanged (followers_by state.followers) (followers_by next') name after.follower =
+    subst (λ n. IsChanged (followers_by state.followers) (followers_by (with_follower n after.follower state.followers)) name after.follower) (sym named) (follower_changed state.followers name f after.follower e named) in
+    let opened = latest_opened f.name said in
+    let stored = last_stored f.name said in
+    record {
+      time = time_still before order state.clock quiet.still is.time;
+      count =
+          ap (λ n. n + length next') (length-first_changed _ _ state.roots) ∙ ap (λ n. length state.roots + n) (length-first_changed _ _ state.followers) ∙ is.count
+          ∙ sym (count_same is_declaration before order quiet.undeclared);
+      roots =
+          roots_changed before order state.roots next f.source now roots' (λ other apart. quiet.untouched other)
+          (root_done before order root f after lines opened stored (quiet.untouched root.name) kept keeps (is.roots f.source root r)) is.roots;
+      followers = followers_done before order said state.roots next state.followers next' name root f after lines kept keeps r roots' e followers' is.apart is.followers;
+      apart =
+          apart_done state.followers next' name f after.follower followers' keeps.source
+          (
+          λ other g there differs same.
+          (other_fed before said state.roots root f g after lines opened stored kept r same (is.followers other g there) (is.apart name other f g e there differs (sym same))).1
+          )
+          is.apart;
+    }
+
+outcome_after : PartsAreKept → (before : List Order) (order : Order) (said : List Told) (state : State) (name : List ℕ) (f : Follower) (root : Root) (exchange : Exchange) (outcome : Outcome) → IsQuiet order
+    → follower_named name state ≡ Some f → root_named f.source state ≡ Some root → part_of exchange (pair_of root.provider f) ≡ outcome → KeepsIn (pair_of root.provider f) outcome → Tracks before said state
+    → After before said order (with_outcome state outcome)
+outcome_after parts before order said state name f root exchange (Err cause) quiet e r p keeps is = tt
+outcome_after parts before order said state name f root exchange (Ok next) quiet e r p keeps is =
+    let there = is.roots f.source root r in
+    let here = is.followers name f e in
+    let number = root.provider.directory.history in
+    let opened = latest_opened f.name said in
+    let stored = last_stored f.name said in
+    let fed = fed_by before said state.roots f.source root f r refl here in
+    let kept = parts number root.provider.directory.suffix (pair_of root.provider f) next.0 next.1 opened stored exchange there.source fed p in (
+      pair_tracked before order said state name f root next.0 next.1 quiet e r kept keeps is,
+      lines_right before said number root.provider f next.1 (consumer_of before said state.roots f here) (accepted_at before state.roots f.source root r there) kept.right,
+    )
+
+between_after : PartsAreKept → (before : List Order) (said : List Told) (state : State) (name : List ℕ) (f : Follower) (exchange : Exchange) (root : Option Root) → follower_named name state ≡ Some f
+    → root_named f.source state ≡ root → Tracks before said state → After before said (asked_by name exchange) (between state f (part_of exchange) root)
+between_after parts before said state name f exchange None e r is = tt
+between_after parts before said state name f exchange (Some root) e r is =
+    let pair = pair_of root.provider f in
+    outcome_after parts before (asked_by name exchange) said state name f root exchange (part_of exchange pair) (quiet_by name exchange) e r refl (exchange_keeps exchange pair) is
+
+pub exchange_after : PartsAreKept → (before : List Order) (said : List Told) (state : State) (name : List ℕ) (exchange : Exchange) (found : Option Follower) → follower_named name state ≡ found → Tracks before said state
+    → After before said (asked_by name exchange) (exchange_of state (part_of exchange) found)
+exchange_after parts before said state name exchange None e is = tt
+exchange_after parts before said state name exchange (Some f) e is = between_after parts before said state name f exchange (root_named f.source state) e refl is

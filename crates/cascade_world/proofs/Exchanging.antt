@@ -1,0 +1,243 @@
+-- Each part of an event leaves the consumer as its lines tell.
+use Rattle.std.proofs.Common.{◌≡◌, ℕ, zero, suc, Bool, true, false, Option, Some, None, List, [], ◌∷◌, ◌++◌, length, refl, ap, sym, subst, ◌∙◌, inl, inr}
+use Rattle.std.proofs.lemmas.Bool.{cases_Bool}
+use Rattle.std.proofs.lemmas.List.Sums.{fold-append}
+use Rattle.std.specs.Prelude.{Ok, Err}
+use Rattle.std.specs.List.{fold}
+use Rattle.sync_model.specs.Copy.{Copy}
+use Rattle.sync_provider.specs.HandingOut.{Turn}
+use Rattle.sync_provider.specs.HandingOut.Turn.{Hands, Closes, Waits, Unknown}
+use Rattle.sync_provider.specs.Machine.{ProviderState}
+use Rattle.sync_provider.specs.declared.searches.Accepted.{Accepted}
+use Rattle.sync_provider.specs.declared.searches.Accepted.TheVariants as accepted
+use Rattle.cascade_world.specs.declared.exchange.Exchange.{Exchange}
+use Rattle.cascade_world.specs.declared.exchange.Exchange.TheVariants as goes
+use Rattle.cascade_world.specs.Exchange.{Pair, Outcome, part_of, fits, after_lines, and_then, name_of, copy_of, Sending, turn_of, handed, sends, sending_by, sending, sent_before, sent, closed, given_up, taken_as, taken_from, taking, taken_before, taken_some, takes, is_busy, cut, idle, control_of, opened_by, opened_idle, opens, left_to_send, ran_before, ran_some, runs, drains, settled_told, settles}
+use Rattle.cascade_world.specs.Exchange.Sending.{Sends, Rests, Overflows}
+use Rattle.cascade_world.specs.Hearing.{Came, heard}
+use Rattle.cascade_world.specs.Hearing.{Came as came}
+use Rattle.cascade_world.specs.Opening.{answer_to}
+use Rattle.cascade_world.specs.Report.{Told}
+use Rattle.cascade_world.specs.Report.{Told as told}
+use Rattle.cascade_world.specs.Trace.{Seen, seen_of, took, dropped, after_own, name_in}
+
+-- lines of the consumer of this name
+abbrev pub EachOwn : List ℕ → List Told → Type 0
+EachOwn name [] = Unit {0}
+EachOwn name (line ∷ lines) = (name_in line ≡ name) × EachOwn name lines
+
+-- what each part keeps: who the consumer is and what it wants, and the provider's writes; its link and its copy are
+-- what its lines make of them
+pub record Keeps (before after : Pair) (lines : List Told) : Type 0 where
+  pub name : after.follower.name ≡ before.follower.name
+  pub source : after.follower.source ≡ before.follower.source
+  pub spec : after.follower.consumer.spec ≡ before.follower.consumer.spec
+  pub directory : after.provider.directory ≡ before.provider.directory
+  pub own : EachOwn before.follower.name lines
+  pub traced : seen_of after.follower ≡ fold after_own (seen_of before.follower) lines
+
+own-append : (name : List ℕ) (ls ms : List Told) → EachOwn name ls → EachOwn name ms → EachOwn name (ls ++ ms)
+own-append name [] ms h k = k
+own-append name (l ∷ ls) ms h k = (h.0, own-append name ls ms h.1 k)
+
+pub keeps_nothing : (pair : Pair) → Keeps pair pair []
+keeps_nothing pair = record { name = refl; source = refl; spec = refl; directory = refl; own = tt; traced = refl }
+
+pub keeps_both : {a b c : Pair} {ls ms : List Told} → Keeps a b ls → Keeps b c ms → Keeps a c (ls ++ ms)
+keeps_both {a} {b} {c} {ls} {ms} first second = record {
+  name = second.name ∙ first.name;
+  source = second.source ∙ first.source;
+  spec = second.spec ∙ first.spec;
+  directory = second.directory ∙ first.directory;
+  own = own-append a.follower.name ls ms first.own (subst (λ n. EachOwn n ms) first.name second.own);
+  traced = second.traced ∙ ap (λ s. fold after_own s ms) first.traced ∙ sym (fold-append after_own (seen_of a.follower) ls ms);
+}
+
+-- a line that tells of nothing that happened
+keeps_quiet : (pair : Pair) (line : Told) → name_in line ≡ pair.follower.name → seen_of pair.follower ≡ after_own (seen_of pair.follower) line → Keeps pair pair (line ∷ [])
+keeps_quiet pair line own quiet = record { name = refl; source = refl; spec = refl; directory = refl; own = (own, tt); traced = quiet }
+
+-- ---- parts one after another
+
+abbrev pub KeepsIn : Pair → Outcome → Type 0
+KeepsIn pair (Ok next) = Keeps pair next.0 next.1
+KeepsIn pair (Err cause) = Unit {0}
+
+keeps_lines : (pair after : Pair) (lines : List Told) (outcome : Outcome) → Keeps pair after lines → KeepsIn after outcome → KeepsIn pair (after_lines lines outcome)
+keeps_lines pair after lines (Ok next) h k = keeps_both h k
+keeps_lines pair after lines (Err cause) h k = tt
+
+keeps_then : (pair : Pair) (outcome : Outcome) (next : Pair → Outcome) → KeepsIn pair outcome → ((after : Pair) → KeepsIn after (next after)) → KeepsIn pair (and_then outcome next)
+keeps_then pair (Ok first) next h k = keeps_lines pair first.0 first.1 (next first.0) h (k first.0)
+keeps_then pair (Err cause) next h k = tt
+
+-- ---- sending
+
+handed_directory : (p : ProviderState) (search : Option ℕ) → (handed p search).directory ≡ p.directory
+handed_directory p None = refl
+handed_directory p (Some number) = refl
+
+abbrev KeepsSending : Pair → Sending → Type 0
+KeepsSending pair (Sends after message) = Keeps pair after (told.Sent (name_of pair) message ∷ [])
+KeepsSending pair Rests = Unit {0}
+KeepsSending pair Overflows = Unit {0}
+
+sends_keeps : (pair : Pair) (search : Option ℕ) (message : List ℕ) → KeepsSending pair (sends pair search message)
+sends_keeps pair search message =
+    elim (cases_Bool (fits pair.follower message)) [
+      | inl room ↦
+          rw room record {
+            name = refl;
+            source = refl;
+            spec = refl;
+            directory = handed_directory pair.provider pair.follower.search;
+            own = (refl, tt);
+            traced = refl;
+          }
+      | inr full ↦ rw full tt
+    ]
+
+sending_by_keeps : (pair : Pair) (turn : Turn) → KeepsSending pair (sending_by pair turn)
+sending_by_keeps pair (Hands whole) = sends_keeps pair pair.follower.search _
+sending_by_keeps pair (Closes code whole) = sends_keeps pair None _
+sending_by_keeps pair Waits = tt
+sending_by_keeps pair Unknown = tt
+
+sending_keeps : (pair : Pair) → KeepsSending pair (sending pair)
+sending_keeps pair = sending_by_keeps pair (turn_of pair.provider pair.follower.search)
+
+sent_before_keeps : (pair : Pair) (next : Pair → Outcome) (found : Sending) → KeepsSending pair found → ((after : Pair) → KeepsIn after (next after)) → KeepsIn pair (sent_before next pair found)
+sent_before_keeps pair next (Sends after message) h k = keeps_lines pair after _ (next after) h (k after)
+sent_before_keeps pair next Rests h k = keeps_quiet pair (told.Nothing (name_of pair)) refl refl
+sent_before_keeps pair next Overflows h k = tt
+
+pub sent_keeps : (count : ℕ) (pair : Pair) → KeepsIn pair (sent count pair)
+sent_keeps zero pair = keeps_nothing pair
+sent_keeps (suc count) pair = sent_before_keeps pair (λ after. sent count after) (sending pair) (sending_keeps pair) (λ after. sent_keeps count after)
+
+-- ---- taking
+
+closed_directory : (p : ProviderState) (search : Option ℕ) → (closed p search).directory ≡ p.directory
+closed_directory p None = refl
+closed_directory p (Some number) = refl
+
+took_is : (before : Copy) (link : List (List ℕ)) (message : List ℕ) (rest : List (List ℕ)) → link ≡ message ∷ rest → took before link ≡ record { link = rest; copy = (heard before message).0 }
+took_is before link message rest e = ap (took before) e
+
+taken_as_keeps : (pair : Pair) (message : List ℕ) (rest : List (List ℕ)) (found : Came) → pair.follower.link ≡ message ∷ rest
+    → Keeps pair (taken_as pair rest (heard (copy_of pair.follower) message).0 found).0 ((taken_as pair rest (heard (copy_of pair.follower) message).0 found).1 ∷ [])
+taken_as_keeps pair message rest came.Staged e = record { name = refl; source = refl; spec = refl; directory = refl; own = (refl, tt); traced = sym (took_is (copy_of pair.follower) pair.follower.link message rest e) }
+taken_as_keeps pair message rest came.Copied e = record { name = refl; source = refl; spec = refl; directory = refl; own = (refl, tt); traced = sym (took_is (copy_of pair.follower) pair.follower.link message rest e) }
+taken_as_keeps pair message rest came.Stored e = record { name = refl; source = refl; spec = refl; directory = refl; own = (refl, tt); traced = sym (took_is (copy_of pair.follower) pair.follower.link message rest e) }
+taken_as_keeps pair message rest (came.Over code) e = record { name = refl; source = refl; spec = refl; directory = refl; own = (refl, tt); traced = sym (took_is (copy_of pair.follower) pair.follower.link message rest e) }
+taken_as_keeps pair message rest (came.Refused fault) e = record {
+  name = refl;
+  source = refl;
+  spec = refl;
+  directory = closed_directory pair.provider pair.follower.search;
+  own = (refl, tt);
+  traced = ap dropped (sym (took_is (copy_of pair.follower) pair.follower.link message rest e));
+}
+
+abbrev pub KeepsTaking : Pair → Option (Pair × Told) → Type 0
+KeepsTaking pair None = Unit {0}
+KeepsTaking pair (Some first) = Keeps pair first.0 (first.1 ∷ [])
+
+taken_from_keeps : (pair : Pair) (link : List (List ℕ)) → pair.follower.link ≡ link → KeepsTaking pair (taken_from pair link)
+taken_from_keeps pair [] e = tt
+taken_from_keeps pair (message ∷ rest) e = taken_as_keeps pair message rest (heard (copy_of pair.follower) message).1 e
+
+pub taking_keeps : (pair : Pair) → KeepsTaking pair (taking pair)
+taking_keeps pair = taken_from_keeps pair pair.follower.link refl
+
+taken_before_keeps : (name : List ℕ) (pair : Pair) (next : Pair → Pair × List Told) (quiet : List Told) (found : Option (Pair × Told)) → pair.follower.name ≡ name → KeepsTaking pair found → Keeps pair pair quiet
+    → ((after : Pair) → after.follower.name ≡ name → Keeps after (next after).0 (next after).1)
+    → Keeps pair (taken_before next pair quiet found).0 (taken_before next pair quiet found).1
+taken_before_keeps name pair next quiet None own h q k = q
+taken_before_keeps name pair next quiet (Some first) own h q k = keeps_both h (k first.0 (h.name ∙ own))
+
+pub taken_some_keeps : (count : ℕ) (name : List ℕ) (quiet : List Told) (pair : Pair) → pair.follower.name ≡ name → ((p : Pair) → p.follower.name ≡ name → Keeps p p quiet)
+    → Keeps pair (taken_some count quiet pair).0 (taken_some count quiet pair).1
+taken_some_keeps zero name quiet pair own q = keeps_nothing pair
+taken_some_keeps (suc count) name quiet pair own q =
+    taken_before_keeps name pair (λ after. taken_some count quiet after) quiet (taking pair) own (taking_keeps pair) (q pair own)
+    (λ after own'. taken_some_keeps count name quiet after own' q)
+
+pub takes_keeps : (count : ℕ) (pair : Pair) → KeepsIn pair (takes count pair)
+takes_keeps count pair =
+    taken_some_keeps count pair.follower.name (told.Nothing (name_of pair) ∷ []) pair refl (λ p own. keeps_quiet p (told.Nothing (name_of pair)) (sym own) refl)
+
+-- ---- cutting and opening
+
+pub cut_keeps : (pair : Pair) → KeepsIn pair (cut pair)
+cut_keeps pair =
+    elim (cases_Bool (is_busy pair.follower)) [
+      | inl busy ↦
+          rw busy record {
+            name = refl;
+            source = refl;
+            spec = refl;
+            directory = closed_directory pair.provider pair.follower.search;
+            own = (refl, tt);
+            traced = refl;
+          }
+      | inr free ↦ rw free (keeps_quiet pair (told.Nothing (name_of pair)) refl refl)
+    ]
+
+idle_keeps : (pair : Pair) → KeepsIn pair (idle pair)
+idle_keeps pair =
+    elim (cases_Bool (is_busy pair.follower)) [
+      | inl busy ↦ let cut' = cut_keeps pair in rw busy (rw busy at cut')
+      | inr free ↦ rw free (keeps_nothing pair)
+    ]
+
+opened_by_keeps : (pair : Pair) (answer : Accepted) → KeepsIn pair (opened_by pair answer)
+opened_by_keeps pair (accepted.Opened number writes) = record { name = refl; source = refl; spec = refl; directory = refl; own = (refl, tt); traced = refl }
+opened_by_keeps pair (accepted.Refused code) = record { name = refl; source = refl; spec = refl; directory = refl; own = (refl, tt); traced = refl }
+opened_by_keeps pair accepted.NoMemory = keeps_nothing pair
+
+pub opens_keeps : (pair : Pair) → KeepsIn pair (opens pair)
+opens_keeps pair =
+    keeps_then pair (idle pair) opened_idle (idle_keeps pair)
+    (λ after. opened_by_keeps after (answer_to after.provider after.follower.consumer.spec (control_of after.follower.consumer)))
+
+-- ---- settling
+
+ran_before_keeps : (pair : Pair) (next : Pair → Outcome) (found : Sending) → KeepsSending pair found → ((after : Pair) → KeepsIn after (next after)) → KeepsIn pair (ran_before next pair found)
+ran_before_keeps pair next (Sends after message) h k =
+    let then' = taken_some_keeps 1 after.follower.name [] after refl (λ p own. keeps_nothing p) in
+    keeps_lines pair (taken_some 1 [] after).0 _ (next (taken_some 1 [] after).0) (keeps_both h then') (k (taken_some 1 [] after).0)
+ran_before_keeps pair next Rests h k = keeps_nothing pair
+ran_before_keeps pair next Overflows h k = tt
+
+ran_some_keeps : (count : ℕ) (pair : Pair) → KeepsIn pair (ran_some count pair)
+ran_some_keeps zero pair = keeps_nothing pair
+ran_some_keeps (suc count) pair = ran_before_keeps pair (λ after. ran_some count after) (sending pair) (sending_keeps pair) (λ after. ran_some_keeps count after)
+
+runs_keeps : (pair : Pair) → KeepsIn pair (runs pair)
+runs_keeps pair = ran_some_keeps (left_to_send pair pair.follower.search) pair
+
+drains_keeps : (pair : Pair) → KeepsIn pair (drains pair)
+drains_keeps pair = taken_some_keeps (length pair.follower.link) pair.follower.name [] pair refl (λ p own. keeps_nothing p)
+
+settled_keeps : (pair : Pair) → KeepsIn pair (settled_told pair)
+settled_keeps pair = keeps_quiet pair (told.Settled (name_of pair) (length pair.provider.directory.writes)) refl refl
+
+pub settles_keeps : (pair : Pair) → KeepsIn pair (settles pair)
+settles_keeps pair =
+    keeps_then pair (and_then (and_then (and_then (drains pair) runs) opens) runs) settled_told
+    (keeps_then pair (and_then (and_then (drains pair) runs) opens) runs
+    (keeps_then pair (and_then (drains pair) runs) opens
+    (keeps_then pair (drains pair) runs (drains_keeps pair) runs_keeps)
+    opens_keeps)
+    runs_keeps)
+    settled_keeps
+
+-- ---- what goes on
+
+pub part_keeps : (exchange : Exchange) (pair : Pair) → KeepsIn pair (part_of exchange pair)
+part_keeps goes.Open pair = opens_keeps pair
+part_keeps (goes.Send count) pair = sent_keeps count pair
+part_keeps (goes.Take count) pair = takes_keeps count pair
+part_keeps goes.Cut pair = cut_keeps pair
+part_keeps goes.Settle pair = settles_keeps pair

@@ -1,0 +1,117 @@
+-- A cut leaves a consumer at rest, with its entries.
+use Rattle.std.proofs.Common.{◌≡◌, ℕ, Bool, true, false, cond, Option, Some, None, List, [], ◌∷◌, length, refl, ◌∙◌, inl, arith, eqb-true}
+use Rattle.std.specs.Prelude.{◌||◌, ◌==◌, not, is_some, Ok}
+use Rattle.dn_names.specs.Names.{TypeAndValue}
+use Rattle.entry_tree.specs.declared.entry.Entry.{Entry}
+use Rattle.sync_provider.specs.HandingOut as handing
+use Rattle.sync_provider.specs.Machine.{ProviderState}
+use Rattle.sync_provider.proofs.Looking.{closed-other}
+use Rattle.cascade_world.specs.declared.node.Follower.{Follower}
+use Rattle.cascade_world.specs.Exchange.{Pair, Outcome, pair_of, copy_of, closed, emptied, given_up, is_busy, cut, name_of}
+use Rattle.cascade_world.specs.Report.{Told as told}
+use Rattle.cascade_world.proofs.Composing.{IsKeptIn, IsQuiet, Keeps, kept-still, kept-told}
+use Rattle.cascade_world.proofs.Feeding.{IsSource, IsAtRest, IsFed, IsKept}
+use Rattle.cascade_world.proofs.Sharing.{Searches, with_searches, others-none, others-changed}
+
+abbrev Name : Type 0
+Name = List (List TypeAndValue)
+
+-- a provider with other searches is a source still
+pub source-searches : (number : ℕ) (suffix : Name) (p : ProviderState) (searches : Searches) → IsSource number suffix p → IsSource number suffix (with_searches p.directory searches)
+source-searches number suffix p searches source = record {
+  small = source.small;
+  directory = source.directory;
+  rises = source.rises;
+  accepted = source.accepted;
+  few = source.few;
+}
+
+-- a consumer at rest is fed by any provider
+pub fed-rest : (number : ℕ) (p q : ProviderState) (f g : Follower) (opened : Option ℕ) (stored : List Entry) → IsFed number p f opened stored → g.consumer.copy.held ≡ f.consumer.copy.held → IsAtRest g
+    → IsFed number q g opened stored
+fed-rest number p q f g opened stored fed same rest = record { held = same ∙ fed.held; ascending = fed.ascending; state = inl rest }
+
+emptied_rests : (f : Follower) → IsAtRest (emptied f (copy_of f))
+emptied_rests f = record { search = refl; running = refl; link = refl }
+
+pub given_up_kept : (number : ℕ) (suffix : Name) (p : ProviderState) (f : Follower) (opened : Option ℕ) (stored : List Entry) → IsSource number suffix p → IsFed number p f opened stored
+    → IsKept number suffix (pair_of p f) (given_up (pair_of p f) (copy_of f)) [] opened stored
+given_up_kept number suffix p f opened stored source fed = by f.search refl
+  where
+    after : Follower
+    after = emptied f (copy_of f)
+
+    fed_after : (q : ProviderState) → IsFed number q after opened stored
+    fed_after q = fed-rest number p q f after opened stored fed refl (emptied_rests f)
+
+    by : (own : Option ℕ) → f.search ≡ own → IsKept number suffix (pair_of p f) (pair_of (closed p own) after) [] opened stored
+    by None is = record {
+      source = source;
+      fed = fed_after p;
+      right = tt;
+      same = refl;
+      others = others-none number p f after is;
+    }
+    by (Some at) is = record {
+      source = source-searches number suffix p (handing.closed p.searches at) source;
+      fed = fed_after (with_searches p.directory (handing.closed p.searches at));
+      right = tt;
+      same = refl;
+      others =
+          others-changed number p.directory p.searches (handing.closed p.searches at) f after at is (λ k far. closed-other p.searches at k far)
+          (λ k mine. let never : ⊥ = cc in absurd never);
+    }
+
+cut_quiet : (name : List ℕ) → IsQuiet (told.Cut name)
+cut_quiet name = record { opened = λ n o. refl; stored = λ n s. refl; right = λ k frame o. (tt, tt) }
+
+pub nothing_quiet : (name : List ℕ) → IsQuiet (told.Nothing name)
+nothing_quiet name = record { opened = λ n o. refl; stored = λ n s. refl; right = λ k frame o. (tt, tt) }
+
+pub cut_kept : (number : ℕ) (suffix : Name) (pair : Pair) (opened : Option ℕ) (stored : List Entry) → IsSource number suffix pair.provider → IsFed number pair.provider pair.follower opened stored
+    → IsKept number suffix pair (given_up pair (copy_of pair.follower)) (told.Cut (name_of pair) ∷ []) opened stored
+cut_kept number suffix pair opened stored source fed =
+    kept-told number suffix pair (given_up pair (copy_of pair.follower)) (told.Cut (name_of pair)) opened stored (cut_quiet (name_of pair))
+    (given_up_kept number suffix pair.provider pair.follower opened stored source fed)
+
+pub nothing_kept : (number : ℕ) (suffix : Name) (pair : Pair) (name : List ℕ) (opened : Option ℕ) (stored : List Entry) → IsSource number suffix pair.provider → IsFed number pair.provider pair.follower opened stored
+    → IsKept number suffix pair pair (told.Nothing name ∷ []) opened stored
+nothing_kept number suffix pair name opened stored source fed =
+    kept-told number suffix pair pair (told.Nothing name) opened stored (nothing_quiet name) (kept-still number suffix pair opened stored source fed)
+
+pub cut_keeps : (number : ℕ) (suffix : Name) → Keeps number suffix cut
+cut_keeps number suffix pair opened stored source fed = by (is_busy pair.follower)
+  where
+    done : Outcome
+    done = Ok (given_up pair (copy_of pair.follower), told.Cut (name_of pair) ∷ [])
+
+    nothing : Outcome
+    nothing = Ok (pair, told.Nothing (name_of pair) ∷ [])
+
+    by : (busy : Bool) → IsKeptIn number suffix pair opened stored (cond busy done nothing)
+    by true = cut_kept number suffix pair opened stored source fed
+    by false = nothing_kept number suffix pair (name_of pair) opened stored source fed
+
+-- ---- a consumer that is not busy is at rest
+
+or_none : (a b : Bool) → (a || b) ≡ false → (a ≡ false) × (b ≡ false)
+or_none true b h = let never : ⊥ = cc in absurd never
+or_none false b h = (refl, h)
+
+option_none : {X : Type 0} (found : Option X) → is_some found ≡ false → found ≡ None
+option_none None h = refl
+option_none (Some x) h = let never : ⊥ = cc in absurd never
+
+link_none : {X : Type 0} (link : List X) → not (length link == 0) ≡ false → link ≡ []
+link_none [] h = refl
+link_none (x ∷ link) h = by (length (x ∷ link) == 0) refl h
+  where
+    by : (b : Bool) → (length (x ∷ link) == 0) ≡ b → not b ≡ false → x ∷ link ≡ []
+    by true is same = let none : length (x ∷ link) ≡ 0 = eqb-true (length (x ∷ link)) 0 is in absurd (omega (arith, none))
+    by false is same = let never : ⊥ = cc in absurd never
+
+pub idle_rests : (f : Follower) → is_busy f ≡ false → IsAtRest f
+idle_rests f idle =
+    let parts = or_none (is_some f.search || is_some f.consumer.copy.running) (not (length f.link == 0)) idle in
+    let both = or_none (is_some f.search) (is_some f.consumer.copy.running) parts.0 in
+    record { search = option_none f.search both.0; running = option_none f.consumer.copy.running both.1; link = link_none f.link parts.1 }

@@ -1,0 +1,386 @@
+-- The lines of a run tell all that happened to the links and the copies.
+use Rattle.std.proofs.Common.{◌≡◌, ◌⊎◌, ℕ, Bool, true, false, ◌||◌, Option, Some, None, List, [], ◌∷◌, ◌++◌, length, refl, ap, sym, subst, ◌∙◌, inl, inr, append-nil, append_assoc}
+use Rattle.std.proofs.lemmas.Bool.{cases_Bool}
+use Rattle.std.proofs.lemmas.List.Sums.{fold-append}
+use Rattle.std.proofs.lemmas.List.Folds.{list_any-append}
+use Rattle.std.proofs.lemmas.Slice.Eq.{bytes_eq-Decides}
+use Rattle.std.specs.Prelude.{Ok, Err, find, nat_le, not}
+use Rattle.std.specs.List.{fold, list_any}
+use Rattle.std.specs.Str.{bytes_eq}
+use Rattle.dn_names.specs.Names.{TypeAndValue, is_at_or_below}
+use Rattle.entry_tree.specs.Selection.{Search}
+use Rattle.entry_tree.specs.declared.entry.Entry.{Entry}
+use Rattle.schema_rules.specs.declared.raw.Change.{Change}
+use Rattle.sync_provider.specs.Machine.{ProviderState}
+use Rattle.cascade_world.specs.declared.fault.Cause.{Cause}
+use Rattle.cascade_world.specs.declared.node.Root.{Root}
+use Rattle.cascade_world.specs.declared.node.Follower.{Follower}
+use Rattle.cascade_world.specs.Directory.{change_code, changed}
+use Rattle.cascade_world.specs.Exchange.{Pair, Outcome, sent, takes, cut, opens, settles}
+use Rattle.cascade_world.specs.Orders.{Order}
+use Rattle.cascade_world.specs.Orders.{Order as asks}
+use Rattle.cascade_world.specs.Reader.{Reader}
+use Rattle.cascade_world.specs.Report.{Told}
+use Rattle.cascade_world.specs.Report.Told.{Wrote, Shown}
+use Rattle.cascade_world.specs.Run.{Runs}
+use Rattle.cascade_world.specs.Trace.{Seen, seen_of, unseen, after_own, after_line, name_in, traced, AreTraced, all_lines}
+use Rattle.cascade_world.specs.World.{State, no_nodes, Step, step, most_nodes, count_nodes, is_root, is_follower, has_node, root_named, follower_named, first_changed, with_follower, with_provider, with_pair, with_outcome, between, exchange_of, exchange, where_room, new_root, declare_root, new_follower, follow, declare_follower, write_to, shown_of, show_of}
+use Rattle.cascade_world.proofs.Exchanging.{EachOwn, Keeps, KeepsIn, sent_keeps, takes_keeps, cut_keeps, opens_keeps, settles_keeps}
+
+-- ---- names
+
+pub same_name : (name other : List ℕ) → bytes_eq name other ≡ true → name ≡ other
+same_name name other hit = (bytes_eq-Decides name other).0 hit
+
+pub itself : (name : List ℕ) → bytes_eq name name ≡ true
+itself name = (bytes_eq-Decides name name).1 refl
+
+pub other_way : (a b : List ℕ) → bytes_eq a b ≡ false → bytes_eq b a ≡ false
+other_way a b miss =
+    elim (cases_Bool (bytes_eq b a)) [
+      | inl hit ↦ let bad : bytes_eq a b ≡ true = subst (λ x. bytes_eq x b ≡ true) (same_name b a hit) (itself b) in let worse : false ≡ true = sym miss ∙ bad in cc
+      | inr so ↦ so
+    ]
+
+pub or_parts : (a b : Bool) → (a || b) ≡ false → (a ≡ false) × (b ≡ false)
+or_parts true b h = cc
+or_parts false b h = (refl, h)
+
+pub or_right : (a : Bool) → (a || true) ≡ true
+or_right true = refl
+or_right false = refl
+
+pub or_left : (a b : Bool) → a ≡ true → (a || b) ≡ true
+or_left a b h = rw h refl
+
+-- no two consumers have one name
+abbrev pub AreApart : List Follower → Type 0
+AreApart [] = Unit {0}
+AreApart (f ∷ fs) = (list_any (is_follower f.name) fs ≡ false) × AreApart fs
+
+-- each line is of a node
+abbrev pub AreOfNodes : State → List Told → Type 0
+AreOfNodes state [] = Unit {0}
+AreOfNodes state (line ∷ lines) = (has_node (name_in line) state ≡ true) × AreOfNodes state lines
+
+pub record AreTold (state : State) (lines : List Told) : Type 0 where
+  pub apart : AreApart state.followers
+  pub of_nodes : AreOfNodes state lines
+  pub told : AreTraced lines state.followers
+
+of_nodes-append : (state : State) (ls ms : List Told) → AreOfNodes state ls → AreOfNodes state ms → AreOfNodes state (ls ++ ms)
+of_nodes-append state [] ms h k = k
+of_nodes-append state (l ∷ ls) ms h k = (h.0, of_nodes-append state ls ms h.1 k)
+
+-- nodes that were there are there still
+abbrev StillThere : State → State → Type 0
+StillThere old new = (name : List ℕ) → has_node name old ≡ true → has_node name new ≡ true
+
+still_of_nodes : (old new : State) (lines : List Told) → StillThere old new → AreOfNodes old lines → AreOfNodes new lines
+still_of_nodes old new [] still h = tt
+still_of_nodes old new (line ∷ lines) still h = (still (name_in line) h.0, still_of_nodes old new lines still h.1)
+
+own_of_nodes : (state : State) (name : List ℕ) (lines : List Told) → has_node name state ≡ true → EachOwn name lines → AreOfNodes state lines
+own_of_nodes state name [] there own = tt
+own_of_nodes state name (line ∷ lines) there own = (subst (λ n. has_node n state ≡ true) (sym own.0) there, own_of_nodes state name lines there own.1)
+
+-- ---- traces over more lines
+
+own_after : (name : List ℕ) (seen : Seen) (lines : List Told) → EachOwn name lines → fold (after_line name) seen lines ≡ fold after_own seen lines
+own_after name seen [] own = refl
+own_after name seen (line ∷ lines) own =
+    let hit : bytes_eq (name_in line) name ≡ true = subst (λ n. bytes_eq n name ≡ true) (sym own.0) (itself name) in
+    let first : after_line name seen line ≡ after_own seen line = rw hit refl in
+    ap (λ s. fold (after_line name) s lines) first ∙ own_after name (after_own seen line) lines own.1
+
+others_after : (name other : List ℕ) (seen : Seen) (lines : List Told) → bytes_eq other name ≡ false → EachOwn other lines → fold (after_line name) seen lines ≡ seen
+others_after name other seen [] apart own = refl
+others_after name other seen (line ∷ lines) apart own =
+    let miss : bytes_eq (name_in line) name ≡ false = subst (λ n. bytes_eq n name ≡ false) (sym own.0) apart in
+    let first : after_line name seen line ≡ seen = rw miss refl in
+    ap (λ s. fold (after_line name) s lines) first ∙ others_after name other seen lines apart own.1
+
+-- a name that no line has
+none_after : (name : List ℕ) (state : State) (seen : Seen) (lines : List Told) → has_node name state ≡ false → AreOfNodes state lines → fold (after_line name) seen lines ≡ seen
+none_after name state seen [] new of = refl
+none_after name state seen (line ∷ lines) new of =
+    let miss : bytes_eq (name_in line) name ≡ false =
+    elim (cases_Bool (bytes_eq (name_in line) name)) [
+      | inl hit ↦ let bad : has_node name state ≡ true = subst (λ n. has_node n state ≡ true) (same_name (name_in line) name hit) of.0 in let worse : false ≡ true = sym new ∙ bad in cc
+      | inr so ↦ so
+    ] in
+    let first : after_line name seen line ≡ seen = rw miss refl in
+    ap (λ s. fold (after_line name) s lines) first ∙ none_after name state seen lines new of.1
+
+traced-append : (name : List ℕ) (ls ms : List Told) → traced name (ls ++ ms) ≡ fold (after_line name) (traced name ls) ms
+traced-append name ls ms = fold-append (after_line name) unseen ls ms
+
+-- lines that leave each consumer as it was
+others_traced : (name : List ℕ) (ls ms : List Told) (fs : List Follower) → list_any (is_follower name) fs ≡ false → EachOwn name ms → AreTraced ls fs → AreTraced (ls ++ ms) fs
+others_traced name ls ms [] apart own h = tt
+others_traced name ls ms (f ∷ fs) apart own h =
+    let parts = or_parts (is_follower name f) (list_any (is_follower name) fs) apart in (
+      h.0 ∙ sym (traced-append f.name ls ms ∙ others_after f.name name (traced f.name ls) ms parts.0 own),
+      others_traced name ls ms fs parts.1 own h.1,
+    )
+
+quiet_after : (name : List ℕ) (seen : Seen) (line : Told) → after_own seen line ≡ seen → after_line name seen line ≡ seen
+quiet_after name seen line quiet =
+    elim (cases_Bool (bytes_eq (name_in line) name)) [
+      | inl hit ↦ rw hit quiet
+      | inr miss ↦ rw miss refl
+    ]
+
+quiet_traced : (line : Told) (ls : List Told) (fs : List Follower) → ((seen : Seen) → after_own seen line ≡ seen) → AreTraced ls fs → AreTraced (ls ++ line ∷ []) fs
+quiet_traced line ls [] quiet h = tt
+quiet_traced line ls (f ∷ fs) quiet h =
+    (h.0 ∙ sym (traced-append f.name ls (line ∷ []) ∙ quiet_after f.name (traced f.name ls) line (quiet (traced f.name ls))), quiet_traced line ls fs quiet h.1)
+
+-- ---- one consumer changes
+
+pub found_name : (name : List ℕ) (fs : List Follower) (f : Follower) → find (is_follower name) fs ≡ Some f → name ≡ f.name
+found_name name [] f e = cc
+found_name name (g ∷ gs) f e =
+    elim (cases_Bool (is_follower name g)) [
+      | inl hit ↦ let e' : Some g ≡ Some f = rw hit at e in let same : g ≡ f = cc in same_name name g.name hit ∙ ap (λ (x : Follower). x.name) same
+      | inr miss ↦ let e' : find (is_follower name) gs ≡ Some f = rw miss at e in found_name name gs f e'
+    ]
+
+-- names stay where one consumer is changed
+changed_any : (other name : List ℕ) (after : Follower) (fs : List Follower) → after.name ≡ name → list_any (is_follower other) (with_follower name after fs) ≡ list_any (is_follower other) fs
+changed_any other name after [] same = refl
+changed_any other name after (f ∷ fs) same =
+    elim (cases_Bool (is_follower name f)) [
+      | inl hit ↦
+          let one : is_follower other after ≡ is_follower other f = ap (bytes_eq other) (same ∙ same_name name f.name hit) in
+          rw hit (ap (λ b. b || list_any (is_follower other) fs) one)
+      | inr miss ↦ rw miss (ap (λ b. is_follower other f || b) (changed_any other name after fs same))
+    ]
+
+changed_apart : (name : List ℕ) (after : Follower) (fs : List Follower) → after.name ≡ name → AreApart fs → AreApart (with_follower name after fs)
+changed_apart name after [] same h = tt
+changed_apart name after (f ∷ fs) same h =
+    elim (cases_Bool (is_follower name f)) [
+      | inl hit ↦ rw hit (subst (λ n. list_any (is_follower n) fs ≡ false) (sym (same ∙ same_name name f.name hit)) h.0, h.1)
+      | inr miss ↦ rw miss (changed_any f.name name after fs same ∙ h.0, changed_apart name after fs same h.1)
+    ]
+
+changed_traced : (name : List ℕ) (before after : Follower) (ls ms : List Told) (fs : List Follower) → find (is_follower name) fs ≡ Some before → after.name ≡ name → AreApart fs → EachOwn name ms
+    → seen_of after ≡ fold after_own (seen_of before) ms → AreTraced ls fs → AreTraced (ls ++ ms) (with_follower name after fs)
+changed_traced name before after ls ms [] e same apart own step' h = tt
+changed_traced name before after ls ms (f ∷ fs) e same apart own step' h =
+    elim (cases_Bool (is_follower name f)) [
+      | inl hit ↦
+          let e' : Some f ≡ Some before = rw hit at e in
+          let is : f ≡ before = cc in
+          let here : name ≡ f.name = same_name name f.name hit in
+          let was : seen_of before ≡ traced name ls = ap seen_of (sym is) ∙ h.0 ∙ ap (λ n. traced n ls) (sym here) in
+          let now : seen_of after ≡ traced name (ls ++ ms) =
+          step' ∙ sym (own_after name (seen_of before) ms own) ∙ ap (λ s. fold (after_line name) s ms) was ∙ sym (traced-append name ls ms) in
+          rw hit (now ∙ ap (λ n. traced n (ls ++ ms)) (sym same), others_traced name ls ms fs (subst (λ n. list_any (is_follower n) fs ≡ false) (sym here) apart.0) own h.1)
+      | inr miss ↦
+          let e' : find (is_follower name) fs ≡ Some before = rw miss at e in
+          rw miss (
+            h.0 ∙ sym (traced-append f.name ls ms ∙ others_after f.name name (traced f.name ls) ms miss own),
+            changed_traced name before after ls ms fs e' same apart.1 own step' h.1,
+          )
+    ]
+
+changed_roots_any : (other name : List ℕ) (provider : ProviderState) (rs : List Root) → list_any (is_root other) (with_provider name provider rs) ≡ list_any (is_root other) rs
+changed_roots_any other name provider [] = refl
+changed_roots_any other name provider (r ∷ rs) =
+    elim (cases_Bool (is_root name r)) [
+      | inl hit ↦ rw hit refl
+      | inr miss ↦ rw miss (ap (λ b. is_root other r || b) (changed_roots_any other name provider rs))
+    ]
+
+-- ---- one more consumer
+
+pushed_apart : (fs : List Follower) (f : Follower) → list_any (is_follower f.name) fs ≡ false → AreApart fs → AreApart (fs ++ f ∷ [])
+pushed_apart [] f new h = (refl, tt)
+pushed_apart (g ∷ gs) f new h =
+    let parts = or_parts (is_follower f.name g) (list_any (is_follower f.name) gs) new in
+    let none : list_any (is_follower g.name) (gs ++ f ∷ []) ≡ false =
+    list_any-append (is_follower g.name) gs (f ∷ []) ∙ ap (λ b. b || (is_follower g.name f || false)) h.0 ∙ ap (λ b. b || false) (other_way f.name g.name parts.0) in
+    (none, pushed_apart gs f parts.1 h.1)
+
+pushed_traced : (ls : List Told) (fs : List Follower) (f : Follower) → seen_of f ≡ traced f.name ls → AreTraced ls fs → AreTraced ls (fs ++ f ∷ [])
+pushed_traced ls [] f new h = (new, tt)
+pushed_traced ls (g ∷ gs) f new h = (h.0, pushed_traced ls gs f new h.1)
+
+-- ---- each order
+
+abbrev pub ToldAfter : List Told → Step → Type 0
+ToldAfter lines (Err cause) = Unit {0}
+ToldAfter lines (Ok next) = AreTold next.0 (lines ++ next.1)
+
+without_lines : (state : State) (lines : List Told) → AreTold state lines → AreTold state (lines ++ [])
+without_lines state lines is = subst (AreTold state) (sym (append-nil lines)) is
+
+room_after : (lines : List Told) (state after : State) → AreTold after lines → ToldAfter lines (where_room state after)
+room_after lines state after is =
+    elim (cases_Bool (nat_le most_nodes (count_nodes state))) [
+      | inl full ↦ rw full tt
+      | inr room ↦ rw room (without_lines after lines is)
+    ]
+
+root_told : (lines : List Told) (state : State) (root : Root) → AreTold state lines → AreTold (record state { roots = state.roots ++ root ∷ [] }) lines
+root_told lines state root is =
+    let after : State = record state { roots = state.roots ++ root ∷ [] } in
+    let still : StillThere state after =
+    λ name there. ap (λ b. b || list_any (is_follower name) state.followers) (list_any-append (is_root name) state.roots (root ∷ [])) ∙ widened (list_any (is_root name) state.roots) (is_root name root || false) (list_any (is_follower name) state.followers) there in
+    record { apart = is.apart; of_nodes = still_of_nodes state after lines still is.of_nodes; told = is.told }
+  where
+    widened : (a b c : Bool) → (a || c) ≡ true → ((a || b) || c) ≡ true
+    widened true b c h = refl
+    widened false b c h = rw h (or_right b)
+
+follower_told : (lines : List Told) (state : State) (f : Follower) → has_node f.name state ≡ false → seen_of f ≡ unseen → AreTold state lines → AreTold (record state { followers = state.followers ++ f ∷ [] }) lines
+follower_told lines state f new fresh is =
+    let after : State = record state { followers = state.followers ++ f ∷ [] } in
+    let still : StillThere state after =
+    λ name there. ap (λ b. list_any (is_root name) state.roots || b) (list_any-append (is_follower name) state.followers (f ∷ [])) ∙ widened (list_any (is_root name) state.roots) (list_any (is_follower name) state.followers) (is_follower name f || false) there in
+    record {
+      apart = pushed_apart state.followers f (or_parts (list_any (is_root f.name) state.roots) (list_any (is_follower f.name) state.followers) new).1 is.apart;
+      of_nodes = still_of_nodes state after lines still is.of_nodes;
+      told = pushed_traced lines state.followers f (fresh ∙ sym (none_after f.name state unseen lines new is.of_nodes)) is.told;
+    }
+  where
+    widened : (a b c : Bool) → (a || b) ≡ true → (a || (b || c)) ≡ true
+    widened true b c h = refl
+    widened false b c h = or_left b c h
+
+provider_after : (lines : List Told) (state : State) (name : List ℕ) (suffix : List (List TypeAndValue)) → AreTold state lines → ToldAfter lines (declare_root state name suffix)
+provider_after lines state name suffix is =
+    elim (cases_Bool (has_node name state)) [
+      | inl taken ↦ rw taken tt
+      | inr new ↦ rw new (room_after lines state (record state { roots = state.roots ++ new_root state name suffix ∷ [] }) (root_told lines state (new_root state name suffix) is))
+    ]
+
+follow_after : (lines : List Told) (state : State) (name source : List ℕ) (search : Search) (root : Option Root) → has_node name state ≡ false → AreTold state lines → ToldAfter lines (follow state name source search root)
+follow_after lines state name source search None new is = tt
+follow_after lines state name source search (Some root) new is =
+    elim (cases_Bool (not (is_at_or_below search.base root.provider.directory.suffix))) [
+      | inl outside ↦ rw outside tt
+      | inr inside ↦ rw inside (room_after lines state (record state { followers = state.followers ++ new_follower name source search ∷ [] }) (follower_told lines state (new_follower name source search) new refl is))
+    ]
+
+consumer_after : (lines : List Told) (state : State) (name source : List ℕ) (search : Search) → AreTold state lines → ToldAfter lines (declare_follower state name source search)
+consumer_after lines state name source search is =
+    elim (cases_Bool (has_node name state)) [
+      | inl taken ↦ rw taken tt
+      | inr new ↦ rw new (follow_after lines state name source search (root_named source state) new is)
+    ]
+
+root_there : (name : List ℕ) (rs : List Root) (root : Root) → find (is_root name) rs ≡ Some root → list_any (is_root name) rs ≡ true
+root_there name [] root e = cc
+root_there name (r ∷ rs) root e =
+    elim (cases_Bool (is_root name r)) [
+      | inl hit ↦ rw hit refl
+      | inr miss ↦ let e' : find (is_root name) rs ≡ Some root = rw miss at e in rw miss (root_there name rs root e')
+    ]
+
+follower_there : (name : List ℕ) (fs : List Follower) (f : Follower) → find (is_follower name) fs ≡ Some f → list_any (is_follower name) fs ≡ true
+follower_there name [] f e = cc
+follower_there name (g ∷ gs) f e =
+    elim (cases_Bool (is_follower name g)) [
+      | inl hit ↦ rw hit refl
+      | inr miss ↦ let e' : find (is_follower name) gs ≡ Some f = rw miss at e in rw miss (follower_there name gs f e')
+    ]
+
+write_after : (lines : List Told) (state : State) (name : List ℕ) (change : Change) (root : Option Root) → root_named name state ≡ root → AreTold state lines → ToldAfter lines (write_to state name change root)
+write_after lines state name change None e is = tt
+write_after lines state name change (Some root) e is =
+    let provider : ProviderState = record root.provider { directory = changed root.provider.directory state.clock change } in
+    let after : State = record state { roots = with_provider name provider state.roots } in
+    let line' : Told = Wrote name (change_code root.provider.directory state.clock change) (length (changed root.provider.directory state.clock change).writes) in
+    let still : (other : List ℕ) → has_node other after ≡ has_node other state =
+    λ other. ap (λ b. b || list_any (is_follower other) state.followers) (changed_roots_any other name provider state.roots) in
+    let there : has_node name state ≡ true = or_left (list_any (is_root name) state.roots) (list_any (is_follower name) state.followers) (root_there name state.roots root e) in
+    record {
+      apart = is.apart;
+      of_nodes =
+          of_nodes-append after lines (line' ∷ []) (still_of_nodes state after lines (λ other h. still other ∙ h) is.of_nodes)
+          (still name ∙ there, tt);
+      told = quiet_traced line' lines state.followers (λ seen. refl) is.told;
+    }
+
+exchange_done : (lines : List Told) (state : State) (name : List ℕ) (before : Pair) (outcome : Outcome) → follower_named name state ≡ Some before.follower → AreTold state lines → KeepsIn before outcome
+    → ToldAfter lines (with_outcome state outcome)
+exchange_done lines state name before (Err cause) e is k = tt
+exchange_done lines state name before (Ok next) e is k =
+    let after = next.0 in
+    let here : name ≡ before.follower.name = found_name name state.followers before.follower e in
+    let same : after.follower.name ≡ name = k.name ∙ sym here in
+    let own : EachOwn name next.1 = subst (λ n. EachOwn n next.1) (sym here) k.own in
+    let changed' : with_follower after.follower.name after.follower state.followers ≡ with_follower name after.follower state.followers = ap (λ n. with_follower n after.follower state.followers) same in
+    let still : (other : List ℕ) → has_node other (with_pair state after) ≡ has_node other state =
+    λ other. ap (λ b. b || list_any (is_follower other) (with_follower after.follower.name after.follower state.followers)) (changed_roots_any other after.follower.source after.provider state.roots)
+    ∙ ap (λ b. list_any (is_root other) state.roots || b) (ap (list_any (is_follower other)) changed' ∙ changed_any other name after.follower state.followers same) in
+    let there : has_node name state ≡ true = ap (λ b. list_any (is_root name) state.roots || b) (follower_there name state.followers before.follower e) ∙ or_right (list_any (is_root name) state.roots) in
+    record {
+      apart = subst AreApart (sym changed') (changed_apart name after.follower state.followers same is.apart);
+      of_nodes =
+          of_nodes-append (with_pair state after) lines next.1 (still_of_nodes state (with_pair state after) lines (λ other h. still other ∙ h) is.of_nodes)
+          (own_of_nodes (with_pair state after) name next.1 (still name ∙ there) own);
+      told = subst (AreTraced (lines ++ next.1)) (sym changed') (changed_traced name before.follower after.follower lines next.1 state.followers e same is.apart own k.traced is.told);
+    }
+
+between_after : (lines : List Told) (state : State) (name : List ℕ) (follower : Follower) (part : Pair → Outcome) (root : Option Root) → follower_named name state ≡ Some follower → ((pair : Pair) → KeepsIn pair (part pair)) → AreTold state lines
+    → ToldAfter lines (between state follower part root)
+between_after lines state name follower part None e keeps is = tt
+between_after lines state name follower part (Some root) e keeps is =
+    let before : Pair = record { provider = root.provider; follower = follower } in
+    exchange_done lines state name before (part before) e is (keeps before)
+
+exchange_after : (lines : List Told) (state : State) (name : List ℕ) (part : Pair → Outcome) (found : Option Follower) → follower_named name state ≡ found → ((pair : Pair) → KeepsIn pair (part pair)) → AreTold state lines
+    → ToldAfter lines (exchange_of state part found)
+exchange_after lines state name part None e keeps is = tt
+exchange_after lines state name part (Some follower) e keeps is = between_after lines state name follower part (root_named follower.source state) e keeps is
+
+shown_there : (state : State) (name : List ℕ) (root : Option Root) (follower : Option Follower) (entries : List Entry) → root_named name state ≡ root → follower_named name state ≡ follower → shown_of root follower ≡ Some entries → has_node name state ≡ true
+shown_there state name (Some root) follower entries r f e = or_left (list_any (is_root name) state.roots) (list_any (is_follower name) state.followers) (root_there name state.roots root r)
+shown_there state name None (Some follower) entries r f e = ap (λ b. list_any (is_root name) state.roots || b) (follower_there name state.followers follower f) ∙ or_right (list_any (is_root name) state.roots)
+shown_there state name None None entries r f e = cc
+
+show_after : (lines : List Told) (state : State) (name : List ℕ) (entries : Option (List Entry)) → shown_of (root_named name state) (follower_named name state) ≡ entries → AreTold state lines → ToldAfter lines (show_of state name entries)
+show_after lines state name None e is = tt
+show_after lines state name (Some entries) e is = record {
+  apart = is.apart;
+  of_nodes = of_nodes-append state lines (Shown name entries ∷ []) is.of_nodes (shown_there state name (root_named name state) (follower_named name state) entries refl refl e, tt);
+  told = quiet_traced (Shown name entries) lines state.followers (λ seen. refl) is.told;
+}
+
+clock_told : (lines : List Told) (state : State) (time : ℕ) → AreTold state lines → AreTold (record state { clock = time }) lines
+clock_told lines state time is =
+    let after : State = record state { clock = time } in
+    record { apart = is.apart; of_nodes = still_of_nodes state after lines (λ name there. there) is.of_nodes; told = is.told }
+
+pub step_told_after : (lines : List Told) (state : State) (order : Order) → AreTold state lines → ToldAfter lines (step state order)
+step_told_after lines state (asks.Provider name suffix) is = provider_after lines state name suffix is
+step_told_after lines state (asks.Consumer name source search) is = consumer_after lines state name source search is
+step_told_after lines state (asks.Clock time) is = without_lines (record state { clock = time }) lines (clock_told lines state time is)
+step_told_after lines state (asks.Write name change) is = write_after lines state name change (root_named name state) refl is
+step_told_after lines state (asks.OpenOnce name) is = exchange_after lines state name opens (follower_named name state) refl opens_keeps is
+step_told_after lines state (asks.Send name count) is = exchange_after lines state name (sent count) (follower_named name state) refl (sent_keeps count) is
+step_told_after lines state (asks.Take name count) is = exchange_after lines state name (takes count) (follower_named name state) refl (takes_keeps count) is
+step_told_after lines state (asks.Cut name) is = exchange_after lines state name cut (follower_named name state) refl cut_keeps is
+step_told_after lines state (asks.Settle name) is = exchange_after lines state name settles (follower_named name state) refl settles_keeps is
+step_told_after lines state (asks.Show name) is = show_after lines state name (shown_of (root_named name state) (follower_named name state)) refl is
+
+-- ---- runs
+
+run_told : (lines : List Told) (state : State) (reader : Reader) (orders : List Order) (report : List (List Told)) (end : State) (rest : Reader)
+    → AreTold state lines → Runs state reader orders report end rest → AreTold end (lines ++ all_lines report)
+run_told lines state reader [] [] end rest is r = subst (λ s. AreTold s (lines ++ [])) r.0 (without_lines state lines is)
+run_told lines state reader [] (t ∷ report) end rest is r = absurd r
+run_told lines state reader (o ∷ orders) [] end rest is r = absurd r
+run_told lines state reader (o ∷ orders) (t ∷ report) end rest is r =
+    let P : Step → Type 0 = ToldAfter lines in
+    let next : AreTold r.2 (lines ++ t) = subst P r.4 (step_told_after lines state o is) in
+    subst (AreTold end) (append_assoc lines t (all_lines report)) (run_told (lines ++ t) r.2 r.1 orders report end rest next r.5)
+
+-- the lines of a run from no nodes tell all that happened to the consumers
+pub runs_traced : (reader : Reader) (orders : List Order) (report : List (List Told)) (end : State) (rest : Reader) → Runs no_nodes reader orders report end rest → AreTraced (all_lines report) end.followers
+runs_traced reader orders report end rest r =
+    let is : AreTold no_nodes [] = record { apart = tt; of_nodes = tt; told = tt } in (run_told [] no_nodes reader orders report end rest is r).told

@@ -1,0 +1,14 @@
+use Rattle.std.proofs.Common.{◌≡◌}
+use Rattle.cascade_world.specs.Exchange.{pair_of, takes}
+use Rattle.cascade_world.specs.Going.{GoesOn}
+use Rattle.cascade_world.proofs.receiving.take.Given as goal
+
+-- so many takings are left
+abbrev pub invariant-loop-left : goal.invariant-loop-left
+invariant-loop-left l = record {
+  left : GoesOn (takes l.fn.count (pair_of l.fn.provider l.fn.follower)) (takes l.left (pair_of l.provider l.follower)) l.fn.out.items l.out.items;
+  directory : l.provider.directory ≡ l.fn.provider.directory;
+}
+
+abbrev pub decreases-loop-left : goal.decreases-loop-left
+decreases-loop-left l = l.left

@@ -1,0 +1,14 @@
+use Rattle.std.proofs.Common.{◌≡◌}
+use Rattle.cascade_world.specs.Exchange.{pair_of, sent}
+use Rattle.cascade_world.specs.Going.{GoesOn}
+use Rattle.cascade_world.proofs.sending.send.Given as goal
+
+-- so many sendings are left, and the writes are as before
+abbrev pub invariant-loop-left : goal.invariant-loop-left
+invariant-loop-left l = record {
+  goes : GoesOn (sent l.fn.count (pair_of l.fn.provider l.fn.follower)) (sent l.left (pair_of l.provider l.follower)) l.fn.out.items l.out.items;
+  directory : l.provider.directory ≡ l.fn.provider.directory;
+}
+
+abbrev pub decreases-loop-left : goal.decreases-loop-left
+decreases-loop-left l = l.left

@@ -1,0 +1,14 @@
+use Rattle.std.proofs.Common.{◌≡◌}
+use Rattle.cascade_world.specs.Exchange.{pair_of, left_to_send, runs}
+use Rattle.cascade_world.specs.Going.{Runs}
+use Rattle.cascade_world.proofs.settling.run_search.Given as goal
+
+-- what the search still has pending is left
+abbrev pub invariant-loop-provider : goal.invariant-loop-provider
+invariant-loop-provider l = record {
+  left : Runs (runs (pair_of l.fn.provider l.fn.follower)) (pair_of l.provider l.follower) l.fn.out.items l.out.items;
+  directory : l.provider.directory ≡ l.fn.provider.directory;
+}
+
+abbrev pub decreases-loop-provider : goal.decreases-loop-provider
+decreases-loop-provider l = left_to_send (pair_of l.provider l.follower) l.follower.search

@@ -1,0 +1,14 @@
+use Rattle.std.proofs.Common.{◌≡◌, length}
+use Rattle.cascade_world.specs.Exchange.{pair_of, drains}
+use Rattle.cascade_world.specs.Going.{Drains}
+use Rattle.cascade_world.proofs.settling.take_all.Given as goal
+
+-- the rest of the link is left
+abbrev pub invariant-loop : goal.invariant-loop
+invariant-loop l = record {
+  left : Drains (drains (pair_of l.fn.provider l.fn.follower)) (pair_of l.provider l.follower) l.fn.out.items l.out.items;
+  directory : l.provider.directory ≡ l.fn.provider.directory;
+}
+
+abbrev pub decreases-loop : goal.decreases-loop
+decreases-loop l = length l.follower.link

@@ -1,0 +1,272 @@
+-- What goes on between a consumer and its provider: the state of the two after each part of an event, and the lines
+-- that it tells.
+use Rattle.std.specs.Prelude.{ℕ, zero, suc, ◌+◌, Bool, false, ◌||◌, not, ◌==◌, is_some, nat_le, pos, Option, Some, None, Result, Ok, Err, List, [], ◌∷◌, ◌++◌, length, if◌then◌else◌}
+use Rattle.csn_cookie.specs.Cookie.{cookie_of_text}
+use Rattle.csn_cookie.specs.Csn.{Stamp, upto}
+use Rattle.csn_cookie.specs.declared.cookie.Cookie.{Cookie}
+use Rattle.ldap_messages.specs.Whole.{Whole, message_octets}
+use Rattle.sync_messages.specs.Request.{request_octets}
+use Rattle.sync_messages.specs.declared.request.Mode.TheVariants.{RefreshOnly}
+use Rattle.sync_model.specs.Copy.{Copy, asked}
+use Rattle.sync_model.specs.Message.SyncMessage.{Done}
+use Rattle.sync_consumer.specs.Taking.{Following, without_search}
+use Rattle.sync_wire.specs.Sending as wire
+use Rattle.sync_provider.specs.Directory.{DirectoryState, stamps}
+use Rattle.sync_provider.specs.HandingOut.{Turn, turn_at, search_at}
+use Rattle.sync_provider.specs.HandingOut.Turn.{Hands, Closes, Waits, Unknown}
+use Rattle.sync_provider.specs.Machine.{ProviderState, handed_out, dropped}
+use Rattle.sync_provider.specs.Search.{SearchState}
+use Rattle.sync_provider.specs.declared.searches.Accepted.{Accepted}
+use Rattle.sync_provider.specs.declared.searches.Accepted.TheVariants as accepted
+use Rattle.cascade_world.specs.declared.fault.Cause.{Cause}
+use Rattle.cascade_world.specs.declared.fault.Cause.TheVariants.{LimitReached}
+use Rattle.cascade_world.specs.declared.exchange.Exchange.{Exchange}
+use Rattle.cascade_world.specs.declared.exchange.Exchange.TheVariants as goes
+use Rattle.cascade_world.specs.declared.node.Follower.{Follower}
+use Rattle.cascade_world.specs.Hearing.{Came, heard, heard_of}
+use Rattle.cascade_world.specs.Hearing.{Came as came}
+use Rattle.cascade_world.specs.Link.{most_link, link_size}
+use Rattle.cascade_world.specs.Opening.{message_id, answer_to, with_opened}
+use Rattle.cascade_world.specs.Report.{Told}
+use Rattle.cascade_world.specs.Report.{Told as told}
+
+-- a provider and one of its consumers
+pub record Pair : Type 0 where
+  pub provider : ProviderState
+  pub follower : Follower
+
+abbrev pub pair_of : ProviderState → Follower → Pair
+pair_of provider follower = record { provider = provider; follower = follower }
+
+-- the two after a part of an event with the lines that it told, or why the event is refused
+abbrev pub Outcome : Type 0
+Outcome = Result (Pair × List Told) Cause
+
+abbrev pub after_lines : List Told → Outcome → Outcome
+after_lines lines (Ok next) = Ok (next.0, lines ++ next.1)
+after_lines lines (Err cause) = Err cause
+
+-- one part after another
+abbrev pub and_then : Outcome → (Pair → Outcome) → Outcome
+and_then (Ok first) next = after_lines first.1 (next first.0)
+and_then (Err cause) next = Err cause
+
+abbrev pub name_of : Pair → List ℕ
+name_of pair = pair.follower.name
+
+abbrev pub copy_of : Follower → Copy
+copy_of follower = follower.consumer.copy
+
+abbrev pub with_copy : Follower → Copy → Follower
+with_copy follower copy = record follower { consumer = record follower.consumer { copy = copy } }
+
+-- ---- sending
+
+-- one message goes into the link; or nothing is pending; or the link has no room for what is pending
+pub data Sending : Type 0 where
+  Sends : (after : Pair) (message : List ℕ) → Sending
+  Rests : Sending
+  Overflows : Sending
+
+-- what the search of this number hands out next
+abbrev pub turn_of : ProviderState → Option ℕ → Turn
+turn_of p None = Unknown
+turn_of p (Some number) = turn_at p.searches number
+
+abbrev pub handed : ProviderState → Option ℕ → ProviderState
+handed p None = p
+handed p (Some number) = handed_out p number
+
+-- the message stands at the end of the link, and this search is open then
+abbrev pub linked : Follower → Option ℕ → List ℕ → Follower
+linked follower search message = record follower { link = follower.link ++ message ∷ []; search = search }
+
+abbrev pub fits : Follower → List ℕ → Bool
+fits follower message = nat_le (link_size follower.link + length message) most_link
+
+abbrev pub sends : Pair → Option ℕ → List ℕ → Sending
+sends pair search message =
+    if fits pair.follower message
+    then Sends (record { provider = handed pair.provider pair.follower.search; follower = linked pair.follower search message }) message
+    else Overflows
+
+-- a message is sent in its canonical spelling; with the last one the search is closed
+abbrev pub sending_by : Pair → Turn → Sending
+sending_by pair (Hands whole) = sends pair pair.follower.search (message_octets whole)
+sending_by pair (Closes code whole) = sends pair None (message_octets whole)
+sending_by pair Waits = Rests
+sending_by pair Unknown = Rests
+
+abbrev pub sending : Pair → Sending
+sending pair = sending_by pair (turn_of pair.provider pair.follower.search)
+
+abbrev pub sent_before : (Pair → Outcome) → Pair → Sending → Outcome
+sent_before next pair (Sends after message) = after_lines (told.Sent (name_of pair) message ∷ []) (next after)
+sent_before next pair Rests = Ok (pair, told.Nothing (name_of pair) ∷ [])
+sent_before next pair Overflows = Err (LimitReached most_link)
+
+-- so many messages, up to where nothing is pending
+abbrev pub sent : ℕ → Pair → Outcome
+sent zero pair = Ok (pair, [])
+sent (suc count) pair = sent_before (λ after. sent count after) pair (sending pair)
+
+-- ---- taking
+
+-- the search is closed, and what the link and the stage hold is dropped
+abbrev pub closed : ProviderState → Option ℕ → ProviderState
+closed p None = p
+closed p (Some number) = dropped p number
+
+abbrev pub emptied : Follower → Copy → Follower
+emptied follower copy = record (with_copy follower (without_search copy)) { link = []; search = None }
+
+abbrev pub given_up : Pair → Copy → Pair
+given_up pair copy = record { provider = closed pair.provider pair.follower.search; follower = emptied pair.follower copy }
+
+abbrev pub with_heard : Pair → List (List ℕ) → Copy → Pair
+with_heard pair rest copy = record pair { follower = record (with_copy pair.follower copy) { link = rest } }
+
+-- how many writes of a directory have a stamp that is not greater than that of the cookie
+abbrev pub number_of_cookie : List Stamp → Option Cookie → ℕ
+number_of_cookie csns None = 0
+number_of_cookie csns (Some cookie) = upto csns cookie.csn
+
+abbrev pub stored_number : DirectoryState → Option (List ℕ) → ℕ
+stored_number d None = 0
+stored_number d (Some text) = number_of_cookie (stamps d.writes) (cookie_of_text text)
+
+-- the entries are those of a prefix of the provider's writes, and, as it is a root, of that prefix of its own
+abbrev pub stored_told : Pair → Copy → Told
+stored_told pair copy =
+    let number = stored_number pair.provider.directory copy.cookie in
+    told.Stored (name_of pair) number copy.held pair.follower.source number
+
+abbrev pub taken_as : Pair → List (List ℕ) → Copy → Came → Pair × Told
+taken_as pair rest copy came.Staged = (with_heard pair rest copy, told.Taken (name_of pair))
+taken_as pair rest copy came.Copied = (with_heard pair rest copy, told.Taken (name_of pair))
+taken_as pair rest copy came.Stored = (with_heard pair rest copy, stored_told pair copy)
+taken_as pair rest copy (came.Over code) = (with_heard pair rest copy, told.Ended (name_of pair) code)
+taken_as pair rest copy (came.Refused fault) = (given_up pair copy, told.Faulted (name_of pair) fault)
+
+-- the first message of the link is taken, where there is one
+abbrev pub taken_from : Pair → List (List ℕ) → Option (Pair × Told)
+taken_from pair [] = None
+taken_from pair (message ∷ rest) =
+    Some (taken_as pair rest (heard (copy_of pair.follower) message).0 (heard (copy_of pair.follower) message).1)
+
+abbrev pub taking : Pair → Option (Pair × Told)
+taking pair = taken_from pair pair.follower.link
+
+abbrev pub taken_before : (Pair → Pair × List Told) → Pair → List Told → Option (Pair × Told) → Pair × List Told
+taken_before next pair idle None = (pair, idle)
+taken_before next pair idle (Some first) = ((next first.0).0, first.1 ∷ (next first.0).1)
+
+-- so many messages, up to where the link is empty, which these lines tell then
+abbrev pub taken_some : ℕ → List Told → Pair → Pair × List Told
+taken_some zero idle pair = (pair, [])
+taken_some (suc count) idle pair = taken_before (λ after. taken_some count idle after) pair idle (taking pair)
+
+abbrev pub takes : ℕ → Pair → Outcome
+takes count pair = Ok (taken_some count (told.Nothing (name_of pair) ∷ []) pair)
+
+-- ---- cutting
+
+-- a search of the consumer is open or runs, or its link holds a message
+abbrev pub is_busy : Follower → Bool
+is_busy follower = (is_some follower.search || is_some (copy_of follower).running) || not (length follower.link == 0)
+
+abbrev pub cut : Pair → Outcome
+cut pair =
+    if is_busy pair.follower then Ok (given_up pair (copy_of pair.follower), told.Cut (name_of pair) ∷ [])
+    else Ok (pair, told.Nothing (name_of pair) ∷ [])
+
+-- a busy consumer is cut
+abbrev pub idle : Pair → Outcome
+idle pair = if is_busy pair.follower then cut pair else Ok (pair, [])
+
+-- ---- opening
+
+-- the consumer has lost its cookie, and asks for a refresh without one
+abbrev pub asking : Copy → Copy
+asking copy = asked message_id false (record copy { cookie = None })
+
+-- the value of the control of its request
+abbrev pub control_of : Following → List ℕ
+control_of following = request_octets (record { mode = RefreshOnly; cookie = None; reload_hint = following.reload })
+
+-- the end of a search that is refused, with its code, is taken at once
+abbrev pub end_with : ℕ → Whole
+end_with code = wire.sent message_id (Done (pos code) None)
+
+abbrev pub refused_copy : Copy → ℕ → Copy
+refused_copy copy code = (heard_of copy (Some (end_with code))).0
+
+abbrev pub opened_by : Pair → Accepted → Outcome
+opened_by pair (accepted.Opened number writes) =
+    Ok (
+      record {
+        provider = with_opened pair.provider number pair.follower.consumer.spec;
+        follower = record (with_copy pair.follower (asking (copy_of pair.follower))) { search = Some number };
+      },
+      told.Opened (name_of pair) writes ∷ [],
+    )
+opened_by pair (accepted.Refused code) =
+    Ok (
+      record pair { follower = with_copy pair.follower (refused_copy (asking (copy_of pair.follower)) code) },
+      told.Refused (name_of pair) code ∷ [],
+    )
+opened_by pair accepted.NoMemory = Ok (pair, [])
+
+abbrev pub opened_idle : Pair → Outcome
+opened_idle pair =
+    opened_by pair (answer_to pair.provider pair.follower.consumer.spec (control_of pair.follower.consumer))
+
+-- a search that ends with its refresh, of the whole content
+abbrev pub opens : Pair → Outcome
+opens pair = and_then (idle pair) opened_idle
+
+-- ---- settling
+
+-- how many messages the search of this number has pending
+abbrev pub pending_count : Option SearchState → ℕ
+pending_count None = 0
+pending_count (Some s) = length s.pending
+
+abbrev pub left_to_send : Pair → Option ℕ → ℕ
+left_to_send pair None = 0
+left_to_send pair (Some number) = pending_count (search_at pair.provider.searches number)
+
+-- a message that was sent is taken at once
+abbrev pub ran_before : (Pair → Outcome) → Pair → Sending → Outcome
+ran_before next pair (Sends after message) =
+    after_lines (told.Sent (name_of pair) message ∷ (taken_some 1 [] after).1) (next (taken_some 1 [] after).0)
+ran_before next pair Rests = Ok (pair, [])
+ran_before next pair Overflows = Err (LimitReached most_link)
+
+abbrev pub ran_some : ℕ → Pair → Outcome
+ran_some zero pair = Ok (pair, [])
+ran_some (suc count) pair = ran_before (λ after. ran_some count after) pair (sending pair)
+
+-- the search that is open runs to its end
+abbrev pub runs : Pair → Outcome
+runs pair = ran_some (left_to_send pair pair.follower.search) pair
+
+-- the link is empty then
+abbrev pub drains : Pair → Outcome
+drains pair = Ok (taken_some (length pair.follower.link) [] pair)
+
+abbrev pub settled_told : Pair → Outcome
+settled_told pair = Ok (pair, told.Settled (name_of pair) (length pair.provider.directory.writes) ∷ [])
+
+-- the consumer takes what its link holds, runs the search that is open to its end, and then a new one
+abbrev pub settles : Pair → Outcome
+settles pair = and_then (and_then (and_then (and_then (drains pair) runs) opens) runs) settled_told
+
+-- ---- what goes on
+
+abbrev pub part_of : Exchange → Pair → Outcome
+part_of goes.Open = opens
+part_of (goes.Send count) = sent count
+part_of (goes.Take count) = takes count
+part_of goes.Cut = cut
+part_of goes.Settle = settles

@@ -1,0 +1,36 @@
+-- How a search of a script is accepted by its provider.
+use Rattle.std.specs.Prelude.{ℕ, Result, Ok, Err, List, if◌then◌else◌}
+use Rattle.std.specs.Ordering.{nat_cmp}
+use Rattle.std.specs.BTreeMap.{insert_entry}
+use Rattle.dn_names.specs.Names.{is_at_or_below}
+use Rattle.entry_tree.specs.Selection.{Search}
+use Rattle.sync_messages.specs.Request.{request_of}
+use Rattle.sync_messages.specs.declared.fault.SyncFault.{SyncFault}
+use Rattle.sync_messages.specs.declared.request.SyncRequest.{SyncRequest}
+use Rattle.sync_provider.specs.Accepting.{numbered, free_number}
+use Rattle.sync_provider.specs.Machine.{ProviderState}
+use Rattle.sync_provider.specs.Search.{opening}
+use Rattle.sync_provider.specs.declared.searches.Accepted.{Accepted}
+use Rattle.sync_provider.specs.declared.searches.Accepted.TheVariants as accepted
+
+-- each message has this ID
+abbrev pub message_id : ℕ
+message_id = 1
+
+-- what the provider answers to a search with this value of its control
+abbrev pub answer_to_request : ProviderState → Search → Result SyncRequest SyncFault → Accepted
+answer_to_request p spec (Err fault) = accepted.Refused 2
+answer_to_request p spec (Ok request) =
+    if is_at_or_below spec.base p.directory.suffix then numbered p.directory request (free_number p.searches) else accepted.Refused 32
+
+abbrev pub answer_to : ProviderState → Search → List ℕ → Accepted
+answer_to p spec control = answer_to_request p spec (request_of control)
+
+-- the provider with a search of that number
+abbrev pub with_opened : ProviderState → ℕ → Search → ProviderState
+with_opened p number spec = record p { searches = insert_entry nat_cmp p.searches number (opening p.directory message_id spec) }
+
+abbrev pub after_accepted : ProviderState → Search → Accepted → ProviderState
+after_accepted p spec (accepted.Opened number writes) = with_opened p number spec
+after_accepted p spec (accepted.Refused code) = p
+after_accepted p spec accepted.NoMemory = p

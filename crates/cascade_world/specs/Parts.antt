@@ -1,0 +1,97 @@
+-- What the parts of an event answer, and the lines that they put behind those before them.
+use Rattle.std.specs.Prelude.{◌≡◌, ℕ, Bool, true, false, Option, Some, None, Result, Ok, Err, List, [], ◌∷◌, ◌++◌}
+use Rattle.cascade_world.specs.declared.fault.Cause.{Cause}
+use Rattle.cascade_world.specs.declared.fault.Cause.TheVariants.{LimitReached, NoMemory}
+use Rattle.ldap_messages.specs.Whole.{Whole, whole_of}
+use Rattle.ldap_messages.specs.declared.message.Message.{Message}
+use Rattle.sync_provider.specs.HandingOut.{Turn}
+use Rattle.sync_provider.specs.HandingOut.Turn.{Hands, Closes, Waits, Unknown}
+use Rattle.ldap_parts.specs.declared.control.Control.{Control}
+use Rattle.cascade_world.specs.declared.node.Follower.{Follower}
+use Rattle.cascade_world.specs.Exchange.{Pair, Outcome, Sending, handed, fits, linked, with_copy, refused_copy, taken_as}
+use Rattle.cascade_world.specs.Hearing.{heard_of}
+use Rattle.cascade_world.specs.Exchange.Sending.{Sends, Rests, Overflows}
+use Rattle.cascade_world.specs.Exchange.{name_of}
+use Rattle.cascade_world.specs.Link.{most_link}
+use Rattle.cascade_world.specs.Report.{Told, lines_text}
+use Rattle.cascade_world.specs.Report.Told.{Sent, Refused}
+
+-- the text before a part, the pair and the text after it, and what it answered; want of memory says nothing
+abbrev pub Does : Outcome → List ℕ → Pair → List ℕ → Result (Unit {0}) Cause → Type 0
+Does outcome old after new (Ok done) = (lines : List Told) × (outcome ≡ Ok (after, lines)) × (new ≡ old ++ lines_text lines)
+Does outcome old after new (Err NoMemory) = Unit {0}
+Does outcome old after new (Err cause) = outcome ≡ Err cause
+
+-- the same of an event as a whole, with its lines
+abbrev pub Performs : Outcome → Pair → Result (List ℕ) Cause → Type 0
+Performs outcome after (Ok text) = (lines : List Told) × (outcome ≡ Ok (after, lines)) × (text ≡ lines_text lines)
+Performs outcome after (Err NoMemory) = Unit {0}
+Performs outcome after (Err cause) = outcome ≡ Err cause
+
+-- the same of the sending of one message, which answers whether one was pending
+abbrev pub SendsOne : Pair → Sending → List ℕ → Pair → List ℕ → Result Bool Cause → Type 0
+SendsOne before found old after new (Ok true) =
+    (message : List ℕ) × (found ≡ Sends after message) × (new ≡ old ++ lines_text (Sent (name_of before) message ∷ []))
+SendsOne before found old after new (Ok false) = (found ≡ Rests) × (after ≡ before) × (new ≡ old)
+SendsOne before found old after new (Err NoMemory) = Unit {0}
+SendsOne before found old after new (Err cause) = (found ≡ Overflows) × (cause ≡ LimitReached most_link)
+
+-- the search of this number after its turn
+abbrev pub search_after : Option ℕ → Turn → Option ℕ
+search_after search (Closes code message) = None
+search_after search _ = search
+
+abbrev pub whole_in : Turn → Option Whole
+whole_in (Hands message) = Some message
+whole_in (Closes code message) = Some message
+whole_in Waits = None
+whole_in Unknown = None
+
+-- a message that is handed out, which one answers where there is one
+abbrev pub HandsOut : Pair → Turn → Pair → Result (Option Message) Cause → Type 0
+HandsOut before turn after (Ok (Some message)) =
+    (after ≡ record { provider = handed before.provider before.follower.search; follower = record before.follower { search = search_after before.follower.search turn } })
+    × (whole_in turn ≡ Some (whole_of message))
+HandsOut before turn after (Ok None) = (after ≡ before) × (whole_in turn ≡ None)
+HandsOut before turn after (Err cause) = cause ≡ NoMemory
+
+-- the same of the taking of one message, which answers whether the link held one
+abbrev pub TakesOne : Pair → Option (Pair × Told) → List ℕ → Pair → List ℕ → Result Bool Cause → Type 0
+TakesOne before found old after new (Ok true) =
+    (line : Told) × (found ≡ Some (after, line)) × (new ≡ old ++ lines_text (line ∷ []))
+TakesOne before found old after new (Ok false) = (found ≡ None) × (after ≡ before) × (new ≡ old)
+TakesOne before found old after new (Err NoMemory) = Unit {0}
+TakesOne before found old after new (Err cause) = ⊥
+
+-- the same of a message that goes into the link of this follower, whose search stays as it is
+abbrev pub Links : Follower → List ℕ → List ℕ → Follower → List ℕ → Result (Unit {0}) Cause → Type 0
+Links before message old after new (Ok done) =
+    (fits before message ≡ true) × (after ≡ linked before before.search message) × (new ≡ old ++ lines_text (Sent before.name message ∷ []))
+Links before message old after new (Err NoMemory) = Unit {0}
+Links before message old after new (Err cause) = (fits before message ≡ false) × (cause ≡ LimitReached most_link)
+
+-- the same of a message that was taken from the link and decoded, or of bytes that spell none
+abbrev pub Heard : Pair → Option Whole → List ℕ → Pair → List ℕ → Result (Unit {0}) Cause → Type 0
+Heard before found old after new (Ok done) =
+    (line : Told)
+    × (taken_as before before.follower.link (heard_of before.follower.consumer.copy found).0 (heard_of before.follower.consumer.copy found).1 ≡ (after, line))
+    × (new ≡ old ++ lines_text (line ∷ []))
+Heard before found old after new (Err NoMemory) = Unit {0}
+Heard before found old after new (Err cause) = ⊥
+
+-- the same of a search that is refused, whose consumer takes its end
+abbrev pub Refuses : Follower → ℕ → List ℕ → Follower → List ℕ → Result (Unit {0}) Cause → Type 0
+Refuses before code old after new (Ok done) =
+    (after ≡ with_copy before (refused_copy before.consumer.copy code))
+    × (new ≡ old ++ lines_text (Refused before.name code ∷ []))
+Refuses before code old after new (Err NoMemory) = Unit {0}
+Refuses before code old after new (Err cause) = ⊥
+
+-- the value of the first control
+abbrev pub value_or_empty : Option (List ℕ) → List ℕ
+value_or_empty None = []
+value_or_empty (Some value) = value
+
+abbrev pub first_value : List Control → List ℕ
+first_value [] = []
+first_value (control ∷ controls) = value_or_empty control.value

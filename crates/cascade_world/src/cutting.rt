@@ -1,0 +1,45 @@
+//! The end of what goes on between a consumer and its provider.
+ghost use Rattle.std.specs.Prelude.{◌≡◌, Some};
+ghost use Rattle.cascade_world.specs.Exchange as spec;
+ghost use Rattle.cascade_world.specs.Exchange.{pair_of};
+ghost use Rattle.cascade_world.specs.Parts.{Does};
+
+use crate::Cause;
+use crate::node::Follower;
+use crate::report::{push_cut, push_nothing};
+use crate::source::Source;
+
+/// Whether a search of the consumer is open or runs, or its link holds a message.
+pub fn is_busy(follower: &Follower) -> bool
+    ensures { result ≡ spec.is_busy follower.now }
+{
+    follower.search.is_some() || follower.consumer.is_running() || !follower.link.is_empty()
+}
+
+/// Drops the search, and what the link and the stage hold.
+pub fn drop_all(provider: &mut Source, follower: &mut Follower)
+    ensures does { pair_of provider.new follower.new ≡ spec.given_up (pair_of provider.old follower.old) follower.old.consumer.copy }
+    ensures directory { provider.new.directory ≡ provider.old.directory }
+{
+    if let Some(number) = follower.search {
+        provider.drop_search(number);
+    }
+    follower.search = None;
+    follower.link.clear();
+    follower.consumer.cut();
+}
+
+/// Cuts a busy consumer.
+pub fn cut(provider: &mut Source, follower: &mut Follower, out: &mut Vec<u8>) -> Result<(), Cause>
+    ensures does { Does (spec.cut (pair_of provider.old follower.old))
+        out.old.items (pair_of provider.new follower.new) out.new.items result }
+    ensures directory { provider.new.directory ≡ provider.old.directory }
+{
+    if !is_busy(follower) {
+        push_nothing(out, follower.name.as_slice())?;
+        return Ok(());
+    }
+    drop_all(provider, follower);
+    push_cut(out, follower.name.as_slice())?;
+    Ok(())
+}

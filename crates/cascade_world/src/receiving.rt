@@ -1,0 +1,169 @@
+//! Messages that a consumer takes from its link, as what their bytes spell.
+ghost use Rattle.std.specs.Prelude.{◌≡◌, ◌++◌, Some, option_map, IfOk, OnOk};
+ghost use Rattle.ldap_messages.specs.Whole.{whole_of};
+ghost use Rattle.cascade_world.specs.Exchange as spec;
+ghost use Rattle.cascade_world.specs.Hearing as hearing;
+ghost use Rattle.cascade_world.specs.Exchange.{pair_of};
+ghost use Rattle.cascade_world.specs.Parts.{Does, TakesOne, Heard};
+ghost use Rattle.cascade_world.specs.Report as report;
+
+use crate::Cause;
+use crate::cutting::drop_all;
+use crate::node::Follower;
+use crate::report::{push_ended, push_fault, push_nothing, push_stored, push_taken};
+use crate::sending::discard;
+use crate::source::Source;
+use crate::taking::{BAD_MESSAGE, fault_name, stored_number};
+use ldap_ber::NoMemory;
+use ldap_messages::{Message, MessageFault};
+use std::alloc::{AllocError, Global};
+use sync_consumer::Taken;
+
+/// Takes so many messages from the link, up to where it is empty.
+#[tactic(auto, using(crate::proofs::Loops::begins, crate::proofs::Loops::took_one, crate::proofs::Loops::took_none, crate::proofs::Loops::took_all, crate::proofs::Pending::taking_starves))]
+pub fn take(
+    alloc: Global,
+    provider: &mut Source,
+    follower: &mut Follower,
+    count: u64,
+    out: &mut Vec<u8>,
+) -> Result<(), Cause>
+    ensures does { Does (spec.takes count (pair_of provider.old follower.old))
+        out.old.items (pair_of provider.new follower.new) out.new.items result }
+    ensures directory { provider.new.directory ≡ provider.old.directory }
+{
+    let mut left = count;
+    while left > 0 {
+        if !take_one(alloc, provider, follower, out)? {
+            push_nothing(out, follower.name.as_slice())?;
+            return Ok(());
+        }
+        left -= 1;
+    }
+    Ok(())
+}
+
+/// Takes the first message of the link. False where there is none.
+#[tactic(auto, using(crate::proofs::Hearing::takes_one, crate::proofs::Hearing::nothing_there))]
+pub fn take_one(
+    alloc: Global,
+    provider: &mut Source,
+    follower: &mut Follower,
+    out: &mut Vec<u8>,
+) -> Result<bool, Cause>
+    ensures does { TakesOne (pair_of provider.old follower.old) (spec.taking (pair_of provider.old follower.old))
+        out.old.items (pair_of provider.new follower.new) out.new.items result }
+    ensures directory { provider.new.directory ≡ provider.old.directory }
+{
+    let Some(bytes) = follower.link.pop() else {
+        return Ok(false);
+    };
+    let found = decoded(alloc, bytes.as_slice())?;
+    take_found(alloc, provider, follower, found, out)?;
+    Ok(true)
+}
+
+/// The message that the bytes begin with, if they begin with one.
+fn decoded(alloc: Global, bytes: &[u8]) -> Result<Option<Message>, NoMemory>
+    ensures { IfOk result (λ found. option_map whole_of found ≡ hearing.decoded bytes.now) }
+{
+    match Message::read(alloc, bytes) {
+        Ok(Some((message, _))) => Ok(Some(message)),
+        Ok(None) => Ok(None),
+        Err(MessageFault::NoMemory) => Err(AllocError),
+        Err(_) => Ok(None),
+    }
+}
+
+/// Takes a message that was decoded, or gives the search up where there is none.
+#[tactic(auto, using(crate::proofs::Hearing::garbled))]
+fn take_found(
+    alloc: Global,
+    provider: &mut Source,
+    follower: &mut Follower,
+    found: Option<Message>,
+    out: &mut Vec<u8>,
+) -> Result<(), Cause>
+    ensures does { Heard (pair_of provider.old follower.old) (option_map whole_of found)
+        out.old.items (pair_of provider.new follower.new) out.new.items result }
+    ensures directory { provider.new.directory ≡ provider.old.directory }
+{
+    match found {
+        Some(message) => {
+            let taken = take_message(alloc, provider, follower, &message, out);
+            discard(message);
+            taken
+        }
+        None => {
+            give_up(provider, follower, BAD_MESSAGE, out)?;
+            Ok(())
+        }
+    }
+}
+
+/// Takes a message, and tells what came of it.
+#[tactic(auto, using(crate::proofs::Hearing::hears_staged))]
+fn take_message(
+    alloc: Global,
+    provider: &mut Source,
+    follower: &mut Follower,
+    message: &Message,
+    out: &mut Vec<u8>,
+) -> Result<(), Cause>
+    ensures does { Heard (pair_of provider.old follower.old) (Some (whole_of message.now))
+        out.old.items (pair_of provider.new follower.new) out.new.items result }
+    ensures directory { provider.new.directory ≡ provider.old.directory }
+{
+    match follower.consumer.take(message) {
+        Taken::Staged => {
+            push_taken(out, follower.name.as_slice())?;
+            Ok(())
+        }
+        Taken::Copied(_) => {
+            push_taken(out, follower.name.as_slice())?;
+            Ok(())
+        }
+        Taken::Stored(_) => {
+            tell_stored(alloc, provider, follower, out)?;
+            Ok(())
+        }
+        Taken::Over(code) => {
+            push_ended(alloc, out, follower.name.as_slice(), code)?;
+            Ok(())
+        }
+        Taken::Fault(fault) => {
+            give_up(provider, follower, fault_name(fault), out)?;
+            Ok(())
+        }
+        Taken::NoMemory => Err(Cause::NoMemory),
+    }
+}
+
+/// Tells what a consumer holds, with the prefix of its provider's writes that its cookie names.
+fn tell_stored(
+    alloc: Global,
+    provider: &Source,
+    follower: &Follower,
+    out: &mut Vec<u8>,
+) -> Result<(), NoMemory>
+    ensures { OnOk result (out.new.items ≡ out.old.items
+        ++ report.line_of (spec.stored_told (pair_of provider.now follower.now) follower.now.consumer.copy)) }
+{
+    let number = stored_number(provider, follower.consumer.cookie());
+    push_stored(alloc, out, follower, number)
+}
+
+/// Gives a search up for a fault: the search is dropped, and the link is emptied.
+fn give_up(
+    provider: &mut Source,
+    follower: &mut Follower,
+    fault: &[u8],
+    out: &mut Vec<u8>,
+) -> Result<(), NoMemory>
+    ensures pair { pair_of provider.new follower.new ≡ spec.given_up (pair_of provider.old follower.old) follower.old.consumer.copy }
+    ensures line { OnOk result (out.new.items ≡ out.old.items ++ report.fault_line follower.old.name fault.now) }
+    ensures directory { provider.new.directory ≡ provider.old.directory }
+{
+    drop_all(provider, follower);
+    push_fault(out, follower.name.as_slice(), fault)
+}

@@ -1,0 +1,107 @@
+//! Messages that a provider hands out into the link of a consumer.
+ghost use Rattle.std.specs.Prelude.{◌≡◌, Some, IfOk, IfSome};
+ghost use Rattle.ldap_messages.specs.Whole.{HasSpelling, whole_of, message_octets};
+ghost use Rattle.cascade_world.specs.Exchange as spec;
+ghost use Rattle.cascade_world.specs.Exchange.{pair_of};
+ghost use Rattle.cascade_world.specs.Parts.{Does, SendsOne, HandsOut, Links};
+
+use crate::Cause;
+use crate::node::Follower;
+use crate::report::{push_nothing, push_sent};
+use crate::source::Source;
+use ldap_messages::Message;
+use std::alloc::Global;
+use sync_provider::Handed;
+
+/// Hands out so many messages into the link, up to where nothing is pending.
+#[tactic(auto, using(crate::proofs::Loops::begins, crate::proofs::Loops::sent_all))]
+pub fn send(
+    alloc: Global,
+    provider: &mut Source,
+    follower: &mut Follower,
+    count: u64,
+    out: &mut Vec<u8>,
+) -> Result<(), Cause>
+    ensures does { Does (spec.sent count (pair_of provider.old follower.old))
+        out.old.items (pair_of provider.new follower.new) out.new.items result }
+    ensures directory { provider.new.directory ≡ provider.old.directory }
+{
+    let mut left = count;
+    while left > 0 {
+        if !send_one(alloc, provider, follower, out)? {
+            push_nothing(out, follower.name.as_slice())?;
+            return Ok(());
+        }
+        left -= 1;
+    }
+    Ok(())
+}
+
+/// Hands out one message into the link. False where nothing is pending.
+#[tactic(auto, using(crate::proofs::Sendings::sends_one, crate::proofs::Sendings::rests, crate::proofs::Sendings::overflows))]
+pub fn send_one(
+    alloc: Global,
+    provider: &mut Source,
+    follower: &mut Follower,
+    out: &mut Vec<u8>,
+) -> Result<bool, Cause>
+    ensures does { SendsOne (pair_of provider.old follower.old) (spec.sending (pair_of provider.old follower.old))
+        out.old.items (pair_of provider.new follower.new) out.new.items result }
+    ensures directory { provider.new.directory ≡ provider.old.directory }
+{
+    let Some(message) = next_message(alloc, provider, follower)? else {
+        return Ok(false);
+    };
+    let linked = put_into_link(alloc, follower, &message, out);
+    discard(message);
+    match linked {
+        Ok(()) => Ok(true),
+        Err(cause) => Err(cause),
+    }
+}
+
+/// The next message of the search, which is closed with its last one.
+fn next_message(
+    alloc: Global,
+    provider: &mut Source,
+    follower: &mut Follower,
+) -> Result<Option<Message>, Cause>
+    ensures exact { HandsOut (pair_of provider.old follower.old) (spec.turn_of provider.old follower.old.search)
+        (pair_of provider.new follower.new) result }
+    ensures spelled { IfOk result (λ found. IfSome found (λ message. HasSpelling (whole_of message))) }
+    ensures directory { provider.new.directory ≡ provider.old.directory }
+{
+    let Some(number) = follower.search else {
+        return Ok(None);
+    };
+    match provider.hand_out(alloc, number) {
+        Handed::Message(message) => Ok(Some(message)),
+        Handed::Ended(_, message) => {
+            follower.search = None;
+            Ok(Some(message))
+        }
+        Handed::Nothing => Ok(None),
+        Handed::NoSuchSearch => Ok(None),
+        Handed::NoMemory => Err(Cause::NoMemory),
+    }
+}
+
+/// Puts the spelling of a message at the end of the link.
+fn put_into_link(
+    alloc: Global,
+    follower: &mut Follower,
+    message: &Message,
+    out: &mut Vec<u8>,
+) -> Result<(), Cause>
+    requires { HasSpelling (whole_of message.now) }
+    ensures { Links follower.old (message_octets (whole_of message.now))
+        out.old.items follower.new out.new.items result }
+{
+    let bytes = message.write(alloc)?;
+    push_sent(alloc, out, follower.name.as_slice(), bytes.as_slice())?;
+    follower.link.push(bytes)
+}
+
+/// Drops a value through its bound: the many cases of a message are gone through once, in the drop
+/// of their type, and not wherever one is dropped.
+pub fn discard<T: Drop>(_value: T) {}

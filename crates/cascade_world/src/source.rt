@@ -1,0 +1,147 @@
+//! A provider of a script.
+ghost use Rattle.std.specs.Prelude.{◌≡◌, ◌≢◌, ◌<◌, ◌^◌, true, length, is_some, IfOk, IfSome};
+ghost use Rattle.csn_cookie.specs.Csn as csns;
+ghost use Rattle.entry_tree.specs.Selection.{search_of};
+ghost use Rattle.entry_tree.specs.Sound.{is_sound_op};
+ghost use Rattle.sync_provider.specs.Accepting as accepting;
+ghost use Rattle.sync_provider.specs.Directory as directory;
+ghost use Rattle.sync_provider.specs.HandingOut as handing;
+ghost use Rattle.sync_provider.specs.Machine as machine;
+ghost use Rattle.cascade_world.specs.Opening.{answer_to, after_accepted};
+ghost use Rattle.cascade_world.specs.Ours.{AreOurs, IsSpelled};
+
+use csn_cookie::Csn;
+use dn_names::Dn;
+use entry_tree::{Entry, Op, Spec};
+use ldap_ber::{NoMemory, Octets};
+use std::alloc::Global;
+use std::marker::Model;
+use sync_provider::{Accepted, Handed, Kind, OpenSearches, Provider, Reply, SyncSearch};
+
+/// The message ID of each message of a script.
+pub const MESSAGE_ID: u32 = 1;
+
+/// A provider whose searches have the message ID of a script's messages.
+#[derive(Drop)]
+pub struct Source {
+    provider: Provider,
+}
+
+impl Model for Source {
+    ghost use Rattle.std.specs.Coded.{codes};
+    ghost use Rattle.entry_tree.specs.FilterCode.{tree_code};
+    ghost use Rattle.sync_provider.specs.Machine.{ProviderState};
+    ghost use Rattle.cascade_world.specs.Ours.{AreOurs};
+
+    ghost Value = { ProviderState };
+
+    ghost coded = { Prim.hlevel (codes, tree_code) };
+
+    ghost view = { λ s. s.provider };
+
+    ghost invariant = { λ s. AreOurs s.provider.searches };
+}
+
+impl Source {
+    /// A root without writes and searches. Its number is that of its history too.
+    pub fn new(alloc: Global, suffix: Dn, number: u16) -> Result<Source, NoMemory>
+        requires { number < 4096 }
+        ensures { IfOk result (λ source. source ≡ machine.fresh suffix number number) }
+    {
+        let history = u128::from(number);
+        let provider = Provider::new(alloc, suffix, number, history, Kind::Root)?;
+        Ok(Source { provider })
+    }
+
+    pub fn suffix(&self) -> &Dn
+        ensures { result.now ≡ self.now.directory.suffix }
+    {
+        self.provider.suffix()
+    }
+
+    /// How many writes were accepted.
+    pub fn writes(&self) -> u64
+        ensures value { result ≡ length self.now.directory.writes }
+        ensures small { result < 2 ^ 63 }
+    {
+        self.provider.writes()
+    }
+
+    /// The entries after all writes, in ascending order of identity.
+    pub fn entries(&self) -> &[Entry]
+        ensures { result.now ≡ directory.entries_of self.now.directory }
+    {
+        self.provider.tree().entries()
+    }
+
+    /// How many accepted writes have a stamp that is not greater than this one.
+    pub fn upto(&self, csn: Csn) -> u64
+        ensures { result ≡ csns.upto (directory.stamps self.now.directory.writes) csn }
+    {
+        self.provider.upto(csn)
+    }
+
+    /// Applies a write where the clock shows `now`. The code 80 tells want of memory.
+    pub fn write(&mut self, alloc: Global, op: Op, now: u64) -> Reply
+        requires { is_sound_op op ≡ true }
+        ensures code { result.code ≢ 80 → result.code ≡ directory.write_code self.old.directory op now }
+        ensures state { result.code ≢ 80 → self.new ≡ machine.wrote self.old op now }
+        ensures err { result.code ≡ 80 → self.new ≡ self.old }
+        ensures number { result.number ≡ length self.new.directory.writes }
+    {
+        self.provider.write(alloc, op, now)
+    }
+
+    /// Opens a search for what is wanted with this value of its control, or tells what is against it.
+    #[tactic(auto, using(crate::proofs::Asked::answered, crate::proofs::Asked::accepted_state, crate::proofs::Asked::accepted_ours))]
+    pub fn accept(&mut self, alloc: Global, wanted: Spec, control: Octets) -> Accepted
+        ensures answer { accepting.Answers result (answer_to self.old (search_of wanted) control) }
+        ensures state { self.new ≡ after_accepted self.old (search_of wanted) result }
+    {
+        let ask = SyncSearch {
+            id: MESSAGE_ID,
+            spec: wanted,
+            control,
+        };
+        self.provider.accept(alloc, ask)
+    }
+
+    /// The next message of the search with this number, which has a spelling.
+    #[tactic(auto, using(crate::proofs::Asked::turn_ours))]
+    pub fn hand_out(&mut self, alloc: Global, number: u64) -> Handed
+        ensures turn { IfSome (handing.turn_of result)
+            (λ turn. turn ≡ handing.turn_at self.old.searches number) }
+        ensures state { self.new ≡ record self.old {
+          searches = handing.after_answer self.old.searches number (handing.turn_of result);
+        } }
+        ensures spelled { IsSpelled result }
+    {
+        let _ = &self.provider;
+        self.provider.hand_out(alloc, number)
+    }
+
+    /// The searches that are open now.
+    pub fn open_searches(&self, alloc: Global) -> Result<OpenSearches, NoMemory>
+        ensures value { IfOk result (λ searches. searches ≡ self.now.searches) }
+        ensures ours { IfOk result AreOurs }
+    {
+        self.provider.open_searches(alloc)
+    }
+
+    /// Returns to the searches of an earlier moment.
+    pub fn return_to(&mut self, searches: OpenSearches)
+        requires { AreOurs searches }
+        ensures { self.new ≡ record self.old { searches = searches } }
+    {
+        self.provider.return_to(searches);
+    }
+
+    /// Closes the search with this number. False where none is open.
+    #[tactic(auto, using(crate::proofs::Asked::dropped_ours))]
+    pub fn drop_search(&mut self, number: u64) -> bool
+        ensures open { result ≡ is_some (handing.search_at self.old.searches number) }
+        ensures state { self.new ≡ machine.dropped self.old number }
+    {
+        self.provider.drop_search(number)
+    }
+}

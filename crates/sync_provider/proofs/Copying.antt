@@ -1,0 +1,38 @@
+-- Open searches that are copied in the order of their numbers.
+use Rattle.std.proofs.Common.{◌≡◌, ℕ, List, [], ◌∷◌, ◌++◌, refl, ap, sym, subst, ◌∙◌, append_assoc}
+use Rattle.std.specs.BTreeMap.{insert_entry}
+use Rattle.std.specs.Cmp.{nat_cmp_total}
+use Rattle.std.specs.List.{AllByRecursion}
+use Rattle.std.specs.List.Sorted.{IsStrictlySortedBy}
+use Rattle.std.specs.Map.{keys_of}
+use Rattle.std.specs.Ordering.{nat_cmp, match_ordering, ordering_reverse}
+use Rattle.std.specs.declared.cmp.Ordering.TheVariants.{Less, Greater}
+use Rattle.std.proofs.lemmas.Map.Keys.{sorted_head, sorted_tail}
+use Rattle.sync_provider.specs.Search.{SearchState}
+
+abbrev Searches : Type 0
+Searches = List (ℕ × SearchState)
+
+-- a number is above those before it
+above_front : (low k : ℕ) (s : SearchState) (front rest : Searches) → AllByRecursion (λ n. nat_cmp low n ≡ Less) (keys_of (front ++ (k, s) ∷ rest))
+    → nat_cmp low k ≡ Less
+above_front low k s [] rest each = each.0
+above_front low k s (e ∷ front) rest each = above_front low k s front rest each.1
+
+-- a search whose number is above all others goes to the end
+pub insert-above : (front rest : Searches) (k : ℕ) (s : SearchState) → IsStrictlySortedBy nat_cmp (keys_of (front ++ (k, s) ∷ rest))
+    → insert_entry nat_cmp front k s ≡ front ++ (k, s) ∷ []
+insert-above [] rest k s sorted = refl
+insert-above (e ∷ front) rest k s sorted =
+    let less : nat_cmp e.0 k ≡ Less = above_front e.0 k s front rest (sorted_head nat_cmp e.0 (keys_of (front ++ (k, s) ∷ rest)) sorted) in
+    let more : nat_cmp k e.0 ≡ Greater = nat_cmp_total.antisymm k e.0 ∙ ap ordering_reverse less in
+    ap (λ o. match_ordering o ((k, s) ∷ e ∷ front) ((e.0, s) ∷ front) (e ∷ insert_entry nat_cmp front k s)) more
+    ∙ ap (λ es. e ∷ es) (insert-above front rest k s (sorted_tail nat_cmp e.0 (keys_of (front ++ (k, s) ∷ rest)) sorted))
+
+-- a copy of one more search, which is the first of those that are left
+pub copied_on : (all front left after copied : Searches) (k : ℕ) (s : SearchState) → IsStrictlySortedBy nat_cmp (keys_of all)
+    → front ++ left ≡ all → left ≡ (k, s) ∷ after → copied ≡ insert_entry nat_cmp front k s → copied ++ after ≡ all
+copied_on all front left after copied k s sorted whole first put =
+    let parts : front ++ (k, s) ∷ after ≡ all = ap (λ es. front ++ es) (sym first) ∙ whole in
+    let above = insert-above front after k s (subst (λ es. IsStrictlySortedBy nat_cmp (keys_of es)) (sym parts) sorted) in
+    ap (λ es. es ++ after) (put ∙ above) ∙ append_assoc front ((k, s) ∷ []) after ∙ parts
