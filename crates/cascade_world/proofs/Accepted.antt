@@ -31,7 +31,7 @@ Untouched _ name = Unit {0}
 pub with_accepted-untouched : (history : ℕ) (suffix : List (List TypeAndValue)) (name : List ℕ) (time : ℕ) (writes : List Write) (order : Order)
     → Untouched order name → with_accepted history suffix name time writes order ≡ writes
 with_accepted-untouched history suffix name time writes (asks.Provider other base) h = refl
-with_accepted-untouched history suffix name time writes (asks.Consumer other source search) h = refl
+with_accepted-untouched history suffix name time writes (asks.Consumer other source search reload) h = refl
 with_accepted-untouched history suffix name time writes (asks.Clock new) h = refl
 with_accepted-untouched history suffix name time writes (asks.Write target change) h = rw h refl
 with_accepted-untouched history suffix name time writes (asks.OpenOnce other) h = refl
@@ -39,6 +39,9 @@ with_accepted-untouched history suffix name time writes (asks.Send other count) 
 with_accepted-untouched history suffix name time writes (asks.Take other count) h = refl
 with_accepted-untouched history suffix name time writes (asks.Cut other) h = refl
 with_accepted-untouched history suffix name time writes (asks.Settle other) h = refl
+with_accepted-untouched history suffix name time writes (asks.Lose other) h = refl
+with_accepted-untouched history suffix name time writes (asks.Cookie other text) h = refl
+with_accepted-untouched history suffix name time writes (asks.Log other limit) h = refl
 with_accepted-untouched history suffix name time writes (asks.Show other) h = refl
 
 -- a declaration stays one, and a new one is one

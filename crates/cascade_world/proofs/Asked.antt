@@ -39,9 +39,9 @@ accepted_ours p ask (accepted.Refused code) id ours = ours
 accepted_ours p ask accepted.NoMemory id ours = ours
 
 -- the searches after it, which the messages of a script number
-pub accepted_state : (p after : ProviderState) (ask : SyncSearch) (answer : Accepted) → ask.id ≡ message_id → after ≡ record p { searches = accepting.after_answer p.directory p.searches ask answer } → after ≡ after_accepted p (search_of ask.spec) answer
+pub accepted_state : (p after : ProviderState) (ask : SyncSearch) (answer : Accepted) → ask.id ≡ message_id → after ≡ record p { searches = accepting.after_answer p.directory p.searches ask answer } → after ≡ after_accepted p (search_of ask.spec) ask.control answer
 accepted_state p after ask (accepted.Opened number writes) id is =
-    is ∙ ap (λ n. record p { searches = insert_entry nat_cmp p.searches number (opening p.directory n (search_of ask.spec)) }) id
+    is ∙ ap (λ n. record p { searches = insert_entry nat_cmp p.searches number (opening p.directory n (search_of ask.spec) (accepting.start_of_ask p.directory ask)) }) id
 accepted_state p after ask (accepted.Refused code) id is = is
 accepted_state p after ask accepted.NoMemory id is = is
 

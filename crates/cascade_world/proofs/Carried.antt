@@ -1,11 +1,12 @@
 -- What the provider puts into a link as bytes is heard by the consumer as the message that it was sent for.
-use Rattle.std.proofs.Common.{◌≡◌, ◌<◌, ◌≤◌, ◌^◌, ◌==◌, if◌then◌else◌, Bool, false, [], ◌++◌, length, append-nil, Some, None, Ok, ap, subst, sym, ◌∙◌, refl, arith}
-use Rattle.std.specs.Prelude.{pos, codes}
+use Rattle.std.proofs.Common.{◌≡◌, ◌<◌, ◌≤◌, ◌^◌, ◌==◌, if◌then◌else◌, ℕ, Bool, false, List, [], ◌∷◌, ◌++◌, length, append-nil, Some, None, Ok, ap, subst, sym, ◌∙◌, refl, arith}
+use Rattle.std.specs.Prelude.{All, pos, codes}
+use Rattle.std.proofs.lemmas.List.Elements.{All-nil, All-cons}
 use Rattle.csn_cookie.specs.Cookie.{cookie_text}
 use Rattle.csn_cookie.specs.declared.cookie.Cookie.{Cookie}
 use Rattle.entry_tree.specs.declared.entry.Entry.{Entry}
 use Rattle.ldap_messages.specs.declared.message.Message.{Message}
-use Rattle.ldap_messages.specs.declared.protocol.Protocol.TheVariants.{SearchResultEntry, SearchResultDone}
+use Rattle.ldap_messages.specs.declared.protocol.Protocol.TheVariants.{SearchResultEntry, SearchResultDone, IntermediateResponse}
 use Rattle.ldap_messages.specs.Frame.{read_of, message}
 use Rattle.ldap_messages.specs.Operation.{IsHeld}
 use Rattle.ldap_messages.specs.Whole.{Whole, message_octets, HasSpelling}
@@ -14,39 +15,60 @@ use Rattle.dn_names.specs.Writing.{name_text}
 use Rattle.sync_model.specs.Copy.{Copy, Running}
 use Rattle.sync_model.specs.Message.{SyncMessage}
 use Rattle.sync_model.specs.Message.SyncMessage.{Put, Gone, Present, IdSet, NewCookie, PhaseEnds, Done, Passed}
+use Rattle.sync_messages.specs.declared.info.SyncInfo.TheVariants as info
+use Rattle.sync_messages.specs.Info.{info_octets}
+use Rattle.sync_model.proofs.Gather.{Each, IsPart}
 use Rattle.sync_model.specs.Within.{taken_within}
 use Rattle.sync_wire.specs.CanBeSent.{CanBeSent}
 use Rattle.sync_wire.specs.Sending as wire
-use Rattle.sync_wire.proofs.Operations.{entry_operation, done_operation}
+use Rattle.sync_wire.specs.Law.{IsIdentity}
+use Rattle.sync_wire.proofs.Operations.{entry_operation, done_operation, info_operation}
 use Rattle.sync_wire.proofs.Told.{sent_heard}
 use Rattle.cascade_world.specs.Hearing.{whole_in, decoded, whole_said, came_of, refused_for, heard_as, heard_by, heard_of, heard}
-use Rattle.cascade_world.proofs.Lengths.{cookie_size, put_size, done_size}
+use Rattle.cascade_world.proofs.Identities.{IsFew}
+use Rattle.cascade_world.proofs.Lengths.{cookie_size, put_size, set_size, done_size}
 
--- a message of a refresh that tells what is present: an entry that can be sent, without a cookie, or the end with the
--- text of a cookie
+-- a message of a refresh: an entry that can be sent, or a set of a few identities, without a cookie, or the end with
+-- the text of a cookie
 abbrev pub IsOfRefresh : SyncMessage → Type 0
 IsOfRefresh (Put adds entry cookie) = CanBeSent entry × (cookie ≡ None)
 IsOfRefresh (Gone uuid name cookie) = ⊥
 IsOfRefresh (Present uuid cookie) = ⊥
-IsOfRefresh (IdSet deletes uuids cookie) = ⊥
+IsOfRefresh (IdSet deletes uuids cookie) = Each IsIdentity uuids × (length uuids ≤ 256) × (cookie ≡ None)
 IsOfRefresh (NewCookie cookie) = ⊥
 IsOfRefresh (PhaseEnds deletes done cookie) = ⊥
-IsOfRefresh (Done code control) = (cookie : Cookie) × (code ≡ pos 0) × (control ≡ Some (false, Some (cookie_text cookie)))
+IsOfRefresh (Done code control) = (cookie : Cookie) × (deletes : Bool) × (code ≡ pos 0) × (control ≡ Some (deletes, Some (cookie_text cookie)))
 IsOfRefresh Passed = ⊥
 
-abbrev end_with : Cookie → SyncMessage
-end_with cookie = Done (pos 0) (Some (false, Some (cookie_text cookie)))
+-- a message of a part is one
+pub of_part : (deletes : Bool) (m : SyncMessage) → IsPart deletes CanBeSent IsIdentity m → IsFew m → IsOfRefresh m
+of_part deletes (Put adds e cookie) part few = (part.1, part.0)
+of_part deletes (IdSet d uuids cookie) part few = (part.2, few, part.0)
+of_part deletes (Gone uuid name cookie) part few = absurd part
+of_part deletes (Present uuid cookie) part few = absurd part
+of_part deletes (NewCookie cookie) part few = absurd part
+of_part deletes (PhaseEnds d done cookie) part few = absurd part
+of_part deletes (Done code control) part few = absurd part
+of_part deletes Passed part few = absurd part
 
--- what holds of both holds of each
-of_each : (P : SyncMessage → Type 0) → ((adds : Bool) (e : Entry) → CanBeSent e → P (Put adds e None)) → ((cookie : Cookie) → P (end_with cookie)) → (m : SyncMessage) → IsOfRefresh m → P m
-of_each P puts ends (Put adds e cookie) is = subst (λ c. P (Put adds e c)) (sym is.1) (puts adds e is.0)
-of_each P puts ends (Gone uuid name cookie) is = absurd is
-of_each P puts ends (Present uuid cookie) is = absurd is
-of_each P puts ends (IdSet deletes uuids cookie) is = absurd is
-of_each P puts ends (NewCookie cookie) is = absurd is
-of_each P puts ends (PhaseEnds deletes done cookie) is = absurd is
-of_each P puts ends (Done code control) is = subst (λ c. P (Done c control)) (sym is.1) (subst (λ c. P (Done (pos 0) c)) (sym is.2) (ends is.0))
-of_each P puts ends Passed is = absurd is
+abbrev end_with : Bool → Cookie → SyncMessage
+end_with deletes cookie = Done (pos 0) (Some (deletes, Some (cookie_text cookie)))
+
+-- what holds of the three holds of each
+record OfAll (P : SyncMessage → Type 0) : Type 0 where
+  puts : (adds : Bool) (e : Entry) → CanBeSent e → P (Put adds e None)
+  sets : (deletes : Bool) (uuids : List ℕ) → Each IsIdentity uuids → length uuids ≤ 256 → P (IdSet deletes uuids None)
+  ends : (deletes : Bool) (cookie : Cookie) → P (end_with deletes cookie)
+
+of_each : (P : SyncMessage → Type 0) → OfAll P → (m : SyncMessage) → IsOfRefresh m → P m
+of_each P all (Put adds e cookie) is = subst (λ c. P (Put adds e c)) (sym is.1) (all.puts adds e is.0)
+of_each P all (Gone uuid name cookie) is = absurd is
+of_each P all (Present uuid cookie) is = absurd is
+of_each P all (IdSet deletes uuids cookie) is = subst (λ c. P (IdSet deletes uuids c)) (sym is.2) (all.sets deletes uuids is.0 is.1)
+of_each P all (NewCookie cookie) is = absurd is
+of_each P all (PhaseEnds deletes done cookie) is = absurd is
+of_each P all (Done code control) is = subst (λ c. P (Done c control)) (sym is.2) (subst (λ c. P (Done (pos 0) c)) (sym is.3) (all.ends is.1 is.0))
+of_each P all Passed is = absurd is
 
 -- ---- its length
 
@@ -54,7 +76,7 @@ abbrev IsShort : SyncMessage → Type 0
 IsShort m = length (message_octets (wire.sent 1 m)) ≤ 4194304
 
 pub sent_short : (m : SyncMessage) → IsOfRefresh m → IsShort m
-sent_short m is = of_each IsShort put_size done_size m is
+sent_short m is = of_each IsShort (record { puts = put_size; sets = λ deletes uuids range few. set_size deletes uuids few; ends = done_size }) m is
 
 -- ---- what its bytes are decoded to
 
@@ -71,11 +93,14 @@ IsDecoded m = decoded (message_octets (wire.sent 1 m)) ≡ Some (wire.sent 1 m)
 put_decoded : (adds : Bool) (e : Entry) → CanBeSent e → IsDecoded (Put adds e None)
 put_decoded adds e can = decoded_again (wire.sent 1 (Put adds e None)) (omega arith, tt) tt (put_size adds e can)
 
-end_decoded : (cookie : Cookie) → IsDecoded (end_with cookie)
-end_decoded cookie = decoded_again (wire.sent 1 (end_with cookie)) (omega arith, tt) (omega arith) (done_size cookie)
+set_decoded : (deletes : Bool) (uuids : List ℕ) → Each IsIdentity uuids → length uuids ≤ 256 → IsDecoded (IdSet deletes uuids None)
+set_decoded deletes uuids range few = decoded_again (wire.sent 1 (IdSet deletes uuids None)) (omega arith, tt) tt (set_size deletes uuids few)
+
+end_decoded : (deletes : Bool) (cookie : Cookie) → IsDecoded (end_with deletes cookie)
+end_decoded deletes cookie = decoded_again (wire.sent 1 (end_with deletes cookie)) (omega arith, tt) (omega arith) (done_size deletes cookie)
 
 pub sent_decoded : (m : SyncMessage) → IsOfRefresh m → IsDecoded m
-sent_decoded m is = of_each IsDecoded put_decoded end_decoded m is
+sent_decoded m is = of_each IsDecoded (record { puts = put_decoded; sets = set_decoded; ends = end_decoded }) m is
 
 -- ---- what it says
 
@@ -88,15 +113,25 @@ put_said adds e can =
     let held : Message = record { id = 1; op = SearchResultEntry (name_text e.dn) (wire.attributes_of e); controls = controls } in
     sent_heard false 1 (Put adds e None) held (can, tt) (ap (λ op. (1, (op, controls))) (entry_operation (name_text e.dn) (wire.attributes_of e)))
 
-end_said : (cookie : Cookie) → IsSaid (end_with cookie)
-end_said cookie =
-    let controls = (wire.parts_of (end_with cookie)).1 in
+all_of : (uuids : List ℕ) → Each IsIdentity uuids → All IsIdentity uuids
+all_of [] each = All-nil IsIdentity
+all_of (u ∷ us) each = All-cons IsIdentity u us each.0 (all_of us each.1)
+
+set_said : (deletes : Bool) (uuids : List ℕ) → Each IsIdentity uuids → length uuids ≤ 256 → IsSaid (IdSet deletes uuids None)
+set_said deletes uuids range few =
+    let value = info_octets (info.IdSet None deletes uuids) in
+    let held : Message = record { id = 1; op = IntermediateResponse (Some wire.info_name) (Some value); controls = [] } in
+    sent_heard false 1 (IdSet deletes uuids None) held (all_of uuids range, omega (arith, few), tt) (ap (λ op. (1, (op, []))) (info_operation (Some wire.info_name) (Some value)))
+
+end_said : (deletes : Bool) (cookie : Cookie) → IsSaid (end_with deletes cookie)
+end_said deletes cookie =
+    let controls = (wire.parts_of (end_with deletes cookie)).1 in
     let held : Message = record { id = 1; op = SearchResultDone (wire.result_of (pos 0)); controls = controls } in
     let short : length (cookie_text cookie) < 2 ^ 24 = omega (arith, cookie_size cookie) in
-    sent_heard false 1 (end_with cookie) held short (ap (λ op. (1, (op, controls))) (done_operation (wire.result_of (pos 0))))
+    sent_heard false 1 (end_with deletes cookie) held short (ap (λ op. (1, (op, controls))) (done_operation (wire.result_of (pos 0))))
 
 pub sent_said : (m : SyncMessage) → IsOfRefresh m → IsSaid m
-sent_said m is = of_each IsSaid put_said end_said m is
+sent_said m is = of_each IsSaid (record { puts = put_said; sets = set_said; ends = end_said }) m is
 
 -- ---- what the consumer makes of it
 

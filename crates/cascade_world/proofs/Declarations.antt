@@ -1,15 +1,16 @@
 -- What holds of the nodes after a declaration.
-use Rattle.std.proofs.Common.{◌≡◌, ◌+◌, ◌<◌, ℕ, true, Option, Some, None, List, [], ◌∷◌, ◌++◌, length, refl, ap, sym, subst, ◌∙◌, inl, inr, arith, append-nil, length-append}
+use Rattle.std.proofs.Common.{◌≡◌, ◌+◌, ◌<◌, ◌≤◌, ℕ, Bool, true, Option, Some, None, List, [], ◌∷◌, ◌++◌, length, refl, ap, sym, subst, ◌∙◌, inl, inr, arith, append-nil, length-append}
 use Rattle.std.proofs.lemmas.Bool.{cases_Bool, leb-false}
 use Rattle.std.specs.Prelude.{Ok, Err, count_by, not, nat_le}
 use Rattle.dn_names.specs.Names.{TypeAndValue, is_at_or_below}
 use Rattle.entry_tree.specs.Selection.{Search}
 use Rattle.cascade_world.specs.declared.node.Root.{Root}
-use Rattle.cascade_world.specs.Headline.{time_after, time_from, is_declaration, IsDeclared, latest_opened, EachTellsRight}
+use Rattle.cascade_world.specs.Cookies.{most_nodes}
+use Rattle.cascade_world.specs.Headline.{empty_handed, time_after, time_from, is_declaration, IsDeclared, latest_opened, EachTellsRight}
 use Rattle.cascade_world.specs.Orders.{Order}
 use Rattle.cascade_world.specs.Orders.{Order as asks}
 use Rattle.cascade_world.specs.Report.{Told}
-use Rattle.cascade_world.specs.World.{State, Step, most_nodes, count_nodes, has_node, root_named, where_room, new_root, declare_root, new_follower, follow, declare_follower}
+use Rattle.cascade_world.specs.World.{State, Step, count_nodes, has_node, root_named, where_room, new_root, declare_root, new_follower, follow, declare_follower}
 use Rattle.cascade_world.proofs.Accepted.{time_from-push}
 use Rattle.cascade_world.proofs.Feeding.{IsFed, RestIsFed, FreshIsSource}
 use Rattle.cascade_world.proofs.Finding.{find-more}
@@ -21,7 +22,7 @@ use Rattle.cascade_world.proofs.Traces.{AreTold}
 -- what a step leaves and tells
 abbrev pub After : List Order → List Told → Order → Step → Type 0
 After before said order (Err cause) = Unit {0}
-After before said order (Ok next) = Tracks (before ++ order ∷ []) (said ++ next.1) next.0 × EachTellsRight before said next.1
+After before said order (Ok next) = Tracks (before ++ order ∷ []) (said ++ next.1) next.0 × EachTellsRight before order said next.1
 
 -- the time after an order that sets no clock
 pub time_still : (before : List Order) (order : Order) (time : ℕ) → ((t : ℕ) → time_after t order ≡ t) → time ≡ time_from 0 before → time ≡ time_from 0 (before ++ order ∷ [])
@@ -50,12 +51,12 @@ new_root_is : FreshIsSource → (before : List Order) (state : State) (name : Li
     → IsRoot (before ++ asks.Provider name suffix ∷ []) (new_root state name suffix)
 new_root_is fresh_is before state name suffix room count =
     let number = count_nodes state + 1 in
-    let small : number < 4096 = omega arith in
+    let small : number ≤ 16 = omega arith in
     record {
       later = [];
       declared = declared_now before (count_nodes state) (asks.Provider name suffix) count;
       accepted = refl;
-      source = fresh_is number suffix small;
+      source = fresh_is number suffix (omega arith) small;
     }
 
 root_tracked : FreshIsSource → (before : List Order) (said : List Told) (state : State) (name : List ℕ) (suffix : List (List TypeAndValue)) → Tracks before said state → count_nodes state < most_nodes
@@ -88,28 +89,28 @@ provider_after fresh_is before said state name suffix is =
 
 -- ---- a consumer
 
-new_follower_is : RestIsFed → (before : List Order) (said : List Told) (state : State) (name source : List ℕ) (search : Search) (root : Root) → root_named source state ≡ Some root → IsLeft name said
-    → count_nodes state ≡ count_by is_declaration before → IsFollower (before ++ asks.Consumer name source search ∷ []) said state.roots (new_follower name source search)
-new_follower_is rest_is before said state name source search root e left count =
-    let f = new_follower name source search in
+new_follower_is : RestIsFed → (before : List Order) (said : List Told) (state : State) (name source : List ℕ) (search : Search) (reload : Bool) (root : Root) → root_named source state ≡ Some root → IsLeft name said
+    → count_nodes state ≡ count_by is_declaration before → IsFollower (before ++ asks.Consumer name source search reload ∷ []) said state.roots (new_follower name source search reload)
+new_follower_is rest_is before said state name source search reload root e left count =
+    let f = new_follower name source search reload in
     let number = root.provider.directory.history in
-    let fed : IsFed number root.provider f None [] = rest_is number root.provider f refl refl refl refl in
+    let fed : IsFed number root.provider f None empty_handed = rest_is number root.provider f refl refl refl refl refl in
     record {
       place = count_nodes state + 1;
       since = [];
-      declared = declared_now before (count_nodes state) (asks.Consumer name source search) count;
+      declared = declared_now before (count_nodes state) (asks.Consumer name source search reload) count;
       root = root;
       there = e;
       fed =
-          subst (λ s. IsFed number root.provider f (latest_opened name said) s) (sym (left.stored []))
-          (subst (λ o. IsFed number root.provider f o []) (sym (left.opened None)) fed);
+          subst (λ s. IsFed number root.provider f (latest_opened name said) s) (sym (left.stored empty_handed))
+          (subst (λ o. IsFed number root.provider f o empty_handed) (sym (left.opened None)) fed);
     }
 
-follower_tracked : RestIsFed → (before : List Order) (said : List Told) (state : State) (name source : List ℕ) (search : Search) (root : Root) → root_named source state ≡ Some root → IsLeft name said → Tracks before said state
-    → Tracks (before ++ asks.Consumer name source search ∷ []) (said ++ []) (record state { followers = state.followers ++ new_follower name source search ∷ [] })
-follower_tracked rest_is before said state name source search root e left is =
-    let order = asks.Consumer name source search in
-    let f = new_follower name source search in
+follower_tracked : RestIsFed → (before : List Order) (said : List Told) (state : State) (name source : List ℕ) (search : Search) (reload : Bool) (root : Root) → root_named source state ≡ Some root → IsLeft name said → Tracks before said state
+    → Tracks (before ++ asks.Consumer name source search reload ∷ []) (said ++ []) (record state { followers = state.followers ++ new_follower name source search reload ∷ [] })
+follower_tracked rest_is before said state name source search reload root e left is =
+    let order = asks.Consumer name source search reload in
+    let f = new_follower name source search reload in
     let more : length state.roots + length (state.followers ++ f ∷ []) ≡ count_nodes state + 1 = ap (λ n. length state.roots + n) (length-append state.followers (f ∷ [])) ∙ omega arith in
     record {
       time = time_still before order state.clock (λ t. refl) is.time;
@@ -117,28 +118,28 @@ follower_tracked rest_is before said state name source search root e left is =
       roots = roots_kept before order state.roots (λ n. tt) is.roots;
       followers =
           followers_pushed (before ++ order ∷ []) (said ++ []) state.roots state.followers f
-          (subst (λ s. IsFollower (before ++ order ∷ []) s state.roots f) (sym (append-nil said)) (new_follower_is rest_is before said state name source search root e left is.count))
+          (subst (λ s. IsFollower (before ++ order ∷ []) s state.roots f) (sym (append-nil said)) (new_follower_is rest_is before said state name source search reload root e left is.count))
           (followers_kept before order said [] state.roots state.roots state.followers left_by_none (λ n r h. h) is.followers);
       apart = apart_pushed state.followers f refl is.apart;
     }
 
-follow_after : RestIsFed → (before : List Order) (said : List Told) (state : State) (name source : List ℕ) (search : Search) (root : Option Root) → root_named source state ≡ root → IsLeft name said → Tracks before said state
-    → After before said (asks.Consumer name source search) (follow state name source search root)
-follow_after rest_is before said state name source search None e left is = tt
-follow_after rest_is before said state name source search (Some root) e left is =
+follow_after : RestIsFed → (before : List Order) (said : List Told) (state : State) (name source : List ℕ) (search : Search) (reload : Bool) (root : Option Root) → root_named source state ≡ root → IsLeft name said → Tracks before said state
+    → After before said (asks.Consumer name source search reload) (follow state name source search reload root)
+follow_after rest_is before said state name source search reload None e left is = tt
+follow_after rest_is before said state name source search reload (Some root) e left is =
     elim (cases_Bool (not (is_at_or_below search.base root.provider.directory.suffix))) [
       | inl outside ↦ rw outside tt
       | inr inside ↦
           rw inside (
-          room_after before said (asks.Consumer name source search) state (record state { followers = state.followers ++ new_follower name source search ∷ [] })
-          (λ room. follower_tracked rest_is before said state name source search root e left is)
+          room_after before said (asks.Consumer name source search reload) state (record state { followers = state.followers ++ new_follower name source search reload ∷ [] })
+          (λ room. follower_tracked rest_is before said state name source search reload root e left is)
           )
     ]
 
-pub consumer_after : RestIsFed → (before : List Order) (said : List Told) (state : State) (name source : List ℕ) (search : Search) → AreTold state said → Tracks before said state
-    → After before said (asks.Consumer name source search) (declare_follower state name source search)
-consumer_after rest_is before said state name source search told is =
+pub consumer_after : RestIsFed → (before : List Order) (said : List Told) (state : State) (name source : List ℕ) (search : Search) (reload : Bool) → AreTold state said → Tracks before said state
+    → After before said (asks.Consumer name source search reload) (declare_follower state name source search reload)
+consumer_after rest_is before said state name source search reload told is =
     elim (cases_Bool (has_node name state)) [
       | inl taken ↦ rw taken tt
-      | inr new ↦ rw new (follow_after rest_is before said state name source search (root_named source state) refl (left_for_new name state said new told.of_nodes) is)
+      | inr new ↦ rw new (follow_after rest_is before said state name source search reload (root_named source state) refl (left_for_new name state said new told.of_nodes) is)
     ]

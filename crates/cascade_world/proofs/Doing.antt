@@ -3,7 +3,7 @@ use Rattle.std.proofs.Common.{◌≡◌, ℕ, List, [], ◌∷◌, ◌++◌, ref
 use Rattle.std.proofs.lemmas.List.Concat.{flat_map-append}
 use Rattle.std.specs.Prelude.{Ok, Err, Result}
 use Rattle.cascade_world.specs.declared.fault.Cause.{Cause}
-use Rattle.cascade_world.specs.declared.fault.Cause.TheVariants.{BadCommand, UnknownNode, NameTaken, BadRecord, LimitReached, OutsideSuffix, NotYet, NoMemory}
+use Rattle.cascade_world.specs.declared.fault.Cause.TheVariants.{BadCommand, UnknownNode, NameTaken, BadRecord, LimitReached, OutsideSuffix, LaterCookie, NotYet, NoMemory}
 use Rattle.cascade_world.specs.Exchange.{Pair, Outcome, after_lines, and_then}
 use Rattle.cascade_world.specs.Parts.{Does}
 use Rattle.cascade_world.specs.Report.{Told, line_of, lines_text}
@@ -33,6 +33,7 @@ refused_first first next old text new p after NameTaken h = ap (λ o. and_then o
 refused_first first next old text new p after BadRecord h = ap (λ o. and_then o next) h
 refused_first first next old text new p after (LimitReached number) h = ap (λ o. and_then o next) h
 refused_first first next old text new p after OutsideSuffix h = ap (λ o. and_then o next) h
+refused_first first next old text new p after (LaterCookie held given) h = ap (λ o. and_then o next) h
 refused_first first next old text new p after NotYet h = ap (λ o. and_then o next) h
 refused_first first next old text new p after NoMemory h = tt
 
@@ -45,6 +46,7 @@ refused_second first next old mid text new between p after NameTaken one h = ap 
 refused_second first next old mid text new between p after BadRecord one h = ap (λ o. and_then o next) one.1 ∙ ap (after_lines one.0) h
 refused_second first next old mid text new between p after (LimitReached number) one h = ap (λ o. and_then o next) one.1 ∙ ap (after_lines one.0) h
 refused_second first next old mid text new between p after OutsideSuffix one h = ap (λ o. and_then o next) one.1 ∙ ap (after_lines one.0) h
+refused_second first next old mid text new between p after (LaterCookie held given) one h = ap (λ o. and_then o next) one.1 ∙ ap (after_lines one.0) h
 refused_second first next old mid text new between p after NotYet one h = ap (λ o. and_then o next) one.1 ∙ ap (after_lines one.0) h
 refused_second first next old mid text new between p after NoMemory one h = tt
 

@@ -1,12 +1,15 @@
 -- What holds of the nodes after an order for a consumer and its provider, and what its lines tell.
-use Rattle.std.proofs.Common.{◌≡◌, ◌+◌, ℕ, false, Option, Some, None, List, [], ◌∷◌, ◌++◌, length, refl, ap, sym, subst, ◌∙◌}
+use Rattle.std.proofs.Common.{◌≡◌, ◌+◌, ℕ, false, Option, Some, None, List, [], ◌∷◌, ◌++◌, length, refl, ap, sym, subst, ◌∙◌, inl, inr}
 use Rattle.std.specs.Prelude.{Ok, Err}
+use Rattle.std.proofs.lemmas.Bool.{cases_Bool}
+use Rattle.sync_provider.specs.Machine.{ProviderState}
 use Rattle.cascade_world.specs.declared.exchange.Exchange.{Exchange}
 use Rattle.cascade_world.specs.declared.exchange.Exchange.TheVariants as goes
 use Rattle.cascade_world.specs.declared.node.Root.{Root}
 use Rattle.cascade_world.specs.declared.node.Follower.{Follower}
-use Rattle.cascade_world.specs.Exchange.{Pair, Outcome, pair_of, part_of}
-use Rattle.cascade_world.specs.Headline.{time_after, is_declaration, latest_opened, last_stored}
+use Rattle.cascade_world.specs.Cookies.{is_later}
+use Rattle.cascade_world.specs.Exchange.{Pair, Outcome, pair_of, part_of, sent, takes, cut, opens, settles}
+use Rattle.cascade_world.specs.Headline.{time_after, is_declaration, latest_opened, last_held}
 use Rattle.cascade_world.specs.Orders.{Order}
 use Rattle.cascade_world.specs.Orders.{Order as asks}
 use Rattle.cascade_world.specs.Report.{Told}
@@ -14,11 +17,12 @@ use Rattle.cascade_world.specs.World.{State, root_named, follower_named, with_fo
 use Rattle.cascade_world.proofs.Accepted.{Untouched}
 use Rattle.cascade_world.proofs.Declarations.{After, time_still}
 use Rattle.cascade_world.proofs.Exchanged.{root_done, other_fed, followers_done, apart_done}
-use Rattle.cascade_world.proofs.Exchanging.{Keeps, KeepsIn, sent_keeps, takes_keeps, cut_keeps, opens_keeps, settles_keeps}
+use Rattle.cascade_world.proofs.Exchanging.{Keeps, KeepsIn, sent_keeps, takes_keeps, cut_keeps, opens_keeps, settles_keeps, lost_keeps, given_keeps}
 use Rattle.cascade_world.proofs.Feeding.{IsKept, PartsAreKept}
 use Rattle.cascade_world.proofs.Finding.{IsChanged, roots_by, followers_by, follower_name, provider_changed, follower_changed, length-first_changed}
 use Rattle.cascade_world.proofs.Growing.{count_same, fed_by, roots_changed}
-use Rattle.cascade_world.proofs.Telling.{accepted_at, consumer_of, lines_right}
+use Rattle.cascade_world.proofs.Silence.{sent_silent, takes_silent, cut_silent, opens_silent, settles_silent}
+use Rattle.cascade_world.proofs.Telling.{GivenIn, silent_given, accepted_at, consumer_of, lines_right}
 use Rattle.cascade_world.proofs.Tracking.{Tracks}
 
 -- the order for each
@@ -28,6 +32,8 @@ asked_by name (goes.Send count) = asks.Send name count
 asked_by name (goes.Take count) = asks.Take name count
 asked_by name goes.Cut = asks.Cut name
 asked_by name goes.Settle = asks.Settle name
+asked_by name goes.Lose = asks.Lose name
+asked_by name (goes.Give text) = asks.Cookie name text
 
 -- an order that declares nothing, writes nothing and sets no clock
 record IsQuiet (order : Order) : Type 0 where
@@ -41,6 +47,22 @@ quiet_by name (goes.Send count) = record { untouched = λ other. tt; still = λ 
 quiet_by name (goes.Take count) = record { untouched = λ other. tt; still = λ time. refl; undeclared = refl }
 quiet_by name goes.Cut = record { untouched = λ other. tt; still = λ time. refl; undeclared = refl }
 quiet_by name goes.Settle = record { untouched = λ other. tt; still = λ time. refl; undeclared = refl }
+quiet_by name goes.Lose = record { untouched = λ other. tt; still = λ time. refl; undeclared = refl }
+quiet_by name (goes.Give text) = record { untouched = λ other. tt; still = λ time. refl; undeclared = refl }
+
+-- what is told of a cookie is what the order gives
+given_by : (name : List ℕ) (f : Follower) (p : ProviderState) (exchange : Exchange) → name ≡ f.name → GivenIn (asked_by name exchange) (part_of exchange (pair_of p f))
+given_by name f p goes.Open same = silent_given (asks.OpenOnce name) (opens (pair_of p f)) (opens_silent (pair_of p f))
+given_by name f p (goes.Send count) same = silent_given (asks.Send name count) (sent count (pair_of p f)) (sent_silent count (pair_of p f))
+given_by name f p (goes.Take count) same = silent_given (asks.Take name count) (takes count (pair_of p f)) (takes_silent count (pair_of p f))
+given_by name f p goes.Cut same = silent_given (asks.Cut name) (cut (pair_of p f)) (cut_silent (pair_of p f))
+given_by name f p goes.Settle same = silent_given (asks.Settle name) (settles (pair_of p f)) (settles_silent (pair_of p f))
+given_by name f p goes.Lose same = ((sym same, refl), tt)
+given_by name f p (goes.Give text) same =
+    elim (cases_Bool (is_later f.consumer.copy.cookie text)) [
+      | inl later ↦ rw later tt
+      | inr good ↦ rw good ((sym same, refl), tt)
+    ]
 
 -- what each keeps
 exchange_keeps : (exchange : Exchange) (pair : Pair) → KeepsIn pair (part_of exchange pair)
@@ -49,10 +71,12 @@ exchange_keeps (goes.Send count) pair = sent_keeps count pair
 exchange_keeps (goes.Take count) pair = takes_keeps count pair
 exchange_keeps goes.Cut pair = cut_keeps pair
 exchange_keeps goes.Settle pair = settles_keeps pair
+exchange_keeps goes.Lose pair = lost_keeps pair
+exchange_keeps (goes.Give text) pair = given_keeps text pair
 
 pair_tracked : (before : List Order) (order : Order) (said : List Told) (state : State) (name : List ℕ) (f : Follower) (root : Root) (after : Pair) (lines : List Told) → IsQuiet order
     → follower_named name state ≡ Some f → root_named f.source state ≡ Some root
-    → IsKept root.provider.directory.history root.provider.directory.suffix (pair_of root.provider f) after lines (latest_opened f.name said) (last_stored f.name said) → Keeps (pair_of root.provider f) after lines
+    → IsKept root.provider.directory.history root.provider.directory.suffix (pair_of root.provider f) after lines (latest_opened f.name said) (last_held f.name said) → Keeps (pair_of root.provider f) after lines
     → Tracks before said state → Tracks (before ++ order ∷ []) (said ++ lines) (with_pair state after)
 pair_tracked before order said state name f root after lines quiet e r kept keeps is =
     let now : Root = record root { provider = after.provider } in
@@ -64,7 +88,7 @@ pair_tracked before order said state name f root after lines quiet e r kept keep
     let followers' : IsChanged (followers_by state.followers) (followers_by next') name after.follower =
     subst (λ n. IsChanged (followers_by state.followers) (followers_by (with_follower n after.follower state.followers)) name after.follower) (sym named) (follower_changed state.followers name f after.follower e named) in
     let opened = latest_opened f.name said in
-    let stored = last_stored f.name said in
+    let stored = last_held f.name said in
     record {
       time = time_still before order state.clock quiet.still is.time;
       count =
@@ -83,20 +107,20 @@ pair_tracked before order said state name f root after lines quiet e r kept keep
           is.apart;
     }
 
-outcome_after : PartsAreKept → (before : List Order) (order : Order) (said : List Told) (state : State) (name : List ℕ) (f : Follower) (root : Root) (exchange : Exchange) (outcome : Outcome) → IsQuiet order
+outcome_after : PartsAreKept → (before : List Order) (order : Order) (said : List Told) (state : State) (name : List ℕ) (f : Follower) (root : Root) (exchange : Exchange) (outcome : Outcome) → IsQuiet order → GivenIn order outcome
     → follower_named name state ≡ Some f → root_named f.source state ≡ Some root → part_of exchange (pair_of root.provider f) ≡ outcome → KeepsIn (pair_of root.provider f) outcome → Tracks before said state
     → After before said order (with_outcome state outcome)
-outcome_after parts before order said state name f root exchange (Err cause) quiet e r p keeps is = tt
-outcome_after parts before order said state name f root exchange (Ok next) quiet e r p keeps is =
+outcome_after parts before order said state name f root exchange (Err cause) quiet gives e r p keeps is = tt
+outcome_after parts before order said state name f root exchange (Ok next) quiet gives e r p keeps is =
     let there = is.roots f.source root r in
     let here = is.followers name f e in
     let number = root.provider.directory.history in
     let opened = latest_opened f.name said in
-    let stored = last_stored f.name said in
+    let stored = last_held f.name said in
     let fed = fed_by before said state.roots f.source root f r refl here in
     let kept = parts number root.provider.directory.suffix (pair_of root.provider f) next.0 next.1 opened stored exchange there.source fed p in (
       pair_tracked before order said state name f root next.0 next.1 quiet e r kept keeps is,
-      lines_right before said number root.provider f next.1 (consumer_of before said state.roots f here) (accepted_at before state.roots f.source root r there) kept.right,
+      lines_right before order said number root.provider f next.1 gives (consumer_of before said state.roots f here) (accepted_at before state.roots f.source root r there) kept.right,
     )
 
 between_after : PartsAreKept → (before : List Order) (said : List Told) (state : State) (name : List ℕ) (f : Follower) (exchange : Exchange) (root : Option Root) → follower_named name state ≡ Some f
@@ -104,7 +128,7 @@ between_after : PartsAreKept → (before : List Order) (said : List Told) (state
 between_after parts before said state name f exchange None e r is = tt
 between_after parts before said state name f exchange (Some root) e r is =
     let pair = pair_of root.provider f in
-    outcome_after parts before (asked_by name exchange) said state name f root exchange (part_of exchange pair) (quiet_by name exchange) e r refl (exchange_keeps exchange pair) is
+    outcome_after parts before (asked_by name exchange) said state name f root exchange (part_of exchange pair) (quiet_by name exchange) (given_by name f root.provider exchange (follower_name state.followers name f e)) e r refl (exchange_keeps exchange pair) is
 
 pub exchange_after : PartsAreKept → (before : List Order) (said : List Told) (state : State) (name : List ℕ) (exchange : Exchange) (found : Option Follower) → follower_named name state ≡ found → Tracks before said state
     → After before said (asked_by name exchange) (exchange_of state (part_of exchange) found)

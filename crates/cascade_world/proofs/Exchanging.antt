@@ -12,11 +12,11 @@ use Rattle.sync_provider.specs.declared.searches.Accepted.{Accepted}
 use Rattle.sync_provider.specs.declared.searches.Accepted.TheVariants as accepted
 use Rattle.cascade_world.specs.declared.exchange.Exchange.{Exchange}
 use Rattle.cascade_world.specs.declared.exchange.Exchange.TheVariants as goes
-use Rattle.cascade_world.specs.Exchange.{Pair, Outcome, part_of, fits, after_lines, and_then, name_of, copy_of, Sending, turn_of, handed, sends, sending_by, sending, sent_before, sent, closed, given_up, taken_as, taken_from, taking, taken_before, taken_some, takes, is_busy, cut, idle, control_of, opened_by, opened_idle, opens, left_to_send, ran_before, ran_some, runs, drains, settled_told, settles}
+use Rattle.cascade_world.specs.Exchange.{Pair, Outcome, part_of, fits, after_lines, and_then, name_of, copy_of, Sending, turn_of, handed, sends, sending_by, sending, sent_before, sent, closed, given_up, taken_as, taken_from, taking, taken_before, taken_some, takes, is_busy, cut, idle, answer_of, is_required, opened_by, opened_idle, opens, asked_again, opens_anew, left_to_send, ran_before, ran_some, runs, drains, settled_told, settles, holding, lost, given}
 use Rattle.cascade_world.specs.Exchange.Sending.{Sends, Rests, Overflows}
 use Rattle.cascade_world.specs.Hearing.{Came, heard}
 use Rattle.cascade_world.specs.Hearing.{Came as came}
-use Rattle.cascade_world.specs.Opening.{answer_to}
+use Rattle.cascade_world.specs.Cookies.{is_later}
 use Rattle.cascade_world.specs.Report.{Told}
 use Rattle.cascade_world.specs.Report.{Told as told}
 use Rattle.cascade_world.specs.Trace.{Seen, seen_of, took, dropped, after_own, name_in}
@@ -32,6 +32,7 @@ pub record Keeps (before after : Pair) (lines : List Told) : Type 0 where
   pub name : after.follower.name ≡ before.follower.name
   pub source : after.follower.source ≡ before.follower.source
   pub spec : after.follower.consumer.spec ≡ before.follower.consumer.spec
+  pub reload : after.follower.consumer.reload ≡ before.follower.consumer.reload
   pub directory : after.provider.directory ≡ before.provider.directory
   pub own : EachOwn before.follower.name lines
   pub traced : seen_of after.follower ≡ fold after_own (seen_of before.follower) lines
@@ -41,13 +42,14 @@ own-append name [] ms h k = k
 own-append name (l ∷ ls) ms h k = (h.0, own-append name ls ms h.1 k)
 
 pub keeps_nothing : (pair : Pair) → Keeps pair pair []
-keeps_nothing pair = record { name = refl; source = refl; spec = refl; directory = refl; own = tt; traced = refl }
+keeps_nothing pair = record { name = refl; source = refl; spec = refl; reload = refl; directory = refl; own = tt; traced = refl }
 
 pub keeps_both : {a b c : Pair} {ls ms : List Told} → Keeps a b ls → Keeps b c ms → Keeps a c (ls ++ ms)
 keeps_both {a} {b} {c} {ls} {ms} first second = record {
   name = second.name ∙ first.name;
   source = second.source ∙ first.source;
   spec = second.spec ∙ first.spec;
+  reload = second.reload ∙ first.reload;
   directory = second.directory ∙ first.directory;
   own = own-append a.follower.name ls ms first.own (subst (λ n. EachOwn n ms) first.name second.own);
   traced = second.traced ∙ ap (λ s. fold after_own s ms) first.traced ∙ sym (fold-append after_own (seen_of a.follower) ls ms);
@@ -55,7 +57,7 @@ keeps_both {a} {b} {c} {ls} {ms} first second = record {
 
 -- a line that tells of nothing that happened
 keeps_quiet : (pair : Pair) (line : Told) → name_in line ≡ pair.follower.name → seen_of pair.follower ≡ after_own (seen_of pair.follower) line → Keeps pair pair (line ∷ [])
-keeps_quiet pair line own quiet = record { name = refl; source = refl; spec = refl; directory = refl; own = (own, tt); traced = quiet }
+keeps_quiet pair line own quiet = record { name = refl; source = refl; spec = refl; reload = refl; directory = refl; own = (own, tt); traced = quiet }
 
 -- ---- parts one after another
 
@@ -90,6 +92,7 @@ sends_keeps pair search message =
             name = refl;
             source = refl;
             spec = refl;
+            reload = refl;
             directory = handed_directory pair.provider pair.follower.search;
             own = (refl, tt);
             traced = refl;
@@ -126,14 +129,15 @@ took_is before link message rest e = ap (took before) e
 
 taken_as_keeps : (pair : Pair) (message : List ℕ) (rest : List (List ℕ)) (found : Came) → pair.follower.link ≡ message ∷ rest
     → Keeps pair (taken_as pair rest (heard (copy_of pair.follower) message).0 found).0 ((taken_as pair rest (heard (copy_of pair.follower) message).0 found).1 ∷ [])
-taken_as_keeps pair message rest came.Staged e = record { name = refl; source = refl; spec = refl; directory = refl; own = (refl, tt); traced = sym (took_is (copy_of pair.follower) pair.follower.link message rest e) }
-taken_as_keeps pair message rest came.Copied e = record { name = refl; source = refl; spec = refl; directory = refl; own = (refl, tt); traced = sym (took_is (copy_of pair.follower) pair.follower.link message rest e) }
-taken_as_keeps pair message rest came.Stored e = record { name = refl; source = refl; spec = refl; directory = refl; own = (refl, tt); traced = sym (took_is (copy_of pair.follower) pair.follower.link message rest e) }
-taken_as_keeps pair message rest (came.Over code) e = record { name = refl; source = refl; spec = refl; directory = refl; own = (refl, tt); traced = sym (took_is (copy_of pair.follower) pair.follower.link message rest e) }
+taken_as_keeps pair message rest came.Staged e = record { name = refl; source = refl; spec = refl; reload = refl; directory = refl; own = (refl, tt); traced = sym (took_is (copy_of pair.follower) pair.follower.link message rest e) }
+taken_as_keeps pair message rest came.Copied e = record { name = refl; source = refl; spec = refl; reload = refl; directory = refl; own = (refl, tt); traced = sym (took_is (copy_of pair.follower) pair.follower.link message rest e) }
+taken_as_keeps pair message rest came.Stored e = record { name = refl; source = refl; spec = refl; reload = refl; directory = refl; own = (refl, tt); traced = sym (took_is (copy_of pair.follower) pair.follower.link message rest e) }
+taken_as_keeps pair message rest (came.Over code) e = record { name = refl; source = refl; spec = refl; reload = refl; directory = refl; own = (refl, tt); traced = sym (took_is (copy_of pair.follower) pair.follower.link message rest e) }
 taken_as_keeps pair message rest (came.Refused fault) e = record {
   name = refl;
   source = refl;
   spec = refl;
+  reload = refl;
   directory = closed_directory pair.provider pair.follower.search;
   own = (refl, tt);
   traced = ap dropped (sym (took_is (copy_of pair.follower) pair.follower.link message rest e));
@@ -177,6 +181,7 @@ cut_keeps pair =
             name = refl;
             source = refl;
             spec = refl;
+            reload = refl;
             directory = closed_directory pair.provider pair.follower.search;
             own = (refl, tt);
             traced = refl;
@@ -192,14 +197,25 @@ idle_keeps pair =
     ]
 
 opened_by_keeps : (pair : Pair) (answer : Accepted) → KeepsIn pair (opened_by pair answer)
-opened_by_keeps pair (accepted.Opened number writes) = record { name = refl; source = refl; spec = refl; directory = refl; own = (refl, tt); traced = refl }
-opened_by_keeps pair (accepted.Refused code) = record { name = refl; source = refl; spec = refl; directory = refl; own = (refl, tt); traced = refl }
+opened_by_keeps pair (accepted.Opened number writes) = record { name = refl; source = refl; spec = refl; reload = refl; directory = refl; own = (refl, tt); traced = refl }
+opened_by_keeps pair (accepted.Refused code) = record { name = refl; source = refl; spec = refl; reload = refl; directory = refl; own = (refl, tt); traced = refl }
 opened_by_keeps pair accepted.NoMemory = keeps_nothing pair
 
+idly_keeps : (pair : Pair) → KeepsIn pair (opened_idle pair)
+idly_keeps pair = opened_by_keeps pair (answer_of pair)
+
 pub opens_keeps : (pair : Pair) → KeepsIn pair (opens pair)
-opens_keeps pair =
-    keeps_then pair (idle pair) opened_idle (idle_keeps pair)
-    (λ after. opened_by_keeps after (answer_to after.provider after.follower.consumer.spec (control_of after.follower.consumer)))
+opens_keeps pair = keeps_then pair (idle pair) opened_idle (idle_keeps pair) idly_keeps
+
+again_keeps : (pair : Pair) → KeepsIn pair (asked_again pair)
+again_keeps pair =
+    elim (cases_Bool (is_required (answer_of pair))) [
+      | inl required ↦ rw required (keeps_then pair (opened_idle pair) opened_idle (idly_keeps pair) idly_keeps)
+      | inr served ↦ rw served (idly_keeps pair)
+    ]
+
+anew_keeps : (pair : Pair) → KeepsIn pair (opens_anew pair)
+anew_keeps pair = keeps_then pair (idle pair) asked_again (idle_keeps pair) again_keeps
 
 -- ---- settling
 
@@ -225,13 +241,28 @@ settled_keeps pair = keeps_quiet pair (told.Settled (name_of pair) (length pair.
 
 pub settles_keeps : (pair : Pair) → KeepsIn pair (settles pair)
 settles_keeps pair =
-    keeps_then pair (and_then (and_then (and_then (drains pair) runs) opens) runs) settled_told
-    (keeps_then pair (and_then (and_then (drains pair) runs) opens) runs
-    (keeps_then pair (and_then (drains pair) runs) opens
+    keeps_then pair (and_then (and_then (and_then (drains pair) runs) opens_anew) runs) settled_told
+    (keeps_then pair (and_then (and_then (drains pair) runs) opens_anew) runs
+    (keeps_then pair (and_then (drains pair) runs) opens_anew
     (keeps_then pair (drains pair) runs (drains_keeps pair) runs_keeps)
-    opens_keeps)
+    anew_keeps)
     runs_keeps)
     settled_keeps
+
+-- ---- cookies
+
+holding_keeps : (pair : Pair) (cookie : Option (List ℕ)) → KeepsIn pair (holding pair cookie)
+holding_keeps pair cookie = record { name = refl; source = refl; spec = refl; reload = refl; directory = refl; own = (refl, tt); traced = refl }
+
+pub lost_keeps : (pair : Pair) → KeepsIn pair (lost pair)
+lost_keeps pair = holding_keeps pair None
+
+pub given_keeps : (text : List ℕ) (pair : Pair) → KeepsIn pair (given text pair)
+given_keeps text pair =
+    elim (cases_Bool (is_later (copy_of pair.follower).cookie text)) [
+      | inl later ↦ rw later tt
+      | inr good ↦ rw good (holding_keeps pair (Some text))
+    ]
 
 -- ---- what goes on
 
@@ -241,3 +272,5 @@ part_keeps (goes.Send count) pair = sent_keeps count pair
 part_keeps (goes.Take count) pair = takes_keeps count pair
 part_keeps goes.Cut pair = cut_keeps pair
 part_keeps goes.Settle pair = settles_keeps pair
+part_keeps goes.Lose pair = lost_keeps pair
+part_keeps (goes.Give text) pair = given_keeps text pair

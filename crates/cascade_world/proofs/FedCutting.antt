@@ -1,16 +1,18 @@
 -- A cut leaves a consumer at rest, with its entries.
-use Rattle.std.proofs.Common.{◌≡◌, ℕ, Bool, true, false, cond, Option, Some, None, List, [], ◌∷◌, length, refl, ◌∙◌, inl, arith, eqb-true}
+use Rattle.std.proofs.Common.{◌≡◌, ℕ, Bool, true, false, cond, Option, Some, None, List, [], ◌∷◌, length, refl, ap, sym, ◌∙◌, inl, arith, eqb-true, subst}
 use Rattle.std.specs.Prelude.{◌||◌, ◌==◌, not, is_some, Ok}
 use Rattle.dn_names.specs.Names.{TypeAndValue}
-use Rattle.entry_tree.specs.declared.entry.Entry.{Entry}
+use Rattle.sync_provider.specs.Directory.{DirectoryState}
 use Rattle.sync_provider.specs.HandingOut as handing
 use Rattle.sync_provider.specs.Machine.{ProviderState}
 use Rattle.sync_provider.proofs.Looking.{closed-other}
 use Rattle.cascade_world.specs.declared.node.Follower.{Follower}
 use Rattle.cascade_world.specs.Exchange.{Pair, Outcome, pair_of, copy_of, closed, emptied, given_up, is_busy, cut, name_of}
+use Rattle.cascade_world.specs.Cookies.{held_cookie}
+use Rattle.cascade_world.specs.Headline.{Holding, text_of_kept}
 use Rattle.cascade_world.specs.Report.{Told as told}
 use Rattle.cascade_world.proofs.Composing.{IsKeptIn, IsQuiet, Keeps, kept-still, kept-told}
-use Rattle.cascade_world.proofs.Feeding.{IsSource, IsAtRest, IsFed, IsKept}
+use Rattle.cascade_world.proofs.Feeding.{IsSource, IsPromised, IsWithinWrites, IsAtRest, IsFed, IsKept}
 use Rattle.cascade_world.proofs.Sharing.{Searches, with_searches, others-none, others-changed}
 
 abbrev Name : Type 0
@@ -19,6 +21,7 @@ Name = List (List TypeAndValue)
 -- a provider with other searches is a source still
 pub source-searches : (number : ℕ) (suffix : Name) (p : ProviderState) (searches : Searches) → IsSource number suffix p → IsSource number suffix (with_searches p.directory searches)
 source-searches number suffix p searches source = record {
+  first = source.first;
   small = source.small;
   directory = source.directory;
   rises = source.rises;
@@ -26,35 +29,51 @@ source-searches number suffix p searches source = record {
   few = source.few;
 }
 
--- a consumer at rest is fed by any provider
-pub fed-rest : (number : ℕ) (p q : ProviderState) (f g : Follower) (opened : Option ℕ) (stored : List Entry) → IsFed number p f opened stored → g.consumer.copy.held ≡ f.consumer.copy.held → IsAtRest g
+-- what a consumer has when it rests
+pub record IsAsBefore (f g : Follower) : Type 0 where
+  pub held : g.consumer.copy.held ≡ f.consumer.copy.held
+  pub cookie : g.consumer.copy.cookie ≡ f.consumer.copy.cookie
+  pub spec : g.consumer.spec ≡ f.consumer.spec
+
+-- a consumer at rest is fed by any provider with the same writes
+pub fed-rest : (number : ℕ) (p q : ProviderState) (f g : Follower) (opened : Option ℕ) (stored : Holding) → q.directory ≡ p.directory → IsFed number p f opened stored → IsAsBefore f g → IsAtRest g
     → IsFed number q g opened stored
-fed-rest number p q f g opened stored fed same rest = record { held = same ∙ fed.held; ascending = fed.ascending; state = inl rest }
+fed-rest number p q f g opened stored same fed is rest = record {
+  held = is.held ∙ fed.held;
+  ascending = fed.ascending;
+  cookie = is.cookie ∙ fed.cookie ∙ ap (λ (d : DirectoryState). text_of_kept number d.writes stored.kept) (sym same);
+  prefix = subst (λ (d : DirectoryState). IsWithinWrites (length d.writes) stored.kept) (sym same) fed.prefix;
+  promised =
+      subst (λ (d : DirectoryState). IsPromised number g.consumer.spec d.writes stored.entries (held_cookie g.consumer.copy.cookie)) (sym same)
+      (subst (λ s. IsPromised number s p.directory.writes stored.entries (held_cookie g.consumer.copy.cookie)) (sym is.spec)
+      (subst (λ c. IsPromised number f.consumer.spec p.directory.writes stored.entries (held_cookie c)) (sym is.cookie) fed.promised));
+  state = inl rest;
+}
 
 emptied_rests : (f : Follower) → IsAtRest (emptied f (copy_of f))
 emptied_rests f = record { search = refl; running = refl; link = refl }
 
-pub given_up_kept : (number : ℕ) (suffix : Name) (p : ProviderState) (f : Follower) (opened : Option ℕ) (stored : List Entry) → IsSource number suffix p → IsFed number p f opened stored
+pub given_up_kept : (number : ℕ) (suffix : Name) (p : ProviderState) (f : Follower) (opened : Option ℕ) (stored : Holding) → IsSource number suffix p → IsFed number p f opened stored
     → IsKept number suffix (pair_of p f) (given_up (pair_of p f) (copy_of f)) [] opened stored
 given_up_kept number suffix p f opened stored source fed = by f.search refl
   where
     after : Follower
     after = emptied f (copy_of f)
 
-    fed_after : (q : ProviderState) → IsFed number q after opened stored
-    fed_after q = fed-rest number p q f after opened stored fed refl (emptied_rests f)
+    fed_after : (q : ProviderState) → q.directory ≡ p.directory → IsFed number q after opened stored
+    fed_after q same = fed-rest number p q f after opened stored same fed (record { held = refl; cookie = refl; spec = refl }) (emptied_rests f)
 
     by : (own : Option ℕ) → f.search ≡ own → IsKept number suffix (pair_of p f) (pair_of (closed p own) after) [] opened stored
     by None is = record {
       source = source;
-      fed = fed_after p;
+      fed = fed_after p refl;
       right = tt;
       same = refl;
       others = others-none number p f after is;
     }
     by (Some at) is = record {
       source = source-searches number suffix p (handing.closed p.searches at) source;
-      fed = fed_after (with_searches p.directory (handing.closed p.searches at));
+      fed = fed_after (with_searches p.directory (handing.closed p.searches at)) refl;
       right = tt;
       same = refl;
       others =
@@ -63,18 +82,18 @@ given_up_kept number suffix p f opened stored source fed = by f.search refl
     }
 
 cut_quiet : (name : List ℕ) → IsQuiet (told.Cut name)
-cut_quiet name = record { opened = λ n o. refl; stored = λ n s. refl; right = λ k frame o. (tt, tt) }
+cut_quiet name = record { opened = λ n o. refl; stored = λ n s. refl; right = λ k frame o s. (tt, tt) }
 
 pub nothing_quiet : (name : List ℕ) → IsQuiet (told.Nothing name)
-nothing_quiet name = record { opened = λ n o. refl; stored = λ n s. refl; right = λ k frame o. (tt, tt) }
+nothing_quiet name = record { opened = λ n o. refl; stored = λ n s. refl; right = λ k frame o s. (tt, tt) }
 
-pub cut_kept : (number : ℕ) (suffix : Name) (pair : Pair) (opened : Option ℕ) (stored : List Entry) → IsSource number suffix pair.provider → IsFed number pair.provider pair.follower opened stored
+pub cut_kept : (number : ℕ) (suffix : Name) (pair : Pair) (opened : Option ℕ) (stored : Holding) → IsSource number suffix pair.provider → IsFed number pair.provider pair.follower opened stored
     → IsKept number suffix pair (given_up pair (copy_of pair.follower)) (told.Cut (name_of pair) ∷ []) opened stored
 cut_kept number suffix pair opened stored source fed =
     kept-told number suffix pair (given_up pair (copy_of pair.follower)) (told.Cut (name_of pair)) opened stored (cut_quiet (name_of pair))
     (given_up_kept number suffix pair.provider pair.follower opened stored source fed)
 
-pub nothing_kept : (number : ℕ) (suffix : Name) (pair : Pair) (name : List ℕ) (opened : Option ℕ) (stored : List Entry) → IsSource number suffix pair.provider → IsFed number pair.provider pair.follower opened stored
+pub nothing_kept : (number : ℕ) (suffix : Name) (pair : Pair) (name : List ℕ) (opened : Option ℕ) (stored : Holding) → IsSource number suffix pair.provider → IsFed number pair.provider pair.follower opened stored
     → IsKept number suffix pair pair (told.Nothing name ∷ []) opened stored
 nothing_kept number suffix pair name opened stored source fed =
     kept-told number suffix pair pair (told.Nothing name) opened stored (nothing_quiet name) (kept-still number suffix pair opened stored source fed)

@@ -1,29 +1,33 @@
 -- A message that goes into the link is the next of those that the consumer is fed.
-use Rattle.std.proofs.Common.{◌≡◌, ◌≢◌, ℕ, Bool, true, false, cond, Option, Some, None, List, [], ◌∷◌, ◌++◌, refl, ap, sym, ◌∙◌, inl, inr, append_assoc, subst}
+use Rattle.std.proofs.Common.{◌≡◌, ◌≢◌, ℕ, Bool, true, false, cond, Option, Some, None, List, [], ◌∷◌, ◌++◌, take, refl, ap, sym, ◌∙◌, inl, inr, append_assoc, subst}
 use Rattle.std.specs.Prelude.{◌⊎◌}
 use Rattle.std.proofs.lemmas.List.{map-append}
 use Rattle.dn_names.specs.Names.{TypeAndValue}
-use Rattle.entry_tree.specs.declared.entry.Entry.{Entry}
 use Rattle.ldap_messages.specs.Whole.{message_octets}
-use Rattle.sync_model.specs.Message.{Cookie, SyncMessage}
-use Rattle.sync_model.specs.Message.SyncMessage.{Put}
+use Rattle.entry_tree.specs.declared.op.Write.{Write}
+use Rattle.entry_tree.specs.Selection.{Search}
+use Rattle.sync_model.specs.Message.{SyncMessage}
+use Rattle.sync_model.specs.Message.SyncMessage.{Put, Gone, Present, IdSet, NewCookie, PhaseEnds, Done, Passed}
+use Rattle.entry_tree.specs.declared.entry.Entry.{Entry}
+use Rattle.sync_model.specs.Stream.{Start, is_covered}
+use Rattle.sync_model.proofs.Gather.{IsPart}
 use Rattle.sync_wire.specs.Sending as wire
 use Rattle.sync_provider.specs.HandingOut as handing
 use Rattle.sync_provider.specs.HandingOut.{Turn, turn_of_message, turn_of_pending, turn_of_found, turn_at, search_at, after_first, without_first, handed_on, after_turn}
 use Rattle.sync_provider.specs.HandingOut.Turn.{Hands, Closes, Waits, Unknown}
-use Rattle.sync_provider.specs.Law.{cookie_after}
 use Rattle.sync_provider.specs.Machine.{ProviderState}
-use Rattle.sync_provider.specs.Search.{SearchState, advanced, end_of}
+use Rattle.sync_provider.specs.Search.{SearchState, advanced}
 use Rattle.sync_provider.proofs.Looking.{closed-other, put_on, put_on-same, put_on-other}
 use Rattle.cascade_world.specs.declared.node.Follower.{Follower}
 use Rattle.cascade_world.specs.Exchange.{Pair, pair_of, Sending, Sends, Rests, Overflows, turn_of, handed, linked, fits, sends, sending_by, sending, name_of}
+use Rattle.cascade_world.specs.Headline.{Holding}
 use Rattle.cascade_world.specs.Opening.{message_id}
 use Rattle.cascade_world.specs.Report.{Told as told}
 use Rattle.cascade_world.proofs.Composing.{IsQuiet, kept-told}
 use Rattle.cascade_world.proofs.Feeding.{IsSource, IsPending, HasPending, GoesOn, IsAtRest, IsGoing, IsFed, IsKept}
 use Rattle.cascade_world.proofs.FedCutting.{source-searches}
-use Rattle.cascade_world.proofs.FedOpening.{refresh_some}
-use Rattle.cascade_world.proofs.Refreshes.{Next, next_is, content_at}
+use Rattle.cascade_world.proofs.FedOpening.{some_next}
+use Rattle.cascade_world.proofs.Refreshes.{IsMidst, Next, part, last, follows, midst_part}
 use Rattle.cascade_world.proofs.Sharing.{Searches, with_searches, others-changed}
 
 abbrev Name : Type 0
@@ -44,11 +48,13 @@ place_of taken link pending rest first all same whole = append_assoc taken link 
 
 -- ---- the message is in the link then
 
-sent_goes : (number : ℕ) (p : ProviderState) (searches : Searches) (f : Follower) (own : Option ℕ) (opened : ℕ) (stored : List Entry) (first : SyncMessage) (rest : List SyncMessage)
+sent_goes : (number : ℕ) (p : ProviderState) (searches : Searches) (f : Follower) (own : Option ℕ) (opened : ℕ) (stored : Holding) (first : SyncMessage) (rest : List SyncMessage)
     (goes : GoesOn number p f opened stored) → goes.pending ≡ first ∷ rest → HasPending searches own rest
     → GoesOn number (with_searches p.directory searches) (linked f own (octets first)) opened stored
 sent_goes number p searches f own opened stored first rest goes some has = record {
   within = goes.within;
+  start = goes.start;
+  begins = goes.begins;
   taken = goes.taken;
   linked = goes.linked ++ first ∷ [];
   pending = rest;
@@ -62,7 +68,7 @@ sent_goes number p searches f own opened stored first rest goes some has = recor
 }
 
 sent_quiet : (name message : List ℕ) → IsQuiet (told.Sent name message)
-sent_quiet name message = record { opened = λ n o. refl; stored = λ n s. refl; right = λ k frame o. (tt, tt) }
+sent_quiet name message = record { opened = λ n o. refl; stored = λ n s. refl; right = λ k frame o s. (tt, tt) }
 
 -- the searches after a message was handed out: the own one has the rest pending or is over, the others are as before
 record IsHanded (searches later : Searches) (at : ℕ) (own : Option ℕ) (rest : List SyncMessage) : Type 0 where
@@ -70,7 +76,7 @@ record IsHanded (searches later : Searches) (at : ℕ) (own : Option ℕ) (rest 
   only : (k : ℕ) → own ≡ Some k → k ≡ at
   elsewhere : (k : ℕ) → k ≢ at → search_at later k ≡ search_at searches k
 
-sent_kept : (number : ℕ) (suffix : Name) (p : ProviderState) (later : Searches) (f : Follower) (at : ℕ) (own : Option ℕ) (opened : ℕ) (stored : List Entry) (first : SyncMessage) (rest : List SyncMessage)
+sent_kept : (number : ℕ) (suffix : Name) (p : ProviderState) (later : Searches) (f : Follower) (at : ℕ) (own : Option ℕ) (opened : ℕ) (stored : Holding) (first : SyncMessage) (rest : List SyncMessage)
     → IsSource number suffix p → IsFed number p f (Some opened) stored → (goes : GoesOn number p f opened stored) → f.search ≡ Some at → goes.pending ≡ first ∷ rest
     → IsHanded p.searches later at own rest
     → IsKept number suffix (pair_of p f) (pair_of (with_searches p.directory later) (linked f own (octets first))) (told.Sent f.name (octets first) ∷ []) (Some opened) stored
@@ -78,7 +84,7 @@ sent_kept number suffix p later f at own opened stored first rest source fed goe
     kept-told number suffix (pair_of p f) (pair_of (with_searches p.directory later) (linked f own (octets first))) (told.Sent f.name (octets first)) (Some opened) stored (sent_quiet f.name (octets first))
     (record {
       source = source-searches number suffix p later source;
-      fed = record { held = fed.held; ascending = fed.ascending; state = inr (sent_goes number p later f own opened stored first rest goes some now.has) };
+      fed = record { held = fed.held; ascending = fed.ascending; cookie = fed.cookie; prefix = fed.prefix; promised = fed.promised; state = inr (sent_goes number p later f own opened stored first rest goes some now.has) };
       right = tt;
       same = refl;
       others = others-changed number p.directory p.searches later f (linked f own (octets first)) at is now.elsewhere now.only;
@@ -122,14 +128,30 @@ handed_end searches at turn rest is goes none = record {
   elsewhere = λ k far. ap (λ es. search_at es k) (ap (after_turn searches at) is ∙ goes) ∙ closed-other searches at k far;
 }
 
+-- a message of a part goes on
+part_hands : (deletes : Bool) (P : Entry → Type 0) (Q : ℕ → Type 0) (id : ℕ) (m : SyncMessage) → IsPart deletes P Q m → turn_of_message id m ≡ Hands (wire.sent id m)
+part_hands deletes P Q id (Put adds e cookie) is = refl
+part_hands deletes P Q id (IdSet d uuids cookie) is = refl
+part_hands deletes P Q id (Gone uuid name cookie) is = absurd is
+part_hands deletes P Q id (Present uuid cookie) is = absurd is
+part_hands deletes P Q id (NewCookie cookie) is = absurd is
+part_hands deletes P Q id (PhaseEnds d done cookie) is = absurd is
+part_hands deletes P Q id (Done code control) is = absurd is
+part_hands deletes P Q id Passed is = absurd is
+
+midst_hands : (number : ℕ) (search : Search) (writes : List Write) (start : Start) (opened : ℕ) (front rest : List SyncMessage) (m : SyncMessage)
+    → IsMidst (part number search writes start opened) front (last number search writes start opened) m rest → turn_of_message message_id m ≡ Hands (wire.sent message_id m)
+midst_hands number search writes start opened front rest m is =
+    part_hands (is_covered start) (λ e. Unit {0}) (λ u. Unit {0}) message_id m (midst_part number search writes start opened front rest m is)
+
 -- ---- what a consumer is sent
 
-abbrev pub SendingKept : ℕ → Name → Pair → Option ℕ → List Entry → Sending → Type 0
+abbrev pub SendingKept : ℕ → Name → Pair → Option ℕ → Holding → Sending → Type 0
 SendingKept number suffix pair opened stored (Sends after message) = IsKept number suffix pair after (told.Sent (name_of pair) message ∷ []) opened stored
 SendingKept number suffix pair opened stored Rests = Unit {0}
 SendingKept number suffix pair opened stored Overflows = Unit {0}
 
-module _ (number : ℕ) (suffix : Name) (p : ProviderState) (f : Follower) (opened : ℕ) (stored : List Entry) (source : IsSource number suffix p) (fed : IsFed number p f (Some opened) stored)
+module _ (number : ℕ) (suffix : Name) (p : ProviderState) (f : Follower) (opened : ℕ) (stored : Holding) (source : IsSource number suffix p) (fed : IsFed number p f (Some opened) stored)
     (goes : GoesOn number p f opened stored) where
   abbrev Kept : Sending → Type 0
   Kept sending = SendingKept number suffix (pair_of p f) (Some opened) stored sending
@@ -151,28 +173,31 @@ module _ (number : ℕ) (suffix : Name) (p : ProviderState) (f : Follower) (open
 
   pending_kept : (at : ℕ) → f.search ≡ Some at → IsPending p.searches at goes.pending → Kept (sending_by (pair_of p f) (turn_at p.searches at))
   pending_kept at is has =
-      by (next_is (goes.taken ++ goes.linked) content cookie has.first has.rest (place_of goes.taken goes.linked goes.pending has.rest has.first _ has.some goes.whole))
+      by (follows number f.consumer.spec front goes.start opened (goes.taken ++ goes.linked) has.rest has.first (place_of goes.taken goes.linked goes.pending has.rest has.first _ has.some goes.whole))
     where
-      content : List Entry
-      content = content_at number f.consumer.spec p.directory.writes opened
+      front : List Write
+      front = take opened p.directory.writes
 
-      cookie : Cookie
-      cookie = cookie_after number number p.directory.writes opened
+      Part : List SyncMessage
+      Part = part number f.consumer.spec front goes.start opened
+
+      Last : SyncMessage
+      Last = last number f.consumer.spec front goes.start opened
 
       some : has.search.pending ≡ has.first ∷ has.rest
       some = has.same ∙ has.some
 
-      by : Next content cookie (goes.taken ++ goes.linked) has.first has.rest → Kept (sending_by (pair_of p f) (turn_at p.searches at))
-      by (inl entry) =
-          let turn = turn_is p.searches at has.search has.first (Put true entry.entry None) has.rest has.found some has.id entry.message in
-          let next = refresh_some entry.later cookie in
-          let now = handed_entry p.searches at has.search (turn_of_message message_id (Put true entry.entry None)) has.first next.next has.rest next.later has.found some has.id turn refl (entry.more ∙ next.same) in
+      by : Next Part (goes.taken ++ goes.linked) Last has.first has.rest → Kept (sending_by (pair_of p f) (turn_at p.searches at))
+      by (inl midst) =
+          let hands = midst_hands number f.consumer.spec front goes.start opened (goes.taken ++ goes.linked) has.rest has.first midst in
+          let turn = turn_is p.searches at has.search has.first has.first has.rest has.found some has.id refl ∙ hands in
+          let next = some_next midst.more Last in
+          let now = handed_entry p.searches at has.search (Hands (wire.sent message_id has.first)) has.first next.next has.rest next.later has.found some has.id turn refl (midst.left ∙ next.same) in
           subst (λ t. Kept (sending_by (pair_of p f) t)) (sym turn)
-          (subst (λ m. Kept (sends (pair_of p f) f.search (octets m))) entry.message
-          (subst (λ own. Kept (sends (pair_of p f) own (octets has.first))) (sym is) (sends_kept at (Some at) has.first has.rest is has.some now)))
+          (subst (λ own. Kept (sends (pair_of p f) own (octets has.first))) (sym is) (sends_kept at (Some at) has.first has.rest is has.some now))
       by (inr end) =
-          let turn = turn_is p.searches at has.search has.first (end_of cookie) has.rest has.found some has.id end.message in
-          let now = handed_end p.searches at (turn_of_message message_id (end_of cookie)) has.rest turn refl end.none in
+          let turn = turn_is p.searches at has.search has.first Last has.rest has.found some has.id end.message in
+          let now = handed_end p.searches at (turn_of_message message_id Last) has.rest turn refl end.none in
           subst (λ t. Kept (sending_by (pair_of p f) t)) (sym turn)
           (subst (λ m. Kept (sends (pair_of p f) None (octets m))) end.message (sends_kept at None has.first has.rest is has.some now))
 
@@ -180,7 +205,7 @@ module _ (number : ℕ) (suffix : Name) (p : ProviderState) (f : Follower) (open
   going_kept None is has = tt
   going_kept (Some at) is has = pending_kept at is has
 
-pub sending_kept : (number : ℕ) (suffix : Name) (pair : Pair) (opened : Option ℕ) (stored : List Entry) → IsSource number suffix pair.provider → IsFed number pair.provider pair.follower opened stored
+pub sending_kept : (number : ℕ) (suffix : Name) (pair : Pair) (opened : Option ℕ) (stored : Holding) → IsSource number suffix pair.provider → IsFed number pair.provider pair.follower opened stored
     → SendingKept number suffix pair opened stored (sending pair)
 sending_kept number suffix pair opened stored source fed = by opened fed fed.state
   where

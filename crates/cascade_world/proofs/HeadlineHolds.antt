@@ -14,24 +14,25 @@ use Rattle.cascade_world.specs.Report.Told.{Shown}
 use Rattle.cascade_world.specs.Run.{Runs}
 use Rattle.cascade_world.specs.World.{State, no_nodes, step, root_named, follower_named, shown_of, show_of}
 use Rattle.cascade_world.proofs.PartsKept.{parts_are_kept}
-use Rattle.cascade_world.proofs.Sources.{rest_is_fed, fresh_is_source, writes_are_kept}
+use Rattle.cascade_world.proofs.Sources.{rest_is_fed, fresh_is_source, writes_are_kept, limits_are_kept}
 use Rattle.cascade_world.proofs.Accepted.{time_from-push}
 use Rattle.cascade_world.proofs.Declarations.{After, time_still, provider_after, consumer_after}
 use Rattle.cascade_world.proofs.Exchanges.{exchange_after}
-use Rattle.cascade_world.proofs.Feeding.{PartsAreKept, RestIsFed, FreshIsSource, WritesAreKept}
+use Rattle.cascade_world.proofs.Feeding.{PartsAreKept, RestIsFed, FreshIsSource, WritesAreKept, LimitsAreKept}
 use Rattle.cascade_world.proofs.Finding.{follower_name}
 use Rattle.cascade_world.proofs.Growing.{count_same, roots_kept, followers_kept}
 use Rattle.cascade_world.proofs.Saying.{left_by_none}
 use Rattle.cascade_world.proofs.Telling.{root_shown, copy_shown}
 use Rattle.cascade_world.proofs.Traces.{AreTold, ToldAfter, step_told_after}
 use Rattle.cascade_world.proofs.Tracking.{Tracks}
-use Rattle.cascade_world.proofs.Written.{write_after}
+use Rattle.cascade_world.proofs.Written.{write_after, limit_after}
 
 -- what is known of providers and of what they feed their consumers
 pub record Known : Type 0 where
   pub rest : RestIsFed
   pub fresh : FreshIsSource
   pub writes : WritesAreKept
+  pub limits : LimitsAreKept
   pub parts : PartsAreKept
 
 -- ---- the clock
@@ -82,7 +83,7 @@ show_after before said state name (Some entries) e is =
 
 step_after : Known → (before : List Order) (said : List Told) (state : State) (order : Order) → AreTold state said → Tracks before said state → After before said order (step state order)
 step_after known before said state (asks.Provider name suffix) told is = provider_after known.fresh before said state name suffix is
-step_after known before said state (asks.Consumer name source search) told is = consumer_after known.rest before said state name source search told is
+step_after known before said state (asks.Consumer name source search reload) told is = consumer_after known.rest before said state name source search reload told is
 step_after known before said state (asks.Clock time) told is = clock_after before said state time is
 step_after known before said state (asks.Write name change) told is = write_after known.writes before said state name change (root_named name state) refl is
 step_after known before said state (asks.OpenOnce name) told is = exchange_after known.parts before said state name goes.Open (follower_named name state) refl is
@@ -90,6 +91,9 @@ step_after known before said state (asks.Send name count) told is = exchange_aft
 step_after known before said state (asks.Take name count) told is = exchange_after known.parts before said state name (goes.Take count) (follower_named name state) refl is
 step_after known before said state (asks.Cut name) told is = exchange_after known.parts before said state name goes.Cut (follower_named name state) refl is
 step_after known before said state (asks.Settle name) told is = exchange_after known.parts before said state name goes.Settle (follower_named name state) refl is
+step_after known before said state (asks.Lose name) told is = exchange_after known.parts before said state name goes.Lose (follower_named name state) refl is
+step_after known before said state (asks.Cookie name text) told is = exchange_after known.parts before said state name (goes.Give text) (follower_named name state) refl is
+step_after known before said state (asks.Log name limit) told is = limit_after known.limits before said state name limit (root_named name state) refl is
 step_after known before said state (asks.Show name) told is = show_after before said state name (shown_of (root_named name state) (follower_named name state)) refl is
 
 -- ---- runs
@@ -113,4 +117,4 @@ runs_lines_right_by known reader orders report end rest r =
 
 -- with what is known of them
 pub runs_lines_right : (reader : Reader) (orders : List Order) (report : List (List Told)) (end : State) (rest : Reader) → Runs no_nodes reader orders report end rest → LinesAreRight [] [] orders report
-runs_lines_right = runs_lines_right_by (record { rest = rest_is_fed; fresh = fresh_is_source; writes = writes_are_kept; parts = parts_are_kept })
+runs_lines_right = runs_lines_right_by (record { rest = rest_is_fed; fresh = fresh_is_source; writes = writes_are_kept; limits = limits_are_kept; parts = parts_are_kept })

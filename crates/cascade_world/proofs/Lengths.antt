@@ -8,7 +8,7 @@ use Rattle.std.proofs.lemmas.List.Concat.{flat_map-append}
 use Rattle.std.proofs.lemmas.List.Elements.{All-head, All-tail}
 use Rattle.std.proofs.lemmas.List.Sums.{sum_by-cons}
 use Rattle.uuid.proofs.TextLemmas.{by_index_length}
-use Rattle.ldap_ber.specs.Canonical.{element, integer_octets}
+use Rattle.ldap_ber.specs.Canonical.{element, integer_octets, flag_octets}
 use Rattle.ldap_ber.proofs.ElementLemmas.{element_size}
 use Rattle.csn_cookie.specs.Cookie.{cookie_text}
 use Rattle.csn_cookie.specs.Csn.{Stamp, csn_text}
@@ -30,15 +30,18 @@ use Rattle.ldap_parts.specs.Attributes.{attribute_octets}
 use Rattle.ldap_parts.specs.Components.{number_octets, strings_octets}
 use Rattle.ldap_parts.specs.Controls.{control_octets}
 use Rattle.ldap_parts.specs.declared.control.Control.{Control}
-use Rattle.ldap_messages.specs.Operation.{Operation, search_done, operation_octets}
+use Rattle.ldap_messages.specs.Operation.{Operation, search_done, intermediate, operation_octets}
 use Rattle.ldap_messages.specs.Whole.{message_octets}
 use Rattle.sync_messages.specs.declared.state.State.{State}
 use Rattle.sync_messages.specs.declared.state.State.TheVariants as state
 use Rattle.sync_messages.specs.Done.{done_octets}
+use Rattle.sync_messages.specs.declared.info.SyncInfo.TheVariants as info
+use Rattle.sync_messages.specs.Info.{info_octets}
+use Rattle.sync_messages.specs.Parts.{uuid_octets}
 use Rattle.sync_messages.specs.State.{kind_number, state_octets}
-use Rattle.sync_model.specs.Message.SyncMessage.{Put, Done}
+use Rattle.sync_model.specs.Message.SyncMessage.{Put, IdSet, Done}
 use Rattle.sync_wire.specs.CanBeSent.{CanBeSent}
-use Rattle.sync_wire.specs.Sending.{raw_of, single, uuid_text, marks_of, attributes_of, entry_of, kind_of, result_of, state_name, done_name, sent}
+use Rattle.sync_wire.specs.Sending.{raw_of, single, uuid_text, marks_of, attributes_of, entry_of, kind_of, result_of, state_name, done_name, info_name, sent}
 
 -- ---- attributes
 
@@ -254,18 +257,75 @@ put_size adds e can =
     let named : length state_name ≡ 24 = refl in
     omega (arith, message_size (entry_of e) state_name value, named, entry_size e can, state_size (kind_of adds) e.uuid)
 
+-- ---- a set of identities
+
+-- an operation without controls
+plain_size : (op : Operation) → length (message_octets (1, (op, []))) ≤ length (operation_octets op) + 9
+unfolding message_octets
+plain_size op =
+    omega (
+      arith,
+      element_size 48 (number_octets 2 1 ++ (operation_octets op ++ [])),
+      length-append (number_octets 2 1) (operation_octets op ++ []),
+      first_id,
+      length-append (operation_octets op) [],
+    )
+
+uuids_size : (uuids : List ℕ) → length (flat_map uuid_octets uuids) ≤ 22 * length uuids
+uuids_size [] = omega arith
+uuids_size (u ∷ us) =
+    let long : length (to_be_bytes w128 u) ≡ 16 = refl in
+    omega (arith, length-append (uuid_octets u) (flat_map uuid_octets us), element_size 4 (to_be_bytes w128 u), long, uuids_size us)
+
+flag_size : (deletes : Bool) → length (flag_octets 1 false deletes) ≤ 7
+flag_size false = omega arith
+flag_size true = omega (arith, element_size 1 (255 ∷ []))
+
+info_size : (deletes : Bool) (uuids : List ℕ) → length (info_octets (info.IdSet None deletes uuids)) ≤ 22 * length uuids + 19
+unfolding info_octets
+info_size deletes uuids =
+    let ids = flat_map uuid_octets uuids in
+    let flag = flag_octets 1 false deletes in
+    omega (
+      arith,
+      element_size 163 (flag ++ element 49 ids),
+      length-append flag (element 49 ids),
+      flag_size deletes,
+      element_size 49 ids,
+      uuids_size uuids,
+    )
+
+set_operation_size : (value : List ℕ) → length (operation_octets (intermediate (Some info_name, Some value))) ≤ length value + 42
+set_operation_size value =
+    let named : length info_name ≡ 24 = refl in
+    omega (
+      arith,
+      element_size 121 (element 128 info_name ++ element 129 value),
+      length-append (element 128 info_name) (element 129 value),
+      element_size 128 info_name,
+      element_size 129 value,
+      named,
+    )
+
+pub set_size : (deletes : Bool) (uuids : List ℕ) → length uuids ≤ 256 → length (message_octets (sent 1 (IdSet deletes uuids None))) ≤ 4194304
+set_size deletes uuids few =
+    let value = info_octets (info.IdSet None deletes uuids) in
+    omega (arith, plain_size (intermediate (Some info_name, Some value)), set_operation_size value, info_size deletes uuids, few)
+
 -- ---- the end of a refresh with its control
 
 end_size : length (operation_octets (search_done (result_of (pos 0)))) ≡ 9
 unfolding element integer_octets
 end_size = refl
 
-told_size : (text : List ℕ) → length (done_octets (record { cookie = Some text; refresh_deletes = false })) ≤ length text + 12
+told_size : (text : List ℕ) (deletes : Bool) → length (done_octets (record { cookie = Some text; refresh_deletes = deletes })) ≤ length text + 19
 unfolding done_octets
-told_size text = omega (arith, element_size 48 (element 4 text ++ []), length-append (element 4 text) [], element_size 4 text)
+told_size text deletes =
+    let flag = flag_octets 1 false deletes in
+    omega (arith, element_size 48 (element 4 text ++ flag), length-append (element 4 text) flag, element_size 4 text, flag_size deletes)
 
-pub done_size : (cookie : Cookie) → length (message_octets (sent 1 (Done (pos 0) (Some (false, Some (cookie_text cookie)))))) ≤ 4194304
-done_size cookie =
-    let value = done_octets (record { cookie = Some (cookie_text cookie); refresh_deletes = false }) in
+pub done_size : (deletes : Bool) (cookie : Cookie) → length (message_octets (sent 1 (Done (pos 0) (Some (deletes, Some (cookie_text cookie)))))) ≤ 4194304
+done_size deletes cookie =
+    let value = done_octets (record { cookie = Some (cookie_text cookie); refresh_deletes = deletes }) in
     let named : length done_name ≡ 24 = refl in
-    omega (arith, message_size (search_done (result_of (pos 0))) done_name value, named, end_size, told_size (cookie_text cookie), cookie_size cookie)
+    omega (arith, message_size (search_done (result_of (pos 0))) done_name value, named, end_size, told_size (cookie_text cookie) deletes, cookie_size cookie)

@@ -1,27 +1,31 @@
 -- Searches that are opened or refused.
-use Rattle.std.proofs.Common.{◌≡◌, ℕ, Bool, true, Some, List, [], ◌∷◌, ◌++◌, refl, ap, sym, subst, ◌∙◌}
-use Rattle.std.specs.Prelude.{Ok, Err, Result}
+use Rattle.std.proofs.Common.{◌≡◌, ℕ, Bool, true, false, cond, Some, List, [], ◌∷◌, ◌++◌, refl, ap, sym, subst, ◌∙◌, inl, inr}
+use Rattle.std.proofs.lemmas.Bool.{cases_Bool}
+use Rattle.std.specs.Prelude.{◌==◌, Ok, Err, Result}
 use Rattle.entry_tree.specs.Selection.{Search}
 use Rattle.ldap_messages.specs.declared.message.Message.{Message}
-use Rattle.ldap_messages.specs.Whole.{whole_of}
+use Rattle.ldap_messages.specs.Whole.{Whole, whole_of}
 use Rattle.sync_consumer.specs.declared.consumer.Taken.{Taken}
-use Rattle.sync_consumer.specs.Taking.{Following, taken_of}
+use Rattle.sync_messages.specs.Request.{request_of, request_octets}
+use Rattle.sync_messages.specs.declared.request.Mode.TheVariants.{RefreshOnly}
+use Rattle.sync_consumer.specs.Taking.{Following, asked_of, request_of as asks, taken_of}
 use Rattle.sync_model.specs.Copy.{Copy}
 use Rattle.sync_provider.specs.Accepting as accepting
+use Rattle.sync_provider.specs.Accepting.{start_of_read}
 use Rattle.sync_provider.specs.Machine.{ProviderState}
 use Rattle.sync_provider.specs.declared.searches.Accepted.{Accepted}
 use Rattle.sync_provider.specs.declared.searches.Accepted.TheVariants as accepted
 use Rattle.cascade_world.specs.declared.fault.Cause.{Cause}
-use Rattle.cascade_world.specs.declared.fault.Cause.TheVariants.{BadCommand, UnknownNode, NameTaken, BadRecord, LimitReached, OutsideSuffix, NotYet, NoMemory}
+use Rattle.cascade_world.specs.declared.fault.Cause.TheVariants.{BadCommand, UnknownNode, NameTaken, BadRecord, LimitReached, OutsideSuffix, LaterCookie, NotYet, NoMemory}
 use Rattle.cascade_world.specs.declared.node.Follower.{Follower}
-use Rattle.cascade_world.specs.Exchange.{Pair, pair_of, with_copy, asking, control_of, end_with, refused_copy, is_busy, cut, idle, opened_by, opened_idle}
-use Rattle.cascade_world.specs.Opening.{answer_to, with_opened, after_accepted}
+use Rattle.cascade_world.specs.Exchange.{Pair, Outcome, pair_of, and_then, with_copy, asking, start_of, answer_of, refresh_required, is_required, end_with, refused_copy, is_busy, cut, idle, opened_by, opened_idle, asked_again}
+use Rattle.cascade_world.specs.Opening.{message_id, answer_to_request, answer_to, with_opened, after_accepted}
 use Rattle.cascade_world.specs.Hearing.{Came, heard_of}
-use Rattle.cascade_world.specs.Parts.{Does, Refuses}
+use Rattle.cascade_world.specs.Parts.{Does, Opens, Refuses, first_value}
 use Rattle.cascade_world.specs.Report.{line_of, lines_text}
 use Rattle.cascade_world.specs.Report.Told.{Opened, Refused}
 use Rattle.cascade_world.proofs.Decoding.{heard_told}
-use Rattle.cascade_world.proofs.Doing.{told_one}
+use Rattle.cascade_world.proofs.Doing.{told_one, refused_first, then_as}
 
 -- the copy after a message, whatever is told of it
 pub taken_copy : (c after : Following) (m : Message) (t : Taken) → after.spec ≡ c.spec → after.reload ≡ c.reload → (after.copy, t) ≡ taken_of c.copy m
@@ -30,12 +34,18 @@ taken_copy c after m t spec reload is =
     let copy : after.copy ≡ (heard_of c.copy (Some (whole_of m))).0 = ap (λ (x : Copy × Taken). x.0) is ∙ sym (ap (λ (x : Copy × Came). x.0) (heard_told c.copy m)) in
     λ i. record { spec = spec i; reload = reload i; copy = copy i }
 
+-- the value of the control of its request is read again as what it asks
+pub asked_value : (f : Following) (m : Message) (value : List ℕ) → whole_of m ≡ asks f message_id RefreshOnly → value ≡ first_value m.controls
+    → request_of (request_octets (asked_of f RefreshOnly)) ≡ Ok (asked_of f RefreshOnly) → request_of value ≡ Ok (asked_of f RefreshOnly)
+asked_value f m value whole is again = ap request_of (is ∙ ap (λ (w : Whole). first_value w.1.1) whole) ∙ again
+
 pub refuses : (f : Follower) (after : Following) (m : Message) (code : ℕ) (old new : List ℕ) → whole_of m ≡ end_with code → after ≡ record f.consumer { copy = (heard_of f.consumer.copy (Some (whole_of m))).0 }
-    → new ≡ old ++ line_of (Refused f.name code) → Refuses f code old (record f { consumer = after }) new (Ok tt)
+    → new ≡ old ++ line_of (Refused f.name code) → Refuses f code old (record f { consumer = after }) new (Ok (code == refresh_required))
 refuses f after m code old new same is line =
     let copy : after ≡ record f.consumer { copy = refused_copy f.consumer.copy code } = is ∙ ap (λ w. record f.consumer { copy = (heard_of f.consumer.copy (Some w)).0 }) same in (
       ap (λ c. record f { consumer = c }) copy,
       line ∙ ap (λ t. old ++ t) (sym (append_nil (line_of (Refused f.name code)))),
+      refl,
     )
   where
     append_nil : (xs : List ℕ) → xs ++ [] ≡ xs
@@ -43,44 +53,88 @@ refuses f after m code old new same is line =
     append_nil (x ∷ xs) = ap (λ l. x ∷ l) (append_nil xs)
 
 -- a search that is opened, with the number of writes that it is opened at
-pub opens_idle : (p p' : ProviderState) (f f1 : Follower) (search : Search) (control : List ℕ) (number writes : ℕ) (old new : List ℕ) → f1 ≡ with_copy f (asking f.consumer.copy) → search ≡ f1.consumer.spec → control ≡ control_of f.consumer
-    → accepting.Answers (accepted.Opened number writes) (answer_to p search control) → p' ≡ after_accepted p search (accepted.Opened number writes) → new ≡ old ++ line_of (Opened f1.name writes)
-    → Does (opened_idle (pair_of p f)) old (pair_of p' (record f1 { search = Some number })) new (Ok tt)
+pub opens_idle : (p p' : ProviderState) (f f1 : Follower) (search : Search) (control : List ℕ) (number writes : ℕ) (old new : List ℕ) → f1 ≡ with_copy f (asking f.consumer.copy) → search ≡ f1.consumer.spec → request_of control ≡ Ok (asked_of f.consumer RefreshOnly)
+    → accepting.Answers (accepted.Opened number writes) (answer_to p search control) → p' ≡ after_accepted p search control (accepted.Opened number writes) → new ≡ old ++ line_of (Opened f1.name writes)
+    → Opens (pair_of p f) old (pair_of p' (record f1 { search = Some number })) new (Ok false)
 opens_idle p p' f f1 search control number writes old new asked' wanted value answer after line =
     let spec : search ≡ f.consumer.spec = wanted ∙ ap (λ (g : Follower). g.consumer.spec) asked' in
-    let told' : answer_to p f.consumer.spec (control_of f.consumer) ≡ accepted.Opened number writes = sym (ap (λ s. answer_to p s (control_of f.consumer)) spec) ∙ sym (ap (answer_to p search) value) ∙ answer in
-    let provider : p' ≡ with_opened p number f.consumer.spec = after ∙ ap (with_opened p number) spec in
+    let told' : answer_of (pair_of p f) ≡ accepted.Opened number writes = sym (ap (λ s. answer_to_request p s (Ok (asked_of f.consumer RefreshOnly))) spec) ∙ sym (ap (answer_to_request p search) value) ∙ answer in
+    let start = start_of (pair_of p f) in
+    let provider : p' ≡ with_opened p number f.consumer.spec start =
+    after ∙ ap (λ r. with_opened p number search (start_of_read p.directory r)) value ∙ ap (λ s. with_opened p number s start) spec in
     let follower : record f1 { search = Some number } ≡ record (with_copy f (asking f.consumer.copy)) { search = Some number } = ap (λ (g : Follower). record g { search = Some number }) asked' in
     let whole : opened_idle (pair_of p f) ≡ Ok (pair_of p' (record f1 { search = Some number }), Opened f.name writes ∷ []) =
     ap (opened_by (pair_of p f)) told'
-    ∙ sym (ap (λ q. Ok (q, Opened f.name writes ∷ [])) (ap (λ q. pair_of q (record f1 { search = Some number })) provider ∙ ap (pair_of (with_opened p number f.consumer.spec)) follower)) in
-    told_one (opened_idle (pair_of p f)) old new (pair_of p' (record f1 { search = Some number })) (Opened f.name writes) whole (line ∙ ap (λ (g : Follower). old ++ line_of (Opened g.name writes)) asked')
+    ∙ sym (ap (λ q. Ok (q, Opened f.name writes ∷ [])) (ap (λ q. pair_of q (record f1 { search = Some number })) provider ∙ ap (pair_of (with_opened p number f.consumer.spec start)) follower)) in (
+      told_one (opened_idle (pair_of p f)) old new (pair_of p' (record f1 { search = Some number })) (Opened f.name writes) whole (line ∙ ap (λ (g : Follower). old ++ line_of (Opened g.name writes)) asked'),
+      sym (ap is_required told'),
+    )
 
 -- a search that is refused
-pub refused_idle : (p p' : ProviderState) (f f1 f2 : Follower) (search : Search) (control : List ℕ) (code : ℕ) (old new : List ℕ) → f1 ≡ with_copy f (asking f.consumer.copy) → search ≡ f1.consumer.spec → control ≡ control_of f.consumer
-    → accepting.Answers (accepted.Refused code) (answer_to p search control) → p' ≡ after_accepted p search (accepted.Refused code) → Refuses f1 code old f2 new (Ok tt)
-    → Does (opened_idle (pair_of p f)) old (pair_of p' f2) new (Ok tt)
-refused_idle p p' f f1 f2 search control code old new asked' wanted value answer after h =
+pub refused_idle : (p p' : ProviderState) (f f1 f2 : Follower) (search : Search) (control : List ℕ) (code : ℕ) (old new : List ℕ) (again : Bool) → f1 ≡ with_copy f (asking f.consumer.copy) → search ≡ f1.consumer.spec → request_of control ≡ Ok (asked_of f.consumer RefreshOnly)
+    → accepting.Answers (accepted.Refused code) (answer_to p search control) → p' ≡ after_accepted p search control (accepted.Refused code) → Refuses f1 code old f2 new (Ok again)
+    → Opens (pair_of p f) old (pair_of p' f2) new (Ok again)
+refused_idle p p' f f1 f2 search control code old new again asked' wanted value answer after h =
     let spec : search ≡ f.consumer.spec = wanted ∙ ap (λ (g : Follower). g.consumer.spec) asked' in
-    let told' : answer_to p f.consumer.spec (control_of f.consumer) ≡ accepted.Refused code = sym (ap (λ s. answer_to p s (control_of f.consumer)) spec) ∙ sym (ap (answer_to p search) value) ∙ answer in
+    let told' : answer_of (pair_of p f) ≡ accepted.Refused code = sym (ap (λ s. answer_to_request p s (Ok (asked_of f.consumer RefreshOnly))) spec) ∙ sym (ap (answer_to_request p search) value) ∙ answer in
     let follower : f2 ≡ with_copy f (refused_copy (asking f.consumer.copy) code) = h.0 ∙ ap (λ (g : Follower). with_copy g (refused_copy g.consumer.copy code)) asked' in
     let whole : opened_idle (pair_of p f) ≡ Ok (pair_of p' f2, Refused f.name code ∷ []) =
     ap (opened_by (pair_of p f)) told' ∙ sym (ap (λ q. Ok (q, Refused f.name code ∷ [])) (ap (λ q. pair_of q f2) after ∙ ap (pair_of p) follower)) in
-    (Refused f.name code ∷ [], whole, h.1 ∙ ap (λ (g : Follower). old ++ lines_text (Refused g.name code ∷ [])) asked')
+    ((Refused f.name code ∷ [], whole, h.1 ∙ ap (λ (g : Follower). old ++ lines_text (Refused g.name code ∷ [])) asked'), h.2 ∙ sym (ap is_required told'))
 
 -- the same by what came of the refusal; want of memory says nothing
-pub refused_as : (p p' : ProviderState) (f f1 f2 : Follower) (search : Search) (control : List ℕ) (code : ℕ) (old new : List ℕ) (result : Result (Unit {0}) Cause) → f1 ≡ with_copy f (asking f.consumer.copy) → search ≡ f1.consumer.spec
-    → control ≡ control_of f.consumer → accepting.Answers (accepted.Refused code) (answer_to p search control) → p' ≡ after_accepted p search (accepted.Refused code) → Refuses f1 code old f2 new result
-    → Does (opened_idle (pair_of p f)) old (pair_of p' f2) new result
-refused_as p p' f f1 f2 search control code old new (Ok done) asked' wanted value answer after h = refused_idle p p' f f1 f2 search control code old new asked' wanted value answer after h
+pub refused_as : (p p' : ProviderState) (f f1 f2 : Follower) (search : Search) (control : List ℕ) (code : ℕ) (old new : List ℕ) (result : Result Bool Cause) → f1 ≡ with_copy f (asking f.consumer.copy) → search ≡ f1.consumer.spec
+    → request_of control ≡ Ok (asked_of f.consumer RefreshOnly) → accepting.Answers (accepted.Refused code) (answer_to p search control) → p' ≡ after_accepted p search control (accepted.Refused code) → Refuses f1 code old f2 new result
+    → Opens (pair_of p f) old (pair_of p' f2) new result
+refused_as p p' f f1 f2 search control code old new (Ok again) asked' wanted value answer after h = refused_idle p p' f f1 f2 search control code old new again asked' wanted value answer after h
 refused_as p p' f f1 f2 search control code old new (Err BadCommand) asked' wanted value answer after h = absurd h
 refused_as p p' f f1 f2 search control code old new (Err UnknownNode) asked' wanted value answer after h = absurd h
 refused_as p p' f f1 f2 search control code old new (Err NameTaken) asked' wanted value answer after h = absurd h
 refused_as p p' f f1 f2 search control code old new (Err BadRecord) asked' wanted value answer after h = absurd h
 refused_as p p' f f1 f2 search control code old new (Err (LimitReached number)) asked' wanted value answer after h = absurd h
 refused_as p p' f f1 f2 search control code old new (Err OutsideSuffix) asked' wanted value answer after h = absurd h
+refused_as p p' f f1 f2 search control code old new (Err (LaterCookie held given)) asked' wanted value answer after h = absurd h
 refused_as p p' f f1 f2 search control code old new (Err NotYet) asked' wanted value answer after h = absurd h
 refused_as p p' f f1 f2 search control code old new (Err NoMemory) asked' wanted value answer after h = tt
+
+-- ---- a second time
+
+-- the refusal of a part says nothing of what is left
+err_anyhow : (outcome : Outcome) (old text new : List ℕ) (p after : Pair) (cause : Cause) → Does outcome old p text (Err cause) → Does outcome old after new (Err cause)
+err_anyhow outcome old text new p after BadCommand h = h
+err_anyhow outcome old text new p after UnknownNode h = h
+err_anyhow outcome old text new p after NameTaken h = h
+err_anyhow outcome old text new p after BadRecord h = h
+err_anyhow outcome old text new p after (LimitReached number) h = h
+err_anyhow outcome old text new p after OutsideSuffix h = h
+err_anyhow outcome old text new p after (LaterCookie held given) h = h
+err_anyhow outcome old text new p after NotYet h = h
+err_anyhow outcome old text new p after NoMemory h = tt
+
+pub asked_refused : (pair between last : Pair) (old text new : List ℕ) (cause : Cause) → Opens pair old between text (Err cause) → Does (opened_idle pair) old last new (Err cause)
+asked_refused pair between last old text new cause h = err_anyhow (opened_idle pair) old text new between last cause h
+
+pub again_refused : (pair between last : Pair) (old text new : List ℕ) (cause : Cause) → Opens pair old between text (Err cause) → Does (asked_again pair) old last new (Err cause)
+again_refused pair between last old text new cause h = by (is_required (answer_of pair))
+  where
+    by : (required : Bool) → Does (cond required (and_then (opened_idle pair) opened_idle) (opened_idle pair)) old last new (Err cause)
+    by true = refused_first (opened_idle pair) opened_idle old text new between last cause h
+    by false = err_anyhow (opened_idle pair) old text new between last cause h
+
+-- the cookie does not serve, and the consumer asks once more
+pub again_twice : (pair between after : Pair) (old mid new : List ℕ) (again : Bool) (result : Result (Unit {0}) Cause) → Opens pair old between mid (Ok again) → again ≡ true
+    → Does (opened_idle between) mid after new result → Does (asked_again pair) old after new result
+again_twice pair between after old mid new again result first is second =
+    let required : is_required (answer_of pair) ≡ true = sym first.1 ∙ is in
+    let same : asked_again pair ≡ and_then (opened_idle pair) opened_idle = rw required refl in
+    subst (λ o. Does o old after new result) (sym same) (then_as (opened_idle pair) opened_idle old mid new between after result first.0 second)
+
+-- it does, and nothing more is asked
+pub again_once : (pair after : Pair) (old new : List ℕ) (again : Bool) → Opens pair old after new (Ok again) → again ≡ false → Does (asked_again pair) old after new (Ok tt)
+again_once pair after old new again first is =
+    let served : is_required (answer_of pair) ≡ false = sym first.1 ∙ is in
+    let same : asked_again pair ≡ opened_idle pair = rw served refl in
+    subst (λ o. Does o old after new (Ok tt)) (sym same) first.0
 
 -- ---- a busy consumer
 

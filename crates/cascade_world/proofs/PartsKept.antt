@@ -1,16 +1,17 @@
 -- Each part of an event keeps what its consumer is fed, and tells it right.
 use Rattle.std.proofs.Common.{ℕ, zero, suc, Option, Some, None, List, [], ◌∷◌, ◌++◌, length, refl, subst}
 use Rattle.dn_names.specs.Names.{TypeAndValue}
-use Rattle.entry_tree.specs.declared.entry.Entry.{Entry}
 use Rattle.cascade_world.specs.declared.exchange.Exchange.{Exchange}
 use Rattle.cascade_world.specs.declared.exchange.Exchange.TheVariants as goes
-use Rattle.cascade_world.specs.Exchange.{Pair, Sending, Sends, Rests, Overflows, name_of, sending, sent_before, sent, taking, taken_before, taken_some, takes, opens, left_to_send, ran_before, ran_some, runs, drains, settled_told, settles, and_then, part_of}
+use Rattle.cascade_world.specs.Exchange.{Pair, Sending, Sends, Rests, Overflows, name_of, sending, sent_before, sent, taking, taken_before, taken_some, takes, opens_anew, left_to_send, ran_before, ran_some, runs, drains, settled_told, settles, and_then, part_of}
+use Rattle.cascade_world.specs.Headline.{Holding}
 use Rattle.cascade_world.specs.Report.{Told}
 use Rattle.cascade_world.specs.Report.{Told as told}
 use Rattle.cascade_world.proofs.Composing.{IsKeptIn, IsQuiet, Keeps, kept-then, kept-part, keeps-then, kept-still, kept-told, opened_by_lines, stored_by_lines}
 use Rattle.cascade_world.proofs.Feeding.{IsSource, IsFed, IsKept, PartsAreKept}
 use Rattle.cascade_world.proofs.FedCutting.{nothing_kept, cut_keeps}
-use Rattle.cascade_world.proofs.FedOpening.{opens_keeps}
+use Rattle.cascade_world.proofs.FedCookies.{lost_keeps, given_keeps}
+use Rattle.cascade_world.proofs.FedOpening.{opens_keeps, opens_anew_keeps}
 use Rattle.cascade_world.proofs.FedSending.{SendingKept, sending_kept}
 use Rattle.cascade_world.proofs.FedTaking.{TakingKept, taking_kept}
 
@@ -34,19 +35,19 @@ sent_keeps (suc count) number suffix pair opened stored source fed = by (sent_ke
 -- what is told where nothing is taken
 abbrev IsIdle : ℕ → Name → List Told → Type 0
 IsIdle number suffix idle =
-    (pair : Pair) (opened : Option ℕ) (stored : List Entry) → IsSource number suffix pair.provider → IsFed number pair.provider pair.follower opened stored
+    (pair : Pair) (opened : Option ℕ) (stored : Holding) → IsSource number suffix pair.provider → IsFed number pair.provider pair.follower opened stored
     → IsKept number suffix pair pair idle opened stored
 
-abbrev TakenKept : ℕ → Name → Pair → Option ℕ → List Entry → Pair × List Told → Type 0
+abbrev TakenKept : ℕ → Name → Pair → Option ℕ → Holding → Pair × List Told → Type 0
 TakenKept number suffix pair opened stored taken = IsKept number suffix pair taken.0 taken.1 opened stored
 
-taken_keeps : (count : ℕ) (number : ℕ) (suffix : Name) (idle : List Told) → IsIdle number suffix idle → (pair : Pair) (opened : Option ℕ) (stored : List Entry)
+taken_keeps : (count : ℕ) (number : ℕ) (suffix : Name) (idle : List Told) → IsIdle number suffix idle → (pair : Pair) (opened : Option ℕ) (stored : Holding)
     → IsSource number suffix pair.provider → IsFed number pair.provider pair.follower opened stored → TakenKept number suffix pair opened stored (taken_some count idle pair)
 taken_keeps zero number suffix idle rests pair opened stored source fed = kept-still number suffix pair opened stored source fed
 taken_keeps (suc count) number suffix idle rests pair opened stored source fed =
     by (taken_keeps count number suffix idle rests) (taking pair) (taking_kept number suffix pair opened stored source fed)
   where
-    by : ((next : Pair) (o : Option ℕ) (s : List Entry) → IsSource number suffix next.provider → IsFed number next.provider next.follower o s → TakenKept number suffix next o s (taken_some count idle next))
+    by : ((next : Pair) (o : Option ℕ) (s : Holding) → IsSource number suffix next.provider → IsFed number next.provider next.follower o s → TakenKept number suffix next o s (taken_some count idle next))
         → (first : Option (Pair × Told)) → TakingKept number suffix pair opened stored first
         → TakenKept number suffix pair opened stored (taken_before (λ after. taken_some count idle after) pair idle first)
     by keeps None kept = rests pair opened stored source fed
@@ -85,7 +86,7 @@ drains_keeps : (number : ℕ) (suffix : Name) → Keeps number suffix drains
 drains_keeps number suffix pair opened stored source fed = taken_keeps (length pair.follower.link) number suffix [] (still number suffix) pair opened stored source fed
 
 settled_quiet : (name : List ℕ) (count : ℕ) → IsQuiet (told.Settled name count)
-settled_quiet name count = record { opened = λ n o. refl; stored = λ n s. refl; right = λ k frame o. (tt, tt) }
+settled_quiet name count = record { opened = λ n o. refl; stored = λ n s. refl; right = λ k frame o s. (tt, tt) }
 
 settled_keeps : (number : ℕ) (suffix : Name) → Keeps number suffix settled_told
 settled_keeps number suffix pair opened stored source fed =
@@ -95,9 +96,9 @@ settled_keeps number suffix pair opened stored source fed =
 settles_keeps : (number : ℕ) (suffix : Name) → Keeps number suffix settles
 settles_keeps number suffix =
     let drained = keeps-then number suffix drains runs (drains_keeps number suffix) (runs_keeps number suffix) in
-    let opened = keeps-then number suffix (λ pair. and_then (drains pair) runs) opens drained (opens_keeps number suffix) in
-    let ran = keeps-then number suffix (λ pair. and_then (and_then (drains pair) runs) opens) runs opened (runs_keeps number suffix) in
-    keeps-then number suffix (λ pair. and_then (and_then (and_then (drains pair) runs) opens) runs) settled_told ran (settled_keeps number suffix)
+    let opened = keeps-then number suffix (λ pair. and_then (drains pair) runs) opens_anew drained (opens_anew_keeps number suffix) in
+    let ran = keeps-then number suffix (λ pair. and_then (and_then (drains pair) runs) opens_anew) runs opened (runs_keeps number suffix) in
+    keeps-then number suffix (λ pair. and_then (and_then (and_then (drains pair) runs) opens_anew) runs) settled_told ran (settled_keeps number suffix)
 
 -- ---- each part
 
@@ -107,6 +108,8 @@ part_keeps (goes.Send count) number suffix = sent_keeps count number suffix
 part_keeps (goes.Take count) number suffix = takes_keeps count number suffix
 part_keeps goes.Cut number suffix = cut_keeps number suffix
 part_keeps goes.Settle number suffix = settles_keeps number suffix
+part_keeps goes.Lose number suffix = lost_keeps number suffix
+part_keeps (goes.Give text) number suffix = given_keeps text number suffix
 
 pub parts_are_kept : PartsAreKept
 parts_are_kept number suffix before after lines opened stored exchange source fed is =

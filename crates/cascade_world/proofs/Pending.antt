@@ -11,7 +11,7 @@ use Rattle.sync_provider.specs.Machine.{ProviderState}
 use Rattle.sync_provider.specs.Search.{SearchState}
 use Rattle.sync_provider.proofs.Looking.{put_on-same}
 use Rattle.cascade_world.specs.declared.fault.Cause.{Cause}
-use Rattle.cascade_world.specs.declared.fault.Cause.TheVariants.{BadCommand, UnknownNode, NameTaken, BadRecord, LimitReached, OutsideSuffix, NotYet, NoMemory}
+use Rattle.cascade_world.specs.declared.fault.Cause.TheVariants.{BadCommand, UnknownNode, NameTaken, BadRecord, LimitReached, OutsideSuffix, LaterCookie, NotYet, NoMemory}
 use Rattle.cascade_world.specs.declared.node.Follower.{Follower}
 use Rattle.cascade_world.specs.Exchange.{Pair, pair_of, Outcome, after_lines, name_of, copy_of, fits, linked, Sending, turn_of, handed, sends, sending_by, sending, taken_as, taken_from, taking, taken_before, taken_some, pending_count, left_to_send, ran_before, ran_some, runs}
 use Rattle.cascade_world.specs.Exchange.Sending.{Sends, Rests, Overflows}
@@ -189,6 +189,7 @@ run_overflows whole p after last old text text1 new NameTaken r h = run_refused 
 run_overflows whole p after last old text text1 new BadRecord r h = run_refused whole p old text BadRecord r h.0 h.1
 run_overflows whole p after last old text text1 new (LimitReached number) r h = run_refused whole p old text (LimitReached number) r h.0 h.1
 run_overflows whole p after last old text text1 new OutsideSuffix r h = run_refused whole p old text OutsideSuffix r h.0 h.1
+run_overflows whole p after last old text text1 new (LaterCookie held given) r h = run_refused whole p old text (LaterCookie held given) r h.0 h.1
 run_overflows whole p after last old text text1 new NotYet r h = run_refused whole p old text NotYet r h.0 h.1
 run_overflows whole p after last old text text1 new NoMemory r h = tt
 
@@ -201,5 +202,6 @@ taking_starves outcome p after last found old text text1 new NameTaken h = absur
 taking_starves outcome p after last found old text text1 new BadRecord h = absurd h
 taking_starves outcome p after last found old text text1 new (LimitReached number) h = absurd h
 taking_starves outcome p after last found old text text1 new OutsideSuffix h = absurd h
+taking_starves outcome p after last found old text text1 new (LaterCookie held given) h = absurd h
 taking_starves outcome p after last found old text text1 new NotYet h = absurd h
 taking_starves outcome p after last found old text text1 new NoMemory h = tt

@@ -4,7 +4,7 @@ use Rattle.std.specs.Prelude.{Ok, Err}
 use Rattle.sync_provider.specs.Machine.{ProviderState}
 use Rattle.sync_provider.specs.Search.{SearchState}
 use Rattle.cascade_world.specs.declared.fault.Cause.{Cause}
-use Rattle.cascade_world.specs.declared.fault.Cause.TheVariants.{BadCommand, UnknownNode, NameTaken, BadRecord, LimitReached, OutsideSuffix, NotYet, NoMemory}
+use Rattle.cascade_world.specs.declared.fault.Cause.TheVariants.{BadCommand, UnknownNode, NameTaken, BadRecord, LimitReached, OutsideSuffix, LaterCookie, NotYet, NoMemory}
 use Rattle.cascade_world.specs.declared.node.Follower.{Follower}
 use Rattle.cascade_world.specs.Exchange.{Pair, pair_of, Outcome}
 use Rattle.cascade_world.specs.Parts.{Does, Performs}
@@ -21,6 +21,7 @@ refused outcome old text p after NameTaken h = h
 refused outcome old text p after BadRecord h = h
 refused outcome old text p after (LimitReached number) h = h
 refused outcome old text p after OutsideSuffix h = h
+refused outcome old text p after (LaterCookie held given) h = h
 refused outcome old text p after NotYet h = h
 refused outcome old text p after NoMemory h = tt
 

@@ -1,105 +1,85 @@
--- Where a refresh without a cookie stands after some of its messages, and what a copy makes of the next one.
-use Rattle.std.proofs.Common.{◌≡◌, ℕ, Bool, true, false, List, [], ◌∷◌, ◌++◌, Some, None, refl, ap, sym, ◌∙◌, inl, inr, arith, append-nil, append_assoc, subst}
-use Rattle.std.specs.Prelude.{◌⊎◌}
+-- Where a refresh stands after some of its messages, and what a copy makes of the next one.
+use Rattle.std.proofs.Common.{◌≡◌, ◌-◌, ℕ, Bool, true, false, List, [], ◌∷◌, ◌++◌, Option, Some, None, refl, ap, sym, ◌∙◌, inl, inr, arith, append-nil, append_assoc, subst}
+use Rattle.std.specs.Prelude.{◌⊎◌, All, flat_map, is_some}
 use Rattle.std.proofs.lemmas.List.{same_from_push}
+use Rattle.std.proofs.lemmas.List.Elements.{All-filter}
 use Rattle.entry_tree.specs.declared.entry.Entry.{Entry}
 use Rattle.entry_tree.specs.declared.op.Write.{Write}
-use Rattle.entry_tree.specs.History.{state_of}
-use Rattle.entry_tree.specs.Selection.{Search, select}
-use Rattle.entry_tree.specs.State.{ascends}
-use Rattle.sync_model.specs.Copy.{Stage, Running, Copy, Commit, Answer, staged, taken, taken_all, answers, commit_of, present_ended}
+use Rattle.entry_tree.specs.History.{state_of, differing_over}
+use Rattle.entry_tree.specs.Selection.{Search, is_selected}
+use Rattle.entry_tree.specs.State.{entry_at}
+use Rattle.sync_model.specs.Copy.{Copy, Commit, Answer, asked, taken, taken_all, answers, commit_of, ends_phase}
 use Rattle.sync_model.specs.Copy.Answer.{Staged, Stored}
-use Rattle.sync_model.specs.Keeping.{Keeps}
-use Rattle.sync_model.specs.Law.{IsWithin, settled}
+use Rattle.sync_model.specs.Law.{Ascending, Begins, IsCut, IsWithin, settled}
 use Rattle.sync_model.specs.Message.{Cookie, SyncMessage}
-use Rattle.sync_model.specs.Message.SyncMessage.{Put}
-use Rattle.sync_model.specs.Stream.{Session, walk}
-use Rattle.sync_model.specs.Stream as stream
-use Rattle.sync_model.specs.Stream.Start.{Blank}
+use Rattle.sync_model.specs.Stream.{Session, Start, Piece, Decision, content_after, is_covered, walk, decide_piece, gathered, late_uuids, end_of, after_walk}
+use Rattle.sync_model.specs.Stream.Decision.{Sends, Names}
 use Rattle.sync_model.specs.Within.{taken_within, taken_all_within, answers_within}
 use Rattle.sync_model.proofs.Fitting.{front_fits}
+use Rattle.sync_model.proofs.Gather.{Each, EachD, IsPart, EachM, each-gathered, each-front}
 use Rattle.sync_model.proofs.Histories.{ascends-state_of}
-use Rattle.sync_model.proofs.Keeping.{taking_keeps}
-use Rattle.sync_model.proofs.Refresh.{refresh_ends}
-use Rattle.sync_provider.specs.Law.{cookie_after, session_of, whole_walk, stream_from}
-use Rattle.sync_provider.specs.Search.{sent_whole, end_of, refresh}
-use Rattle.sync_provider.proofs.Blanks.{stream_from-blank}
-use Rattle.cascade_world.proofs.Feeding.{refresh_at, refreshing}
+use Rattle.sync_model.proofs.Refresh.{Sent, Named, each-pieces, known, refresh_ends}
+use Rattle.sync_model.proofs.Steps.{over_none}
+use Rattle.sync_model.proofs.Taking.{refreshing, running_in, names_after, stage_after, taken-one, taken-part}
+use Rattle.sync_provider.specs.Search.{session_of, whole_walk, refresh_from}
+use Rattle.sync_wire.specs.CanBeSent.{CanBeSent}
+use Rattle.sync_wire.specs.Law.{IsIdentity}
+use Rattle.cascade_world.proofs.Carried.{IsOfRefresh, of_part}
+use Rattle.cascade_world.proofs.Identities.{IsFew, walk_range, each_decided, few_gathered}
 
 -- ---- the next message
 
--- it is that of one of the entries, and more follow
-pub record IsEntry (entries : List Entry) (cookie : Cookie) (front : List SyncMessage) (m : SyncMessage) (rest : List SyncMessage) : Type 0 where
-  pub before : List Entry
-  pub entry : Entry
-  pub later : List Entry
-  pub among : entries ≡ before ++ entry ∷ later
-  pub told : front ≡ sent_whole before
-  pub message : m ≡ Put true entry None
-  pub more : rest ≡ refresh later cookie
+-- it is one of the part, and more follow up to the last
+pub record IsMidst (part front : List SyncMessage) (last m : SyncMessage) (rest : List SyncMessage) : Type 0 where
+  pub more : List SyncMessage
+  pub among : part ≡ front ++ m ∷ more
+  pub left : rest ≡ more ++ last ∷ []
 
--- it is the end
-pub record IsEnd (entries : List Entry) (cookie : Cookie) (front : List SyncMessage) (m : SyncMessage) (rest : List SyncMessage) : Type 0 where
-  pub told : front ≡ sent_whole entries
-  pub message : m ≡ end_of cookie
+-- it is the last
+pub record IsEnd (part front : List SyncMessage) (last m : SyncMessage) (rest : List SyncMessage) : Type 0 where
+  pub told : front ≡ part
+  pub message : m ≡ last
   pub none : rest ≡ []
 
-abbrev pub Next : List Entry → Cookie → List SyncMessage → SyncMessage → List SyncMessage → Type 0
-Next entries cookie front m rest = IsEntry entries cookie front m rest ⊎ IsEnd entries cookie front m rest
+abbrev pub Next : List SyncMessage → List SyncMessage → SyncMessage → SyncMessage → List SyncMessage → Type 0
+Next part front last m rest = IsMidst part front last m rest ⊎ IsEnd part front last m rest
 
 not_none : (front rest : List SyncMessage) (m : SyncMessage) → front ++ m ∷ rest ≡ [] → ⊥
 not_none [] rest m same = cc
 not_none (x ∷ front) rest m same = cc
 
-one_more : (e : Entry) (entries : List Entry) (cookie : Cookie) (front rest : List SyncMessage) (m y : SyncMessage) → y ≡ Put true e None
-    → Next entries cookie front m rest → Next (e ∷ entries) cookie (y ∷ front) m rest
-one_more e entries cookie front rest m y first (inl is) =
-    inl (record {
-      before = e ∷ is.before;
-      entry = is.entry;
-      later = is.later;
-      among = ap (λ es. e ∷ es) is.among;
-      told = ap (λ ms. y ∷ ms) is.told ∙ ap (λ n. n ∷ sent_whole is.before) first;
-      message = is.message;
-      more = is.more;
-    })
-one_more e entries cookie front rest m y first (inr is) =
-    inr (record { told = ap (λ ms. y ∷ ms) is.told ∙ ap (λ n. n ∷ sent_whole entries) first; message = is.message; none = is.none })
+one_more : (part front : List SyncMessage) (last m : SyncMessage) (rest : List SyncMessage) (x y : SyncMessage) → x ≡ y → Next part front last m rest → Next (y ∷ part) (x ∷ front) last m rest
+one_more part front last m rest x y same (inl is) =
+    inl (record { more = is.more; among = (λ i. sym same i ∷ is.among i); left = is.left })
+one_more part front last m rest x y same (inr is) =
+    inr (record { told = (λ i. same i ∷ is.told i); message = is.message; none = is.none })
 
-pub next_is : (front : List SyncMessage) (entries : List Entry) (cookie : Cookie) (m : SyncMessage) (rest : List SyncMessage) → front ++ m ∷ rest ≡ refresh entries cookie
-    → Next entries cookie front m rest
-next_is [] [] cookie m rest same =
-    let message : m ≡ end_of cookie = cc in
+pub next_is : (front part rest : List SyncMessage) (last m : SyncMessage) → front ++ m ∷ rest ≡ part ++ last ∷ [] → Next part front last m rest
+next_is [] [] rest last m same =
+    let message : m ≡ last = cc in
     let none : rest ≡ [] = cc in
     inr (record { told = refl; message = message; none = none })
-next_is [] (e ∷ entries) cookie m rest same =
-    let message : m ≡ Put true e None = cc in
-    let more : rest ≡ refresh entries cookie = cc in
-    inl (record { before = []; entry = e; later = entries; among = refl; told = refl; message = message; more = more })
-next_is (x ∷ front) [] cookie m rest same =
+next_is [] (x ∷ part) rest last m same =
+    let message : m ≡ x = cc in
+    let left : rest ≡ part ++ last ∷ [] = cc in
+    inl (record { more = part; among = ap (λ y. y ∷ part) (sym message); left = left })
+next_is (x ∷ front) [] rest last m same =
     let none : front ++ m ∷ rest ≡ [] = cc in
     absurd (not_none front rest m none)
-next_is (x ∷ front) (e ∷ entries) cookie m rest same =
-    let first : x ≡ Put true e None = cc in
-    let others : front ++ m ∷ rest ≡ refresh entries cookie = cc in
-    one_more e entries cookie front rest m x first (next_is front entries cookie m rest others)
+next_is (x ∷ front) (y ∷ part) rest last m same =
+    let first : x ≡ y = cc in
+    let others : front ++ m ∷ rest ≡ part ++ last ∷ [] = cc in
+    one_more part front last m rest x y first (next_is front part rest last m others)
 
--- ---- a copy that takes entries
+-- what holds of each of some messages holds of one among them
+each_at : (Q : SyncMessage → Type 0) (front : List SyncMessage) (m : SyncMessage) (more : List SyncMessage) → Each Q (front ++ m ∷ more) → Q m
+each_at Q [] m more each = each.0
+each_at Q (x ∷ front) m more each = each_at Q front m more each.1
 
-abbrev pub running_at : Stage → Running
-running_at stage = record { id = 1; persists = false; persisting = false; ended = false; named = []; stage = stage }
-
-abbrev pub staging : List Entry → Stage → Copy
-staging held stage = record { held = held; cookie = None; running = Some (running_at stage) }
-
--- a copy with these entries is in the refresh, and has staged some
-pub record IsStaging (held : List Entry) (copy : Copy) : Type 0 where
-  pub stage : Stage
-  pub same : copy ≡ staging held stage
-
-puts_stage : (entries held : List Entry) (stage : Stage) → IsStaging held (taken_all 1 (staging held stage) (sent_whole entries))
-puts_stage [] held stage = record { stage = stage; same = refl }
-puts_stage (e ∷ entries) held stage = puts_stage entries held (staged e.uuid (Some e) stage)
+any_decision : (decisions : List Decision) → EachD (λ e. Unit {0}) (λ u. Unit {0}) decisions
+any_decision [] = tt
+any_decision (Sends entry ∷ decisions) = (tt, any_decision decisions)
+any_decision (Names uuid ∷ decisions) = (tt, any_decision decisions)
 
 -- ---- the last of some messages
 
@@ -118,12 +98,18 @@ answers_within-last : (messages : List SyncMessage) (m : SyncMessage) (id : ℕ)
 answers_within-last [] m id copy = refl
 answers_within-last (x ∷ messages) m id copy = ap (λ told. (taken_within id copy x).1 ∷ told) (answers_within-last messages m id (taken_within id copy x).0)
 
--- what is told of an entry: it is staged, and those held stay
-pub record IsStaged (entries : List Entry) (outcome : Copy × Answer) : Type 0 where
-  pub answer : outcome.1 ≡ Staged
-  pub held : outcome.0.held ≡ entries
+-- ---- a copy in the refresh
 
--- and of the end: the content is held, with its cookie, and no search runs
+-- one with these entries and this cookie, which took these messages
+abbrev pub staging : List Entry → Option Cookie → List SyncMessage → Copy
+staging held cookie taken = refreshing 1 held cookie false false (names_after [] taken) (stage_after [] taken)
+
+-- a message is staged, and those held stay
+pub record IsStaged (held : List Entry) (cookie : Option Cookie) (taken : List SyncMessage) (outcome : Copy × Answer) : Type 0 where
+  pub answer : outcome.1 ≡ Staged
+  pub copy : outcome.0 ≡ staging held cookie taken
+
+-- and at the end the content is held, with its cookie, and no search runs
 pub record IsStored (content : List Entry) (cookie : Cookie) (outcome : Copy × Answer) : Type 0 where
   pub commit : Commit
   pub answer : outcome.1 ≡ Stored commit
@@ -131,97 +117,151 @@ pub record IsStored (content : List Entry) (cookie : Cookie) (outcome : Copy × 
 
 -- ---- the refresh of a directory
 
-abbrev pub content_at : ℕ → Search → List Write → ℕ → List Entry
-content_at number search writes opened = select search (state_of number writes opened)
-
--- what a refresh that begins with these entries held is told meets no limit
-pub record IsTakenAll (held : List Entry) (front : List SyncMessage) : Type 0 where
-  pub copy : taken_all_within 1 (refreshing held) front ≡ taken_all 1 (refreshing held) front
-  pub told : answers_within 1 (refreshing held) front ≡ answers 1 (refreshing held) front
-
-module _ (number : ℕ) (search : Search) (writes : List Write) (opened : ℕ) (held : List Entry) (ascending : ascends held ≡ true)
-    (within : (count : ℕ) → IsWithin (state_of number writes count)) where
-  abbrev session : Session
+module _ (number : ℕ) (search : Search) (writes : List Write) (start : Start) (opened : ℕ) where
+  abbrev pub session : Session
   session = session_of number number search writes
 
-  abbrev cookie : Cookie
-  cookie = cookie_after number number writes opened
+  abbrev pub covered : Bool
+  covered = is_covered start
 
-  abbrev content : List Entry
-  content = content_at number search writes opened
+  abbrev pieces : List Piece
+  pieces = whole_walk session start opened
 
-  blank_stream : stream_from session opened ≡ refresh_at number search writes opened
-  blank_stream = stream_from-blank session opened refl (ascends-state_of number writes opened)
+  abbrev decisions : List Decision
+  decisions = flat_map (decide_piece session start) pieces
 
-  all_taken : (front rest : List SyncMessage) → front ++ rest ≡ refresh_at number search writes opened → IsTakenAll held front
-  all_taken front rest whole =
-      let fits = front_fits session (λ count. ascends-state_of number writes count) within 1 Blank opened 0 (record { held = held; cookie = None; running = None }) front rest ascending (whole ∙ sym blank_stream) in
-      record { copy = fits.0; told = fits.1 }
+  abbrev pub part : List SyncMessage
+  part = gathered covered decisions
 
-  -- the answer to a message is as without limits
-  answered : (front rest : List SyncMessage) (m : SyncMessage) → front ++ m ∷ rest ≡ refresh_at number search writes opened
-      → (taken_within 1 (taken_all_within 1 (refreshing held) front) m).1 ≡ (taken 1 (taken_all 1 (refreshing held) front) m).1
-  answered front rest m whole =
-      (same_from_push (answers_within 1 (refreshing held) front) (answers 1 (refreshing held) front)
-      (taken_within 1 (taken_all_within 1 (refreshing held) front) m).1 (taken 1 (taken_all 1 (refreshing held) front) m).1
-      (sym (answers_within-last front m 1 (refreshing held)) ∙ (all_taken (front ++ m ∷ []) rest (append_assoc front (m ∷ []) rest ∙ whole)).told ∙ answers-last front m 1 (refreshing held))).1
+  abbrev pub last : SyncMessage
+  last = end_of false covered (session.cookies opened)
 
-  -- up to its end a copy stages entries
-  pub staging_is : (front rest : List SyncMessage) (m : SyncMessage) → front ++ m ∷ rest ≡ refresh_at number search writes opened → IsStaging held (taken_all_within 1 (refreshing held) front)
-  staging_is front rest m whole = by (next_is front content cookie m rest whole)
-    where
-      told : (entries : List Entry) → front ≡ sent_whole entries → IsStaging held (taken_all_within 1 (refreshing held) front)
-      told entries same =
-          let staged = puts_stage entries held [] in
-          record { stage = staged.stage; same = (all_taken front (m ∷ rest) whole).copy ∙ ap (taken_all 1 (refreshing held)) same ∙ staged.same }
+  pub refresh_is : refresh_from session start opened ≡ part ++ last ∷ []
+  refresh_is =
+      let steps : opened - opened ≡ 0 = omega arith in
+      let none : late_uuids session opened opened ≡ [] =
+      ap (λ n. differing_over (λ count. content_after session count) opened n) steps ∙ over_none (λ count. content_after session count) opened in
+      ap (λ late. part ++ after_walk session covered opened late) none
 
-      by : Next content cookie front m rest → IsStaging held (taken_all_within 1 (refreshing held) front)
-      by (inl is) = told is.before is.told
-      by (inr is) = told content is.told
+  pub follows : (front rest : List SyncMessage) (m : SyncMessage) → front ++ m ∷ rest ≡ refresh_from session start opened → Next part front last m rest
+  follows front rest m whole = next_is front part rest last m (whole ∙ refresh_is)
 
-  -- an entry is staged, and the entries held stay
-  pub entry_staged : (front rest : List SyncMessage) (m : SyncMessage) → front ++ m ∷ rest ≡ refresh_at number search writes opened → IsEntry content cookie front m rest
-      → IsStaged held (taken_within 1 (taken_all_within 1 (refreshing held) front) m)
-  entry_staged front rest m whole is = record {
-    answer = staged_now;
-    held = (subst (Keeps before after.0) staged_now (taking_keeps 1 before m)).held ∙ ap (λ (c : Copy). c.held) (staging_is front rest m whole).same;
-  }
-    where
-      before : Copy
-      before = taken_all_within 1 (refreshing held) front
+  pub midst_part : (front rest : List SyncMessage) (m : SyncMessage) → IsMidst part front last m rest → IsPart covered (λ e. Unit {0}) (λ u. Unit {0}) m
+  midst_part front rest m is =
+      each_at (IsPart covered (λ e. Unit {0}) (λ u. Unit {0})) front m is.more (subst (EachM covered (λ e. Unit {0}) (λ u. Unit {0})) is.among
+      (each-gathered covered (λ e. Unit {0}) (λ u. Unit {0}) decisions (any_decision decisions)))
 
-      after : Copy × Answer
-      after = taken_within 1 before m
+  -- ---- what is said can be sent
 
-      staged_now : after.1 ≡ Staged
-      staged_now =
-          let staged = puts_stage is.before held [] in
-          answered front rest m whole
-          ∙ ap (λ c. (taken 1 c m).1) (ap (taken_all 1 (refreshing held)) is.told ∙ staged.same)
-          ∙ ap (λ n. (taken 1 (staging held staged.stage) n).1) is.message
+  module _ (sent : (count : ℕ) → All CanBeSent (state_of number writes count)) where
+    content_sent : All CanBeSent (content_after session opened)
+    content_sent = All-filter (is_selected search) CanBeSent (state_of number writes opened) (sent opened)
 
-  -- the end brings the content into effect, with the cookie
-  pub end_stored : (front rest : List SyncMessage) (m : SyncMessage) → front ++ m ∷ rest ≡ refresh_at number search writes opened → IsEnd content cookie front m rest
-      → IsStored content cookie (taken_within 1 (taken_all_within 1 (refreshing held) front) m)
-  end_stored front rest m whole is = record {
-    commit = commit_of (present_ended [] staged.stage held) (Some cookie);
-    answer =
-        answered front rest m whole
-        ∙ ap (λ c. (taken 1 c m).1) (ap (taken_all 1 (refreshing held)) is.told ∙ staged.same)
-        ∙ ap (λ n. (taken 1 (staging held staged.stage) n).1) is.message;
-    copy =
-        sym (within-last front m 1 (refreshing held))
-        ∙ (all_taken (front ++ m ∷ []) [] (append-nil (front ++ m ∷ []) ∙ all)).copy
-        ∙ ap (taken_all 1 (refreshing held)) (all ∙ sym blank_stream ∙ append-nil (stream.refresh session Blank opened (whole_walk session opened)))
-        ∙ ends.1;
-  }
-    where
-      staged : IsStaging held (taken_all 1 (staging held []) (sent_whole content))
-      staged = puts_stage content held []
+    decisions_is : flat_map (decide_piece session start) pieces ≡ decide_piece session start (record { uuids = walk session start opened; mark = opened })
+    decisions_is = append-nil (decide_piece session start (record { uuids = walk session start opened; mark = opened }))
 
-      all : front ++ m ∷ [] ≡ refresh_at number search writes opened
-      all = ap (λ ms. front ++ m ∷ ms) (sym is.none) ∙ whole
+    part_sent : EachM covered CanBeSent IsIdentity part
+    part_sent =
+        each-gathered covered CanBeSent IsIdentity decisions
+        (subst (EachDecided) (sym decisions_is) (each_decided (walk session start opened) session start opened content_sent (walk_range session start opened sent)))
+      where
+        EachDecided : List Decision → Type 0
+        EachDecided ds = EachD CanBeSent IsIdentity ds
 
-      ends : (ended : Bool) × (taken_all 1 (refreshing held) (stream.refresh session Blank opened (whole_walk session opened)) ≡ settled 1 false ended content (Some cookie))
-      ends = refresh_ends session (λ count. ascends-state_of number writes count) 1 Blank opened (whole_walk session opened) (record { held = held; cookie = None; running = None })
-          (record { cut = append-nil (walk session Blank opened); rises = (omega arith, tt) }) ascending
+    pub midst_sent : (front rest : List SyncMessage) (m : SyncMessage) → IsMidst part front last m rest → IsOfRefresh m
+    midst_sent front rest m is =
+        of_part covered m (each_at (IsPart covered CanBeSent IsIdentity) front m is.more (subst (EachM covered CanBeSent IsIdentity) is.among part_sent))
+        (each_at IsFew front m is.more (subst (Each IsFew) is.among (few_gathered covered decisions)))
+
+  -- ---- what a copy makes of it
+
+  module _ (held : List Entry) (begins : Begins session start opened held) (within : (count : ℕ) → IsWithin (state_of number writes count)) where
+    ascending : Ascending session
+    ascending count = ascends-state_of number writes count
+
+    cut : IsCut session start opened pieces
+    cut = record { cut = append-nil (walk session start opened); rises = (omega arith, tt) }
+
+    abbrev P : Entry → Type 0
+    P = Sent session ascending opened opened
+
+    abbrev Q : ℕ → Type 0
+    Q = Named session ascending start opened opened
+
+    part_each : EachM covered P Q part
+    part_each = each-gathered covered P Q decisions (each-pieces session ascending pieces start opened opened opened (omega arith) cut.rises (omega arith))
+
+    are_known : covered ≡ false → (u : ℕ) → Q u → is_some (entry_at held u) ≡ true
+    are_known = known session ascending start opened opened held begins
+
+    abbrev before : Option Cookie → Copy
+    before cookie = asked 1 false (record { held = held; cookie = cookie; running = None })
+
+    -- after a front of the part
+    front_taken : (cookie : Option Cookie) (front more : List SyncMessage) → part ≡ front ++ more → taken_all 1 (before cookie) front ≡ staging held cookie front
+    front_taken cookie front more among =
+        ap (taken_all 1 (before cookie)) (sym (append-nil front))
+        ∙ taken-part front [] covered P Q 1 held cookie false false [] [] (each-front (IsPart covered P Q) front more (subst (EachM covered P Q) among part_each)) are_known
+
+    -- no limit is met
+    fits : (cookie : Option Cookie) (front rest : List SyncMessage) → front ++ rest ≡ refresh_from session start opened
+        → (taken_all_within 1 (before cookie) front ≡ taken_all 1 (before cookie) front) × (answers_within 1 (before cookie) front ≡ answers 1 (before cookie) front)
+    fits cookie front rest whole =
+        front_fits session ascending within 1 start opened 0 (record { held = held; cookie = cookie; running = None }) front rest begins (whole ∙ sym (append-nil (refresh_from session start opened)))
+
+    -- the next message is taken as without limits
+    record IsTaken (cookie : Option Cookie) (front : List SyncMessage) (m : SyncMessage) : Type 0 where
+      copy : (taken_within 1 (staging held cookie front) m).0 ≡ taken_all 1 (before cookie) (front ++ m ∷ [])
+      answer : (taken_within 1 (staging held cookie front) m).1 ≡ (taken 1 (staging held cookie front) m).1
+
+    is_taken : (cookie : Option Cookie) (front more rest : List SyncMessage) (m : SyncMessage) → part ≡ front ++ more → front ++ m ∷ rest ≡ refresh_from session start opened → IsTaken cookie front m
+    is_taken cookie front more rest m among whole = record {
+      copy =
+          ap (λ c. (taken_within 1 c m).0) (sym reached)
+          ∙ sym (within-last front m 1 (before cookie))
+          ∙ (fits cookie (front ++ m ∷ []) rest (append_assoc front (m ∷ []) rest ∙ whole)).0;
+      answer =
+          ap (λ c. (taken_within 1 c m).1) (sym reached)
+          ∙ (same_from_push (answers_within 1 (before cookie) front) (answers 1 (before cookie) front)
+          (taken_within 1 (taken_all_within 1 (before cookie) front) m).1 (taken 1 (taken_all 1 (before cookie) front) m).1
+          (sym (answers_within-last front m 1 (before cookie)) ∙ (fits cookie (front ++ m ∷ []) rest (append_assoc front (m ∷ []) rest ∙ whole)).1 ∙ answers-last front m 1 (before cookie))).1
+          ∙ ap (λ c. (taken 1 c m).1) (front_taken cookie front more among);
+    }
+      where
+        reached : taken_all_within 1 (before cookie) front ≡ staging held cookie front
+        reached = (fits cookie front (m ∷ rest) whole).0 ∙ front_taken cookie front more among
+
+    -- a message of the part is staged
+    pub midst_staged : (cookie : Option Cookie) (front rest : List SyncMessage) (m : SyncMessage) → front ++ m ∷ rest ≡ refresh_from session start opened → IsMidst part front last m rest
+        → IsStaged held cookie (front ++ m ∷ []) (taken_within 1 (staging held cookie front) m)
+    midst_staged cookie front rest m whole is = record {
+      answer =
+          now.answer
+          ∙ ap (λ (outcome : Copy × Answer). outcome.1)
+          (taken-one m covered P Q 1 held cookie false false (names_after [] front) (stage_after [] front) (each_at (IsPart covered P Q) front m is.more (subst (EachM covered P Q) is.among part_each)) are_known);
+      copy = now.copy ∙ front_taken cookie (front ++ m ∷ []) is.more (is.among ∙ sym (append_assoc front (m ∷ []) is.more));
+    }
+      where
+        now : IsTaken cookie front m
+        now = is_taken cookie front (m ∷ is.more) rest m is.among whole
+
+    end_answer : (deletes : Bool) (cookie : Option Cookie) (front : List SyncMessage) (new : Cookie)
+        → (taken 1 (staging held cookie front) (end_of false deletes new)).1
+        ≡ Stored (commit_of (ends_phase held (running_in 1 false false (names_after [] front) (stage_after [] front)) deletes).stage (Some new))
+    end_answer true cookie front new = refl
+    end_answer false cookie front new = refl
+
+    -- the end brings the content into effect, with its cookie
+    pub end_stored : (cookie : Option Cookie) (front rest : List SyncMessage) (m : SyncMessage) → front ++ m ∷ rest ≡ refresh_from session start opened → IsEnd part front last m rest
+        → IsStored (content_after session opened) (session.cookies opened) (taken_within 1 (staging held cookie front) m)
+    end_stored cookie front rest m whole is = record {
+      commit = commit_of (ends_phase held (running_in 1 false false (names_after [] front) (stage_after [] front)) covered).stage (Some (session.cookies opened));
+      answer = now.answer ∙ ap (λ x. (taken 1 (staging held cookie front) x).1) is.message ∙ end_answer covered cookie front (session.cookies opened);
+      copy = now.copy ∙ ap (taken_all 1 (before cookie)) (ap (λ ms. front ++ m ∷ ms) (sym is.none) ∙ whole) ∙ ends.1;
+    }
+      where
+        now : IsTaken cookie front m
+        now = is_taken cookie front [] rest m (sym is.told ∙ sym (append-nil front)) whole
+
+        ends : (ended : Bool) × (taken_all 1 (before cookie) (refresh_from session start opened) ≡ settled 1 false ended (content_after session opened) (Some (session.cookies opened)))
+        ends = refresh_ends session ascending 1 start opened pieces (record { held = held; cookie = cookie; running = None }) cut begins

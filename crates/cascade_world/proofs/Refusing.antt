@@ -1,25 +1,54 @@
 -- The end of a search that is refused is taken at once: the search is over, and the entries stay.
-use Rattle.std.proofs.Common.{◌≡◌, ℕ, Bool, true, false, cond, List, None, refl}
-use Rattle.std.specs.Prelude.{pos, not}
+use Rattle.std.proofs.Common.{◌≡◌, ℕ, Bool, true, false, cond, List, Option, None, refl, ap, sym, ◌∙◌, eq-eqb, eqb-true, subst}
+use Rattle.std.specs.Prelude.{pos, not, ◌==◌}
 use Rattle.std.specs.Ordering.{int_eq}
-use Rattle.entry_tree.specs.declared.entry.Entry.{Entry}
+use Rattle.std.proofs.lemmas.Bool.Decides.{Decides-int_eq}
 use Rattle.sync_model.specs.Copy.{Copy, Answer, over, refused}
 use Rattle.sync_model.specs.Copy.Fault.{OutOfPlace}
 use Rattle.sync_model.specs.Within.{limit_fault, refused_by}
-use Rattle.cascade_world.specs.Exchange.{refused_copy}
-use Rattle.cascade_world.proofs.Feeding.{refreshing}
+use Rattle.cascade_world.specs.Exchange.{asking, refused_copy}
 
--- the entries are these, and no search runs
-pub record IsOver (entries : List Entry) (copy : Copy) : Type 0 where
-  pub held : copy.held ≡ entries
+-- the entries are those of before, no search runs, and the cookie is lost where it was refused
+pub record IsOver (before : Copy) (lost : Bool) (copy : Copy) : Type 0 where
+  pub held : copy.held ≡ before.held
   pub running : copy.running ≡ None
+  pub cookie : copy.cookie ≡ cond lost None before.cookie
 
-pub refused_over : (held : List Entry) (code : ℕ) → IsOver held (refused_copy (refreshing held) code)
-refused_over held code = by (not (int_eq (pos code) (pos 0)))
+same_test : (code number : ℕ) → int_eq (pos code) (pos number) ≡ (code == number)
+same_test code number = by (code == number) refl (int_eq (pos code) (pos number)) refl
+  where
+    by : (b : Bool) → (code == number) ≡ b → (c : Bool) → int_eq (pos code) (pos number) ≡ c → c ≡ b
+    by true hit true is = refl
+    by false miss false is = refl
+    by true hit false is =
+        let yes' : int_eq (pos code) (pos number) ≡ true = (Decides-int_eq (pos code) (pos number)).1 (ap pos (eqb-true code number hit)) in
+        let never : false ≡ true = sym is ∙ yes' in
+        cc
+    by false miss true is =
+        let same : pos code ≡ pos number = (Decides-int_eq (pos code) (pos number)).0 is in
+        let equal : code ≡ number = cc in
+        let never : false ≡ true = sym miss ∙ eq-eqb code number equal in
+        cc
+
+pub refused_over : (copy : Copy) (code : ℕ) → IsOver copy (code == 4096) (refused_copy (asking copy) code)
+refused_over copy code = by (code == 0) refl (same_test code 0) (same_test code 4096)
   where
     outcome : Bool → Copy × Answer
-    outcome fails = cond fails (over (refreshing held) (pos code)) (refused (refreshing held) OutOfPlace)
+    outcome fails = cond fails (over (asking copy) (pos code)) (refused (asking copy) OutOfPlace)
 
-    by : (fails : Bool) → IsOver held (refused_by (limit_fault false (outcome fails).0 (outcome fails).1) (refreshing held) (outcome fails)).0
-    by true = record { held = refl; running = refl }
-    by false = record { held = refl; running = refl }
+    ends : Bool → Copy
+    ends fails = (refused_by (limit_fault false (outcome fails).0 (outcome fails).1) (asking copy) (outcome fails)).0
+
+    is_none : (zero' : Bool) → (code == 0) ≡ zero' → zero' ≡ true → (code == 4096) ≡ false
+    is_none zero' is hit = let none : code ≡ 0 = eqb-true code 0 (is ∙ hit) in ap (λ n. n == 4096) none
+
+    over_is : (lost : Bool) → int_eq (pos code) (pos 4096) ≡ lost → IsOver copy lost (ends true)
+    over_is lost is = record { held = refl; running = refl; cookie = ap (λ b. cond b None copy.cookie) is }
+
+    refused_is : (lost : Bool) → lost ≡ false → IsOver copy lost (ends false)
+    refused_is lost is = record { held = refl; running = refl; cookie = ap (λ b. cond b None copy.cookie) (sym is) }
+
+    by : (zero' : Bool) → (code == 0) ≡ zero' → int_eq (pos code) (pos 0) ≡ (code == 0) → int_eq (pos code) (pos 4096) ≡ (code == 4096)
+        → IsOver copy (code == 4096) (ends (not (int_eq (pos code) (pos 0))))
+    by true is first last = subst (λ b. IsOver copy (code == 4096) (ends (not b))) (sym (first ∙ is)) (refused_is (code == 4096) (is_none true is refl))
+    by false is first last = subst (λ b. IsOver copy (code == 4096) (ends (not b))) (sym (first ∙ is)) (over_is (code == 4096) last)

@@ -4,10 +4,9 @@ use Rattle.std.proofs.lemmas.Bool.{cases_Bool}
 use Rattle.std.proofs.lemmas.List.Sums.{fold-append}
 use Rattle.std.specs.List.{fold}
 use Rattle.std.specs.Str.{bytes_eq}
-use Rattle.entry_tree.specs.declared.entry.Entry.{Entry}
-use Rattle.cascade_world.specs.Headline.{opened_after, stored_after, latest_opened, last_stored}
+use Rattle.cascade_world.specs.Headline.{Holding, empty_handed, opened_after, held_after, latest_opened, last_held}
 use Rattle.cascade_world.specs.Report.{Told}
-use Rattle.cascade_world.specs.Report.Told.{Wrote, Opened, Refused, Sent, Taken, Stored, Ended, Faulted, Cut, Nothing, Settled, Shown}
+use Rattle.cascade_world.specs.Report.Told.{Wrote, Opened, Refused, Sent, Taken, Stored, Ended, Faulted, Cut, Nothing, Settled, Holds, Shown}
 use Rattle.cascade_world.specs.Trace.{name_in}
 use Rattle.cascade_world.specs.World.{State, has_node}
 use Rattle.cascade_world.proofs.Exchanging.{EachOwn}
@@ -16,7 +15,7 @@ use Rattle.cascade_world.proofs.Traces.{AreOfNodes, same_name}
 -- what these lines leave as it was told before
 pub record IsLeft (name : List ℕ) (lines : List Told) : Type 0 where
   pub opened : (found : Option ℕ) → fold (opened_after name) found lines ≡ found
-  pub stored : (found : List Entry) → fold (stored_after name) found lines ≡ found
+  pub stored : (found : Holding) → fold (held_after name) found lines ≡ found
 
 opened_other : (name : List ℕ) (found : Option ℕ) (line : Told) → bytes_eq (name_in line) name ≡ false → opened_after name found line ≡ found
 opened_other name found (Wrote other code writes) h = refl
@@ -30,12 +29,13 @@ opened_other name found (Faulted other fault) h = refl
 opened_other name found (Cut other) h = refl
 opened_other name found (Nothing other) h = refl
 opened_other name found (Settled other writes) h = refl
+opened_other name found (Holds other cookie) h = refl
 opened_other name found (Shown other entries) h = refl
 
-stored_other : (name : List ℕ) (found : List Entry) (line : Told) → bytes_eq (name_in line) name ≡ false → stored_after name found line ≡ found
+stored_other : (name : List ℕ) (found : Holding) (line : Told) → bytes_eq (name_in line) name ≡ false → held_after name found line ≡ found
 stored_other name found (Wrote other code writes) h = refl
 stored_other name found (Opened other writes) h = refl
-stored_other name found (Refused other code) h = refl
+stored_other name found (Refused other code) h = rw h refl
 stored_other name found (Sent other message) h = refl
 stored_other name found (Taken other) h = refl
 stored_other name found (Stored other number entries root origin) h = rw h refl
@@ -44,6 +44,7 @@ stored_other name found (Faulted other fault) h = refl
 stored_other name found (Cut other) h = refl
 stored_other name found (Nothing other) h = refl
 stored_other name found (Settled other writes) h = refl
+stored_other name found (Holds other cookie) h = rw h refl
 stored_other name found (Shown other entries) h = refl
 
 -- no line is of that name
@@ -55,9 +56,9 @@ opened_others : (name : List ℕ) (found : Option ℕ) (lines : List Told) → H
 opened_others name found [] h = refl
 opened_others name found (line ∷ lines) h = ap (λ o. fold (opened_after name) o lines) (opened_other name found line h.0) ∙ opened_others name found lines h.1
 
-stored_others : (name : List ℕ) (found : List Entry) (lines : List Told) → HasNone name lines → fold (stored_after name) found lines ≡ found
+stored_others : (name : List ℕ) (found : Holding) (lines : List Told) → HasNone name lines → fold (held_after name) found lines ≡ found
 stored_others name found [] h = refl
-stored_others name found (line ∷ lines) h = ap (λ s. fold (stored_after name) s lines) (stored_other name found line h.0) ∙ stored_others name found lines h.1
+stored_others name found (line ∷ lines) h = ap (λ s. fold (held_after name) s lines) (stored_other name found line h.0) ∙ stored_others name found lines h.1
 
 left_by_others : (name : List ℕ) (lines : List Told) → HasNone name lines → IsLeft name lines
 left_by_others name lines h = record { opened = λ found. opened_others name found lines h; stored = λ found. stored_others name found lines h }
@@ -92,5 +93,5 @@ left_for_new name state lines new of = left_by_others name lines (new_has_none n
 pub opened_still : (name : List ℕ) (said lines : List Told) → IsLeft name lines → latest_opened name (said ++ lines) ≡ latest_opened name said
 opened_still name said lines is = fold-append (opened_after name) None said lines ∙ is.opened (latest_opened name said)
 
-pub stored_still : (name : List ℕ) (said lines : List Told) → IsLeft name lines → last_stored name (said ++ lines) ≡ last_stored name said
-stored_still name said lines is = fold-append (stored_after name) [] said lines ∙ is.stored (last_stored name said)
+pub stored_still : (name : List ℕ) (said lines : List Told) → IsLeft name lines → last_held name (said ++ lines) ≡ last_held name said
+stored_still name said lines is = fold-append (held_after name) empty_handed said lines ∙ is.stored (last_held name said)

@@ -7,7 +7,7 @@ use Rattle.sync_provider.specs.HandingOut.{Turn, turn_at, after_turn, after_answ
 use Rattle.sync_provider.specs.HandingOut.Turn.{Hands, Closes, Waits, Unknown}
 use Rattle.sync_provider.specs.Machine.{ProviderState}
 use Rattle.cascade_world.specs.declared.fault.Cause.{Cause}
-use Rattle.cascade_world.specs.declared.fault.Cause.TheVariants.{BadCommand, UnknownNode, NameTaken, BadRecord, LimitReached, OutsideSuffix, NotYet, NoMemory}
+use Rattle.cascade_world.specs.declared.fault.Cause.TheVariants.{BadCommand, UnknownNode, NameTaken, BadRecord, LimitReached, OutsideSuffix, LaterCookie, NotYet, NoMemory}
 use Rattle.cascade_world.specs.declared.node.Follower.{Follower}
 use Rattle.cascade_world.specs.Exchange.{Pair, pair_of, turn_of, handed, fits, linked, sends, sending_by}
 use Rattle.cascade_world.specs.Exchange.Sending.{Sends, Overflows}
@@ -103,6 +103,7 @@ full_as p p1 f f1 search message old text after f2 NameTaken out h = (full (pair
 full_as p p1 f f1 search message old text after f2 BadRecord out h = (full (pair_of p f) search message (sym (ap (λ (q : Pair). fits q.follower message) out) ∙ h.0), h.1)
 full_as p p1 f f1 search message old text after f2 (LimitReached number) out h = (full (pair_of p f) search message (sym (ap (λ (q : Pair). fits q.follower message) out) ∙ h.0), h.1)
 full_as p p1 f f1 search message old text after f2 OutsideSuffix out h = (full (pair_of p f) search message (sym (ap (λ (q : Pair). fits q.follower message) out) ∙ h.0), h.1)
+full_as p p1 f f1 search message old text after f2 (LaterCookie held given) out h = (full (pair_of p f) search message (sym (ap (λ (q : Pair). fits q.follower message) out) ∙ h.0), h.1)
 full_as p p1 f f1 search message old text after f2 NotYet out h = (full (pair_of p f) search message (sym (ap (λ (q : Pair). fits q.follower message) out) ∙ h.0), h.1)
 full_as p p1 f f1 search message old text after f2 NoMemory out h = tt
 

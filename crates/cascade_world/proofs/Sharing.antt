@@ -3,7 +3,6 @@ use Rattle.std.proofs.Common.{◌≡◌, ◌≢◌, ℕ, Option, Some, None, Lis
 use Rattle.std.specs.Prelude.{◌⊎◌}
 use Rattle.std.specs.BTreeMap.{insert_entry}
 use Rattle.std.specs.Ordering.{nat_cmp}
-use Rattle.entry_tree.specs.declared.entry.Entry.{Entry}
 use Rattle.sync_model.specs.Message.{SyncMessage}
 use Rattle.sync_provider.specs.Directory.{DirectoryState}
 use Rattle.sync_provider.specs.HandingOut.{search_at}
@@ -12,6 +11,7 @@ use Rattle.sync_provider.specs.Search.{SearchState}
 use Rattle.sync_provider.proofs.Looking.{opened-other}
 use Rattle.cascade_world.specs.declared.node.Follower.{Follower}
 use Rattle.cascade_world.specs.Exchange.{pair_of}
+use Rattle.cascade_world.specs.Headline.{Holding}
 use Rattle.cascade_world.proofs.Feeding.{HasPending, GoesOn, IsAtRest, IsGoing, IsFed, KeepsOthers}
 
 abbrev pub Searches : Type 0
@@ -39,10 +39,12 @@ pending-other searches later (Some at) pending stays has = record {
   some = has.some;
 }
 
-going-other : (number : ℕ) (d : DirectoryState) (searches later : Searches) (g : Follower) (opened : ℕ) (stored : List Entry) → OwnStays searches later g.search
+going-other : (number : ℕ) (d : DirectoryState) (searches later : Searches) (g : Follower) (opened : ℕ) (stored : Holding) → OwnStays searches later g.search
     → GoesOn number (with_searches d searches) g opened stored → GoesOn number (with_searches d later) g opened stored
 going-other number d searches later g opened stored stays goes = record {
   within = goes.within;
+  start = goes.start;
+  begins = goes.begins;
   taken = goes.taken;
   linked = goes.linked;
   pending = goes.pending;
@@ -55,9 +57,16 @@ going-other number d searches later g opened stored stays goes = record {
   search = pending-other searches later g.search goes.pending stays goes.search;
 }
 
-fed-other : (number : ℕ) (d : DirectoryState) (searches later : Searches) (g : Follower) (opened : Option ℕ) (stored : List Entry) → OwnStays searches later g.search
+fed-other : (number : ℕ) (d : DirectoryState) (searches later : Searches) (g : Follower) (opened : Option ℕ) (stored : Holding) → OwnStays searches later g.search
     → IsFed number (with_searches d searches) g opened stored → IsFed number (with_searches d later) g opened stored
-fed-other number d searches later g opened stored stays fed = record { held = fed.held; ascending = fed.ascending; state = by opened fed.state }
+fed-other number d searches later g opened stored stays fed = record {
+  held = fed.held;
+  ascending = fed.ascending;
+  cookie = fed.cookie;
+  prefix = fed.prefix;
+  promised = fed.promised;
+  state = by opened fed.state;
+}
   where
     by : (o : Option ℕ) → IsAtRest g ⊎ IsGoing number (with_searches d searches) g o stored → IsAtRest g ⊎ IsGoing number (with_searches d later) g o stored
     by o (inl rest) = inl rest
@@ -69,7 +78,7 @@ own_search : (searches : Searches) (own : Option ℕ) (at : ℕ) (pending : List
 own_search searches None at pending is has = let never : ⊥ = cc in absurd never
 own_search searches (Some k) at pending is has = let same : k ≡ at = cc in (has.search, ap (search_at searches) (sym same) ∙ has.found)
 
-fed_search : (number : ℕ) (d : DirectoryState) (searches : Searches) (g : Follower) (opened : Option ℕ) (stored : List Entry) (at : ℕ) → g.search ≡ Some at
+fed_search : (number : ℕ) (d : DirectoryState) (searches : Searches) (g : Follower) (opened : Option ℕ) (stored : Holding) (at : ℕ) → g.search ≡ Some at
     → IsFed number (with_searches d searches) g opened stored → (s : SearchState) × (search_at searches at ≡ Some s)
 fed_search number d searches g opened stored at is fed = by opened fed.state
   where

@@ -1,17 +1,21 @@
 -- What a node's lines tell is right for the orders and the lines before them.
-use Rattle.std.proofs.Common.{◌≡◌, ℕ, Some, None, List, [], ◌∷◌, ◌++◌, refl, sym, subst, inl, inr}
+use Rattle.std.proofs.Common.{◌≡◌, ℕ, Bool, Option, Some, None, List, [], ◌∷◌, ◌++◌, refl, sym, subst, inl, inr}
 use Rattle.std.proofs.lemmas.List.Sums.{fold-append}
+use Rattle.std.specs.Prelude.{Ok, Err}
 use Rattle.entry_tree.specs.declared.entry.Entry.{Entry}
+use Rattle.entry_tree.specs.declared.op.Write.{Write}
 use Rattle.sync_provider.specs.Directory.{entries_of}
 use Rattle.sync_provider.specs.Machine.{ProviderState}
 use Rattle.cascade_world.specs.declared.node.Root.{Root}
 use Rattle.cascade_world.specs.declared.node.Follower.{Follower}
-use Rattle.cascade_world.specs.Headline.{AreAccepted, IsConsumer, opened_after, latest_opened, IsPrefixSelected, IsShown, TellsRight, EachTellsRight}
+use Rattle.cascade_world.specs.Exchange.{Outcome}
+use Rattle.cascade_world.specs.Headline.{AreAccepted, IsConsumer, empty_handed, opened_after, latest_opened, held_after, last_held, text_of_kept, IsServed, IsUnserved, IsPrefixSelected, OfCookie, IsGiven, IsShown, TellsRight, EachTellsRight}
 use Rattle.cascade_world.specs.Orders.{Order}
 use Rattle.cascade_world.specs.Report.{Told}
-use Rattle.cascade_world.specs.Report.Told.{Wrote, Opened, Refused, Sent, Taken, Stored, Ended, Faulted, Cut, Nothing, Settled, Shown}
+use Rattle.cascade_world.specs.Report.Told.{Wrote, Opened, Refused, Sent, Taken, Stored, Ended, Faulted, Cut, Nothing, Settled, Holds, Shown}
 use Rattle.cascade_world.proofs.Feeding.{IsRight, LineIsRight, LinesAreRight}
 use Rattle.cascade_world.proofs.Finding.{roots_by, root_name}
+use Rattle.cascade_world.proofs.Silence.{IsSilent, AreSilent, SilentIn}
 use Rattle.cascade_world.proofs.Tracking.{IsRoot, IsFollower}
 
 -- the accepted writes of a provider, as the headline says them
@@ -24,17 +28,18 @@ pub accepted_at : (before : List Order) (roots : List Root) (name : List ℕ) (r
 accepted_at before roots name root e is =
     subst (λ n. AreAccepted before n root.provider.directory.history root.provider.directory.writes) (sym (root_name roots name root e)) (accepted_of before root is)
 
-pub consumer_of : (before : List Order) (said : List Told) (roots : List Root) (f : Follower) → IsFollower before said roots f → IsConsumer before f.name f.source f.consumer.spec
+pub consumer_of : (before : List Order) (said : List Told) (roots : List Root) (f : Follower) → IsFollower before said roots f → IsConsumer before f.name f.source f.consumer.spec f.consumer.reload
 consumer_of before said roots f is = record { place = is.place; since = is.since; declared = is.declared }
 
 -- ---- the lines of a part of an event
 
 stored_right : (before : List Order) (said : List Told) (number : ℕ) (p : ProviderState) (f : Follower) (n : ℕ) (entries : List Entry) (root : List ℕ) (origin : ℕ)
-    → IsConsumer before f.name f.source f.consumer.spec → AreAccepted before f.source number p.directory.writes → IsRight number p f (latest_opened f.name said) n entries root origin
+    → IsConsumer before f.name f.source f.consumer.spec f.consumer.reload → AreAccepted before f.source number p.directory.writes → IsRight number p f (latest_opened f.name said) n entries root origin
     → IsPrefixSelected before said f.name n entries root origin
 stored_right before said number p f n entries root origin follows accepted is = record {
   provider = f.source;
   search = f.consumer.spec;
+  reload = f.consumer.reload;
   follows = follows;
   history = number;
   writes = p.directory.writes;
@@ -48,32 +53,92 @@ stored_right before said number p f n entries root origin follows accepted is = 
   from_prefix = is.from_prefix;
 }
 
-line_right : (before : List Order) (said : List Told) (number : ℕ) (p : ProviderState) (f : Follower) (line : Told)
-    → IsConsumer before f.name f.source f.consumer.spec → AreAccepted before f.source number p.directory.writes → LineIsRight number p f (latest_opened f.name said) line → TellsRight before said line
-line_right before said number p f (Wrote name code writes) follows accepted is = tt
-line_right before said number p f (Opened name writes) follows accepted is = tt
-line_right before said number p f (Refused name code) follows accepted is = tt
-line_right before said number p f (Sent name message) follows accepted is = tt
-line_right before said number p f (Taken name) follows accepted is = tt
-line_right before said number p f (Stored name n entries root origin) follows accepted is =
-    subst (λ c. IsPrefixSelected before said c n entries root origin) (sym is.0) (stored_right before said number p f n entries root origin follows accepted is.1)
-line_right before said number p f (Ended name code) follows accepted is = tt
-line_right before said number p f (Faulted name fault) follows accepted is = tt
-line_right before said number p f (Cut name) follows accepted is = tt
-line_right before said number p f (Nothing name) follows accepted is = tt
-line_right before said number p f (Settled name writes) follows accepted is = tt
-line_right before said number p f (Shown name entries) follows accepted is = absurd is
+-- a line of an opening or a refusal, by what is held
+cookie_right : (before : List Order) (said : List Told) (number : ℕ) (p : ProviderState) (f : Follower) (name : List ℕ) (Says : Bool → ℕ → List Write → Option (List ℕ) → Type 0)
+    → IsConsumer before f.name f.source f.consumer.spec f.consumer.reload → AreAccepted before f.source number p.directory.writes → name ≡ f.name
+    → Says f.consumer.reload number p.directory.writes (text_of_kept number p.directory.writes (last_held f.name said).kept) → OfCookie before said name Says
+cookie_right before said number p f name Says follows accepted same says =
+    subst (λ c. OfCookie before said c Says) (sym same) (record {
+      provider = f.source;
+      search = f.consumer.spec;
+      reload = f.consumer.reload;
+      follows = follows;
+      history = number;
+      writes = p.directory.writes;
+      accepted = accepted;
+      says = says;
+    })
 
--- the line that comes next, and what is opened then
+-- what is told of a cookie is what the order gives
+abbrev pub IsGivenLine : Order → Told → Type 0
+IsGivenLine order (Holds name cookie) = IsGiven order name cookie
+IsGivenLine order _ = Unit {0}
+
+abbrev pub GivenLines : Order → List Told → Type 0
+GivenLines order [] = Unit {0}
+GivenLines order (line ∷ lines) = IsGivenLine order line × GivenLines order lines
+
+abbrev pub GivenIn : Order → Outcome → Type 0
+GivenIn order (Ok next) = GivenLines order next.1
+GivenIn order (Err cause) = Unit {0}
+
+silent_line : (order : Order) (line : Told) → IsSilent line → IsGivenLine order line
+silent_line order (Holds name cookie) silent = absurd silent
+silent_line order (Wrote name code writes) silent = tt
+silent_line order (Opened name writes) silent = tt
+silent_line order (Refused name code) silent = tt
+silent_line order (Sent name message) silent = tt
+silent_line order (Taken name) silent = tt
+silent_line order (Stored name n entries root origin) silent = tt
+silent_line order (Ended name code) silent = tt
+silent_line order (Faulted name fault) silent = tt
+silent_line order (Cut name) silent = tt
+silent_line order (Nothing name) silent = tt
+silent_line order (Settled name writes) silent = tt
+silent_line order (Shown name entries) silent = tt
+
+silent_all : (order : Order) (lines : List Told) → AreSilent lines → GivenLines order lines
+silent_all order [] silent = tt
+silent_all order (line ∷ lines) silent = (silent_line order line silent.0, silent_all order lines silent.1)
+
+pub silent_given : (order : Order) (outcome : Outcome) → SilentIn outcome → GivenIn order outcome
+silent_given order (Ok next) silent = silent_all order next.1 silent
+silent_given order (Err cause) silent = tt
+
+line_right : (before : List Order) (order : Order) (said : List Told) (number : ℕ) (p : ProviderState) (f : Follower) (line : Told) → IsGivenLine order line
+    → IsConsumer before f.name f.source f.consumer.spec f.consumer.reload → AreAccepted before f.source number p.directory.writes
+    → LineIsRight number p f (latest_opened f.name said) (last_held f.name said) line → TellsRight before order said line
+line_right before order said number p f (Wrote name code writes) given follows accepted is = tt
+line_right before order said number p f (Opened name writes) given follows accepted is = cookie_right before said number p f name IsServed follows accepted is.0 is.1
+line_right before order said number p f (Refused name code) given follows accepted is = λ required. cookie_right before said number p f name IsUnserved follows accepted is.0 (is.1 required)
+line_right before order said number p f (Sent name message) given follows accepted is = tt
+line_right before order said number p f (Taken name) given follows accepted is = tt
+line_right before order said number p f (Stored name n entries root origin) given follows accepted is =
+    subst (λ c. IsPrefixSelected before said c n entries root origin) (sym is.0) (stored_right before said number p f n entries root origin follows accepted is.1)
+line_right before order said number p f (Ended name code) given follows accepted is = tt
+line_right before order said number p f (Faulted name fault) given follows accepted is = tt
+line_right before order said number p f (Cut name) given follows accepted is = tt
+line_right before order said number p f (Nothing name) given follows accepted is = tt
+line_right before order said number p f (Settled name writes) given follows accepted is = tt
+line_right before order said number p f (Holds name cookie) given follows accepted is = given
+line_right before order said number p f (Shown name entries) given follows accepted is = absurd is
+
+-- the line that comes next, and what is opened and held then
 opened_next : (name : List ℕ) (said : List Told) (line : Told) → latest_opened name (said ++ line ∷ []) ≡ opened_after name (latest_opened name said) line
 opened_next name said line = fold-append (opened_after name) None said (line ∷ [])
 
-pub lines_right : (before : List Order) (said : List Told) (number : ℕ) (p : ProviderState) (f : Follower) (lines : List Told)
-    → IsConsumer before f.name f.source f.consumer.spec → AreAccepted before f.source number p.directory.writes → LinesAreRight number p f (latest_opened f.name said) lines → EachTellsRight before said lines
-lines_right before said number p f [] follows accepted is = tt
-lines_right before said number p f (line ∷ lines) follows accepted is =
-    let more : LinesAreRight number p f (latest_opened f.name (said ++ line ∷ [])) lines = subst (λ o. LinesAreRight number p f o lines) (sym (opened_next f.name said line)) is.1 in
-    (line_right before said number p f line follows accepted is.0, lines_right before (said ++ line ∷ []) number p f lines follows accepted more)
+held_next : (name : List ℕ) (said : List Told) (line : Told) → last_held name (said ++ line ∷ []) ≡ held_after name (last_held name said) line
+held_next name said line = fold-append (held_after name) empty_handed said (line ∷ [])
+
+pub lines_right : (before : List Order) (order : Order) (said : List Told) (number : ℕ) (p : ProviderState) (f : Follower) (lines : List Told) → GivenLines order lines
+    → IsConsumer before f.name f.source f.consumer.spec f.consumer.reload → AreAccepted before f.source number p.directory.writes
+    → LinesAreRight number p f (latest_opened f.name said) (last_held f.name said) lines → EachTellsRight before order said lines
+lines_right before order said number p f [] given follows accepted is = tt
+lines_right before order said number p f (line ∷ lines) given follows accepted is =
+    let more : LinesAreRight number p f (latest_opened f.name (said ++ line ∷ [])) (last_held f.name (said ++ line ∷ [])) lines =
+    subst (λ o. LinesAreRight number p f o (last_held f.name (said ++ line ∷ [])) lines) (sym (opened_next f.name said line))
+    (subst (λ h. LinesAreRight number p f (opened_after f.name (latest_opened f.name said) line) h lines) (sym (held_next f.name said line)) is.1) in
+    (line_right before order said number p f line given.0 follows accepted is.0, lines_right before order (said ++ line ∷ []) number p f lines given.1 follows accepted more)
 
 -- ---- what is shown
 
@@ -90,4 +155,4 @@ root_shown before said roots name root e is =
 pub copy_shown : (before : List Order) (said : List Told) (roots : List Root) (name : List ℕ) (f : Follower) → name ≡ f.name → IsFollower before said roots f
     → IsShown before said name f.consumer.copy.held
 copy_shown before said roots name f here is =
-    subst (λ n. IsShown before said n f.consumer.copy.held) (sym here) (inr record { provider = f.source; search = f.consumer.spec; follows = consumer_of before said roots f is; exactly = is.fed.held })
+    subst (λ n. IsShown before said n f.consumer.copy.held) (sym here) (inr record { provider = f.source; search = f.consumer.spec; reload = f.consumer.reload; follows = consumer_of before said roots f is; exactly = is.fed.held })

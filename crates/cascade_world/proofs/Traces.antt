@@ -11,12 +11,13 @@ use Rattle.dn_names.specs.Names.{TypeAndValue, is_at_or_below}
 use Rattle.entry_tree.specs.Selection.{Search}
 use Rattle.entry_tree.specs.declared.entry.Entry.{Entry}
 use Rattle.schema_rules.specs.declared.raw.Change.{Change}
-use Rattle.sync_provider.specs.Machine.{ProviderState}
+use Rattle.sync_provider.specs.Machine.{ProviderState, log_limited}
 use Rattle.cascade_world.specs.declared.fault.Cause.{Cause}
 use Rattle.cascade_world.specs.declared.node.Root.{Root}
 use Rattle.cascade_world.specs.declared.node.Follower.{Follower}
+use Rattle.cascade_world.specs.Cookies.{most_nodes}
 use Rattle.cascade_world.specs.Directory.{change_code, changed}
-use Rattle.cascade_world.specs.Exchange.{Pair, Outcome, sent, takes, cut, opens, settles}
+use Rattle.cascade_world.specs.Exchange.{Pair, Outcome, sent, takes, cut, opens, settles, lost, given}
 use Rattle.cascade_world.specs.Orders.{Order}
 use Rattle.cascade_world.specs.Orders.{Order as asks}
 use Rattle.cascade_world.specs.Reader.{Reader}
@@ -24,8 +25,8 @@ use Rattle.cascade_world.specs.Report.{Told}
 use Rattle.cascade_world.specs.Report.Told.{Wrote, Shown}
 use Rattle.cascade_world.specs.Run.{Runs}
 use Rattle.cascade_world.specs.Trace.{Seen, seen_of, unseen, after_own, after_line, name_in, traced, AreTraced, all_lines}
-use Rattle.cascade_world.specs.World.{State, no_nodes, Step, step, most_nodes, count_nodes, is_root, is_follower, has_node, root_named, follower_named, first_changed, with_follower, with_provider, with_pair, with_outcome, between, exchange_of, exchange, where_room, new_root, declare_root, new_follower, follow, declare_follower, write_to, shown_of, show_of}
-use Rattle.cascade_world.proofs.Exchanging.{EachOwn, Keeps, KeepsIn, sent_keeps, takes_keeps, cut_keeps, opens_keeps, settles_keeps}
+use Rattle.cascade_world.specs.World.{State, no_nodes, Step, step, count_nodes, is_root, is_follower, has_node, root_named, follower_named, first_changed, with_follower, with_provider, with_pair, with_outcome, between, exchange_of, exchange, where_room, new_root, declare_root, new_follower, follow, declare_follower, write_to, limit_log, shown_of, show_of}
+use Rattle.cascade_world.proofs.Exchanging.{EachOwn, Keeps, KeepsIn, sent_keeps, takes_keeps, cut_keeps, opens_keeps, settles_keeps, lost_keeps, given_keeps}
 
 -- ---- names
 
@@ -257,19 +258,19 @@ provider_after lines state name suffix is =
       | inr new ↦ rw new (room_after lines state (record state { roots = state.roots ++ new_root state name suffix ∷ [] }) (root_told lines state (new_root state name suffix) is))
     ]
 
-follow_after : (lines : List Told) (state : State) (name source : List ℕ) (search : Search) (root : Option Root) → has_node name state ≡ false → AreTold state lines → ToldAfter lines (follow state name source search root)
-follow_after lines state name source search None new is = tt
-follow_after lines state name source search (Some root) new is =
+follow_after : (lines : List Told) (state : State) (name source : List ℕ) (search : Search) (reload : Bool) (root : Option Root) → has_node name state ≡ false → AreTold state lines → ToldAfter lines (follow state name source search reload root)
+follow_after lines state name source search reload None new is = tt
+follow_after lines state name source search reload (Some root) new is =
     elim (cases_Bool (not (is_at_or_below search.base root.provider.directory.suffix))) [
       | inl outside ↦ rw outside tt
-      | inr inside ↦ rw inside (room_after lines state (record state { followers = state.followers ++ new_follower name source search ∷ [] }) (follower_told lines state (new_follower name source search) new refl is))
+      | inr inside ↦ rw inside (room_after lines state (record state { followers = state.followers ++ new_follower name source search reload ∷ [] }) (follower_told lines state (new_follower name source search reload) new refl is))
     ]
 
-consumer_after : (lines : List Told) (state : State) (name source : List ℕ) (search : Search) → AreTold state lines → ToldAfter lines (declare_follower state name source search)
-consumer_after lines state name source search is =
+consumer_after : (lines : List Told) (state : State) (name source : List ℕ) (search : Search) (reload : Bool) → AreTold state lines → ToldAfter lines (declare_follower state name source search reload)
+consumer_after lines state name source search reload is =
     elim (cases_Bool (has_node name state)) [
       | inl taken ↦ rw taken tt
-      | inr new ↦ rw new (follow_after lines state name source search (root_named source state) new is)
+      | inr new ↦ rw new (follow_after lines state name source search reload (root_named source state) new is)
     ]
 
 root_there : (name : List ℕ) (rs : List Root) (root : Root) → find (is_root name) rs ≡ Some root → list_any (is_root name) rs ≡ true
@@ -304,6 +305,14 @@ write_after lines state name change (Some root) e is =
           (still name ∙ there, tt);
       told = quiet_traced line' lines state.followers (λ seen. refl) is.told;
     }
+
+limit_after : (lines : List Told) (state : State) (name : List ℕ) (limit : ℕ) (root : Option Root) → root_named name state ≡ root → AreTold state lines → ToldAfter lines (limit_log state name limit root)
+limit_after lines state name limit None e is = tt
+limit_after lines state name limit (Some root) e is =
+    let after : State = record state { roots = with_provider name (log_limited root.provider limit) state.roots } in
+    let still : (other : List ℕ) → has_node other after ≡ has_node other state =
+    λ other. ap (λ b. b || list_any (is_follower other) state.followers) (changed_roots_any other name (log_limited root.provider limit) state.roots) in
+    without_lines after lines (record { apart = is.apart; of_nodes = still_of_nodes state after lines (λ other h. still other ∙ h) is.of_nodes; told = is.told })
 
 exchange_done : (lines : List Told) (state : State) (name : List ℕ) (before : Pair) (outcome : Outcome) → follower_named name state ≡ Some before.follower → AreTold state lines → KeepsIn before outcome
     → ToldAfter lines (with_outcome state outcome)
@@ -358,7 +367,7 @@ clock_told lines state time is =
 
 pub step_told_after : (lines : List Told) (state : State) (order : Order) → AreTold state lines → ToldAfter lines (step state order)
 step_told_after lines state (asks.Provider name suffix) is = provider_after lines state name suffix is
-step_told_after lines state (asks.Consumer name source search) is = consumer_after lines state name source search is
+step_told_after lines state (asks.Consumer name source search reload) is = consumer_after lines state name source search reload is
 step_told_after lines state (asks.Clock time) is = without_lines (record state { clock = time }) lines (clock_told lines state time is)
 step_told_after lines state (asks.Write name change) is = write_after lines state name change (root_named name state) refl is
 step_told_after lines state (asks.OpenOnce name) is = exchange_after lines state name opens (follower_named name state) refl opens_keeps is
@@ -366,6 +375,9 @@ step_told_after lines state (asks.Send name count) is = exchange_after lines sta
 step_told_after lines state (asks.Take name count) is = exchange_after lines state name (takes count) (follower_named name state) refl (takes_keeps count) is
 step_told_after lines state (asks.Cut name) is = exchange_after lines state name cut (follower_named name state) refl cut_keeps is
 step_told_after lines state (asks.Settle name) is = exchange_after lines state name settles (follower_named name state) refl settles_keeps is
+step_told_after lines state (asks.Lose name) is = exchange_after lines state name lost (follower_named name state) refl lost_keeps is
+step_told_after lines state (asks.Cookie name text) is = exchange_after lines state name (given text) (follower_named name state) refl (given_keeps text) is
+step_told_after lines state (asks.Log name limit) is = limit_after lines state name limit (root_named name state) refl is
 step_told_after lines state (asks.Show name) is = show_after lines state name (shown_of (root_named name state) (follower_named name state)) refl is
 
 -- ---- runs

@@ -5,7 +5,7 @@ use Rattle.dn_names.specs.Names.{TypeAndValue}
 use Rattle.sync_provider.specs.Machine.{ProviderState}
 use Rattle.cascade_world.specs.declared.node.Root.{Root}
 use Rattle.cascade_world.specs.declared.node.Follower.{Follower}
-use Rattle.cascade_world.specs.Headline.{time_from, accepted_from, is_declaration, IsDeclared, latest_opened, last_stored}
+use Rattle.cascade_world.specs.Headline.{time_from, accepted_from, is_declaration, IsDeclared, latest_opened, last_held}
 use Rattle.cascade_world.specs.Orders.{Order}
 use Rattle.cascade_world.specs.Orders.{Order as asks}
 use Rattle.cascade_world.specs.Report.{Told}
@@ -27,10 +27,10 @@ IsRoot before root = IsProvider before root.name root.provider.directory.history
 pub record IsFollower (before : List Order) (said : List Told) (roots : List Root) (f : Follower) : Type 0 where
   pub place : ℕ
   pub since : List Order
-  pub declared : IsDeclared before place (asks.Consumer f.name f.source f.consumer.spec) since
+  pub declared : IsDeclared before place (asks.Consumer f.name f.source f.consumer.spec f.consumer.reload) since
   pub root : Root
   pub there : roots_by roots f.source ≡ Some root
-  pub fed : IsFed root.provider.directory.history root.provider f (latest_opened f.name said) (last_stored f.name said)
+  pub fed : IsFed root.provider.directory.history root.provider f (latest_opened f.name said) (last_held f.name said)
 
 abbrev pub AreRoots : List Order → List Root → Type 0
 AreRoots before roots = (name : List ℕ) (root : Root) → roots_by roots name ≡ Some root → IsRoot before root

@@ -1,26 +1,32 @@
--- What holds of the nodes after a write.
+-- What holds of the nodes after a write, or a limit of the log.
 use Rattle.std.proofs.Common.{◌≡◌, ◌+◌, ℕ, Option, Some, None, List, [], ◌∷◌, ◌++◌, length, refl, ap, sym, subst, ◌∙◌, inl, inr}
 use Rattle.std.proofs.lemmas.Bool.{cases_Bool}
 use Rattle.std.specs.Str.{bytes_eq}
+use Rattle.csn_cookie.specs.Csn.{Stamp}
 use Rattle.dn_names.specs.Names.{TypeAndValue}
 use Rattle.schema_rules.specs.declared.raw.Change.{Change}
-use Rattle.sync_provider.specs.Directory.{DirectoryState}
-use Rattle.sync_provider.specs.Machine.{ProviderState}
+use Rattle.entry_tree.specs.declared.op.Op.{Op}
+use Rattle.entry_tree.specs.declared.op.Write.{Write}
+use Rattle.entry_tree.specs.Reading.{read_change}
+use Rattle.std.specs.Prelude.{Result, Ok, Err, if◌then◌else◌}
+use Rattle.sync_provider.specs.Directory.{DirectoryState, has_room, next_stamp, judged_at, judged, with_judged}
+use Rattle.sync_provider.specs.Machine.{ProviderState, log_limited}
 use Rattle.cascade_world.specs.declared.node.Root.{Root}
 use Rattle.cascade_world.specs.declared.node.Follower.{Follower}
-use Rattle.cascade_world.specs.Directory.{directory_of, change_code, changed}
-use Rattle.cascade_world.specs.Headline.{time_after, time_from, with_accepted, accepted_from, is_declaration, IsDeclared, latest_opened, last_stored}
+use Rattle.session_log.specs.Log.{Log, fresh}
+use Rattle.cascade_world.specs.Directory.{logged_directory, directory_of, change_code, changed, written_read}
+use Rattle.cascade_world.specs.Headline.{time_after, time_from, with_accepted, accepted_from, is_declaration, IsDeclared, latest_opened, last_held}
 use Rattle.cascade_world.specs.Orders.{Order}
 use Rattle.cascade_world.specs.Orders.{Order as asks}
 use Rattle.cascade_world.specs.Report.{Told}
 use Rattle.cascade_world.specs.Report.Told.{Wrote}
-use Rattle.cascade_world.specs.World.{State, root_named, with_provider, write_to}
+use Rattle.cascade_world.specs.World.{State, root_named, with_provider, write_to, limit_log}
 use Rattle.cascade_world.proofs.Accepted.{time_from-append, accepted_from-push, declared-push}
 use Rattle.cascade_world.proofs.Declarations.{After, time_still}
-use Rattle.cascade_world.proofs.Feeding.{IsSource, IsFed, WritesAreKept}
+use Rattle.cascade_world.proofs.Feeding.{IsSource, IsFed, WritesAreKept, LimitsAreKept}
 use Rattle.cascade_world.proofs.Finding.{IsChanged, roots_by, root_name, provider_changed, length-first_changed}
 use Rattle.cascade_world.proofs.Growing.{count_same, provider_now, fed_now, fed_by, roots_changed, follower_kept}
-use Rattle.cascade_world.proofs.Saying.{IsLeft}
+use Rattle.cascade_world.proofs.Saying.{IsLeft, left_by_none}
 use Rattle.cascade_world.proofs.Traces.{itself, same_name}
 use Rattle.cascade_world.proofs.Tracking.{IsProvider, IsRoot, IsFollower, Tracks}
 
@@ -30,16 +36,46 @@ time_since : (before : List Order) (number : ℕ) (declaration : Order) (later :
 time_since before number declaration later is still =
     ap (time_from 0) is.whole ∙ time_from-append 0 is.earlier (declaration ∷ later) ∙ ap (λ t. time_from t later) still
 
+-- they depend on no log
+judged_at_same : (number : ℕ) (suffix : List (List TypeAndValue)) (writes : List Write) (log other : Log) (op : Op) (csn : Option Stamp)
+    → judged_at (logged_directory number suffix writes log) op csn ≡ judged_at (logged_directory number suffix writes other) op csn
+judged_at_same number suffix writes log other op None = refl
+judged_at_same number suffix writes log other op (Some csn) = refl
+
+judged_same : (number : ℕ) (suffix : List (List TypeAndValue)) (writes : List Write) (log other : Log) (op : Op) (now : ℕ)
+    → judged (logged_directory number suffix writes log) op now ≡ judged (logged_directory number suffix writes other) op now
+judged_same number suffix writes log other op now =
+    ap (λ (j : Result Write ℕ). if has_room writes op then j else Err 11)
+    (judged_at_same number suffix writes log other op (next_stamp (logged_directory number suffix writes log) now))
+
+judged_writes : (number : ℕ) (suffix : List (List TypeAndValue)) (writes : List Write) (log other : Log) (judged' : Result Write ℕ)
+    → (with_judged (logged_directory number suffix writes log) judged').writes ≡ (with_judged (logged_directory number suffix writes other) judged').writes
+judged_writes number suffix writes log other (Ok write) = refl
+judged_writes number suffix writes log other (Err code) = refl
+
+read_writes : (number : ℕ) (suffix : List (List TypeAndValue)) (writes : List Write) (log other : Log) (now : ℕ) (read : Result Op ℕ)
+    → (written_read (logged_directory number suffix writes log) now read).writes ≡ (written_read (logged_directory number suffix writes other) now read).writes
+read_writes number suffix writes log other now (Ok op) =
+    judged_writes number suffix writes log other (judged (logged_directory number suffix writes log) op now)
+    ∙ ap (λ j. (with_judged (logged_directory number suffix writes other) j).writes) (judged_same number suffix writes log other op now)
+read_writes number suffix writes log other now (Err code) = refl
+
+changed_writes : (number : ℕ) (suffix : List (List TypeAndValue)) (writes : List Write) (log other : Log) (now : ℕ) (change : Change)
+    → (changed (logged_directory number suffix writes log) now change).writes ≡ (changed (logged_directory number suffix writes other) now change).writes
+changed_writes number suffix writes log other now change = read_writes number suffix writes log other now (read_change change)
+
 -- the accepted writes after one more write
 accepted_more : (number : ℕ) (suffix : List (List TypeAndValue)) (name : List ℕ) (first time : ℕ) (later : List Order) (change : Change) (d : DirectoryState)
-    → d ≡ directory_of number suffix d.writes → d.writes ≡ accepted_from number suffix name first [] later → time ≡ time_from first later
+    → d ≡ logged_directory number suffix d.writes d.log → d.writes ≡ accepted_from number suffix name first [] later → time ≡ time_from first later
     → (changed d time change).writes ≡ accepted_from number suffix name first [] (later ++ asks.Write name change ∷ [])
 accepted_more number suffix name first time later change d is accepted clock =
     let order = asks.Write name change in
     let now = time_from first later in
     let writes = accepted_from number suffix name first [] later in
     let more : with_accepted number suffix name now writes order ≡ (changed (directory_of number suffix writes) now change).writes = rw (itself name) refl in
-    ap (λ (x : DirectoryState). (changed x time change).writes) (is ∙ ap (directory_of number suffix) accepted)
+    ap (λ (x : DirectoryState). (changed x time change).writes) is
+    ∙ changed_writes number suffix d.writes d.log (fresh 0) time change
+    ∙ ap (λ (ws : List Write). (changed (directory_of number suffix ws) time change).writes) accepted
     ∙ ap (λ t. (changed (directory_of number suffix writes) t change).writes) clock
     ∙ sym (accepted_from-push number suffix name first [] later order ∙ more)
 
@@ -80,7 +116,7 @@ follower_written kept before said roots next name root time change line' f left 
     let suffix = root.provider.directory.suffix in
     let p = written_to root.provider time change in
     let opened = latest_opened f.name said in
-    let stored = last_stored f.name said in
+    let stored = last_held f.name said in
     elim (cases_Bool (bytes_eq f.source name)) [
       | inl hit ↦
           let same : f.source ≡ name = same_name f.source name hit in
@@ -90,6 +126,64 @@ follower_written kept before said roots next name root time change line' f left 
           follower_kept before order said (line' ∷ []) roots next (record root { provider = p }) f left (ap (roots_by next) same ∙ changed'.here) now is
       | inr miss ↦ follower_kept before order said (line' ∷ []) roots next is.root f left (changed'.others f.source miss ∙ is.there) is.fed is
     ]
+
+-- ---- a limit of the log
+
+root_limited : LimitsAreKept → (before : List Order) (root : Root) (limit : ℕ) → IsRoot before root → IsRoot (before ++ asks.Log root.name limit ∷ []) (record root { provider = log_limited root.provider limit })
+root_limited kept before root limit is =
+    let number = root.provider.directory.history in
+    let suffix = root.provider.directory.suffix in
+    let p = log_limited root.provider limit in
+    record {
+      later = is.later ++ asks.Log root.name limit ∷ [];
+      declared = declared-push before number (asks.Provider root.name suffix) is.later (asks.Log root.name limit) is.declared;
+      accepted =
+          is.accepted
+          ∙ sym (accepted_from-push number suffix root.name (time_from 0 is.declared.earlier) [] is.later (asks.Log root.name limit));
+      source = (kept number suffix root.provider limit is.source).0;
+    }
+
+follower_limited : LimitsAreKept → (before : List Order) (said : List Told) (roots next : List Root) (name : List ℕ) (root : Root) (limit : ℕ) (f : Follower)
+    → roots_by roots name ≡ Some root → IsRoot before root → IsChanged (roots_by roots) (roots_by next) name (record root { provider = log_limited root.provider limit })
+    → IsFollower before said roots f → IsFollower (before ++ asks.Log name limit ∷ []) (said ++ []) next f
+follower_limited kept before said roots next name root limit f e at changed' is =
+    let order = asks.Log name limit in
+    let number = root.provider.directory.history in
+    let p = log_limited root.provider limit in
+    let opened = latest_opened f.name said in
+    let stored = last_held f.name said in
+    elim (cases_Bool (bytes_eq f.source name)) [
+      | inl hit ↦
+          let same : f.source ≡ name = same_name f.source name hit in
+          let fed : IsFed number root.provider f opened stored = fed_by before said roots name root f e same is in
+          let now : IsFed number p f opened stored = (kept number root.provider.directory.suffix root.provider limit at.source).1 f opened stored fed in
+          follower_kept before order said [] roots next (record root { provider = p }) f (left_by_none f.name) (ap (roots_by next) same ∙ changed'.here) now is
+      | inr miss ↦ follower_kept before order said [] roots next is.root f (left_by_none f.name) (changed'.others f.source miss ∙ is.there) is.fed is
+    ]
+
+pub limit_after : LimitsAreKept → (before : List Order) (said : List Told) (state : State) (name : List ℕ) (limit : ℕ) (root : Option Root) → root_named name state ≡ root → Tracks before said state
+    → After before said (asks.Log name limit) (limit_log state name limit root)
+limit_after kept before said state name limit None e is = tt
+limit_after kept before said state name limit (Some root) e is =
+    let order = asks.Log name limit in
+    let p = log_limited root.provider limit in
+    let next = with_provider name p state.roots in
+    let at : IsRoot before root = is.roots name root e in
+    let changed' = provider_changed state.roots name root p e in
+    let now : IsRoot (before ++ order ∷ []) (record root { provider = p }) =
+    subst (λ n. IsRoot (before ++ asks.Log n limit ∷ []) (record root { provider = p })) (sym (root_name state.roots name root e)) (root_limited kept before root limit at) in (
+      record {
+        time = time_still before order state.clock (λ t. refl) is.time;
+        count =
+            ap (λ n. n + length state.followers) (length-first_changed _ _ state.roots) ∙ is.count ∙ sym (count_same is_declaration before order refl);
+        roots = roots_changed before order state.roots next name (record root { provider = p }) changed' (λ other apart. tt) now is.roots;
+        followers = λ n f found'. follower_limited kept before said state.roots next name root limit f e at changed' (is.followers n f found');
+        apart = is.apart;
+      },
+      tt,
+    )
+
+-- ---- a write
 
 pub write_after : WritesAreKept → (before : List Order) (said : List Told) (state : State) (name : List ℕ) (change : Change) (root : Option Root) → root_named name state ≡ root → Tracks before said state
     → After before said (asks.Write name change) (write_to state name change root)

@@ -5,11 +5,16 @@ use Rattle.entry_tree.specs.Reading.{read_change}
 use Rattle.entry_tree.specs.declared.op.Op.{Op}
 use Rattle.entry_tree.specs.declared.op.Write.{Write}
 use Rattle.schema_rules.specs.declared.raw.Change.{Change}
+use Rattle.session_log.specs.Log.{Log, fresh}
 use Rattle.sync_provider.specs.Directory.{DirectoryState, write_code, written}
 
--- a directory of the history of this number, which is its own number in its stamps too
+-- a directory of the history of this number, which is its own number in its stamps too, with this session log
+abbrev pub logged_directory : ℕ → List (List TypeAndValue) → List Write → Log → DirectoryState
+logged_directory number suffix writes log = record { suffix = suffix; sid = number; history = number; writes = writes; log = log }
+
+-- one whose log keeps nothing, since no write depends on that
 abbrev pub directory_of : ℕ → List (List TypeAndValue) → List Write → DirectoryState
-directory_of number suffix writes = record { suffix = suffix; sid = number; history = number; writes = writes }
+directory_of number suffix writes = logged_directory number suffix writes (fresh 0)
 
 -- the code of what was read, which is success (0) where it is accepted
 abbrev pub code_of_read : DirectoryState → ℕ → Result Op ℕ → ℕ

@@ -5,12 +5,14 @@ use Rattle.csn_cookie.specs.Cookie.{cookie_of_text}
 use Rattle.csn_cookie.specs.Csn.{Stamp, upto}
 use Rattle.csn_cookie.specs.declared.cookie.Cookie.{Cookie}
 use Rattle.ldap_messages.specs.Whole.{Whole, message_octets}
-use Rattle.sync_messages.specs.Request.{request_octets}
 use Rattle.sync_messages.specs.declared.request.Mode.TheVariants.{RefreshOnly}
+use Rattle.sync_messages.specs.declared.request.SyncRequest.{SyncRequest}
 use Rattle.sync_model.specs.Copy.{Copy, asked}
 use Rattle.sync_model.specs.Message.SyncMessage.{Done}
-use Rattle.sync_consumer.specs.Taking.{Following, without_search}
+use Rattle.sync_model.specs.Stream.{Start}
+use Rattle.sync_consumer.specs.Taking.{Following, asked_of, without_search}
 use Rattle.sync_wire.specs.Sending as wire
+use Rattle.sync_provider.specs.Accepting.{start_of_request}
 use Rattle.sync_provider.specs.Directory.{DirectoryState, stamps}
 use Rattle.sync_provider.specs.HandingOut.{Turn, turn_at, search_at}
 use Rattle.sync_provider.specs.HandingOut.Turn.{Hands, Closes, Waits, Unknown}
@@ -19,14 +21,15 @@ use Rattle.sync_provider.specs.Search.{SearchState}
 use Rattle.sync_provider.specs.declared.searches.Accepted.{Accepted}
 use Rattle.sync_provider.specs.declared.searches.Accepted.TheVariants as accepted
 use Rattle.cascade_world.specs.declared.fault.Cause.{Cause}
-use Rattle.cascade_world.specs.declared.fault.Cause.TheVariants.{LimitReached}
+use Rattle.cascade_world.specs.declared.fault.Cause.TheVariants.{LaterCookie, LimitReached}
 use Rattle.cascade_world.specs.declared.exchange.Exchange.{Exchange}
 use Rattle.cascade_world.specs.declared.exchange.Exchange.TheVariants as goes
 use Rattle.cascade_world.specs.declared.node.Follower.{Follower}
+use Rattle.cascade_world.specs.Cookies.{is_later}
 use Rattle.cascade_world.specs.Hearing.{Came, heard, heard_of}
 use Rattle.cascade_world.specs.Hearing.{Came as came}
 use Rattle.cascade_world.specs.Link.{most_link, link_size}
-use Rattle.cascade_world.specs.Opening.{message_id, answer_to, with_opened}
+use Rattle.cascade_world.specs.Opening.{message_id, answer_to_request, with_opened}
 use Rattle.cascade_world.specs.Report.{Told}
 use Rattle.cascade_world.specs.Report.{Told as told}
 
@@ -186,13 +189,13 @@ idle pair = if is_busy pair.follower then cut pair else Ok (pair, [])
 
 -- ---- opening
 
--- the consumer has lost its cookie, and asks for a refresh without one
+-- the consumer asks for a refresh
 abbrev pub asking : Copy → Copy
-asking copy = asked message_id false (record copy { cookie = None })
+asking copy = asked message_id false copy
 
--- the value of the control of its request
-abbrev pub control_of : Following → List ℕ
-control_of following = request_octets (record { mode = RefreshOnly; cookie = None; reload_hint = following.reload })
+-- what its control asks for, with the cookie that it holds
+abbrev pub request_from : Pair → SyncRequest
+request_from pair = asked_of pair.follower.consumer RefreshOnly
 
 -- the end of a search that is refused, with its code, is taken at once
 abbrev pub end_with : ℕ → Whole
@@ -201,11 +204,15 @@ end_with code = wire.sent message_id (Done (pos code) None)
 abbrev pub refused_copy : Copy → ℕ → Copy
 refused_copy copy code = (heard_of copy (Some (end_with code))).0
 
+-- where its search begins
+abbrev pub start_of : Pair → Start
+start_of pair = start_of_request pair.provider.directory (request_from pair)
+
 abbrev pub opened_by : Pair → Accepted → Outcome
 opened_by pair (accepted.Opened number writes) =
     Ok (
       record {
-        provider = with_opened pair.provider number pair.follower.consumer.spec;
+        provider = with_opened pair.provider number pair.follower.consumer.spec (start_of pair);
         follower = record (with_copy pair.follower (asking (copy_of pair.follower))) { search = Some number };
       },
       told.Opened (name_of pair) writes ∷ [],
@@ -217,13 +224,32 @@ opened_by pair (accepted.Refused code) =
     )
 opened_by pair accepted.NoMemory = Ok (pair, [])
 
-abbrev pub opened_idle : Pair → Outcome
-opened_idle pair =
-    opened_by pair (answer_to pair.provider pair.follower.consumer.spec (control_of pair.follower.consumer))
+-- what the provider answers to a consumer that asks
+abbrev pub answer_of : Pair → Accepted
+answer_of pair = answer_to_request pair.provider pair.follower.consumer.spec (Ok (request_from pair))
 
--- a search that ends with its refresh, of the whole content
+abbrev pub opened_idle : Pair → Outcome
+opened_idle pair = opened_by pair (answer_of pair)
+
+-- a search that ends with its refresh
 abbrev pub opens : Pair → Outcome
 opens pair = and_then (idle pair) opened_idle
+
+-- e-syncRefreshRequired (RFC 4533, section 2.6): the cookie does not serve
+abbrev pub refresh_required : ℕ
+refresh_required = 4096
+
+abbrev pub is_required : Accepted → Bool
+is_required (accepted.Opened number writes) = false
+is_required (accepted.Refused code) = code == refresh_required
+is_required accepted.NoMemory = false
+
+-- a search that is refused for its cookie is asked for a second time
+abbrev pub asked_again : Pair → Outcome
+asked_again pair = if is_required (answer_of pair) then and_then (opened_idle pair) opened_idle else opened_idle pair
+
+abbrev pub opens_anew : Pair → Outcome
+opens_anew pair = and_then (idle pair) asked_again
 
 -- ---- settling
 
@@ -260,7 +286,25 @@ settled_told pair = Ok (pair, told.Settled (name_of pair) (length pair.provider.
 
 -- the consumer takes what its link holds, runs the search that is open to its end, and then a new one
 abbrev pub settles : Pair → Outcome
-settles pair = and_then (and_then (and_then (and_then (drains pair) runs) opens) runs) settled_told
+settles pair = and_then (and_then (and_then (and_then (drains pair) runs) opens_anew) runs) settled_told
+
+-- ---- cookies
+
+-- the consumer with this cookie, or without one
+abbrev pub with_text : Follower → Option (List ℕ) → Follower
+with_text follower cookie = with_copy follower (record (copy_of follower) { cookie = cookie })
+
+abbrev pub holding : Pair → Option (List ℕ) → Outcome
+holding pair cookie = Ok (record pair { follower = with_text pair.follower cookie }, told.Holds (name_of pair) cookie ∷ [])
+
+abbrev pub lost : Pair → Outcome
+lost pair = holding pair None
+
+-- a text for a cookie, unless it is later than what is held
+abbrev pub given : List ℕ → Pair → Outcome
+given text pair =
+    if is_later (copy_of pair.follower).cookie text then Err (LaterCookie (copy_of pair.follower).cookie text)
+    else holding pair (Some text)
 
 -- ---- what goes on
 
@@ -270,3 +314,5 @@ part_of (goes.Send count) = sent count
 part_of (goes.Take count) = takes count
 part_of goes.Cut = cut
 part_of goes.Settle = settles
+part_of goes.Lose = lost
+part_of (goes.Give text) = given text

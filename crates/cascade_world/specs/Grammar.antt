@@ -1,11 +1,11 @@
 -- The commands of the language.
-use Rattle.std.specs.Prelude.{ℕ, ◌||◌, nat_le, Option, Some, None, List, [], ◌∷◌, if◌then◌else◌, codes}
+use Rattle.std.specs.Prelude.{ℕ, Bool, true, false, ◌||◌, nat_le, Option, Some, None, List, [], ◌∷◌, if◌then◌else◌, codes}
 use Rattle.std.specs.Str.{bytes_eq}
 use Rattle.entry_tree.specs.Selection.{Search}
 use Rattle.cascade_world.specs.declared.grammar.Heading.{Heading}
 use Rattle.cascade_world.specs.declared.grammar.Heading.TheVariants as heading
 use Rattle.cascade_world.specs.Orders.{Order, order_of}
-use Rattle.cascade_world.specs.Orders.Order.{Provider, Consumer, Clock, OpenOnce, Send, Take, Cut, Settle, Show}
+use Rattle.cascade_world.specs.Orders.Order.{Provider, Consumer, Clock, OpenOnce, Send, Take, Cut, Settle, Lose, Cookie, Log, Show}
 use Rattle.cascade_world.specs.Words.{◌>>=◌, guarded, otherwise, until, stripped, node_name, named, number, greatest_number, quoted, at_end, name_in, search_in}
 
 -- what a line says: an order, a write whose record follows, or a command that is of the language but is not done yet
@@ -43,23 +43,24 @@ following text = do
   search ← search_in source.1
   Some ((node.0, source.0), search)
 
--- a consumer that asks for a whole copy rather than being refused is not done yet
-unfoldable pub consumer_end : List ℕ → List ℕ → Search → List ℕ → Option Saying
-consumer_end name source search rest =
-    if bytes_eq rest (codes " reload") then Some Later
+-- the end of the line, or ` reload` before it for a consumer that takes a whole copy rather than being refused
+unfoldable pub reload_at : List ℕ → Option Bool
+reload_at rest =
+    if bytes_eq rest (codes " reload") then Some true
     else (do
       _ ← at_end rest
-      Some (Orders (Consumer name source search)))
+      Some false)
 
 unfoldable pub consumer_line : List ℕ → Option Saying
 consumer_line text = do
   x ← following text
-  consumer_end x.0.0 x.0.1 x.1.0 x.1.1
+  reload ← reload_at x.1.1
+  Some (Orders (Consumer x.0.0 x.0.1 x.1.0 reload))
 
 unfoldable pub replica_line : List ℕ → Option Saying
 replica_line text = do
   x ← following text
-  _ ← guarded (bytes_eq x.1.1 [] || bytes_eq x.1.1 (codes " reload"))
+  reload ← reload_at x.1.1
   Some Later
 
 unfoldable pub clock_line : List ℕ → Option Saying
@@ -101,11 +102,22 @@ open_line text = do
   node ← named text
   opening_of node.0 node.1
 
--- `P N`, of a command that is not done yet
-unfoldable pub later_number : List ℕ → Option Saying
-later_number text = do
+-- `P N`
+unfoldable pub limited : List ℕ → Option (List ℕ × ℕ)
+limited text = do
   node ← named text
-  _ ← number most_count node.1
+  limit ← number most_count node.1
+  Some (node.0, limit)
+
+unfoldable pub log_line : List ℕ → Option Saying
+log_line text = do
+  x ← limited text
+  Some (Orders (Log x.0 x.1))
+
+-- of a command that is not done yet
+unfoldable pub queue_line : List ℕ → Option Saying
+queue_line text = do
+  x ← limited text
   Some Later
 
 -- `C N`, where N is not 0
@@ -135,13 +147,18 @@ cut_line text = do
   name ← node_name text
   Some (Orders (Cut name))
 
+unfoldable pub lose_line : List ℕ → Option Saying
+lose_line text = do
+  name ← node_name text
+  Some (Orders (Lose name))
+
 -- `C "TEXT"`
 unfoldable pub cookie_line : List ℕ → Option Saying
 cookie_line text = do
   node ← named text
   cookie ← quoted node.1
   _ ← at_end cookie.1
-  Some Later
+  Some (Orders (Cookie node.0 cookie.0))
 
 -- `C P`
 unfoldable pub repoint_line : List ℕ → Option Saying
@@ -171,13 +188,13 @@ keyword word says = record { word = word; says = says }
 unfoldable pub holding_keywords : List Keyword
 holding_keywords =
     keyword (codes "cookie") cookie_line ∷ keyword (codes "repoint") repoint_line ∷ keyword (codes "respec") respec_line
-    ∷ keyword (codes "log") later_number ∷ keyword (codes "queue") later_number ∷ []
+    ∷ keyword (codes "log") log_line ∷ keyword (codes "queue") queue_line ∷ []
 
 -- those, and before them the words of searches and their messages
 unfoldable pub search_keywords : List Keyword
 search_keywords =
     keyword (codes "open") open_line ∷ keyword (codes "send") send_line ∷ keyword (codes "take") take_line
-    ∷ keyword (codes "cut") cut_line ∷ keyword (codes "lose") later_name ∷ holding_keywords
+    ∷ keyword (codes "cut") cut_line ∷ keyword (codes "lose") lose_line ∷ holding_keywords
 
 -- all words
 abbrev pub keywords : List Keyword

@@ -1,3 +1,4 @@
+pub mod Cookies
 pub mod Directory
 pub mod Exchange
 pub mod Fault

@@ -7,7 +7,8 @@ use Rattle.entry_tree.specs.Selection.{Search}
 use Rattle.sync_messages.specs.Request.{request_of}
 use Rattle.sync_messages.specs.declared.fault.SyncFault.{SyncFault}
 use Rattle.sync_messages.specs.declared.request.SyncRequest.{SyncRequest}
-use Rattle.sync_provider.specs.Accepting.{numbered, free_number}
+use Rattle.sync_model.specs.Stream.{Start}
+use Rattle.sync_provider.specs.Accepting.{numbered, free_number, start_of_read}
 use Rattle.sync_provider.specs.Machine.{ProviderState}
 use Rattle.sync_provider.specs.Search.{opening}
 use Rattle.sync_provider.specs.declared.searches.Accepted.{Accepted}
@@ -26,11 +27,16 @@ answer_to_request p spec (Ok request) =
 abbrev pub answer_to : ProviderState → Search → List ℕ → Accepted
 answer_to p spec control = answer_to_request p spec (request_of control)
 
--- the provider with a search of that number
-abbrev pub with_opened : ProviderState → ℕ → Search → ProviderState
-with_opened p number spec = record p { searches = insert_entry nat_cmp p.searches number (opening p.directory message_id spec) }
+-- the provider with a search of that number, which begins there
+abbrev pub with_opened : ProviderState → ℕ → Search → Start → ProviderState
+with_opened p number spec start =
+    record p { searches = insert_entry nat_cmp p.searches number (opening p.directory message_id spec start) }
 
-abbrev pub after_accepted : ProviderState → Search → Accepted → ProviderState
-after_accepted p spec (accepted.Opened number writes) = with_opened p number spec
-after_accepted p spec (accepted.Refused code) = p
-after_accepted p spec accepted.NoMemory = p
+abbrev pub after_answer : ProviderState → Search → Start → Accepted → ProviderState
+after_answer p spec start (accepted.Opened number writes) = with_opened p number spec start
+after_answer p spec start (accepted.Refused code) = p
+after_answer p spec start accepted.NoMemory = p
+
+-- the provider after such a search
+abbrev pub after_accepted : ProviderState → Search → List ℕ → Accepted → ProviderState
+after_accepted p spec control answer = after_answer p spec (start_of_read p.directory (request_of control)) answer

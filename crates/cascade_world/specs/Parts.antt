@@ -1,14 +1,15 @@
 -- What the parts of an event answer, and the lines that they put behind those before them.
-use Rattle.std.specs.Prelude.{◌≡◌, ℕ, Bool, true, false, Option, Some, None, Result, Ok, Err, List, [], ◌∷◌, ◌++◌}
+use Rattle.std.specs.Prelude.{◌≡◌, ◌==◌, ℕ, Bool, true, false, Option, Some, None, Result, Ok, Err, List, [], ◌∷◌, ◌++◌}
 use Rattle.cascade_world.specs.declared.fault.Cause.{Cause}
-use Rattle.cascade_world.specs.declared.fault.Cause.TheVariants.{LimitReached, NoMemory}
+use Rattle.cascade_world.specs.declared.fault.Cause.TheVariants.{LaterCookie, LimitReached, NoMemory}
 use Rattle.ldap_messages.specs.Whole.{Whole, whole_of}
 use Rattle.ldap_messages.specs.declared.message.Message.{Message}
 use Rattle.sync_provider.specs.HandingOut.{Turn}
 use Rattle.sync_provider.specs.HandingOut.Turn.{Hands, Closes, Waits, Unknown}
 use Rattle.ldap_parts.specs.declared.control.Control.{Control}
 use Rattle.cascade_world.specs.declared.node.Follower.{Follower}
-use Rattle.cascade_world.specs.Exchange.{Pair, Outcome, Sending, handed, fits, linked, with_copy, refused_copy, taken_as}
+use Rattle.cascade_world.specs.Exchange.{Pair, Outcome, answer_of, opened_idle, refresh_required, is_required, Sending, handed, fits, linked, with_copy, with_text, refused_copy, taken_as}
+use Rattle.cascade_world.specs.Cookies.{is_later}
 use Rattle.cascade_world.specs.Hearing.{heard_of}
 use Rattle.cascade_world.specs.Exchange.Sending.{Sends, Rests, Overflows}
 use Rattle.cascade_world.specs.Exchange.{name_of}
@@ -79,13 +80,26 @@ Heard before found old after new (Ok done) =
 Heard before found old after new (Err NoMemory) = Unit {0}
 Heard before found old after new (Err cause) = ⊥
 
--- the same of a search that is refused, whose consumer takes its end
-abbrev pub Refuses : Follower → ℕ → List ℕ → Follower → List ℕ → Result (Unit {0}) Cause → Type 0
-Refuses before code old after new (Ok done) =
+-- the same of a consumer that asks for a search, which answers whether its cookie does not serve
+abbrev pub Opens : Pair → List ℕ → Pair → List ℕ → Result Bool Cause → Type 0
+Opens before old after new (Ok again) = Does (opened_idle before) old after new (Ok tt) × (again ≡ is_required (answer_of before))
+Opens before old after new (Err cause) = Does (opened_idle before) old after new (Err cause)
+
+-- the same of a search that is refused, whose consumer takes its end; the answer is whether its cookie does not serve
+abbrev pub Refuses : Follower → ℕ → List ℕ → Follower → List ℕ → Result Bool Cause → Type 0
+Refuses before code old after new (Ok again) =
     (after ≡ with_copy before (refused_copy before.consumer.copy code))
     × (new ≡ old ++ lines_text (Refused before.name code ∷ []))
+    × (again ≡ (code == refresh_required))
 Refuses before code old after new (Err NoMemory) = Unit {0}
 Refuses before code old after new (Err cause) = ⊥
+
+-- the same of a follower that is given this text for its cookie
+abbrev pub Gives : Follower → List ℕ → Follower → Result (Unit {0}) Cause → Type 0
+Gives before text after (Ok done) = (is_later before.consumer.copy.cookie text ≡ false) × (after ≡ with_text before (Some text))
+Gives before text after (Err NoMemory) = Unit {0}
+Gives before text after (Err cause) =
+    (is_later before.consumer.copy.cookie text ≡ true) × (cause ≡ LaterCookie before.consumer.copy.cookie text)
 
 -- the value of the first control
 abbrev pub value_or_empty : Option (List ℕ) → List ℕ

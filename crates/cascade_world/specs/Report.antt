@@ -16,7 +16,7 @@ entry_text e = ldif.entry_text (name_text e.dn) e.attrs (Some (e.uuid, e.csn))
 unfoldable pub text_of : List Entry → List ℕ
 text_of entries = flat_map entry_text entries
 
--- what a line tells
+-- what is told of an event, mostly by a line
 pub data Told : Type 0 where
   -- a write to a provider, with its code and the accepted writes after it
   Wrote : (name : List ℕ) (code writes : ℕ) → Told
@@ -37,6 +37,8 @@ pub data Told : Type 0 where
   Nothing : (name : List ℕ) → Told
   -- the provider's accepted writes at the end of a settling
   Settled : (name : List ℕ) (writes : ℕ) → Told
+  -- the text that a consumer gets as its cookie, or that it loses its cookie, of which nothing is printed
+  Holds : (name : List ℕ) (cookie : Option (List ℕ)) → Told
   -- the entries of a node as text
   Shown : (name : List ℕ) (entries : List Entry) → Told
 
@@ -119,6 +121,7 @@ line_of (Faulted name fault) = fault_line name fault
 line_of (Cut name) = cut_line name
 line_of (Nothing name) = nothing_line name
 line_of (Settled name writes) = settled_line name writes
+line_of (Holds name cookie) = []
 line_of (Shown name entries) = text_of entries
 
 -- the bytes of some lines

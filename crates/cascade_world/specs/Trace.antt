@@ -1,5 +1,5 @@
 -- What the lines of a report make of a consumer: its link and its copy, by what was sent to it and taken by it.
-use Rattle.std.specs.Prelude.{◌≡◌, ℕ, List, [], ◌∷◌, ◌++◌, fold, if◌then◌else◌}
+use Rattle.std.specs.Prelude.{◌≡◌, ℕ, Option, List, [], ◌∷◌, ◌++◌, fold, if◌then◌else◌}
 use Rattle.std.specs.Str.{bytes_eq}
 use Rattle.sync_consumer.specs.Taking.{nothing, without_search}
 use Rattle.sync_model.specs.Copy.{Copy}
@@ -7,7 +7,7 @@ use Rattle.cascade_world.specs.declared.node.Follower.{Follower}
 use Rattle.cascade_world.specs.Exchange.{asking, refused_copy}
 use Rattle.cascade_world.specs.Hearing.{heard}
 use Rattle.cascade_world.specs.Report.{Told}
-use Rattle.cascade_world.specs.Report.Told.{Wrote, Opened, Refused, Sent, Taken, Stored, Ended, Faulted, Cut, Nothing, Settled, Shown}
+use Rattle.cascade_world.specs.Report.Told.{Wrote, Opened, Refused, Sent, Taken, Stored, Ended, Faulted, Cut, Nothing, Settled, Holds, Shown}
 
 -- the messages in the link as bytes, and the copy
 pub record Seen : Type 0 where
@@ -26,6 +26,10 @@ took_first seen = took seen.copy seen.link
 abbrev pub dropped : Seen → Seen
 dropped seen = record { link = []; copy = without_search seen.copy }
 
+-- another cookie, or none
+abbrev pub with_cookie : Seen → Option (List ℕ) → Seen
+with_cookie seen cookie = record seen { copy = record seen.copy { cookie = cookie } }
+
 -- what a line of the consumer makes of it
 abbrev pub after_own : Seen → Told → Seen
 after_own seen (Sent name message) = record seen { link = seen.link ++ message ∷ [] }
@@ -38,6 +42,7 @@ after_own seen (Opened name writes) = record seen { copy = asking seen.copy }
 after_own seen (Refused name code) = record seen { copy = refused_copy (asking seen.copy) code }
 after_own seen (Nothing name) = seen
 after_own seen (Settled name writes) = seen
+after_own seen (Holds name cookie) = with_cookie seen cookie
 after_own seen (Wrote name code writes) = seen
 after_own seen (Shown name entries) = seen
 
@@ -54,6 +59,7 @@ name_in (Faulted name fault) = name
 name_in (Cut name) = name
 name_in (Nothing name) = name
 name_in (Settled name writes) = name
+name_in (Holds name cookie) = name
 name_in (Shown name entries) = name
 
 abbrev pub after_line : List ℕ → Seen → Told → Seen

@@ -8,14 +8,15 @@ use Rattle.entry_tree.specs.declared.entry.Entry.{Entry}
 use Rattle.schema_rules.specs.declared.raw.Change.{Change}
 use Rattle.sync_consumer.specs.Taking.{nothing}
 use Rattle.sync_provider.specs.Directory.{entries_of}
-use Rattle.sync_provider.specs.Machine.{ProviderState, fresh}
+use Rattle.sync_provider.specs.Machine.{ProviderState, fresh, log_limited}
 use Rattle.cascade_world.specs.declared.fault.ScriptFault.{ScriptFault}
 use Rattle.cascade_world.specs.declared.fault.Cause.{Cause}
 use Rattle.cascade_world.specs.declared.fault.Cause.TheVariants.{NameTaken, UnknownNode, OutsideSuffix, LimitReached, NoMemory}
 use Rattle.cascade_world.specs.declared.node.Root.{Root}
 use Rattle.cascade_world.specs.declared.node.Follower.{Follower}
+use Rattle.cascade_world.specs.Cookies.{most_nodes}
 use Rattle.cascade_world.specs.Directory.{change_code, changed}
-use Rattle.cascade_world.specs.Exchange.{Pair, Outcome, sent, takes, cut, opens, settles}
+use Rattle.cascade_world.specs.Exchange.{Pair, Outcome, sent, takes, cut, opens, settles, lost, given}
 use Rattle.cascade_world.specs.Fault.{RefusedAt}
 use Rattle.cascade_world.specs.Orders.{Order}
 use Rattle.cascade_world.specs.Orders.{Order as asks}
@@ -32,10 +33,6 @@ pub record State : Type 0 where
 -- no node, and the time 0
 abbrev pub no_nodes : State
 no_nodes = record { clock = 0; roots = []; followers = [] }
-
--- the most nodes of a script
-abbrev pub most_nodes : ℕ
-most_nodes = 16
 
 abbrev pub count_nodes : State → ℕ
 count_nodes state = length state.roots + length state.followers
@@ -89,20 +86,20 @@ declare_root state name suffix =
     else where_room state (record state { roots = state.roots ++ new_root state name suffix ∷ [] })
 
 -- a consumer has no entries, no cookie and no search at first
-abbrev pub new_follower : List ℕ → List ℕ → Search → Follower
-new_follower name source search =
-    record { name = name; source = source; consumer = record { spec = search; reload = false; copy = nothing }; link = []; search = None }
+abbrev pub new_follower : List ℕ → List ℕ → Search → Bool → Follower
+new_follower name source search reload =
+    record { name = name; source = source; consumer = record { spec = search; reload = reload; copy = nothing }; link = []; search = None }
 
 -- a consumer of a provider, with a base at or below that provider's suffix
-abbrev pub follow : State → List ℕ → List ℕ → Search → Option Root → Step
-follow state name source search None = Err UnknownNode
-follow state name source search (Some root) =
+abbrev pub follow : State → List ℕ → List ℕ → Search → Bool → Option Root → Step
+follow state name source search reload None = Err UnknownNode
+follow state name source search reload (Some root) =
     if not (is_at_or_below search.base root.provider.directory.suffix) then Err OutsideSuffix
-    else where_room state (record state { followers = state.followers ++ new_follower name source search ∷ [] })
+    else where_room state (record state { followers = state.followers ++ new_follower name source search reload ∷ [] })
 
-abbrev pub declare_follower : State → List ℕ → List ℕ → Search → Step
-declare_follower state name source search =
-    if has_node name state then Err NameTaken else follow state name source search (root_named source state)
+abbrev pub declare_follower : State → List ℕ → List ℕ → Search → Bool → Step
+declare_follower state name source search reload =
+    if has_node name state then Err NameTaken else follow state name source search reload (root_named source state)
 
 -- ---- writes
 
@@ -114,6 +111,12 @@ write_to state name change (Some root) =
       record state { roots = with_provider name (record root.provider { directory = after }) state.roots },
       Wrote name (change_code root.provider.directory state.clock change) (length after.writes) ∷ [],
     )
+
+-- the session log of a provider keeps so many touches at most from now on
+abbrev pub limit_log : State → List ℕ → ℕ → Option Root → Step
+limit_log state name limit None = Err UnknownNode
+limit_log state name limit (Some root) =
+    Ok (record state { roots = with_provider name (log_limited root.provider limit) state.roots }, [])
 
 -- ---- consumers
 
@@ -157,7 +160,7 @@ show_of state name (Some entries) = Ok (state, Shown name entries ∷ [])
 
 abbrev pub step : State → Order → Step
 step state (asks.Provider name suffix) = declare_root state name suffix
-step state (asks.Consumer name source search) = declare_follower state name source search
+step state (asks.Consumer name source search reload) = declare_follower state name source search reload
 step state (asks.Clock time) = Ok (record state { clock = time }, [])
 step state (asks.Write name change) = write_to state name change (root_named name state)
 step state (asks.OpenOnce name) = exchange state name opens
@@ -165,6 +168,9 @@ step state (asks.Send name count) = exchange state name (sent count)
 step state (asks.Take name count) = exchange state name (takes count)
 step state (asks.Cut name) = exchange state name cut
 step state (asks.Settle name) = exchange state name settles
+step state (asks.Lose name) = exchange state name lost
+step state (asks.Cookie name text) = exchange state name (given text)
+step state (asks.Log name limit) = limit_log state name limit (root_named name state)
 step state (asks.Show name) = show_of state name (shown_of (root_named name state) (follower_named name state))
 
 -- ---- what the code answers

@@ -9,8 +9,9 @@ use schema_rules::Change;
 pub enum Command {
     /// A provider with its suffix.
     Provider(Octets, Dn),
-    /// A consumer with its provider's name and what it wants.
-    Consumer(Octets, Octets, Spec),
+    /// A consumer with its provider's name, what it wants, and whether it takes a whole copy where
+    /// its cookie does not serve (the reloadHint of RFC 4533, section 2.2).
+    Consumer(Octets, Octets, Spec, bool),
     /// The time of all nodes, in microseconds from the first moment of 1970 on.
     Clock(u64),
     /// A write to a provider.
@@ -25,6 +26,12 @@ pub enum Command {
     Cut(Octets),
     /// Brings a consumer up to its provider.
     Settle(Octets),
+    /// A consumer loses its cookie.
+    Lose(Octets),
+    /// A consumer gets this text as its cookie.
+    Cookie(Octets, Octets),
+    /// The session log of a provider keeps so many touches at most.
+    Log(Octets, u64),
     /// Prints the entries of a node.
     Show(Octets),
 }

@@ -1,12 +1,13 @@
-//! What goes on between a consumer and its provider, wholly or not at all.
+//! What an event does to a consumer and its provider, wholly or not at all.
 ghost use Rattle.std.specs.Prelude.{◌≡◌, IfOk, OnErr};
 ghost use Rattle.cascade_world.specs.Exchange.{pair_of, part_of};
 ghost use Rattle.cascade_world.specs.Ours.{AreOurs};
 ghost use Rattle.cascade_world.specs.Parts.{Does, Performs};
 
+use crate::cookies::{give, lose};
 use crate::cutting::cut;
 use crate::node::Follower;
-use crate::opening::open;
+use crate::opening::open_once;
 use crate::receiving::take;
 use crate::sending::send;
 use crate::settling::settle;
@@ -16,8 +17,8 @@ use ldap_ber::{NoMemory, Octets};
 use std::alloc::Global;
 use sync_provider::OpenSearches;
 
-/// What goes on between a consumer and its provider.
-#[derive(Clone, Copy, Debug, PartialEq, Eq)]
+/// What an event does to a consumer and its provider.
+#[derive(Drop)]
 pub enum Exchange {
     /// A search that ends with its refresh is opened.
     Open,
@@ -29,6 +30,10 @@ pub enum Exchange {
     Cut,
     /// The consumer is brought up to its provider.
     Settle,
+    /// The consumer loses its cookie.
+    Lose,
+    /// The consumer gets this text for its cookie.
+    Give(Octets),
 }
 
 impl Exchange {
@@ -68,11 +73,16 @@ impl Exchange {
         ensures directory { provider.new.directory ≡ provider.old.directory }
     {
         match self {
-            Exchange::Open => open(alloc, provider, follower, out),
+            Exchange::Open => open_once(alloc, provider, follower, out),
             Exchange::Send(count) => send(alloc, provider, follower, count, out),
             Exchange::Take(count) => take(alloc, provider, follower, count, out),
             Exchange::Cut => cut(provider, follower, out),
             Exchange::Settle => settle(alloc, provider, follower, out),
+            Exchange::Lose => {
+                lose(follower);
+                Ok(())
+            }
+            Exchange::Give(text) => give(alloc, follower, text),
         }
     }
 }

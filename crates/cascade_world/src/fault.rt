@@ -2,10 +2,11 @@
 ghost use Rattle.std.specs.Prelude.{◌≡◌};
 ghost use Rattle.cascade_world.specs.declared.fault.Cause.TheVariants.{BadCommand, NoMemory};
 
+use ldap_ber::Octets;
 use std::alloc::{AllocError, AllocFailed};
 
 /// Why a script is refused.
-#[derive(Clone, Copy, Debug, PartialEq, Eq)]
+#[derive(Drop)]
 pub enum Cause {
     /// A line is outside the grammar, or is not UTF-8.
     BadCommand,
@@ -19,13 +20,16 @@ pub enum Cause {
     LimitReached(u64),
     /// The base of a consumer is not at or below its provider's suffix.
     OutsideSuffix,
+    /// A consumer is given a cookie of a node's history that is later than what it holds: the text
+    /// that it holds, where it holds one, and the text that it is given.
+    LaterCookie(Option<Octets>, Octets),
     /// The command is of the language, but is not done yet.
     NotYet,
     NoMemory,
 }
 
 /// A refusal, with the number of the line where it stands. That of want of memory is free.
-#[derive(Clone, Copy, Debug, PartialEq, Eq)]
+#[derive(Drop)]
 pub struct ScriptFault {
     pub line: u64,
     pub cause: Cause,

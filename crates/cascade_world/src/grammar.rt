@@ -92,7 +92,7 @@ fn said_of_search(
         return cut_line(alloc, rest, line);
     }
     if word == b"lose".as_slice() {
-        return later_name(rest, line);
+        return lose_line(alloc, rest, line);
     }
     said_of_holding(alloc, word, rest, line)
 }
@@ -117,10 +117,10 @@ fn said_of_holding(
         return respec_line(alloc, rest, line);
     }
     if word == b"log".as_slice() {
-        return later_number(alloc, rest, line);
+        return log_line(alloc, rest, line);
     }
     if word == b"queue".as_slice() {
-        return later_number(alloc, rest, line);
+        return queue_line(alloc, rest, line);
     }
     Err(ScriptFault::bad_command(line))
 }
@@ -163,16 +163,25 @@ fn following(alloc: Global, text: &[u8], line: u64) -> Result<Wanting<'_>, Scrip
     })
 }
 
-#[tactic(auto, unfolding(crate::specs::Grammar::consumer_line, crate::specs::Grammar::consumer_end))]
+/// Whether ` reload` stands before the end of the line.
+#[tactic(auto, unfolding(crate::specs::Grammar::reload_at))]
+fn reload_at(rest: &[u8], line: u64) -> Result<bool, ScriptFault>
+    ensures { Gives line (λ x. x) result (spec.reload_at rest.now) }
+{
+    if rest == b" reload".as_slice() {
+        return Ok(true);
+    }
+    at_end(rest, line)?;
+    Ok(false)
+}
+
+#[tactic(auto, unfolding(crate::specs::Grammar::consumer_line))]
 fn consumer_line(alloc: Global, text: &[u8], line: u64) -> Result<Heading, ScriptFault>
     ensures { Gives line saying_of result (spec.consumer_line text.now) }
 {
     let found = following(alloc, text, line)?;
-    if found.rest == b" reload".as_slice() {
-        return Ok(Heading::Later);
-    }
-    at_end(found.rest, line)?;
-    let command = Command::Consumer(found.name, found.source, found.spec);
+    let reload = reload_at(found.rest, line)?;
+    let command = Command::Consumer(found.name, found.source, found.spec, reload);
     Ok(Heading::Whole(command))
 }
 
@@ -181,7 +190,7 @@ fn replica_line(alloc: Global, text: &[u8], line: u64) -> Result<Heading, Script
     ensures { Gives line saying_of result (spec.replica_line text.now) }
 {
     let rest = following(alloc, text, line)?.rest;
-    only_if(rest.is_empty() || rest == b" reload".as_slice(), line)?;
+    reload_at(rest, line)?;
     Ok(Heading::Later)
 }
 
@@ -238,13 +247,30 @@ fn open_line(alloc: Global, text: &[u8], line: u64) -> Result<Heading, ScriptFau
     Ok(Heading::Whole(Command::OpenOnce(name)))
 }
 
-/// `P N`, of a command that is not done yet.
-#[tactic(auto, unfolding(crate::specs::Grammar::later_number))]
-fn later_number(alloc: Global, text: &[u8], line: u64) -> Result<Heading, ScriptFault>
-    ensures { Gives line saying_of result (spec.later_number text.now) }
+/// `P N`.
+#[tactic(auto, unfolding(crate::specs::Grammar::limited))]
+fn limited(alloc: Global, text: &[u8], line: u64) -> Result<(Octets, u64), ScriptFault>
+    ensures { Gives line (λ x. x) result (spec.limited text.now) }
 {
-    let (_, rest) = named(alloc, text, line)?;
-    number(rest, MOST_COUNT, line)?;
+    let (name, rest) = named(alloc, text, line)?;
+    let limit = number(rest, MOST_COUNT, line)?;
+    Ok((name, limit))
+}
+
+#[tactic(auto, unfolding(crate::specs::Grammar::log_line))]
+fn log_line(alloc: Global, text: &[u8], line: u64) -> Result<Heading, ScriptFault>
+    ensures { Gives line saying_of result (spec.log_line text.now) }
+{
+    let (name, limit) = limited(alloc, text, line)?;
+    Ok(Heading::Whole(Command::Log(name, limit)))
+}
+
+/// Of a command that is not done yet.
+#[tactic(auto, unfolding(crate::specs::Grammar::queue_line))]
+fn queue_line(alloc: Global, text: &[u8], line: u64) -> Result<Heading, ScriptFault>
+    ensures { Gives line saying_of result (spec.queue_line text.now) }
+{
+    limited(alloc, text, line)?;
     Ok(Heading::Later)
 }
 
@@ -286,15 +312,24 @@ fn cut_line(alloc: Global, text: &[u8], line: u64) -> Result<Heading, ScriptFaul
     Ok(Heading::Whole(Command::Cut(name)))
 }
 
+#[tactic(auto, unfolding(crate::specs::Grammar::lose_line))]
+fn lose_line(alloc: Global, text: &[u8], line: u64) -> Result<Heading, ScriptFault>
+    ensures { Gives line saying_of result (spec.lose_line text.now) }
+{
+    let name = node_name(alloc, text, line)?;
+    Ok(Heading::Whole(Command::Lose(name)))
+}
+
 /// `C "TEXT"`.
 #[tactic(auto, unfolding(crate::specs::Grammar::cookie_line))]
 fn cookie_line(alloc: Global, text: &[u8], line: u64) -> Result<Heading, ScriptFault>
     ensures { Gives line saying_of result (spec.cookie_line text.now) }
 {
-    let (_, rest) = named(alloc, text, line)?;
-    let (_, rest) = quoted(rest, line)?;
+    let (name, rest) = named(alloc, text, line)?;
+    let (cookie, rest) = quoted(rest, line)?;
     at_end(rest, line)?;
-    Ok(Heading::Later)
+    let cookie = Octets::from_slice(alloc, cookie)?;
+    Ok(Heading::Whole(Command::Cookie(name, cookie)))
 }
 
 /// `C P`.

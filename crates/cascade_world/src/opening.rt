@@ -1,11 +1,14 @@
 //! Searches that a consumer opens at its provider.
-ghost use Rattle.std.specs.Prelude.{◌≡◌, Some, IfOk, OnOk};
+ghost use Rattle.std.specs.Prelude.{◌≡◌, Some, Ok, IfOk, OnOk};
 ghost use Rattle.entry_tree.specs.Selection.{search_of};
 ghost use Rattle.ldap_messages.specs.Whole.{whole_of};
+ghost use Rattle.sync_consumer.specs.Taking.{asked_of};
+ghost use Rattle.sync_messages.specs.Request.{request_of};
+ghost use Rattle.sync_messages.specs.declared.request.Mode.TheVariants.{RefreshOnly};
 ghost use Rattle.cascade_world.specs.Exchange as spec;
 ghost use Rattle.cascade_world.specs.Hearing as hearing;
 ghost use Rattle.cascade_world.specs.Exchange.{pair_of};
-ghost use Rattle.cascade_world.specs.Parts.{Does, Refuses, first_value};
+ghost use Rattle.cascade_world.specs.Parts.{Does, Opens, Refuses, first_value};
 
 use crate::Cause;
 use crate::cutting::{cut, is_busy};
@@ -21,9 +24,12 @@ use sync_consumer::{Consumer, Taken};
 use sync_messages::Mode;
 use sync_provider::{Accepted, done_message};
 
-/// Opens a search that ends with its refresh, for the whole content; a busy consumer is cut first.
+/// e-syncRefreshRequired (RFC 4533, section 2.6): the cookie does not serve.
+const REFRESH_REQUIRED: u32 = 4096;
+
+/// Opens a search that ends with its refresh; a busy consumer is cut first.
 #[tactic(auto, using(crate::proofs::Doing::refused_first))]
-pub fn open(
+pub fn open_once(
     alloc: Global,
     provider: &mut Source,
     follower: &mut Follower,
@@ -34,7 +40,57 @@ pub fn open(
     ensures directory { provider.new.directory ≡ provider.old.directory }
 {
     cut_if_busy(provider, follower, out)?;
-    open_idle(alloc, provider, follower, out)
+    ask_once(alloc, provider, follower, out)
+}
+
+/// Opens such a search, and asks for it a second time where the cookie does not serve.
+#[tactic(auto, using(crate::proofs::Doing::refused_first))]
+pub fn open_anew(
+    alloc: Global,
+    provider: &mut Source,
+    follower: &mut Follower,
+    out: &mut Vec<u8>,
+) -> Result<(), Cause>
+    ensures does { Does (spec.opens_anew (pair_of provider.old follower.old))
+        out.old.items (pair_of provider.new follower.new) out.new.items result }
+    ensures directory { provider.new.directory ≡ provider.old.directory }
+{
+    cut_if_busy(provider, follower, out)?;
+    ask_again(alloc, provider, follower, out)
+}
+
+/// Opens the search of a consumer that is not busy.
+#[tactic(auto, using(crate::proofs::Openings::asked_refused))]
+fn ask_once(
+    alloc: Global,
+    provider: &mut Source,
+    follower: &mut Follower,
+    out: &mut Vec<u8>,
+) -> Result<(), Cause>
+    ensures does { Does (spec.opened_idle (pair_of provider.old follower.old))
+        out.old.items (pair_of provider.new follower.new) out.new.items result }
+    ensures directory { provider.new.directory ≡ provider.old.directory }
+{
+    open_idle(alloc, provider, follower, out)?;
+    Ok(())
+}
+
+/// Opens it, and asks a second time where the cookie does not serve.
+#[tactic(auto, using(crate::proofs::Openings::again_refused))]
+fn ask_again(
+    alloc: Global,
+    provider: &mut Source,
+    follower: &mut Follower,
+    out: &mut Vec<u8>,
+) -> Result<(), Cause>
+    ensures does { Does (spec.asked_again (pair_of provider.old follower.old))
+        out.old.items (pair_of provider.new follower.new) out.new.items result }
+    ensures directory { provider.new.directory ≡ provider.old.directory }
+{
+    if open_idle(alloc, provider, follower, out)? {
+        return ask_once(alloc, provider, follower, out);
+    }
+    Ok(())
 }
 
 /// Cuts a consumer that is busy.
@@ -54,14 +110,15 @@ fn cut_if_busy(
     Ok(())
 }
 
-/// Opens the search of a consumer that is not busy. It asks without a cookie.
+/// Opens the search of a consumer that is not busy, with the cookie that it holds. True where that
+/// does not serve.
 fn open_idle(
     alloc: Global,
     provider: &mut Source,
     follower: &mut Follower,
     out: &mut Vec<u8>,
-) -> Result<(), Cause>
-    ensures does { Does (spec.opened_idle (pair_of provider.old follower.old))
+) -> Result<bool, Cause>
+    ensures does { Opens (pair_of provider.old follower.old)
         out.old.items (pair_of provider.new follower.new) out.new.items result }
     ensures directory { provider.new.directory ≡ provider.old.directory }
 {
@@ -71,28 +128,34 @@ fn open_idle(
         Accepted::Opened(number, writes) => {
             follower.search = Some(number);
             push_opened(alloc, out, follower.name.as_slice(), writes)?;
-            Ok(())
+            Ok(false)
         }
         Accepted::Refused(code) => refuse(alloc, follower, code, out),
         Accepted::NoMemory => Err(Cause::NoMemory),
     }
 }
 
-/// Asks without a cookie, and answers the value of the request's control.
+/// Asks for a refresh, and answers the value of the request's control.
+#[tactic(auto, using(crate::proofs::Openings::asked_value))]
 fn asked(alloc: Global, follower: &mut Follower) -> Result<Octets, NoMemory>
-    ensures value { IfOk result (λ value. value ≡ spec.control_of follower.old.consumer) }
+    ensures value { IfOk result (λ value. request_of value ≡ Ok (asked_of follower.old.consumer RefreshOnly)) }
     ensures ok { OnOk result (follower.new ≡ spec.with_copy follower.old (spec.asking follower.old.consumer.copy)) }
 {
-    follower.consumer.lose_cookie();
     let request = follower.consumer.request(MESSAGE_ID, Mode::RefreshOnly)?;
     let control = control_of(alloc, &request);
     discard(request);
     control
 }
 
-/// Tells that a search is refused, which its consumer takes at once.
+/// Tells that a search is refused, which its consumer takes at once. True where the cookie does not
+/// serve.
 #[tactic(auto, using(crate::proofs::Openings::refuses))]
-fn refuse(alloc: Global, follower: &mut Follower, code: u32, out: &mut Vec<u8>) -> Result<(), Cause>
+fn refuse(
+    alloc: Global,
+    follower: &mut Follower,
+    code: u32,
+    out: &mut Vec<u8>,
+) -> Result<bool, Cause>
     ensures { Refuses follower.old code out.old.items follower.new out.new.items result }
 {
     let done = done_message(alloc, MESSAGE_ID, code)?;
@@ -100,7 +163,7 @@ fn refuse(alloc: Global, follower: &mut Follower, code: u32, out: &mut Vec<u8>) 
     discard(done);
     taken?;
     push_refused(alloc, out, follower.name.as_slice(), code)?;
-    Ok(())
+    Ok(code == REFRESH_REQUIRED)
 }
 
 /// Takes a message, whatever comes of it.

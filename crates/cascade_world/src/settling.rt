@@ -6,7 +6,7 @@ ghost use Rattle.cascade_world.specs.Parts.{Does};
 
 use crate::Cause;
 use crate::node::Follower;
-use crate::opening::open;
+use crate::opening::open_anew;
 use crate::receiving::take_one;
 use crate::report::push_settled;
 use crate::sending::send_one;
@@ -14,7 +14,7 @@ use crate::source::Source;
 use std::alloc::Global;
 
 /// Brings the consumer up to its provider: it takes what its link holds, runs the search that is open
-/// to its end, and then a new one.
+/// to its end, and then a new one, which is asked for a second time where its cookie does not serve.
 #[tactic(auto, using(crate::proofs::Settled::settled, crate::proofs::Settled::drain_refused, crate::proofs::Settled::run_refused, crate::proofs::Settled::opening_refused, crate::proofs::Settled::second_run_refused))]
 pub fn settle(
     alloc: Global,
@@ -28,7 +28,7 @@ pub fn settle(
 {
     take_all(alloc, provider, follower, out)?;
     run_search(alloc, provider, follower, out)?;
-    open(alloc, provider, follower, out)?;
+    open_anew(alloc, provider, follower, out)?;
     run_search(alloc, provider, follower, out)?;
     push_settled(alloc, out, follower.name.as_slice(), provider.writes())?;
     Ok(())

@@ -92,11 +92,18 @@ impl Source {
         self.provider.write(alloc, op, now)
     }
 
+    /// The session log keeps so many touches at most from now on.
+    pub fn set_log_limit(&mut self, limit: u64)
+        ensures { self.new ≡ machine.log_limited self.old limit }
+    {
+        self.provider.set_log_limit(limit);
+    }
+
     /// Opens a search for what is wanted with this value of its control, or tells what is against it.
     #[tactic(auto, using(crate::proofs::Asked::answered, crate::proofs::Asked::accepted_state, crate::proofs::Asked::accepted_ours))]
     pub fn accept(&mut self, alloc: Global, wanted: Spec, control: Octets) -> Accepted
         ensures answer { accepting.Answers result (answer_to self.old (search_of wanted) control) }
-        ensures state { self.new ≡ after_accepted self.old (search_of wanted) result }
+        ensures state { self.new ≡ after_accepted self.old (search_of wanted) control result }
     {
         let ask = SyncSearch {
             id: MESSAGE_ID,

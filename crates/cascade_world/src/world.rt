@@ -9,10 +9,12 @@ ghost use Rattle.cascade_world.specs.Orders.{Order as order};
 ghost use Rattle.cascade_world.specs.Report.{lines_text};
 ghost use Rattle.cascade_world.specs.Report.Told.{Wrote};
 ghost use Rattle.cascade_world.specs.World as spec;
+ghost use Rattle.cascade_world.specs.Cookies.{most_nodes};
 ghost use Rattle.cascade_world.specs.World.{StepsBy, Does};
 ghost use Rattle.cascade_world.specs.Exchange.{Pair, Outcome, part_of};
 ghost use Rattle.cascade_world.specs.Places.{ArePlaces, Writes};
 
+use crate::cookies::MOST_NODES;
 use crate::exchange::Exchange;
 use crate::node::{Follower, Root};
 use crate::report::{push_wrote, text_of};
@@ -25,9 +27,6 @@ use schema_rules::Change;
 use std::alloc::Global;
 use std::marker::Model;
 use sync_consumer::Consumer;
-
-/// The most nodes of a script.
-const MOST_NODES: usize = 16;
 
 /// other (RFC 4511, appendix A.1): the provider's answer where memory ran out.
 const OTHER: u32 = 80;
@@ -51,7 +50,8 @@ impl Model for World {
     ghost use Rattle.std.specs.Coded.{codes};
     ghost use Rattle.cascade_world.specs.contracts.node.Root as root;
     ghost use Rattle.cascade_world.specs.contracts.node.Follower as follower;
-    ghost use Rattle.cascade_world.specs.World.{State, most_nodes};
+    ghost use Rattle.cascade_world.specs.Cookies.{most_nodes};
+    ghost use Rattle.cascade_world.specs.World.{State};
 
     ghost Value = { State };
 
@@ -94,7 +94,9 @@ impl World {
     {
         match command {
             Command::Provider(name, suffix) => self.declare_root(name, suffix),
-            Command::Consumer(name, source, wanted) => self.declare_follower(name, source, wanted),
+            Command::Consumer(name, source, wanted, reload) => {
+                self.declare_follower(name, source, wanted, reload)
+            }
             Command::Clock(time) => {
                 self.clock = time;
                 Ok(no_lines(self.alloc))
@@ -105,6 +107,9 @@ impl World {
             Command::Take(name, count) => self.exchange(name, Exchange::Take(count)),
             Command::Cut(name) => self.exchange(name, Exchange::Cut),
             Command::Settle(name) => self.exchange(name, Exchange::Settle),
+            Command::Lose(name) => self.exchange(name, Exchange::Lose),
+            Command::Cookie(name, text) => self.exchange(name, Exchange::Give(text)),
+            Command::Log(name, limit) => self.limit_log(&name, limit),
             Command::Show(name) => self.show(&name),
         }
     }
@@ -161,8 +166,8 @@ impl World {
 
     /// The number of the next node, where there is room for one.
     fn next_number(&self) -> Result<u16, Cause>
-        ensures ok { IfOk result (λ number. (number ≡ spec.count_nodes self.now + 1) × (spec.count_nodes self.now < spec.most_nodes)) }
-        ensures fault { IfErr result (λ cause. (cause ≡ Cause.LimitReached spec.most_nodes) × (spec.most_nodes ≤ spec.count_nodes self.now)) }
+        ensures ok { IfOk result (λ number. (number ≡ spec.count_nodes self.now + 1) × (spec.count_nodes self.now < most_nodes)) }
+        ensures fault { IfErr result (λ cause. (cause ≡ Cause.LimitReached most_nodes) × (most_nodes ≤ spec.count_nodes self.now)) }
     {
         let nodes = self.roots.len() + self.followers.len();
         if nodes >= MOST_NODES {
@@ -190,8 +195,9 @@ impl World {
         name: Octets,
         source: Octets,
         wanted: Spec,
+        reload: bool,
     ) -> Result<Lines, Cause>
-        ensures steps { Does (spec.step self.old (order.Consumer name source (search_of wanted))) self.new result }
+        ensures steps { Does (spec.step self.old (order.Consumer name source (search_of wanted) reload)) self.new result }
         ensures err { OnErr result (self.new ≡ self.old) }
     {
         if self.has_node(&name) {
@@ -207,7 +213,7 @@ impl World {
             return Err(Cause::OutsideSuffix);
         }
         self.next_number()?;
-        let consumer = Consumer::new(self.alloc, wanted, false)?;
+        let consumer = Consumer::new(self.alloc, wanted, reload)?;
         let follower = Follower::new(self.alloc, name, source, consumer);
         self.followers.push(follower)?;
         Ok(no_lines(self.alloc))
@@ -225,6 +231,18 @@ impl World {
         };
         let provider = &mut self.roots[place].provider;
         write_root(self.alloc, provider, name.as_slice(), self.clock, &change)
+    }
+
+    #[tactic(auto, using(crate::proofs::Steps::no_limited))]
+    fn limit_log(&mut self, name: &Octets, limit: u64) -> Result<Lines, Cause>
+        ensures steps { Does (spec.step self.old (order.Log name.now limit)) self.new result }
+        ensures err { OnErr result (self.new ≡ self.old) }
+    {
+        let Some(place) = self.root_place(name) else {
+            return Err(Cause::UnknownNode);
+        };
+        self.roots[place].provider.set_log_limit(limit);
+        Ok(no_lines(self.alloc))
     }
 
     // ---- consumers

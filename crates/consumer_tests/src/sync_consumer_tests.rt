@@ -8,8 +8,9 @@ use entry_tree::{Entry, Scope, Spec};
 use ldap_ber::{NoMemory, Octets, OctetsList};
 use ldap_filter::Filter;
 use ldap_messages::{Control, ControlList, LdapResult, Message, Protocol};
-use schema_rules::{RawAttribute, RawList};
+use schema_rules::{Attribute, RawAttribute, RawList};
 use std::alloc::Global;
+use std::fmt::Debug;
 use std::process::Abort;
 use std::test::Fail;
 use sync_consumer::{Commit, Consumer, PeerFault, Taken};
@@ -19,6 +20,17 @@ use sync_messages::{IdList, Mode, State, SyncDone, SyncInfo, SyncState};
 const ID: u32 = 1;
 
 const CSN: &str = "20260101000000.000000Z#000000#001#000000";
+
+/// Asserts that what was found is what is wanted, or tells the row.
+fn assert_same<T: PartialEq + Debug>(rt: &impl Abort, row: &str, found: &T, wanted: &T) {
+    assert!(rt;
+        *found == *wanted,
+        "{row}: {found:?} in place of {wanted:?}"
+    );
+}
+
+/// Drops a value through its bound, so that no proof goes through the cases of its type.
+fn discard<T: Drop>(_value: T) {}
 
 fn octets(alloc: Global, text: &str) -> Result<Octets, NoMemory> {
     Octets::from_slice(alloc, text.as_bytes())
@@ -40,33 +52,38 @@ fn number<R: Abort>(rt: &R, text: &str) -> u128 {
     text.parse::<u128>().expect(rt, "a number")
 }
 
-/// The attribute of `type=value;value`, or of `type` alone.
-fn raw_attribute(alloc: Global, text: &str) -> Result<RawAttribute, NoMemory> {
+/// The values between semicolons, but for blank ones.
+fn values_of(alloc: Global, list: &str) -> Result<OctetsList, NoMemory> {
     let mut values = OctetsList::new(alloc);
-    let (name, list) = text.split_once('=').unwrap_or((text, ""));
     for value in list.split(';') {
         if !value.is_empty() {
             values.push(octets(alloc, value)?)?;
         }
     }
+    Ok(values)
+}
+
+fn attribute_with(alloc: Global, name: &str, values: &str) -> Result<RawAttribute, NoMemory> {
     Ok(RawAttribute {
         name: octets(alloc, name)?,
-        values,
+        values: values_of(alloc, values)?,
     })
 }
 
-/// The attributes between bars. `CSN` stands for an entryCSN.
+/// The attribute of `type=value;value`, or of `type` alone. `CSN` stands for an entryCSN.
+fn raw_attribute(alloc: Global, text: &str) -> Result<RawAttribute, NoMemory> {
+    if text == "CSN" {
+        return attribute_with(alloc, "entryCSN", CSN);
+    }
+    let (name, values) = text.split_once('=').unwrap_or((text, ""));
+    attribute_with(alloc, name, values)
+}
+
+/// The attributes between bars.
 fn raw_list(alloc: Global, text: &str) -> Result<RawList, NoMemory> {
     let mut list = RawList::new(alloc);
     for part in text.split('|') {
-        if part == "CSN" {
-            let mut values = OctetsList::new(alloc);
-            values.push(octets(alloc, CSN)?)?;
-            list.push(RawAttribute {
-                name: octets(alloc, "entryCSN")?,
-                values,
-            })?;
-        } else if !part.is_empty() {
+        if !part.is_empty() {
             list.push(raw_attribute(alloc, part)?)?;
         }
     }
@@ -126,20 +143,45 @@ fn response(alloc: Global, name: &str, value: Option<Octets>) -> Result<Message,
     Ok(message(op, ControlList::new(alloc)))
 }
 
-fn info(alloc: Global, info: &SyncInfo) -> Result<Message, NoMemory> {
-    response(alloc, "1.3.6.1.4.1.4203.1.9.1.4", Some(info.write(alloc)?))
+fn info(alloc: Global, info: SyncInfo) -> Result<Message, NoMemory> {
+    let value = info.write(alloc);
+    discard(info);
+    response(alloc, "1.3.6.1.4.1.4203.1.9.1.4", Some(value?))
+}
+
+fn id_list<R: Abort>(rt: &R, alloc: Global, text: &str) -> Result<IdList, NoMemory> {
+    let mut uuids = IdList::new(alloc);
+    for uuid in text.split(',') {
+        uuids.push(number(rt, uuid))?;
+    }
+    Ok(uuids)
 }
 
 /// The set of `COOKIE UUID,UUID`.
 fn id_set<R: Abort>(rt: &R, alloc: Global, deletes: bool, text: &str) -> Result<Message, NoMemory> {
     let (cookie, list) = parted(text);
-    let mut uuids = IdList::new(alloc);
-    for uuid in list.split(',') {
-        uuids.push(number(rt, uuid))?;
-    }
+    let cookie = cookie_of(alloc, cookie)?;
     info(
         alloc,
-        &SyncInfo::IdSet(cookie_of(alloc, cookie)?, deletes, uuids),
+        SyncInfo::IdSet(cookie, deletes, id_list(rt, alloc, list)?),
+    )
+}
+
+fn new_cookie(alloc: Global, text: &str) -> Result<Message, NoMemory> {
+    info(alloc, SyncInfo::NewCookie(octets(alloc, text)?))
+}
+
+fn refresh_delete(alloc: Global, done: bool, text: &str) -> Result<Message, NoMemory> {
+    info(
+        alloc,
+        SyncInfo::RefreshDelete(cookie_of(alloc, text)?, done),
+    )
+}
+
+fn refresh_present(alloc: Global, done: bool, text: &str) -> Result<Message, NoMemory> {
+    info(
+        alloc,
+        SyncInfo::RefreshPresent(cookie_of(alloc, text)?, done),
     )
 }
 
@@ -192,57 +234,71 @@ fn sent<R: Abort>(rt: &R, alloc: Global, text: &str) -> Result<Message, NoMemory
         "present" => entry(rt, alloc, State::Present, rest),
         "presents" => id_set(rt, alloc, false, rest),
         "deletes" => id_set(rt, alloc, true, rest),
-        "newcookie" => info(alloc, &SyncInfo::NewCookie(octets(alloc, rest)?)),
-        "refreshDelete" => info(
-            alloc,
-            &SyncInfo::RefreshDelete(cookie_of(alloc, rest)?, true),
-        ),
-        "deleteGoesOn" => info(
-            alloc,
-            &SyncInfo::RefreshDelete(cookie_of(alloc, rest)?, false),
-        ),
-        "refreshPresent" => info(
-            alloc,
-            &SyncInfo::RefreshPresent(cookie_of(alloc, rest)?, true),
-        ),
-        "presentEnds" => info(
-            alloc,
-            &SyncInfo::RefreshPresent(cookie_of(alloc, rest)?, false),
-        ),
         "done" => done(rt, alloc, false, rest),
         "doneDeletes" => done(rt, alloc, true, rest),
+        _ => sent_between(alloc, word, rest),
+    }
+}
+
+/// A message between the entries and the end.
+fn sent_between(alloc: Global, word: &str, rest: &str) -> Result<Message, NoMemory> {
+    match word {
+        "newcookie" => new_cookie(alloc, rest),
+        "refreshDelete" => refresh_delete(alloc, true, rest),
+        "deleteGoesOn" => refresh_delete(alloc, false, rest),
+        "refreshPresent" => refresh_present(alloc, true, rest),
+        "presentEnds" => refresh_present(alloc, false, rest),
         _ => odd(alloc, word, rest),
     }
 }
 
+/// A value outside each grammar.
+fn bad_value(alloc: Global) -> Result<Option<Octets>, NoMemory> {
+    Ok(Some(octets(alloc, "\x04")?))
+}
+
+fn uncontrolled(alloc: Global, text: &str) -> Result<Message, NoMemory> {
+    Ok(message(entry_op(alloc, text)?, ControlList::new(alloc)))
+}
+
+fn bad_state(alloc: Global, text: &str) -> Result<Message, NoMemory> {
+    let controls = controls_of(alloc, "1.3.6.1.4.1.4203.1.9.1.2", bad_value(alloc)?)?;
+    Ok(message(entry_op(alloc, text)?, controls))
+}
+
+fn bad_done(alloc: Global) -> Result<Message, NoMemory> {
+    let controls = controls_of(alloc, "1.3.6.1.4.1.4203.1.9.1.3", bad_value(alloc)?)?;
+    Ok(message(done_op(alloc, 0)?, controls))
+}
+
+/// The end of the search with the ID 2.
+fn end_of_another(alloc: Global) -> Result<Message, NoMemory> {
+    Ok(Message {
+        id: 2,
+        op: done_op(alloc, 0)?,
+        controls: ControlList::new(alloc),
+    })
+}
+
+fn reference(alloc: Global) -> Result<Message, NoMemory> {
+    let mut uris = OctetsList::new(alloc);
+    uris.push(octets(alloc, "ldap://b/o=x")?)?;
+    let op = Protocol::SearchResultReference(uris);
+    Ok(message(op, ControlList::new(alloc)))
+}
+
 /// A message that is none of a search with content synchronisation, or is not as it has to be.
 fn odd(alloc: Global, word: &str, rest: &str) -> Result<Message, NoMemory> {
-    let none = ControlList::new(alloc);
-    let bad = Some(octets(alloc, "\x04")?);
     match word {
-        "uncontrolled" => Ok(message(entry_op(alloc, rest)?, none)),
-        "badState" => {
-            let controls = controls_of(alloc, "1.3.6.1.4.1.4203.1.9.1.2", bad)?;
-            Ok(message(entry_op(alloc, rest)?, controls))
-        }
-        "badDone" => {
-            let controls = controls_of(alloc, "1.3.6.1.4.1.4203.1.9.1.3", bad)?;
-            Ok(message(done_op(alloc, 0)?, controls))
-        }
-        "badInfo" => response(alloc, "1.3.6.1.4.1.4203.1.9.1.4", bad),
+        "uncontrolled" => uncontrolled(alloc, rest),
+        "badState" => bad_state(alloc, rest),
+        "badDone" => bad_done(alloc),
+        "badInfo" => response(alloc, "1.3.6.1.4.1.4203.1.9.1.4", bad_value(alloc)?),
         "noInfo" => response(alloc, "1.3.6.1.4.1.4203.1.9.1.4", None),
-        "otherInfo" => response(alloc, "1.3.6.1.4.1.4203.1.9.1.5", bad),
-        "otherSearch" => Ok(Message {
-            id: 2,
-            op: done_op(alloc, 0)?,
-            controls: none,
-        }),
-        "reference" => {
-            let mut uris = OctetsList::new(alloc);
-            uris.push(octets(alloc, "ldap://b/o=x")?)?;
-            Ok(message(Protocol::SearchResultReference(uris), none))
-        }
-        _ => Ok(message(Protocol::UnbindRequest, none)),
+        "otherInfo" => response(alloc, "1.3.6.1.4.1.4203.1.9.1.5", bad_value(alloc)?),
+        "otherSearch" => end_of_another(alloc),
+        "reference" => reference(alloc),
+        _ => Ok(message(Protocol::UnbindRequest, ControlList::new(alloc))),
     }
 }
 
@@ -299,13 +355,16 @@ fn shown(alloc: Global, consumer: &Consumer) -> Result<String, NoMemory> {
     format!(in alloc; "{text}{}", utf8(consumer.cookie().unwrap_or(b"-")))
 }
 
-fn consumer<R: Abort>(rt: &R, alloc: Global) -> Result<Consumer, NoMemory> {
-    let spec = Spec {
+fn spec<R: Abort>(rt: &R, alloc: Global) -> Result<Spec, NoMemory> {
+    Ok(Spec {
         base: Dn::parse(alloc, b"o=x").expect(rt, "a name"),
         scope: Scope::Sub,
         filter: Filter::Present(octets(alloc, "objectClass")?),
-    };
-    Consumer::new(alloc, spec, false)
+    })
+}
+
+fn consumer<R: Abort>(rt: &R, alloc: Global) -> Result<Consumer, NoMemory> {
+    Consumer::new(alloc, spec(rt, alloc)?, false)
 }
 
 /// Lines `MESSAGE -> ANSWER`.
@@ -331,8 +390,6 @@ const FOUR_AND_FIVE: Table = (
     &[(X, "Staged"), (A, "Staged"), ("done 0 c", "Stored +4 +5 c")],
     "4 5 c",
 );
-
-fn discard<T: Drop>(_value: T) {}
 
 fn ask(consumer: &mut Consumer, mode: Mode) -> Result<(), NoMemory> {
     discard(consumer.request(ID, mode)?);
@@ -372,13 +429,14 @@ fn check_lines<R: Abort + AllocGlobal>(
 ) -> Result<(), Fail> {
     for (text, answer) in lines {
         let told = told_next(rt, rt.alloc(), consumer, text)?;
-        assert_eq!(rt; told.as_str(), *answer);
+        assert_same(rt, text, &told.as_str(), answer);
     }
     Ok(())
 }
 
 fn check_end<R: Abort + AllocGlobal>(rt: &R, consumer: &Consumer, end: &str) -> Result<(), Fail> {
-    assert_eq!(rt; shown(rt.alloc(), consumer)?.as_str(), end);
+    let shown = shown(rt.alloc(), consumer)?;
+    assert_same(rt, "end", &shown.as_str(), &end);
     Ok(())
 }
 
@@ -476,11 +534,18 @@ const BLANK: [Table; 17] = [
     ),
 ];
 
+/// A search that begins with nothing.
+fn check_blank<R: Abort + AllocGlobal>(rt: &R, table: &Table) -> Result<(), Fail> {
+    let mut consumer = consumer(rt, rt.alloc())?;
+    let answer = check_table(rt, &mut consumer, table);
+    discard(consumer);
+    answer
+}
+
 #[test]
 fn begins_with_nothing(rt: HostRuntime) -> Result<(), Fail> {
     for table in &BLANK {
-        let mut consumer = consumer(&rt, rt.alloc())?;
-        check_table(&rt, &mut consumer, table)?;
+        check_blank(&rt, table)?;
     }
     Ok(())
 }
@@ -579,13 +644,24 @@ const ON: [Table; 12] = [
     (STAY, &[(A, "Staged"), ("done 4096", "Over(4096)")], "4 -"),
 ];
 
+/// Searches one after another.
+fn check_each<R: Abort + AllocGlobal>(
+    rt: &R,
+    consumer: &mut Consumer,
+    tables: &[Table],
+) -> Result<(), Fail> {
+    for table in tables {
+        check_table(rt, consumer, table)?;
+    }
+    Ok(())
+}
+
 /// Searches one after another, the first of which begins with nothing.
 fn check_tables<R: Abort + AllocGlobal>(rt: &R, tables: &[Table]) -> Result<(), Fail> {
     let mut consumer = consumer(rt, rt.alloc())?;
-    for table in tables {
-        check_table(rt, &mut consumer, table)?;
-    }
-    Ok(())
+    let answer = check_each(rt, &mut consumer, tables);
+    discard(consumer);
+    answer
 }
 
 #[test]
@@ -643,31 +719,51 @@ const ENTRIES: [(&str, &str); 22] = [
     ("modify 4 - cn=* CSN", "Staged"),
 ];
 
+/// What comes of the message where it is the first of a search of this consumer that persists.
+fn told_of_asked<R: Abort>(
+    rt: &R,
+    alloc: Global,
+    consumer: &mut Consumer,
+    text: &str,
+) -> Result<String, NoMemory> {
+    ask(consumer, STAY)?;
+    told_next(rt, alloc, consumer, text)
+}
+
 /// What comes of the message where it is the first of a search that persists.
 fn told_at_first<R: Abort>(rt: &R, alloc: Global, text: &str) -> Result<String, NoMemory> {
     let mut consumer = consumer(rt, alloc)?;
-    ask(&mut consumer, STAY)?;
-    told_next(rt, alloc, &mut consumer, text)
+    let told = told_of_asked(rt, alloc, &mut consumer, text);
+    discard(consumer);
+    told
 }
 
 #[test]
 fn entries_are_read(rt: HostRuntime) -> Result<(), Fail> {
-    let alloc = rt.alloc();
-    for (text, answer) in ENTRIES {
-        assert_eq!(rt; told_at_first(&rt, alloc, text)?.as_str(), answer);
+    for (text, answer) in &ENTRIES {
+        assert_same(
+            &rt,
+            text,
+            &told_at_first(&rt, rt.alloc(), text)?.as_str(),
+            answer,
+        );
     }
     Ok(())
 }
 
-/// The attributes as `type=value;value` between bars.
+/// The type with its values and a bar.
+fn attribute_text(alloc: Global, attribute: &Attribute) -> Result<String, NoMemory> {
+    let mut text = format!(in alloc; "{}", utf8(attribute.kind.name()))?;
+    for value in attribute.values.list() {
+        text = format!(in alloc; "{text} {}", utf8(value.as_slice()))?;
+    }
+    format!(in alloc; "{text}|")
+}
+
 fn attributes_text(alloc: Global, entry: &Entry) -> Result<String, NoMemory> {
     let mut text = String::new(alloc);
     for attribute in entry.attrs.list() {
-        text = format!(in alloc; "{text}{}", utf8(attribute.kind.name()))?;
-        for value in attribute.values.list() {
-            text = format!(in alloc; "{text} {}", utf8(value.as_slice()))?;
-        }
-        text = format!(in alloc; "{text}|")?;
+        text.push_str(attribute_text(alloc, attribute)?.as_str())?;
     }
     Ok(text)
 }
@@ -686,9 +782,15 @@ const PERSON: Table = (
 
 fn check_person<R: Abort + AllocGlobal>(rt: &R, person: &Entry) -> Result<(), Fail> {
     let attributes = attributes_text(rt.alloc(), person)?;
-    assert_eq!(rt; attributes.as_str(), "sn s|cn j k l|objectClass Person|");
-    assert_eq!(rt; utf8(&person.csn.write()), CSN);
-    assert_eq!(rt; utf8(person.dn.write()?.as_slice()), "cn=j,o=x");
+    assert_same(
+        rt,
+        "attributes",
+        &attributes.as_str(),
+        &"sn s|cn j k l|objectClass Person|",
+    );
+    assert_same(rt, "stamp", &utf8(&person.csn.write()), &CSN);
+    let name = person.dn.write()?;
+    assert_same(rt, "name", &utf8(name.as_slice()), &"cn=j,o=x");
     Ok(())
 }
 
@@ -700,11 +802,17 @@ fn check_held<R: Abort + AllocGlobal>(rt: &R, consumer: &Consumer) -> Result<(),
     }
 }
 
+fn check_held_person<R: Abort + AllocGlobal>(rt: &R, consumer: &mut Consumer) -> Result<(), Fail> {
+    check_table(rt, consumer, &PERSON)?;
+    check_held(rt, consumer)
+}
+
 #[test]
 fn keeps_what_it_knows_of_an_entry(rt: HostRuntime) -> Result<(), Fail> {
     let mut consumer = consumer(&rt, rt.alloc())?;
-    check_table(&rt, &mut consumer, &PERSON)?;
-    check_held(&rt, &consumer)
+    let answer = check_held_person(&rt, &mut consumer);
+    discard(consumer);
+    answer
 }
 
 /// Searches in which two entries get one name.
@@ -736,15 +844,20 @@ fn two_entries_of_one_name_are_refused(rt: HostRuntime) -> Result<(), Fail> {
     check_tables(&rt, &NAMES)
 }
 
+fn check_spec<R: Abort>(rt: &R, spec: &Spec) -> Result<(), Fail> {
+    let base = spec.base.write()?;
+    assert_same(rt, "base", &utf8(base.as_slice()), &"o=x");
+    assert_same(rt, "scope", &spec.scope, &Scope::Sub);
+    assert!(rt; is_presence(&spec.filter));
+    Ok(())
+}
+
 #[test]
 fn tells_its_specification(rt: HostRuntime) -> Result<(), Fail> {
-    let alloc = rt.alloc();
-    let consumer = consumer(&rt, alloc)?;
-    let spec = consumer.spec();
-    assert_eq!(rt; utf8(spec.base.write()?.as_slice()), "o=x");
-    assert!(rt; matches!(spec.scope, Scope::Sub));
-    assert!(rt; matches!(spec.filter, Filter::Present(_)));
-    Ok(())
+    let consumer = consumer(&rt, rt.alloc())?;
+    let answer = check_spec(&rt, consumer.spec());
+    discard(consumer);
+    answer
 }
 
 fn check_cut<R: Abort + AllocGlobal>(rt: &R, consumer: &mut Consumer) -> Result<(), Fail> {
@@ -756,20 +869,34 @@ fn check_cut<R: Abort + AllocGlobal>(rt: &R, consumer: &mut Consumer) -> Result<
     check_lines(rt, consumer, &[("done 0 c", "OutOfPlace(101)")])
 }
 
+/// A search that drops what an earlier one staged.
+const AGAIN: Table = (ONCE, &[(A, "Staged"), ("done 0 c", "Stored +5 c")], "5 c");
+
+fn check_behind_a_cut<R: Abort + AllocGlobal>(rt: &R, consumer: &mut Consumer) -> Result<(), Fail> {
+    check_cut(rt, consumer)?;
+    check_table(rt, consumer, &AGAIN)
+}
+
 #[test]
 fn a_cut_drops_what_is_staged(rt: HostRuntime) -> Result<(), Fail> {
     let mut consumer = consumer(&rt, rt.alloc())?;
-    check_cut(&rt, &mut consumer)?;
-    let again: Table = (ONCE, &[(A, "Staged"), ("done 0 c", "Stored +5 c")], "5 c");
-    check_table(&rt, &mut consumer, &again)
+    let answer = check_behind_a_cut(&rt, &mut consumer);
+    discard(consumer);
+    answer
+}
+
+fn check_lost_cookie<R: Abort + AllocGlobal>(rt: &R, consumer: &mut Consumer) -> Result<(), Fail> {
+    check_table(rt, consumer, &FOUR_AND_FIVE)?;
+    consumer.lose_cookie();
+    check_end(rt, consumer, "4 5 -")
 }
 
 #[test]
 fn a_cookie_is_lost(rt: HostRuntime) -> Result<(), Fail> {
     let mut consumer = consumer(&rt, rt.alloc())?;
-    check_table(&rt, &mut consumer, &FOUR_AND_FIVE)?;
-    consumer.lose_cookie();
-    check_end(&rt, &consumer, "4 5 -")
+    let answer = check_lost_cookie(&rt, &mut consumer);
+    discard(consumer);
+    answer
 }
 
 /// The request of RFC 4533, section 2.2, by the grammar of RFC 4511, section 4.5.1.
@@ -822,14 +949,83 @@ fn request_bytes(alloc: Global, consumer: &mut Consumer, id: u32) -> Result<Octe
     bytes
 }
 
+fn check_request<R: Abort + AllocGlobal>(
+    rt: &R,
+    consumer: &mut Consumer,
+    wanted: &[u8],
+) -> Result<(), Fail> {
+    let bytes = request_bytes(rt.alloc(), consumer, 7)?;
+    assert_same(rt, "request", &bytes.as_slice(), &wanted);
+    Ok(())
+}
+
+/// A refresh of nothing with a cookie.
+const COOKIE_ALONE: Table = (ONCE, &[("done 0 c1", "Stored c1")], "c1");
+
+fn check_request_with_cookie<R: Abort + AllocGlobal>(
+    rt: &R,
+    consumer: &mut Consumer,
+) -> Result<(), Fail> {
+    check_table(rt, consumer, &COOKIE_ALONE)?;
+    check_request(rt, consumer, REQUEST)
+}
+
 #[test]
 fn asks_for_its_content(rt: HostRuntime) -> Result<(), Fail> {
     let mut consumer = consumer(&rt, rt.alloc())?;
-    let first: Table = (ONCE, &[("done 0 c1", "Stored c1")], "c1");
-    check_table(&rt, &mut consumer, &first)?;
-    let bytes = request_bytes(rt.alloc(), &mut consumer, 7)?;
-    assert_eq!(rt; bytes.as_slice(), REQUEST);
+    let answer = check_request_with_cookie(&rt, &mut consumer);
+    discard(consumer);
+    answer
+}
+
+/// The text of a cookie, what a consumer of the entries 4 and 5 shows with it, and the request that
+/// carries it.
+type Cookie = (&'static [u8], &'static str, &'static [u8]);
+
+/// A text without a letter, one that is not of this directory, and one that is.
+const COOKIES: [Cookie; 3] = [
+    (
+        b"",
+        "4 5 ",
+        b"\x30\x58\x02\x01\x07\x63\x29\x04\x03o=x\x0a\x01\x02\x0a\x01\x00\x02\x01\x00\x02\x01\x00\x01\x01\x00\x87\x0bobjectClass\x30\x06\x04\x01*\x04\x01+\xa0\x28\x30\x26\x04\x181.3.6.1.4.1.4203.1.9.1.1\x01\x01\xff\x04\x07\x30\x05\x0a\x01\x01\x04\x00",
+    ),
+    (
+        b"\xff\x00?",
+        "4 5 ?",
+        b"\x30\x5b\x02\x01\x07\x63\x29\x04\x03o=x\x0a\x01\x02\x0a\x01\x00\x02\x01\x00\x02\x01\x00\x01\x01\x00\x87\x0bobjectClass\x30\x06\x04\x01*\x04\x01+\xa0\x2b\x30\x29\x04\x181.3.6.1.4.1.4203.1.9.1.1\x01\x01\xff\x04\x0a\x30\x08\x0a\x01\x01\x04\x03\xff\x00?",
+    ),
+    (
+        b"rid=001,csn=20260101000000.000000Z#000000#001#000000",
+        "4 5 rid=001,csn=20260101000000.000000Z#000000#001#000000",
+        b"\x30\x81\x8c\x02\x01\x07\x63\x29\x04\x03o=x\x0a\x01\x02\x0a\x01\x00\x02\x01\x00\x02\x01\x00\x01\x01\x00\x87\x0bobjectClass\x30\x06\x04\x01*\x04\x01+\xa0\x5c\x30\x5a\x04\x181.3.6.1.4.1.4203.1.9.1.1\x01\x01\xff\x04\x3b\x30\x39\x0a\x01\x01\x04\x34rid=001,csn=20260101000000.000000Z#000000#001#000000",
+    ),
+];
+
+fn check_cookie<R: Abort + AllocGlobal>(
+    rt: &R,
+    consumer: &mut Consumer,
+    cookie: &Cookie,
+) -> Result<(), Fail> {
+    let (text, end, request) = cookie;
+    consumer.set_cookie(text)?;
+    check_end(rt, consumer, end)?;
+    check_request(rt, consumer, request)
+}
+
+fn check_cookies<R: Abort + AllocGlobal>(rt: &R, consumer: &mut Consumer) -> Result<(), Fail> {
+    check_table(rt, consumer, &FOUR_AND_FIVE)?;
+    for cookie in &COOKIES {
+        check_cookie(rt, consumer, cookie)?;
+    }
     Ok(())
+}
+
+#[test]
+fn a_cookie_is_set(rt: HostRuntime) -> Result<(), Fail> {
+    let mut consumer = consumer(&rt, rt.alloc())?;
+    let answer = check_cookies(&rt, &mut consumer);
+    discard(consumer);
+    answer
 }
 
 /// A search over the entries 4 and 5, the lines before a copy is taken and those behind it, and
@@ -898,7 +1094,16 @@ fn check_fork<R: Abort + AllocGlobal>(
     ask(consumer, *mode)?;
     check_lines(rt, consumer, before)?;
     check_copy(rt, consumer, behind, end)?;
-    check_lines(rt, consumer, behind)?;
+    check_behind(rt, consumer, behind, end)
+}
+
+fn check_behind<R: Abort + AllocGlobal>(
+    rt: &R,
+    consumer: &mut Consumer,
+    lines: Lines,
+    end: &str,
+) -> Result<(), Fail> {
+    check_lines(rt, consumer, lines)?;
     check_end(rt, consumer, end)
 }
 
@@ -909,16 +1114,32 @@ fn check_copy<R: Abort + AllocGlobal>(
     end: &str,
 ) -> Result<(), Fail> {
     let mut copy = consumer.copy()?;
-    check_lines(rt, &mut copy, lines)?;
-    check_end(rt, &copy, end)
+    let answer = check_behind(rt, &mut copy, lines, end);
+    discard(copy);
+    answer
+}
+
+fn check_forked<R: Abort + AllocGlobal>(
+    rt: &R,
+    consumer: &mut Consumer,
+    fork: &Fork,
+) -> Result<(), Fail> {
+    check_table(rt, consumer, &FOUR_AND_FIVE)?;
+    check_fork(rt, consumer, fork)
+}
+
+/// The fork, with a consumer of its own.
+fn check_new_fork<R: Abort + AllocGlobal>(rt: &R, fork: &Fork) -> Result<(), Fail> {
+    let mut consumer = consumer(rt, rt.alloc())?;
+    let answer = check_forked(rt, &mut consumer, fork);
+    discard(consumer);
+    answer
 }
 
 #[test]
 fn a_copy_goes_on_as_its_original(rt: HostRuntime) -> Result<(), Fail> {
     for fork in &FORKS {
-        let mut consumer = consumer(&rt, rt.alloc())?;
-        check_table(&rt, &mut consumer, &FOUR_AND_FIVE)?;
-        check_fork(&rt, &mut consumer, fork)?;
+        check_new_fork(&rt, fork)?;
     }
     Ok(())
 }
@@ -936,18 +1157,31 @@ fn stage_one<R: Abort + AllocGlobal>(
     told_next(rt, alloc, consumer, text.as_str())
 }
 
+fn check_staged<R: Abort + AllocGlobal>(
+    rt: &R,
+    consumer: &mut Consumer,
+    uuid: u128,
+    wanted: &str,
+) -> Result<(), Fail> {
+    let told = stage_one(rt, consumer, uuid)?;
+    assert_same(rt, "staged", &told.as_str(), &wanted);
+    Ok(())
+}
+
 fn check_full_stage<R: Abort + AllocGlobal>(rt: &R, consumer: &mut Consumer) -> Result<(), Fail> {
     ask(consumer, ONCE)?;
     assert!(rt; stages_each(rt, consumer, MOST_STAGED)?);
-    assert_eq!(rt; stage_one(rt, consumer, 0)?.as_str(), "Staged");
-    assert_eq!(rt; stage_one(rt, consumer, MOST_STAGED)?.as_str(), "StageFull");
+    check_staged(rt, consumer, 0, "Staged")?;
+    check_staged(rt, consumer, MOST_STAGED, "StageFull")?;
     check_end(rt, consumer, "-")
 }
 
 #[test]
 fn a_stage_is_full(rt: HostRuntime) -> Result<(), Fail> {
     let mut consumer = consumer(&rt, rt.alloc())?;
-    check_full_stage(&rt, &mut consumer)
+    let answer = check_full_stage(&rt, &mut consumer);
+    discard(consumer);
+    answer
 }
 
 /// Whether the search stages so many entries, one after another, and each is told as staged.
@@ -984,15 +1218,17 @@ fn check_full_copy<R: Abort + AllocGlobal>(rt: &R, consumer: &mut Consumer) -> R
     assert!(rt; stages_each(rt, consumer, MOST_STAGED)?);
     assert!(rt; ends_as_stored(rt, rt.alloc(), consumer)?);
     ask(consumer, ONCE)?;
-    assert_eq!(rt; stage_one(rt, consumer, MOST_STAGED)?.as_str(), "Staged");
-    check_lines(rt, consumer, &[("doneDeletes 0 d", "StageFull")])
+    check_staged(rt, consumer, MOST_STAGED, "Staged")?;
+    check_lines(rt, consumer, &[("doneDeletes 0 d", "StageFull")])?;
+    assert_same(rt, "length", &consumer.entries().len(), &20_000);
+    assert_same(rt, "cookie", &utf8(consumer.cookie().unwrap_or(b"-")), &"c");
+    Ok(())
 }
 
 #[test]
 fn a_copy_is_full(rt: HostRuntime) -> Result<(), Fail> {
     let mut consumer = consumer(&rt, rt.alloc())?;
-    check_full_copy(&rt, &mut consumer)?;
-    assert_eq!(rt; consumer.entries().len(), 20_000);
-    assert_eq!(rt; utf8(consumer.cookie().unwrap_or(b"-")), "c");
-    Ok(())
+    let answer = check_full_copy(&rt, &mut consumer);
+    discard(consumer);
+    answer
 }

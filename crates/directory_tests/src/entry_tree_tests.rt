@@ -4,8 +4,9 @@ use dn_names::Dn;
 use entry_tree::{Entry, EntryList, OpFault, Scope, Spec, Touched, Tree, read_op};
 use ldap_ber::{NoMemory, Octets, OctetsList};
 use ldap_filter::Filter;
-use schema_rules::{Change, EditList, How, RawAttribute, RawEdit, RawList};
+use schema_rules::{Attribute, Change, EditList, How, RawAttribute, RawEdit, RawList};
 use std::alloc::Global;
+use std::fmt::Debug;
 use std::process::Abort;
 use std::test::Fail;
 
@@ -21,21 +22,35 @@ const FIRST: [&str; 5] = [
 /// The number of a write after these.
 const NEXT: u32 = 9;
 
+/// Drops a value through its bound, so that no proof goes through the cases of its type.
+fn discard<T: Drop>(_value: T) {}
+
+/// Asserts that what was found is what is wanted, or tells the row.
+fn assert_same<T: PartialEq + Debug>(rt: &impl Abort, row: &str, found: &T, wanted: &T) {
+    assert!(rt;
+        *found == *wanted,
+        "{row}: {found:?} in place of {wanted:?}"
+    );
+}
+
 fn octets(alloc: Global, text: &str) -> Result<Octets, NoMemory> {
     Octets::from_slice(alloc, text.as_bytes())
 }
 
+/// The values between semicolons.
+fn values_of(alloc: Global, list: &str) -> Result<OctetsList, NoMemory> {
+    let mut values = OctetsList::new(alloc);
+    for value in list.split(';') {
+        values.push(octets(alloc, value)?)?;
+    }
+    Ok(values)
+}
+
 /// The attribute of `type=value;value`, or of `type` alone.
 fn raw_attribute(alloc: Global, text: &str) -> Result<RawAttribute, NoMemory> {
-    let mut values = OctetsList::new(alloc);
-    let name = match text.split_once('=') {
-        None => text,
-        Some((name, list)) => {
-            for value in list.split(';') {
-                values.push(octets(alloc, value)?)?;
-            }
-            name
-        }
+    let (name, values) = match text.split_once('=') {
+        None => (text, OctetsList::new(alloc)),
+        Some((name, list)) => (name, values_of(alloc, list)?),
     };
     Ok(RawAttribute {
         name: octets(alloc, name)?,
@@ -72,27 +87,36 @@ fn raw_list(alloc: Global, text: Option<&str>) -> Result<RawList, NoMemory> {
     Ok(list)
 }
 
+fn raw_edit(alloc: Global, piece: &str) -> Result<RawEdit, Fail> {
+    let (how, text) = signed(piece).ok_or("no sign")?;
+    let attribute = raw_attribute(alloc, text)?;
+    Ok(RawEdit { how, attribute })
+}
+
 fn edit_list(alloc: Global, text: Option<&str>) -> Result<EditList, Fail> {
     let mut list = EditList::new(alloc);
     if let Some(pieces) = text {
         for piece in pieces.split('|') {
-            let (how, text) = signed(piece).ok_or("no sign")?;
-            let attribute = raw_attribute(alloc, text)?;
-            list.push(RawEdit { how, attribute })?;
+            list.push(raw_edit(alloc, piece)?)?;
         }
     }
     Ok(list)
+}
+
+fn option(alloc: Global, text: Option<&str>) -> Result<Option<Octets>, NoMemory> {
+    match text {
+        None => Ok(None),
+        Some(text) => Ok(Some(octets(alloc, text)?)),
+    }
 }
 
 /// The Rename of `RDN|drop|SUPERIOR` or `RDN|keep`.
 fn rename_of(alloc: Global, name: Octets, text: &str) -> Result<Change, NoMemory> {
     let (rdn, rest) = parted(text);
     let (what, superior) = parted(rest.unwrap_or("keep"));
-    let superior = match superior {
-        None => None,
-        Some(superior) => Some(octets(alloc, superior)?),
-    };
-    Ok(Change::Rename(name, octets(alloc, rdn)?, what == "drop", superior))
+    let rdn = octets(alloc, rdn)?;
+    let superior = option(alloc, superior)?;
+    Ok(Change::Rename(name, rdn, what == "drop", superior))
 }
 
 /// The write of a line: what it does and the name, and then what else it takes, each behind a bar.
@@ -108,10 +132,31 @@ fn change_of(alloc: Global, line: &str) -> Result<Change, Fail> {
     }
 }
 
-/// The stamp of the write of that number.
-fn stamp(alloc: Global, number: u32) -> Result<Csn, Fail> {
+/// The number of a write, and its stamp.
+#[derive(Clone, Copy)]
+struct WriteMark {
+    number: u32,
+    csn: Csn,
+}
+
+fn mark_of(alloc: Global, number: u32) -> Result<WriteMark, Fail> {
     let text = format!(in alloc; "19700101000000.{number:06}Z#000000#001#000000")?;
-    Ok(Csn::parse(text.as_bytes())?)
+    let csn = Csn::parse(text.as_bytes())?;
+    Ok(WriteMark { number, csn })
+}
+
+/// What comes of a write to the directory below the suffix.
+fn applied(
+    alloc: Global,
+    tree: &mut Tree,
+    change: &Change,
+    suffix: &Dn,
+    mark: WriteMark,
+) -> Result<Touched, OpFault> {
+    let op = read_op(alloc, change)?;
+    let touches = tree.apply(alloc, &op, suffix, mark.number as u128, mark.csn);
+    discard(op);
+    touches
 }
 
 /// What comes of a write to the directory `o=x`.
@@ -121,29 +166,42 @@ fn outcome(
     line: &str,
     number: u32,
 ) -> Result<Result<Touched, OpFault>, Fail> {
-    let change = change_of(alloc, line)?;
+    let mark = mark_of(alloc, number)?;
     let suffix = Dn::parse(alloc, b"o=x")?;
-    let csn = stamp(alloc, number)?;
-    Ok(match read_op(alloc, &change) {
-        Ok(op) => tree.apply(alloc, &op, &suffix, number as u128, csn),
-        Err(fault) => Err(fault),
-    })
+    let change = change_of(alloc, line)?;
+    let outcome = applied(alloc, tree, &change, &suffix, mark);
+    discard(change);
+    Ok(outcome)
+}
+
+/// The code of what comes of a write, and 0 where it is accepted.
+fn code_of(outcome: &Result<Touched, OpFault>) -> Result<u32, Fail> {
+    match outcome {
+        Ok(_) => Ok(0),
+        Err(OpFault::Code(code)) => Ok(*code),
+        Err(OpFault::NoMemory) => Err(Fail::from("out of memory")),
+    }
 }
 
 /// The code of a write, and 0 where it is accepted.
 fn code(alloc: Global, tree: &mut Tree, line: &str) -> Result<u32, Fail> {
-    match outcome(alloc, tree, line, NEXT)? {
-        Ok(_) => Ok(0),
-        Err(OpFault::Code(code)) => Ok(code),
-        Err(OpFault::NoMemory) => Err(Fail::from("out of memory")),
-    }
+    let outcome = outcome(alloc, tree, line, NEXT)?;
+    let code = code_of(&outcome);
+    discard(outcome);
+    code
+}
+
+/// A write that is accepted.
+fn write(alloc: Global, tree: &mut Tree, line: &str, number: u32) -> Result<(), Fail> {
+    discard(outcome(alloc, tree, line, number)??);
+    Ok(())
 }
 
 fn first_tree(alloc: Global) -> Result<Tree, Fail> {
     let mut tree = Tree::new(alloc);
     let mut number = 1;
-    for line in FIRST {
-        let _touches = outcome(alloc, &mut tree, line, number)??;
+    for line in &FIRST {
+        write(alloc, &mut tree, line, number)?;
         if number < NEXT {
             number += 1;
         }
@@ -237,11 +295,23 @@ const RENAME_CODES: [(&str, u32); 16] = [
     ("rename ou=a,o=x|ou=c|drop|ou=b,o=x", 0),
 ];
 
+fn assert_code(
+    rt: &impl Abort,
+    alloc: Global,
+    tree: &mut Tree,
+    line: &str,
+    wanted: u32,
+) -> Result<(), Fail> {
+    let code = code(alloc, tree, line)?;
+    assert_same(rt, line, &code, &wanted);
+    Ok(())
+}
+
 /// Each write of the rows has its code.
 fn check_codes(rt: &impl Abort, alloc: Global, rows: &[(&str, u32)]) -> Result<(), Fail> {
-    for (line, expected) in rows {
+    for (line, wanted) in rows {
         let mut tree = first_tree(alloc)?;
-        assert_eq!(rt; code(alloc, &mut tree, line)?, *expected, "{line}");
+        assert_code(rt, alloc, &mut tree, line, *wanted)?;
     }
     Ok(())
 }
@@ -266,9 +336,16 @@ fn codes_of_rename(rt: HostRuntime) -> Result<(), Fail> {
     check_codes(&rt, rt.alloc(), &RENAME_CODES)
 }
 
-/// As many times the piece, and then the end.
-fn repeated(alloc: Global, piece: &str, count: usize, end: &str) -> Result<String, Fail> {
+/// The front, as many times the piece, and then the end.
+fn repeated(
+    alloc: Global,
+    front: &str,
+    piece: &str,
+    count: usize,
+    end: &str,
+) -> Result<String, NoMemory> {
     let mut text = String::new(alloc);
+    text.push_str(front)?;
     for _ in 0..count {
         text.push_str(piece)?;
     }
@@ -276,221 +353,319 @@ fn repeated(alloc: Global, piece: &str, count: usize, end: &str) -> Result<Strin
     Ok(text)
 }
 
+// Each value weighs its bytes and those of its type's name.
+
+const SUFFIX_WEIGHT: u64 = (11 + 12) + (1 + 1);
+
+const UNIT_WEIGHT: u64 = 3 * (11 + 18) + (2 + 1) + (2 + 1) + (2 + 2) + (1 + 1) + (2 + 1);
+
+const PERSON_WEIGHT: u64 = (11 + 13) + 2 * (2 + 1) + (2 + 1) + (14 + 1);
+
+const FIRST_WEIGHT: u64 = SUFFIX_WEIGHT + UNIT_WEIGHT + PERSON_WEIGHT;
+
+/// The longest description that the unit may get: it weighs 11 + 18 and 2 + 1 without, and the type
+/// of the description 11.
+const MOST: usize = 65_536 - 29 - 3 - 11;
+
+/// Writes one after another around that limit: the front, how many letters of a description stand
+/// behind it, and the code.
+const HEAVY: [(&str, usize, u32); 5] = [
+    ("modify ou=a,o=x|+description=", MOST + 1, 11),
+    ("modify ou=a,o=x|+description=", MOST, 0),
+    ("rename ou=a,o=x|ou=aa|drop", 0, 11),
+    ("rename ou=a,o=x|ou=c|drop", 0, 0),
+    (
+        "add ou=d,o=x|objectClass=organizationalUnit|ou=d|description=",
+        MOST + 1,
+        11,
+    ),
+];
+
+fn check_heavy(rt: &impl Abort, alloc: Global, tree: &mut Tree) -> Result<(), Fail> {
+    for (front, count, wanted) in &HEAVY {
+        let line = repeated(alloc, front, "d", *count, "")?;
+        assert_code(rt, alloc, tree, line.as_str(), *wanted)?;
+    }
+    Ok(())
+}
+
 #[test]
 fn weights(rt: HostRuntime) -> Result<(), Fail> {
-    let alloc = rt.alloc();
+    let mut tree = first_tree(rt.alloc())?;
+    assert_same(&rt, "weight", &tree.weight(), &FIRST_WEIGHT);
+    check_heavy(&rt, rt.alloc(), &mut tree)?;
+    assert_same(&rt, "weight", &tree.weight(), &(FIRST_WEIGHT + 11 + 65_493));
+    Ok(())
+}
+
+/// Adds a unit at this depth below `ou=b`.
+fn add_deep(alloc: Global, tree: &mut Tree, depth: usize, number: u32) -> Result<(), Fail> {
+    let end = "ou=b,o=x|objectClass=organizationalUnit|ou=d";
+    let line = repeated(alloc, "add ", "ou=d,", depth, end)?;
+    write(alloc, tree, line.as_str(), number)
+}
+
+/// A directory whose deepest entry has 32 RDNs.
+fn deep_tree(alloc: Global) -> Result<Tree, Fail> {
     let mut tree = first_tree(alloc)?;
-    // Each value weighs its bytes and those of its type's name.
-    let suffix = (11 + 12) + (1 + 1);
-    let units = 3 * (11 + 18) + (2 + 1) + (2 + 1) + (2 + 2) + (1 + 1) + (2 + 1);
-    let person = (11 + 13) + 2 * (2 + 1) + (2 + 1) + (14 + 1);
-    assert_eq!(rt; tree.weight(), suffix + units + person);
-    // The unit itself weighs 11 + 18 and 2 + 1, and the description's type 11.
-    let most = repeated(alloc, "d", 65_536 - 29 - 3 - 11, "")?;
-    let fits = format!(in alloc; "modify ou=a,o=x|+description={most}")?;
-    let heavy = format!(in alloc; "modify ou=a,o=x|+description={most}d")?;
-    assert_eq!(rt; code(alloc, &mut tree, heavy.as_str())?, 11);
-    assert_eq!(rt; code(alloc, &mut tree, fits.as_str())?, 0);
-    assert_eq!(rt; code(alloc, &mut tree, "rename ou=a,o=x|ou=aa|drop")?, 11);
-    assert_eq!(rt; code(alloc, &mut tree, "rename ou=a,o=x|ou=c|drop")?, 0);
-    let heavy = format!(in alloc;
-        "add ou=d,o=x|objectClass=organizationalUnit|ou=d|description={most}d"
-    )?;
-    assert_eq!(rt; code(alloc, &mut tree, heavy.as_str())?, 11);
-    assert_eq!(rt; tree.weight(), suffix + units + person + 11 + 65_493);
+    for depth in 1..31 {
+        add_deep(alloc, &mut tree, depth, NEXT + depth as u32)?;
+    }
+    Ok(tree)
+}
+
+/// Writes to that directory: the front, how often `ou=d,` stands behind it, the end, and the code.
+const DEEP: [(&str, usize, &str, u32); 4] = [
+    // The deepest would have 33 RDNs below the new superior.
+    ("rename ou=d,ou=b,o=x|ou=e|drop|ou=s,ou=a,o=x", 0, "", 11),
+    // The entry itself would have 33.
+    ("rename cn=j,ou=a,o=x|cn=j|keep|", 30, "ou=b,o=x", 11),
+    ("rename cn=j,ou=a,o=x|dc=j|keep|", 30, "ou=b,o=x", 65),
+    ("rename ou=d,ou=b,o=x|ou=e|drop|ou=a,o=x", 0, "", 0),
+];
+
+fn check_deep(rt: &impl Abort, alloc: Global, tree: &mut Tree) -> Result<(), Fail> {
+    for (front, count, end, wanted) in &DEEP {
+        let line = repeated(alloc, front, "ou=d,", *count, end)?;
+        assert_code(rt, alloc, tree, line.as_str(), *wanted)?;
+    }
     Ok(())
 }
 
 #[test]
 fn long_names(rt: HostRuntime) -> Result<(), Fail> {
-    let alloc = rt.alloc();
-    let mut tree = first_tree(alloc)?;
-    for depth in 1..31 {
-        let name = repeated(alloc, "ou=d,", depth, "ou=b,o=x")?;
-        let line = format!(in alloc; "add {name}|objectClass=organizationalUnit|ou=d")?;
-        let _touches = outcome(alloc, &mut tree, line.as_str(), NEXT + depth as u32)??;
+    let mut tree = deep_tree(rt.alloc())?;
+    assert_same(&rt, "length", &tree.len(), &35);
+    check_deep(&rt, rt.alloc(), &mut tree)
+}
+
+/// Puts the sign, the identity and the number of the stamp.
+fn push_head(line: &mut Vec<u8>, sign: &str, entry: &Entry) -> Result<(), NoMemory> {
+    let alloc = *line.allocator();
+    let number = entry.csn.micros();
+    let uuid = entry.uuid;
+    let head = format!(in alloc; "{sign}{uuid} {number} ")?;
+    line.extend_from_slice(head.as_bytes())
+}
+
+/// Puts the name, and a blank.
+fn push_name(line: &mut Vec<u8>, entry: &Entry) -> Result<(), NoMemory> {
+    line.extend_from_slice(entry.dn.write()?.as_slice())?;
+    line.push(b' ')?;
+    Ok(())
+}
+
+/// Puts each value with its type in front of it and a bar behind it.
+fn push_attribute(line: &mut Vec<u8>, attribute: &Attribute) -> Result<(), NoMemory> {
+    for value in attribute.values.list() {
+        line.extend_from_slice(attribute.kind.name())?;
+        line.push(b'=')?;
+        line.extend_from_slice(value.as_slice())?;
+        line.push(b'|')?;
     }
-    assert_eq!(rt; tree.len(), 35);
-    // The deepest has 32 RDNs, and below the new superior it would have 33.
-    let line = "rename ou=d,ou=b,o=x|ou=e|drop|ou=s,ou=a,o=x";
-    assert_eq!(rt; code(alloc, &mut tree, line)?, 11);
-    // The entry itself would have 33.
-    let deepest = repeated(alloc, "ou=d,", 30, "ou=b,o=x")?;
-    let line = format!(in alloc; "rename cn=j,ou=a,o=x|cn=j|keep|{deepest}")?;
-    assert_eq!(rt; code(alloc, &mut tree, line.as_str())?, 11);
-    let line = format!(in alloc; "rename cn=j,ou=a,o=x|dc=j|keep|{deepest}")?;
-    assert_eq!(rt; code(alloc, &mut tree, line.as_str())?, 65);
-    assert_eq!(rt;
-        code(alloc, &mut tree, "rename ou=d,ou=b,o=x|ou=e|drop|ou=a,o=x")?,
-        0
-    );
     Ok(())
 }
 
 /// Puts the entry on a line: the sign, its identity, the number of its stamp, its name, and its
 /// attributes, each value with its type.
 fn push_entry(line: &mut Vec<u8>, sign: &str, entry: &Entry) -> Result<(), NoMemory> {
-    let alloc = *line.allocator();
-    let number = entry.csn.micros();
-    let uuid = entry.uuid;
-    let head = format!(in alloc; "{sign}{uuid} {number} ")?;
-    line.extend_from_slice(head.as_bytes())?;
-    line.extend_from_slice(entry.dn.write()?.as_slice())?;
-    let mut before = b' ';
+    push_head(line, sign, entry)?;
+    push_name(line, entry)?;
     for attribute in entry.attrs.list() {
-        for value in attribute.values.list() {
-            line.push(before)?;
-            line.extend_from_slice(attribute.kind.name())?;
-            line.push(b'=')?;
-            line.extend_from_slice(value.as_slice())?;
-            before = b'|';
-        }
+        push_attribute(line, attribute)?;
     }
+    end_line(line)
+}
+
+/// The end of the line in place of the last byte.
+fn end_line(line: &mut Vec<u8>) -> Result<(), NoMemory> {
+    let _last = line.pop();
     line.push(b'\n')?;
     Ok(())
+}
+
+/// Puts the entry, where there is one.
+fn push_found(line: &mut Vec<u8>, sign: &str, entry: &Option<Entry>) -> Result<(), NoMemory> {
+    match entry {
+        Some(entry) => push_entry(line, sign, entry),
+        None => Ok(()),
+    }
 }
 
 /// What a write touches: a line of what was, and one of what is.
 fn difference(alloc: Global, touches: &Touched) -> Result<Vec<u8>, NoMemory> {
     let mut lines = Vec::new(alloc);
     for touch in touches.list() {
-        if let Some(entry) = &touch.was {
-            push_entry(&mut lines, "-", entry)?;
-        }
-        if let Some(entry) = &touch.now {
-            push_entry(&mut lines, "+", entry)?;
-        }
+        push_found(&mut lines, "-", &touch.was)?;
+        push_found(&mut lines, "+", &touch.now)?;
     }
     Ok(lines)
 }
 
+/// What the write of that number touches.
+fn touched(alloc: Global, tree: &mut Tree, line: &str, number: u32) -> Result<Vec<u8>, Fail> {
+    let touches = outcome(alloc, tree, line, number)??;
+    let shown = difference(alloc, &touches);
+    discard(touches);
+    Ok(shown?)
+}
+
+/// What the next write to the first directory touches.
+fn effect(alloc: Global, line: &str) -> Result<Vec<u8>, Fail> {
+    let mut tree = first_tree(alloc)?;
+    touched(alloc, &mut tree, line, NEXT)
+}
+
+fn assert_effect(rt: &impl Abort, alloc: Global, line: &str, wanted: &str) -> Result<(), Fail> {
+    let found = effect(alloc, line)?;
+    assert_same(rt, line, &found.as_slice(), &wanted.as_bytes());
+    Ok(())
+}
+
 const UNIT: &str = "-3 3 ou=b,o=x objectClass=organizationalUnit|ou=b|ou=bb|l=p\n";
+
+/// Writes, and what they touch.
+const EFFECTS: [(&str, &str); 4] = [
+    (
+        "add OU=c,o=x|objectClass=organizationalUnit|OU=c|description=d|ou=cc",
+        "+9 9 ou=c,o=x objectClass=organizationalUnit|ou=c|ou=cc|description=d\n",
+    ),
+    (
+        "delete ou=s,ou=a,o=x",
+        "-5 5 ou=s,ou=a,o=x objectClass=organizationalUnit|ou=s\n",
+    ),
+    // The entries below move too, with their own RDNs, and each gets the stamp.
+    (
+        "rename ou=a,o=x|ou=n|drop|OU=B,o=x",
+        "-2 2 ou=a,o=x objectClass=organizationalUnit|ou=a\n\
+         +2 9 ou=n,ou=B,o=x objectClass=organizationalUnit|ou=n\n\
+         -4 4 cn=j,ou=a,o=x objectClass=inetOrgPerson|cn=j|cn=k|sn=s|employeeNumber=1\n\
+         +4 9 cn=j,ou=n,ou=B,o=x objectClass=inetOrgPerson|cn=j|cn=k|sn=s|employeeNumber=1\n\
+         -5 5 ou=s,ou=a,o=x objectClass=organizationalUnit|ou=s\n\
+         +5 9 ou=s,ou=n,ou=B,o=x objectClass=organizationalUnit|ou=s\n",
+    ),
+    (
+        "rename cn=j,ou=a,o=x|cn=J+sn=t|drop",
+        "-4 4 cn=j,ou=a,o=x objectClass=inetOrgPerson|cn=j|cn=k|sn=s|employeeNumber=1\n\
+         +4 9 cn=J+sn=t,ou=a,o=x objectClass=inetOrgPerson|cn=j|cn=k|sn=s|sn=t|employeeNumber=1\n",
+    ),
+];
 
 #[test]
 fn effects(rt: HostRuntime) -> Result<(), Fail> {
-    let rows = [
-        (
-            "add OU=c,o=x|objectClass=organizationalUnit|OU=c|description=d|ou=cc",
-            "+9 9 ou=c,o=x objectClass=organizationalUnit|ou=c|ou=cc|description=d\n",
-        ),
-        (
-            "delete ou=s,ou=a,o=x",
-            "-5 5 ou=s,ou=a,o=x objectClass=organizationalUnit|ou=s\n",
-        ),
-        // The entries below move too, with their own RDNs, and each gets the stamp.
-        (
-            "rename ou=a,o=x|ou=n|drop|OU=B,o=x",
-            "-2 2 ou=a,o=x objectClass=organizationalUnit|ou=a\n\
-             +2 9 ou=n,ou=B,o=x objectClass=organizationalUnit|ou=n\n\
-             -4 4 cn=j,ou=a,o=x objectClass=inetOrgPerson|cn=j|cn=k|sn=s|employeeNumber=1\n\
-             +4 9 cn=j,ou=n,ou=B,o=x objectClass=inetOrgPerson|cn=j|cn=k|sn=s|employeeNumber=1\n\
-             -5 5 ou=s,ou=a,o=x objectClass=organizationalUnit|ou=s\n\
-             +5 9 ou=s,ou=n,ou=B,o=x objectClass=organizationalUnit|ou=s\n",
-        ),
-        (
-            "rename cn=j,ou=a,o=x|cn=J+sn=t|drop",
-            "-4 4 cn=j,ou=a,o=x objectClass=inetOrgPerson|cn=j|cn=k|sn=s|employeeNumber=1\n\
-             +4 9 cn=J+sn=t,ou=a,o=x objectClass=inetOrgPerson|cn=j|cn=k|sn=s|sn=t|employeeNumber=1\n",
-        ),
-    ];
-    for (line, expected) in rows {
-        let mut tree = first_tree(rt.alloc())?;
-        let touches = outcome(rt.alloc(), &mut tree, line, NEXT)??;
-        let shown = difference(rt.alloc(), &touches)?;
-        assert_eq!(rt; shown.as_slice(), expected.as_bytes(), "{line}");
+    for (line, wanted) in &EFFECTS {
+        assert_effect(&rt, rt.alloc(), line, wanted)?;
     }
     Ok(())
 }
 
+/// Writes, and what becomes of the one entry that they touch.
+const UNITS: [(&str, &str); 13] = [
+    // An added value goes last, and so does an added type.
+    (
+        "modify ou=b,o=x|+ou=c|+description=d",
+        "ou=b,o=x objectClass=organizationalUnit|ou=b|ou=bb|ou=c|l=p|description=d",
+    ),
+    // A replace keeps the place of a type that is there.
+    (
+        "modify ou=b,o=x|=ou=z;B",
+        "ou=b,o=x objectClass=organizationalUnit|ou=z|ou=B|l=p",
+    ),
+    (
+        "modify ou=b,o=x|=description=d|=l=q",
+        "ou=b,o=x objectClass=organizationalUnit|ou=b|ou=bb|l=q|description=d",
+    ),
+    // A type without values goes.
+    (
+        "modify ou=b,o=x|=l|=description",
+        "ou=b,o=x objectClass=organizationalUnit|ou=b|ou=bb",
+    ),
+    (
+        "modify ou=b,o=x|-l=P|-ou=BB",
+        "ou=b,o=x objectClass=organizationalUnit|ou=b",
+    ),
+    (
+        "modify ou=b,o=x|-ou|+ou=b",
+        "ou=b,o=x objectClass=organizationalUnit|l=p|ou=b",
+    ),
+    // The stamp alone.
+    (
+        "modify ou=b,o=x",
+        "ou=b,o=x objectClass=organizationalUnit|ou=b|ou=bb|l=p",
+    ),
+    (
+        "modify ou=b,o=x|+description=d|-description=d",
+        "ou=b,o=x objectClass=organizationalUnit|ou=b|ou=bb|l=p",
+    ),
+    // A value of the new RDN goes last where it is not there, and one of the old RDN goes where
+    // this is asked for.
+    (
+        "rename ou=b,o=x|OU=c|keep",
+        "ou=c,o=x objectClass=organizationalUnit|ou=b|ou=bb|ou=c|l=p",
+    ),
+    (
+        "rename ou=b,o=x|ou=c|drop",
+        "ou=c,o=x objectClass=organizationalUnit|ou=bb|ou=c|l=p",
+    ),
+    (
+        "rename ou=b,o=x|ou=B|drop",
+        "ou=B,o=x objectClass=organizationalUnit|ou=b|ou=bb|l=p",
+    ),
+    (
+        "rename ou=b,o=x|ou=BB|drop",
+        "ou=BB,o=x objectClass=organizationalUnit|ou=bb|l=p",
+    ),
+    (
+        "rename ou=b,o=x|ou=b|keep|ou=s,ou=a,o=x",
+        "ou=b,ou=s,ou=a,o=x objectClass=organizationalUnit|ou=b|ou=bb|l=p",
+    ),
+];
+
 #[test]
 fn effects_on_one_entry(rt: HostRuntime) -> Result<(), Fail> {
-    let rows = [
-        // An added value goes last, and so does an added type.
-        (
-            "modify ou=b,o=x|+ou=c|+description=d",
-            "ou=b,o=x objectClass=organizationalUnit|ou=b|ou=bb|ou=c|l=p|description=d",
-        ),
-        // A replace keeps the place of a type that is there.
-        (
-            "modify ou=b,o=x|=ou=z;B",
-            "ou=b,o=x objectClass=organizationalUnit|ou=z|ou=B|l=p",
-        ),
-        (
-            "modify ou=b,o=x|=description=d|=l=q",
-            "ou=b,o=x objectClass=organizationalUnit|ou=b|ou=bb|l=q|description=d",
-        ),
-        // A type without values goes.
-        (
-            "modify ou=b,o=x|=l|=description",
-            "ou=b,o=x objectClass=organizationalUnit|ou=b|ou=bb",
-        ),
-        (
-            "modify ou=b,o=x|-l=P|-ou=BB",
-            "ou=b,o=x objectClass=organizationalUnit|ou=b",
-        ),
-        (
-            "modify ou=b,o=x|-ou|+ou=b",
-            "ou=b,o=x objectClass=organizationalUnit|l=p|ou=b",
-        ),
-        // The stamp alone.
-        (
-            "modify ou=b,o=x",
-            "ou=b,o=x objectClass=organizationalUnit|ou=b|ou=bb|l=p",
-        ),
-        (
-            "modify ou=b,o=x|+description=d|-description=d",
-            "ou=b,o=x objectClass=organizationalUnit|ou=b|ou=bb|l=p",
-        ),
-        // A value of the new RDN goes last where it is not there, and one of the old RDN goes where
-        // this is asked for.
-        (
-            "rename ou=b,o=x|OU=c|keep",
-            "ou=c,o=x objectClass=organizationalUnit|ou=b|ou=bb|ou=c|l=p",
-        ),
-        (
-            "rename ou=b,o=x|ou=c|drop",
-            "ou=c,o=x objectClass=organizationalUnit|ou=bb|ou=c|l=p",
-        ),
-        (
-            "rename ou=b,o=x|ou=B|drop",
-            "ou=B,o=x objectClass=organizationalUnit|ou=b|ou=bb|l=p",
-        ),
-        (
-            "rename ou=b,o=x|ou=BB|drop",
-            "ou=BB,o=x objectClass=organizationalUnit|ou=bb|l=p",
-        ),
-        (
-            "rename ou=b,o=x|ou=b|keep|ou=s,ou=a,o=x",
-            "ou=b,ou=s,ou=a,o=x objectClass=organizationalUnit|ou=b|ou=bb|l=p",
-        ),
-    ];
-    for (line, expected) in rows {
-        let mut tree = first_tree(rt.alloc())?;
-        let touches = outcome(rt.alloc(), &mut tree, line, NEXT)??;
-        let shown = difference(rt.alloc(), &touches)?;
-        let lines = format!(in rt.alloc(); "{UNIT}+3 9 {expected}\n")?;
-        assert_eq!(rt; shown.as_slice(), lines.as_bytes(), "{line}");
+    for (line, unit) in &UNITS {
+        let wanted = format!(in rt.alloc(); "{UNIT}+3 9 {unit}\n")?;
+        assert_effect(&rt, rt.alloc(), line, wanted.as_str())?;
     }
     Ok(())
+}
+
+fn uuid_of(entry: Option<&Entry>) -> Option<u128> {
+    match entry {
+        Some(entry) => Some(entry.uuid),
+        None => None,
+    }
+}
+
+fn has_name(entry: Option<&Entry>, dn: &Dn) -> bool {
+    match entry {
+        Some(entry) => entry.dn.same(dn),
+        None => false,
+    }
 }
 
 #[test]
 fn entries_found(rt: HostRuntime) -> Result<(), Fail> {
-    let alloc = rt.alloc();
-    let mut tree = first_tree(alloc)?;
-    assert_eq!(rt; tree.len(), 5);
-    let dn = Dn::parse(alloc, b"CN=J,OU=A,O=X")?;
-    assert_eq!(rt; tree.find(&dn).ok_or("no entry")?.uuid, 4);
-    assert!(rt; tree.get(4).ok_or("no entry")?.dn.same(&dn));
+    let tree = first_tree(rt.alloc())?;
+    let dn = Dn::parse(rt.alloc(), b"CN=J,OU=A,O=X")?;
+    assert_same(&rt, "identity", &uuid_of(tree.find(&dn)), &Some(4));
+    assert!(rt; has_name(tree.get(4), &dn));
     assert!(rt; tree.get(9).is_none());
-    // An entry that is added with an identity that is there takes the place of the other.
+    Ok(())
+}
+
+const REPLACED: &str = "-5 5 ou=s,ou=a,o=x objectClass=organizationalUnit|ou=s\n\
+                        +5 5 ou=c,o=x objectClass=organizationalUnit|ou=c\n";
+
+/// An entry that is added with an identity that is there takes the place of the other.
+#[test]
+fn an_identity_comes_again(rt: HostRuntime) -> Result<(), Fail> {
+    let mut tree = first_tree(rt.alloc())?;
+    assert_same(&rt, "length", &tree.len(), &5);
     let line = "add ou=c,o=x|objectClass=organizationalUnit|ou=c";
-    let touches = outcome(alloc, &mut tree, line, 5)??;
-    let shown = difference(alloc, &touches)?;
-    let lines = "-5 5 ou=s,ou=a,o=x objectClass=organizationalUnit|ou=s\n\
-                 +5 5 ou=c,o=x objectClass=organizationalUnit|ou=c\n";
-    assert_eq!(rt; shown.as_slice(), lines.as_bytes());
-    assert_eq!(rt; tree.len(), 5);
+    let shown = touched(rt.alloc(), &mut tree, line, 5)?;
+    assert_same(&rt, line, &shown.as_slice(), &REPLACED.as_bytes());
+    assert_same(&rt, "length", &tree.len(), &5);
     Ok(())
 }
 
@@ -503,31 +678,61 @@ fn identities(alloc: Global, entries: &EntryList) -> Result<Vec<u128>, NoMemory>
     Ok(all)
 }
 
+/// Bases, scopes and types, and the identities of the entries there that have the type.
+type Selected = (&'static str, Scope, &'static str, &'static [u128]);
+
+const SELECTED: [Selected; 6] = [
+    ("", Scope::Sub, "objectClass", &[1, 2, 3, 4, 5]),
+    ("OU=A,o=x", Scope::Sub, "objectClass", &[2, 4, 5]),
+    ("OU=A,o=x", Scope::One, "objectClass", &[4, 5]),
+    ("OU=A,o=x", Scope::Base, "objectClass", &[2]),
+    ("o=x", Scope::Sub, "L", &[3]),
+    ("o=x", Scope::Sub, "foo", &[]),
+];
+
+/// The entries at the base and in the scope that have the type.
+fn spec_of(alloc: Global, base: &str, scope: Scope, kind: &str) -> Result<Spec, Fail> {
+    Ok(Spec {
+        base: Dn::parse(alloc, base.as_bytes())?,
+        scope,
+        filter: Filter::Present(octets(alloc, kind)?),
+    })
+}
+
+/// The identities of the selected entries.
+fn selected_by(alloc: Global, tree: &Tree, spec: &Spec) -> Result<Vec<u128>, NoMemory> {
+    let found = tree.select(alloc, spec)?;
+    let identities = identities(alloc, &found);
+    discard(found);
+    identities
+}
+
+fn assert_selected(
+    rt: &impl Abort,
+    alloc: Global,
+    tree: &Tree,
+    spec: &Spec,
+    wanted: &[u128],
+) -> Result<(), NoMemory> {
+    assert!(rt; spec.same(spec));
+    let found = selected_by(alloc, tree, spec)?;
+    assert_same(rt, "selected", &found.as_slice(), &wanted);
+    Ok(())
+}
+
+fn check_selected(rt: &impl Abort, alloc: Global, tree: &Tree, row: &Selected) -> Result<(), Fail> {
+    let (base, scope, kind, wanted) = row;
+    let spec = spec_of(alloc, base, *scope, kind)?;
+    let answer = assert_selected(rt, alloc, tree, &spec, wanted);
+    discard(spec);
+    Ok(answer?)
+}
+
 #[test]
 fn selected(rt: HostRuntime) -> Result<(), Fail> {
-    let rows: [(&str, Scope, &str, &[u128]); 6] = [
-        ("", Scope::Sub, "objectClass", &[1, 2, 3, 4, 5]),
-        ("OU=A,o=x", Scope::Sub, "objectClass", &[2, 4, 5]),
-        ("OU=A,o=x", Scope::One, "objectClass", &[4, 5]),
-        ("OU=A,o=x", Scope::Base, "objectClass", &[2]),
-        ("o=x", Scope::Sub, "L", &[3]),
-        ("o=x", Scope::Sub, "foo", &[]),
-    ];
-    let alloc = rt.alloc();
-    let tree = first_tree(alloc)?;
-    for (base, scope, kind, expected) in rows {
-        let spec = Spec {
-            base: Dn::parse(alloc, base.as_bytes())?,
-            scope,
-            filter: Filter::Present(octets(alloc, kind)?),
-        };
-        assert!(rt; spec.same(&spec));
-        let found = tree.select(alloc, &spec)?;
-        assert_eq!(rt;
-            identities(alloc, &found)?.as_slice(),
-            expected,
-            "{base} {kind}"
-        );
+    let tree = first_tree(rt.alloc())?;
+    for row in &SELECTED {
+        check_selected(&rt, rt.alloc(), &tree, row)?;
     }
     Ok(())
 }

@@ -2,4 +2,6 @@
 #![tactic(auto)]
 
 #[cfg(test)]
+mod refresh_tests;
+#[cfg(test)]
 mod sync_provider_tests;

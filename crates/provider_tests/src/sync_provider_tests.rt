@@ -40,7 +40,7 @@ const ENTRY_END: &[u8] =
 /// A refresh from nothing: mode refreshOnly and no cookie.
 const REFRESH: &[u8] = b"\x30\x03\x0a\x01\x01";
 
-fn octets(alloc: Global, text: &[u8]) -> Result<Octets, NoMemory> {
+pub(crate) fn octets(alloc: Global, text: &[u8]) -> Result<Octets, NoMemory> {
     Octets::from_slice(alloc, text)
 }
 
@@ -65,7 +65,7 @@ fn first_add(alloc: Global) -> Result<Change, NoMemory> {
 }
 
 /// The add of an organizational unit.
-fn add_unit(alloc: Global, name: &[u8], unit: &[u8]) -> Result<Change, NoMemory> {
+pub(crate) fn add_unit(alloc: Global, name: &[u8], unit: &[u8]) -> Result<Change, NoMemory> {
     let mut list = RawList::new(alloc);
     list.push(attribute(alloc, b"objectClass", &[b"organizationalUnit"])?)?;
     list.push(attribute(alloc, b"ou", &[unit])?)?;
@@ -78,7 +78,11 @@ fn provider(alloc: Global) -> Result<Provider, Fail> {
 }
 
 /// The code of a write, and the number of writes after it.
-fn written(alloc: Global, provider: &mut Provider, change: &Change) -> Result<(u32, u64), Fail> {
+pub(crate) fn written(
+    alloc: Global,
+    provider: &mut Provider,
+    change: &Change,
+) -> Result<(u32, u64), Fail> {
     match read_op(alloc, change) {
         Ok(op) => {
             let reply = provider.write(alloc, op, 0);
@@ -90,7 +94,7 @@ fn written(alloc: Global, provider: &mut Provider, change: &Change) -> Result<(u
 }
 
 /// A provider with the entry `dc=x`.
-fn one_entry(alloc: Global) -> Result<Provider, Fail> {
+pub(crate) fn one_entry(alloc: Global) -> Result<Provider, Fail> {
     let mut provider = provider(alloc)?;
     let change = first_add(alloc)?;
     if written(alloc, &mut provider, &change)? == (0, 1) {
@@ -113,7 +117,7 @@ fn ask(alloc: Global, base: &[u8], control: &[u8]) -> Result<SyncSearch, Fail> {
 }
 
 /// What becomes of a search below this base with this control.
-fn accepted(
+pub(crate) fn accepted(
     alloc: Global,
     provider: &mut Provider,
     base: &[u8],
@@ -124,7 +128,12 @@ fn accepted(
 }
 
 /// The control's value with this mode, cookie and hint, as far as the lengths take one octet.
-fn control(alloc: Global, mode: u8, cookie: &[u8], hint: bool) -> Result<Octets, NoMemory> {
+pub(crate) fn control(
+    alloc: Global,
+    mode: u8,
+    cookie: &[u8],
+    hint: bool,
+) -> Result<Octets, NoMemory> {
     let mut bytes = Vec::new(alloc);
     let hint: &[u8] = if hint { b"\x01\x01\xff" } else { b"" };
     let inner = 5_usize
@@ -185,7 +194,7 @@ fn handed(
     Ok((code, bytes?))
 }
 
-fn discard<T: Drop>(_value: T) {}
+pub(crate) fn discard<T: Drop>(_value: T) {}
 
 fn bytes_of(alloc: Global, handed: &Handed) -> Result<Octets, Fail> {
     match handed {
@@ -368,7 +377,11 @@ fn searches_return_to_an_earlier_moment(rt: HostRuntime) -> Result<(), Fail> {
 }
 
 /// The code of the deletion of this name, and how many writes are accepted after it.
-fn deleted(alloc: Global, provider: &mut Provider, name: &[u8]) -> Result<(u32, u64), Fail> {
+pub(crate) fn deleted(
+    alloc: Global,
+    provider: &mut Provider,
+    name: &[u8],
+) -> Result<(u32, u64), Fail> {
     let change = Change::Delete(octets(alloc, name)?);
     written(alloc, provider, &change)
 }

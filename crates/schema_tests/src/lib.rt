@@ -3,6 +3,8 @@
 #![tactic(auto)]
 
 #[cfg(test)]
+mod assertions;
+#[cfg(test)]
 mod schema_rules_tests;
 #[cfg(test)]
 mod text_keys_tests;

@@ -1,240 +1,339 @@
 //! The tables, as they are agreed, and what the schema says of attributes and of entries.
+use crate::assertions::assert_same;
 use ldap_ber::{NoMemory, Octets, OctetsList};
 use schema_rules::{
-    AttributeType, Attrs, RawAttribute, RawList, Rule, SchemaFault, check_entry, key_of,
+    Attribute, AttributeType, Attrs, RawAttribute, RawList, Rule, SchemaFault, check_entry, key_of,
 };
 use std::alloc::{AllocError, Global};
+use std::process::Abort;
 use std::test::Fail;
 use text_keys::KeyFault;
 
+/// The types, how their values are compared, and whether an entry has one value at most.
+const TYPE_ROWS: [(&str, Rule, bool); 24] = [
+    ("objectClass", Rule::Class, false),
+    ("cn", Rule::Folded, false),
+    ("sn", Rule::Folded, false),
+    ("givenName", Rule::Folded, false),
+    ("displayName", Rule::Folded, true),
+    ("uid", Rule::Folded, false),
+    ("mail", Rule::FoldedAscii, false),
+    ("title", Rule::Folded, false),
+    ("description", Rule::Folded, false),
+    ("ou", Rule::Folded, false),
+    ("o", Rule::Folded, false),
+    ("l", Rule::Folded, false),
+    ("dc", Rule::FoldedAscii, true),
+    ("telephoneNumber", Rule::FoldedAscii, false),
+    ("departmentNumber", Rule::Folded, false),
+    ("employeeNumber", Rule::Folded, true),
+    ("uidNumber", Rule::Whole, true),
+    ("gidNumber", Rule::Whole, true),
+    ("memberUid", Rule::ExactAscii, false),
+    ("homeDirectory", Rule::ExactAscii, true),
+    ("syncActive", Rule::Flag, true),
+    ("syncExpiry", Rule::Time, true),
+    ("entryUUID", Rule::Operational, true),
+    ("entryCSN", Rule::Operational, true),
+];
+
+/// A name, how the values are compared, whether there is one at most, and whether clients may not
+/// give it.
+type Told = (&'static [u8], Rule, bool, bool);
+
+fn told(kind: AttributeType) -> Told {
+    (kind.name(), kind.rule(), kind.single(), kind.operational())
+}
+
+/// What the table says of a name.
+fn found(name: &str) -> Option<Told> {
+    match AttributeType::find(name.as_bytes()) {
+        Some(kind) => Some(told(kind)),
+        None => None,
+    }
+}
+
 #[test]
-fn types_of_the_table(rt: HostRuntime) -> Result<(), Fail> {
-    let rows = [
-        ("objectClass", Rule::Class, false),
-        ("cn", Rule::Folded, false),
-        ("sn", Rule::Folded, false),
-        ("givenName", Rule::Folded, false),
-        ("displayName", Rule::Folded, true),
-        ("uid", Rule::Folded, false),
-        ("mail", Rule::FoldedAscii, false),
-        ("title", Rule::Folded, false),
-        ("description", Rule::Folded, false),
-        ("ou", Rule::Folded, false),
-        ("o", Rule::Folded, false),
-        ("l", Rule::Folded, false),
-        ("dc", Rule::FoldedAscii, true),
-        ("telephoneNumber", Rule::FoldedAscii, false),
-        ("departmentNumber", Rule::Folded, false),
-        ("employeeNumber", Rule::Folded, true),
-        ("uidNumber", Rule::Whole, true),
-        ("gidNumber", Rule::Whole, true),
-        ("memberUid", Rule::ExactAscii, false),
-        ("homeDirectory", Rule::ExactAscii, true),
-        ("syncActive", Rule::Flag, true),
-        ("syncExpiry", Rule::Time, true),
-        ("entryUUID", Rule::Operational, true),
-        ("entryCSN", Rule::Operational, true),
-    ];
-    for (name, rule, single) in rows {
-        let kind = AttributeType::find(name.as_bytes()).ok_or(name)?;
-        assert_eq!(rt; kind.name(), name.as_bytes());
-        assert_eq!(rt; kind.rule(), rule, "{name}");
-        assert_eq!(rt; kind.single(), single, "{name}");
-        assert_eq!(rt; kind.operational(), rule == Rule::Operational, "{name}");
+fn types_of_the_table(rt: HostRuntime) {
+    for (name, rule, single) in &TYPE_ROWS {
+        let wanted = (name.as_bytes(), *rule, *single, *rule == Rule::Operational);
+        assert_same(&rt, name, &found(name), &Some(wanted));
     }
-    for name in ["OBJECTCLASS", "telephonenumber", "EntryCsn"] {
-        assert!(rt; AttributeType::find(name.as_bytes()).is_some(), "{name}");
+}
+
+/// Names in any case.
+const FOUND: [&str; 3] = ["OBJECTCLASS", "telephonenumber", "EntryCsn"];
+
+/// Names of no type.
+const UNKNOWN: [&str; 7] = ["", "c", "cn ", "cnn", "foo", "2.5.4.3", "cn;lang-de"];
+
+fn assert_known(rt: &impl Abort, names: &[&str], wanted: bool) {
+    for name in names {
+        assert_same(rt, name, &found(name).is_some(), &wanted);
     }
-    for name in ["", "c", "cn ", "cnn", "foo", "2.5.4.3", "cn;lang-de"] {
-        assert!(rt; AttributeType::find(name.as_bytes()).is_none(), "{name}");
+}
+
+#[test]
+fn names_of_types(rt: HostRuntime) {
+    assert_known(&rt, &FOUND, true);
+    assert_known(&rt, &UNKNOWN, false);
+}
+
+/// Types and values, and the keys of these or what is against them.
+const KEYS: [(&str, &[u8], &[u8]); 17] = [
+    ("objectClass", b"INETORGPERSON", b"inetorgperson"),
+    ("objectClass", b"foo", b"NotOfSyntax"),
+    ("objectClass", b"foo\xff", b"NotUtf8"),
+    ("cn", b"Ann  Lee", b"ann lee"),
+    ("cn", b" ", b"NotOfSyntax"),
+    ("sn", b"stra\xc3\x9fe", b"strasse"),
+    ("mail", b"A@X", b"a@x"),
+    ("mail", b"\xc3\xa9@x", b"NotOfSyntax"),
+    ("mail", b"\xe9@x", b"NotUtf8"),
+    ("memberUid", b"X", b"X"),
+    ("memberUid", b"\xc3\xa9", b"NotOfSyntax"),
+    ("uidNumber", b"7", b"7"),
+    ("uidNumber", b"07", b"NotOfSyntax"),
+    ("syncActive", b"TRUE", b"TRUE"),
+    ("syncActive", b"true", b"NotOfSyntax"),
+    ("syncExpiry", b"20291231235959Z", b"20291231235959Z"),
+    ("syncExpiry", b"20290230000000Z", b"NotOfSyntax"),
+];
+
+/// The key, or the fault by its name.
+fn shown(answer: &Result<Vec<u8>, KeyFault>) -> &[u8] {
+    match answer {
+        Ok(key) => key.as_slice(),
+        Err(KeyFault::NotUtf8) => b"NotUtf8",
+        Err(KeyFault::NotOfSyntax) => b"NotOfSyntax",
+        Err(KeyFault::NoMemory) => b"NoMemory",
     }
-    Ok(())
+}
+
+fn assert_key(rt: &impl Abort, alloc: Global, kind: AttributeType, value: &[u8], wanted: &[u8]) {
+    assert!(rt; !kind.operational());
+    let answer = key_of(alloc, kind, value);
+    assert_same(rt, "key", &shown(&answer), &wanted);
 }
 
 #[test]
 fn keys_by_the_rules(rt: HostRuntime) -> Result<(), Fail> {
-    let rows: [(&str, &[u8], &[u8]); 17] = [
-        ("objectClass", b"INETORGPERSON", b"inetorgperson"),
-        ("objectClass", b"foo", b"NotOfSyntax"),
-        ("objectClass", b"foo\xff", b"NotUtf8"),
-        ("cn", b"Ann  Lee", b"ann lee"),
-        ("cn", b" ", b"NotOfSyntax"),
-        ("sn", b"stra\xc3\x9fe", b"strasse"),
-        ("mail", b"A@X", b"a@x"),
-        ("mail", b"\xc3\xa9@x", b"NotOfSyntax"),
-        ("mail", b"\xe9@x", b"NotUtf8"),
-        ("memberUid", b"X", b"X"),
-        ("memberUid", b"\xc3\xa9", b"NotOfSyntax"),
-        ("uidNumber", b"7", b"7"),
-        ("uidNumber", b"07", b"NotOfSyntax"),
-        ("syncActive", b"TRUE", b"TRUE"),
-        ("syncActive", b"true", b"NotOfSyntax"),
-        ("syncExpiry", b"20291231235959Z", b"20291231235959Z"),
-        ("syncExpiry", b"20290230000000Z", b"NotOfSyntax"),
-    ];
-    for (name, value, key) in rows {
-        let kind = AttributeType::find(name.as_bytes()).ok_or(name)?;
-        if kind.operational() {
-            continue;
-        }
-        let answer = key_of(rt.alloc(), kind, value);
-        let shown: &[u8] = match &answer {
-            Ok(key) => key.as_slice(),
-            Err(KeyFault::NotUtf8) => b"NotUtf8",
-            Err(KeyFault::NotOfSyntax) => b"NotOfSyntax",
-            Err(KeyFault::NoMemory) => b"NoMemory",
-        };
-        assert_eq!(rt; shown, key, "{name}");
+    for (name, value, key) in &KEYS {
+        let kind = AttributeType::find(name.as_bytes()).ok_or(*name)?;
+        assert_key(&rt, rt.alloc(), kind, value, key);
     }
     Ok(())
+}
+
+/// The attribute of `type=value`, or of `type` alone.
+fn raw_attribute(alloc: Global, piece: &str) -> Result<RawAttribute, NoMemory> {
+    let (name, values) = match piece.split_once('=') {
+        Some((name, value)) => (name, one_value(alloc, value)?),
+        None => (piece, OctetsList::new(alloc)),
+    };
+    Ok(RawAttribute {
+        name: Octets::from_slice(alloc, name.as_bytes())?,
+        values,
+    })
+}
+
+fn one_value(alloc: Global, value: &str) -> Result<OctetsList, NoMemory> {
+    let mut values = OctetsList::new(alloc);
+    values.push(Octets::from_slice(alloc, value.as_bytes())?)?;
+    Ok(values)
 }
 
 /// The attributes of a line: each piece is one attribute with one value, or with none.
 fn raw_list(alloc: Global, line: &str) -> Result<RawList, NoMemory> {
     let mut raw = RawList::new(alloc);
     for piece in line.split('|') {
-        let mut values = OctetsList::new(alloc);
-        let name = match piece.split_once('=') {
-            Some((name, value)) => {
-                values.push(Octets::from_slice(alloc, value.as_bytes())?)?;
-                name
-            }
-            None => piece,
-        };
-        let name = Octets::from_slice(alloc, name.as_bytes())?;
-        raw.push(RawAttribute { name, values })?;
+        raw.push(raw_attribute(alloc, piece)?)?;
     }
     Ok(raw)
+}
+
+fn read(alloc: Global, line: &str) -> Result<Attrs, SchemaFault> {
+    let raw = raw_list(alloc, line)?;
+    Attrs::read(alloc, &raw)
+}
+
+/// Puts a value with its type at the end.
+fn push_value(line: &mut Vec<u8>, name: &[u8], value: &[u8]) -> Result<(), NoMemory> {
+    if !line.is_empty() {
+        line.push(b'|')?;
+    }
+    line.extend_from_slice(name)?;
+    line.push(b'=')?;
+    line.extend_from_slice(value)
+}
+
+/// Puts each value with the type at the end.
+fn push_attribute(line: &mut Vec<u8>, attribute: &Attribute) -> Result<(), NoMemory> {
+    for value in attribute.values.list() {
+        push_value(line, attribute.kind.name(), value.as_slice())?;
+    }
+    Ok(())
 }
 
 /// The attributes as a line, each value with its type.
 fn line_of(alloc: Global, attrs: &Attrs) -> Result<Vec<u8>, NoMemory> {
     let mut line = Vec::new(alloc);
     for attribute in attrs.list() {
-        for value in attribute.values.list() {
-            if !line.is_empty() {
-                line.push(b'|')?;
-            }
-            line.extend_from_slice(attribute.kind.name())?;
-            line.push(b'=')?;
-            line.extend_from_slice(value.as_slice())?;
-        }
+        push_attribute(&mut line, attribute)?;
     }
     Ok(line)
 }
 
-#[test]
-fn attributes_read(rt: HostRuntime) -> Result<(), Fail> {
-    let rows = [
-        ("cn=a", Ok("cn=a")),
-        (
-            "CN=a|sn=b|cn=c|DESCRIPTION=d",
-            Ok("cn=a|cn=c|sn=b|description=d"),
-        ),
-        ("memberUid=x|memberUid=X", Ok("memberUid=x|memberUid=X")),
-        ("foo=1", Err(17)),
-        ("entryUUID=1", Err(19)),
-        ("entryCSN", Err(19)),
-        ("cn", Err(21)),
-        ("cn=", Err(21)),
-        ("uidNumber=7|uidNumber=07", Err(21)),
-        ("objectClass=foo", Err(21)),
-        ("cn=a|sn=b|cn=A", Err(20)),
-        ("o=straße|o=STRASSE", Err(20)),
-        ("objectClass=top|objectClass=TOP", Err(20)),
-        ("cn=a|cn=A|foo=1", Err(17)),
-        ("cn=a|cn=A|sn", Err(21)),
-        ("cn=|foo=1", Err(21)),
-        ("foo=1|cn=", Err(17)),
-        ("entryCSN=1|foo=1", Err(19)),
-    ];
-    for (line, verdict) in rows {
-        let raw = raw_list(rt.alloc(), line)?;
-        match (Attrs::read(rt.alloc(), &raw), verdict) {
-            (Ok(attrs), Ok(expected)) => {
-                let shown = line_of(rt.alloc(), &attrs)?;
-                assert_eq!(rt; shown.as_slice(), expected.as_bytes());
-                let copied = line_of(rt.alloc(), &attrs.copy()?)?;
-                assert_eq!(rt; copied.as_slice(), expected.as_bytes());
-            }
-            (Err(fault), Err(code)) => assert_eq!(rt; fault, SchemaFault::Code(code), "{line}"),
-            (Ok(_), Err(_)) | (Err(_), Ok(_)) => return Err(Fail::from(line)),
-        }
+/// The line as it is read.
+fn line_read(alloc: Global, line: &str) -> Result<Vec<u8>, SchemaFault> {
+    let attrs = read(alloc, line)?;
+    Ok(line_of(alloc, &attrs)?)
+}
+
+/// The line as a copy of what is read has it.
+fn line_copied(alloc: Global, line: &str) -> Result<Vec<u8>, SchemaFault> {
+    let attrs = read(alloc, line)?.copy()?;
+    Ok(line_of(alloc, &attrs)?)
+}
+
+fn text_of(line: &Result<Vec<u8>, SchemaFault>) -> Result<&str, SchemaFault> {
+    match line {
+        Ok(line) => Ok(str::from_utf8(line.as_slice()).unwrap_or("?")),
+        Err(fault) => Err(*fault),
     }
-    Ok(())
+}
+
+/// Attributes, and how they are read or the code against them.
+const LINES: [(&str, Result<&str, SchemaFault>); 18] = [
+    ("cn=a", Ok("cn=a")),
+    (
+        "CN=a|sn=b|cn=c|DESCRIPTION=d",
+        Ok("cn=a|cn=c|sn=b|description=d"),
+    ),
+    ("memberUid=x|memberUid=X", Ok("memberUid=x|memberUid=X")),
+    ("foo=1", Err(SchemaFault::Code(17))),
+    ("entryUUID=1", Err(SchemaFault::Code(19))),
+    ("entryCSN", Err(SchemaFault::Code(19))),
+    ("cn", Err(SchemaFault::Code(21))),
+    ("cn=", Err(SchemaFault::Code(21))),
+    ("uidNumber=7|uidNumber=07", Err(SchemaFault::Code(21))),
+    ("objectClass=foo", Err(SchemaFault::Code(21))),
+    ("cn=a|sn=b|cn=A", Err(SchemaFault::Code(20))),
+    ("o=straße|o=STRASSE", Err(SchemaFault::Code(20))),
+    (
+        "objectClass=top|objectClass=TOP",
+        Err(SchemaFault::Code(20)),
+    ),
+    ("cn=a|cn=A|foo=1", Err(SchemaFault::Code(17))),
+    ("cn=a|cn=A|sn", Err(SchemaFault::Code(21))),
+    ("cn=|foo=1", Err(SchemaFault::Code(21))),
+    ("foo=1|cn=", Err(SchemaFault::Code(17))),
+    ("entryCSN=1|foo=1", Err(SchemaFault::Code(19))),
+];
+
+fn assert_line(
+    rt: &impl Abort,
+    row: &str,
+    line: &Result<Vec<u8>, SchemaFault>,
+    wanted: &Result<&str, SchemaFault>,
+) {
+    assert_same(rt, row, &text_of(line), wanted);
+}
+
+#[test]
+fn attributes_read(rt: HostRuntime) {
+    for (line, wanted) in &LINES {
+        assert_line(&rt, line, &line_read(rt.alloc(), line), wanted);
+        assert_line(&rt, line, &line_copied(rt.alloc(), line), wanted);
+    }
 }
 
 #[test]
 fn weights(rt: HostRuntime) -> Result<(), Fail> {
-    assert_eq!(rt; Attrs::new(rt.alloc()).weight(), 0);
-    let raw = raw_list(rt.alloc(), "cn=Ann|CN=Ann Lee|telephoneNumber=1-2")?;
-    let attrs = Attrs::read(rt.alloc(), &raw)?;
-    assert_eq!(rt; attrs.weight(), (2 + 3) + (2 + 7) + (15 + 3));
+    assert_same(&rt, "nothing", &Attrs::new(rt.alloc()).weight(), &0);
+    let attrs = read(rt.alloc(), "cn=Ann|CN=Ann Lee|telephoneNumber=1-2")?;
+    let wanted = (2 + 3) + (2 + 7) + (15 + 3);
+    assert_same(&rt, "three values", &attrs.weight(), &wanted);
     Ok(())
 }
 
+/// Entries, and what the schema says of each.
+const ENTRIES: [(&str, Result<(), SchemaFault>); 20] = [
+    (
+        "objectClass=organization|objectClass=dcObject|o=X|dc=x",
+        Ok(()),
+    ),
+    ("objectClass=ORGANIZATIONALUNIT|ou=a|description=d", Ok(())),
+    (
+        "objectClass=inetOrgPerson|cn=a|sn=b|mail=a@x|title=t|o=X",
+        Ok(()),
+    ),
+    (
+        "objectClass=top|objectClass=person|objectClass=inetOrgPerson|cn=a|sn=b",
+        Ok(()),
+    ),
+    (
+        "objectClass=person|objectClass=posixAccount|cn=a|sn=b|uid=a|uidNumber=1|gidNumber=2\
+         |homeDirectory=/a",
+        Ok(()),
+    ),
+    (
+        "objectClass=posixGroup|cn=a|gidNumber=2|memberUid=x|memberUid=y",
+        Ok(()),
+    ),
+    (
+        "objectClass=person|objectClass=syncSubject|cn=a|sn=b|syncActive=TRUE",
+        Ok(()),
+    ),
+    // No objectClass, and no structural class.
+    ("o=X", Err(SchemaFault::Code(65))),
+    ("objectClass=top", Err(SchemaFault::Code(65))),
+    ("objectClass=dcObject|dc=x", Err(SchemaFault::Code(65))),
+    // Two lines of superiors.
+    (
+        "objectClass=person|objectClass=posixGroup|cn=a|sn=b|gidNumber=2",
+        Err(SchemaFault::Code(65)),
+    ),
+    (
+        "objectClass=organization|objectClass=organizationalUnit|o=X|ou=a",
+        Err(SchemaFault::Code(65)),
+    ),
+    // A type that a class or its superior asks for is missing.
+    ("objectClass=person|cn=a", Err(SchemaFault::Code(65))),
+    ("objectClass=inetOrgPerson|cn=a", Err(SchemaFault::Code(65))),
+    (
+        "objectClass=organization|objectClass=dcObject|o=X",
+        Err(SchemaFault::Code(65)),
+    ),
+    // A type that no class allows.
+    (
+        "objectClass=organization|o=X|uid=a",
+        Err(SchemaFault::Code(65)),
+    ),
+    (
+        "objectClass=person|cn=a|sn=b|mail=a@x",
+        Err(SchemaFault::Code(65)),
+    ),
+    (
+        "objectClass=person|cn=a|sn=b|syncActive=TRUE",
+        Err(SchemaFault::Code(65)),
+    ),
+    // Two values of a type that has one, before all else.
+    (
+        "objectClass=organization|objectClass=dcObject|o=X|dc=x|dc=y",
+        Err(SchemaFault::Code(19)),
+    ),
+    (
+        "employeeNumber=1|employeeNumber=2",
+        Err(SchemaFault::Code(19)),
+    ),
+];
+
 #[test]
 fn entries_checked(rt: HostRuntime) -> Result<(), Fail> {
-    let rows = [
-        (
-            "objectClass=organization|objectClass=dcObject|o=X|dc=x",
-            Ok(()),
-        ),
-        ("objectClass=ORGANIZATIONALUNIT|ou=a|description=d", Ok(())),
-        (
-            "objectClass=inetOrgPerson|cn=a|sn=b|mail=a@x|title=t|o=X",
-            Ok(()),
-        ),
-        (
-            "objectClass=top|objectClass=person|objectClass=inetOrgPerson|cn=a|sn=b",
-            Ok(()),
-        ),
-        (
-            "objectClass=person|objectClass=posixAccount|cn=a|sn=b|uid=a|uidNumber=1|gidNumber=2\
-             |homeDirectory=/a",
-            Ok(()),
-        ),
-        (
-            "objectClass=posixGroup|cn=a|gidNumber=2|memberUid=x|memberUid=y",
-            Ok(()),
-        ),
-        (
-            "objectClass=person|objectClass=syncSubject|cn=a|sn=b|syncActive=TRUE",
-            Ok(()),
-        ),
-        // No objectClass, and no structural class.
-        ("o=X", Err(65)),
-        ("objectClass=top", Err(65)),
-        ("objectClass=dcObject|dc=x", Err(65)),
-        // Two lines of superiors.
-        (
-            "objectClass=person|objectClass=posixGroup|cn=a|sn=b|gidNumber=2",
-            Err(65),
-        ),
-        (
-            "objectClass=organization|objectClass=organizationalUnit|o=X|ou=a",
-            Err(65),
-        ),
-        // A type that a class or its superior asks for is missing.
-        ("objectClass=person|cn=a", Err(65)),
-        ("objectClass=inetOrgPerson|cn=a", Err(65)),
-        ("objectClass=organization|objectClass=dcObject|o=X", Err(65)),
-        // A type that no class allows.
-        ("objectClass=organization|o=X|uid=a", Err(65)),
-        ("objectClass=person|cn=a|sn=b|mail=a@x", Err(65)),
-        ("objectClass=person|cn=a|sn=b|syncActive=TRUE", Err(65)),
-        // Two values of a type that has one, before all else.
-        (
-            "objectClass=organization|objectClass=dcObject|o=X|dc=x|dc=y",
-            Err(19),
-        ),
-        ("employeeNumber=1|employeeNumber=2", Err(19)),
-    ];
-    for (line, verdict) in rows {
-        let raw = raw_list(rt.alloc(), line)?;
-        let attrs = Attrs::read(rt.alloc(), &raw)?;
-        let expected = verdict.map_err(SchemaFault::Code);
-        assert_eq!(rt; check_entry(rt.alloc(), &attrs), expected, "{line}");
+    for (line, wanted) in &ENTRIES {
+        let attrs = read(rt.alloc(), line)?;
+        assert_same(&rt, line, &check_entry(rt.alloc(), &attrs), wanted);
     }
     Ok(())
 }
@@ -408,61 +507,89 @@ fn value_of(name: &str) -> &'static str {
 
 /// What the schema says of an entry's line.
 fn verdict(alloc: Global, line: &str) -> Result<(), SchemaFault> {
-    let raw = raw_list(alloc, line)?;
-    let attrs = Attrs::read(alloc, &raw)?;
+    let attrs = read(alloc, line)?;
     check_entry(alloc, &attrs)
 }
 
 const REFUSED: Result<(), SchemaFault> = Err(SchemaFault::Code(65));
 
-#[test]
-fn types_that_classes_ask_for(rt: HostRuntime) -> Result<(), Fail> {
-    let alloc = rt.alloc();
-    for (class, kind, _, _, _) in CLASSES {
-        let given = Given::of(alloc, class, kind)?;
-        let whole = given.entry_without(alloc, "")?;
-        assert_eq!(rt; verdict(alloc, whole.as_str()), Ok(()), "{whole}");
-        for name in &given.must {
-            if *name != "objectClass" {
-                let line = given.entry_without(alloc, name)?;
-                assert_eq!(rt; verdict(alloc, line.as_str()), REFUSED, "{line}");
-            }
+/// What the schema is to say.
+fn wanted(allowed: bool) -> Result<(), SchemaFault> {
+    if allowed { Ok(()) } else { REFUSED }
+}
+
+/// What the schema says of an entry of these classes without this type.
+fn verdict_without(alloc: Global, given: &Given, name: &str) -> Result<(), SchemaFault> {
+    let line = given.entry_without(alloc, name)?;
+    verdict(alloc, line.as_str())
+}
+
+/// Each type that the classes ask for is missed.
+fn check_asked(rt: &impl Abort, alloc: Global, given: &Given) {
+    assert_same(
+        rt,
+        given.classes.as_str(),
+        &verdict_without(alloc, given, ""),
+        &Ok(()),
+    );
+    for name in &given.must {
+        if *name != "objectClass" {
+            assert_same(rt, name, &verdict_without(alloc, given, name), &REFUSED);
         }
     }
+}
+
+#[test]
+fn types_that_classes_ask_for(rt: HostRuntime) -> Result<(), Fail> {
+    for (class, kind, _, _, _) in &CLASSES {
+        let given = Given::of(rt.alloc(), class, *kind)?;
+        check_asked(&rt, rt.alloc(), &given);
+    }
     Ok(())
+}
+
+/// What the schema says of an entry of these classes with this type beside what they ask for.
+fn verdict_with(alloc: Global, given: &Given, name: &str) -> Result<(), SchemaFault> {
+    let mut line = given.entry_without(alloc, name)?;
+    push_piece(&mut line, name, value_of(name))?;
+    verdict(alloc, line.as_str())
+}
+
+/// Those types may stand in an entry that the classes ask for or allow, and no others.
+fn check_allowed(rt: &impl Abort, alloc: Global, given: &Given) {
+    for name in TYPES.split(' ') {
+        let allowed = given.must.contains(&name) || given.may.contains(&name);
+        assert_same(
+            rt,
+            name,
+            &verdict_with(alloc, given, name),
+            &wanted(allowed),
+        );
+    }
 }
 
 #[test]
 fn types_that_classes_allow(rt: HostRuntime) -> Result<(), Fail> {
-    let alloc = rt.alloc();
-    for (class, kind, _, _, _) in CLASSES {
-        let given = Given::of(alloc, class, kind)?;
-        for name in TYPES.split(' ') {
-            let mut line = given.entry_without(alloc, name)?;
-            push_piece(&mut line, name, value_of(name))?;
-            let allowed = given.must.contains(&name) || given.may.contains(&name);
-            let expected = if allowed { Ok(()) } else { REFUSED };
-            assert_eq!(rt; verdict(alloc, line.as_str()), expected, "{line}");
-        }
+    for (class, kind, _, _, _) in &CLASSES {
+        let given = Given::of(rt.alloc(), class, *kind)?;
+        check_allowed(&rt, rt.alloc(), &given);
     }
     Ok(())
 }
 
+/// What the schema says of an entry of this class alone.
+fn verdict_alone(alloc: Global, class: &'static str) -> Result<(), SchemaFault> {
+    let mut given = Given::none(alloc);
+    given.add(class)?;
+    verdict_without(alloc, &given, "")
+}
+
 #[test]
-fn classes_that_make_an_entry(rt: HostRuntime) -> Result<(), Fail> {
-    let alloc = rt.alloc();
-    for (class, kind, _, _, _) in CLASSES {
-        let mut given = Given::none(alloc);
-        given.add(class)?;
-        let line = given.entry_without(alloc, "")?;
-        let expected = if kind == ClassKind::Structural {
-            Ok(())
-        } else {
-            REFUSED
-        };
-        assert_eq!(rt; verdict(alloc, line.as_str()), expected, "{line}");
+fn classes_that_make_an_entry(rt: HostRuntime) {
+    for (class, kind, _, _, _) in &CLASSES {
+        let wanted = wanted(*kind == ClassKind::Structural);
+        assert_same(&rt, class, &verdict_alone(rt.alloc(), class), &wanted);
     }
-    Ok(())
 }
 
 /// Whether the other class is this one or a superior of it.
@@ -478,32 +605,39 @@ fn is_at_or_below(class: &'static str, other: &'static str) -> bool {
     found
 }
 
-/// Whether the structural class makes an entry beside each other one exactly where one of both is a
-/// superior of the other.
-fn stands_beside_its_line(alloc: Global, class: &'static str) -> Result<bool, AllocError> {
-    for (other, kind, _, _, _) in CLASSES {
-        if kind == ClassKind::Structural && class != other {
-            let mut given = Given::none(alloc);
-            given.add(class)?;
-            given.add(other)?;
-            let line = given.entry_without(alloc, "")?;
+/// What the schema says of an entry of both classes.
+fn verdict_together(
+    alloc: Global,
+    class: &'static str,
+    other: &'static str,
+) -> Result<(), SchemaFault> {
+    let mut given = Given::none(alloc);
+    given.add(class)?;
+    given.add(other)?;
+    verdict_without(alloc, &given, "")
+}
+
+/// The structural class makes an entry beside each other one exactly where one of both is a superior
+/// of the other.
+fn check_line(rt: &impl Abort, alloc: Global, class: &'static str) {
+    for (other, kind, _, _, _) in &CLASSES {
+        if *kind == ClassKind::Structural && class != *other {
             let on_one_line = is_at_or_below(class, other) || is_at_or_below(other, class);
-            let expected = if on_one_line { Ok(()) } else { REFUSED };
-            if verdict(alloc, line.as_str()) != expected {
-                return Ok(false);
-            }
+            assert_same(
+                rt,
+                other,
+                &verdict_together(alloc, class, other),
+                &wanted(on_one_line),
+            );
         }
     }
-    Ok(true)
 }
 
 #[test]
-fn structural_classes_together(rt: HostRuntime) -> Result<(), Fail> {
-    let alloc = rt.alloc();
-    for (class, kind, _, _, _) in CLASSES {
-        if kind == ClassKind::Structural {
-            assert!(rt; stands_beside_its_line(alloc, class)?, "{class}");
+fn structural_classes_together(rt: HostRuntime) {
+    for (class, kind, _, _, _) in &CLASSES {
+        if *kind == ClassKind::Structural {
+            check_line(&rt, rt.alloc(), class);
         }
     }
-    Ok(())
 }

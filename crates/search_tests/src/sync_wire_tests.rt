@@ -6,8 +6,10 @@ use entry_tree::{Entry, Scope, Spec};
 use ldap_ber::{NoMemory, Octets, OctetsList};
 use ldap_filter::Filter;
 use ldap_messages::Message;
-use schema_rules::{Attrs, RawAttribute, RawList};
+use schema_rules::{Attribute, Attrs, RawAttribute, RawList};
 use std::alloc::Global;
+use std::fmt::Debug;
+use std::process::Abort;
 use std::test::Fail;
 use sync_messages::{Mode, SyncDone, SyncRequest};
 use sync_wire::{
@@ -50,6 +52,17 @@ const PRESENT: &[u8] =
     b"0D\x02\x01\x07d\x08\x04\x04dc=x0\0\xa0503\x04\x181.3.6.1.4.1.4203.1.9.1.2\x04\x170\x15\x0a\
     \x01\0\x04\x10\xf8\x1dO\xae}\xec\x11\xd0\xa7e\0\xa0\xc9\x1ek\xf6";
 
+/// Asserts that what was found is what is wanted, or tells the row.
+fn assert_same<T: PartialEq + Debug>(rt: &impl Abort, row: &str, found: &T, wanted: &T) {
+    assert!(rt;
+        *found == *wanted,
+        "{row}: {found:?} in place of {wanted:?}"
+    );
+}
+
+/// Drops a value through its bound, so that no proof goes through the cases of its type.
+fn discard<T: Drop>(_value: T) {}
+
 fn octets(alloc: Global, text: &[u8]) -> Result<Octets, NoMemory> {
     Octets::from_slice(alloc, text)
 }
@@ -65,20 +78,32 @@ fn attribute(alloc: Global, name: &[u8], values: &[&[u8]]) -> Result<RawAttribut
     })
 }
 
-fn entry(alloc: Global) -> Result<Entry, Fail> {
+/// The attributes of the entry.
+const ATTRIBUTES: [(&[u8], &[&[u8]]); 3] = [
+    (b"objectClass", &[b"organization", b"dcObject"]),
+    (b"o", &[b"X Ltd", b"Y"]),
+    (b"dc", &[b"x"]),
+];
+
+fn raw_list(alloc: Global) -> Result<RawList, NoMemory> {
     let mut list = RawList::new(alloc);
-    list.push(attribute(alloc, b"objectClass", &[b"organization", b"dcObject"])?)?;
-    list.push(attribute(alloc, b"o", &[b"X Ltd", b"Y"])?)?;
-    list.push(attribute(alloc, b"dc", &[b"x"])?)?;
-    Ok(Entry {
-        uuid: UUID,
-        csn: Csn::parse(CSN)?,
-        dn: Dn::parse(alloc, b"dc=x")?,
-        attrs: Attrs::read(alloc, &list)?,
-    })
+    for (name, values) in &ATTRIBUTES {
+        list.push(attribute(alloc, name, values)?)?;
+    }
+    Ok(list)
 }
 
-fn discard<T: Drop>(_value: T) {}
+fn entry(alloc: Global) -> Result<Entry, Fail> {
+    let csn = Csn::parse(CSN)?;
+    let list = raw_list(alloc)?;
+    let attrs = Attrs::read(alloc, &list)?;
+    Ok(Entry {
+        uuid: UUID,
+        csn,
+        dn: Dn::parse(alloc, b"dc=x")?,
+        attrs,
+    })
+}
 
 fn entry_bytes(alloc: Global, entry: &Entry) -> Result<Octets, NoMemory> {
     let message = entry_message(alloc, 7, entry)?;
@@ -95,7 +120,7 @@ fn end_bytes(alloc: Global, csn: Csn) -> Result<Octets, NoMemory> {
         csn,
         history: 0x0123456789abcdef_0123456789abcdef,
     };
-    let message = end_message(alloc, 7, &cookie)?;
+    let message = end_message(alloc, 7, false, &cookie)?;
     let bytes = message.write(alloc);
     discard(message);
     bytes
@@ -108,13 +133,28 @@ fn busy_bytes(alloc: Global) -> Result<Octets, NoMemory> {
     bytes
 }
 
-#[test]
-fn messages_that_are_sent(rt: HostRuntime) -> Result<(), Fail> {
-    let alloc = rt.alloc();
+fn assert_bytes(rt: &impl Abort, row: &str, found: &Octets, wanted: &[u8]) {
+    assert_same(rt, row, &found.as_slice(), &wanted);
+}
+
+fn sent_entry(alloc: Global) -> Result<Octets, Fail> {
     let entry = entry(alloc)?;
-    assert_eq!(rt; entry_bytes(alloc, &entry)?.as_slice(), ENTRY);
-    assert_eq!(rt; end_bytes(alloc, Csn::parse(CSN)?)?.as_slice(), END);
-    assert_eq!(rt; busy_bytes(alloc)?.as_slice(), BUSY);
+    let bytes = entry_bytes(alloc, &entry);
+    discard(entry);
+    Ok(bytes?)
+}
+
+#[test]
+fn an_entry_is_sent(rt: HostRuntime) -> Result<(), Fail> {
+    assert_bytes(&rt, "entry", &sent_entry(rt.alloc())?, ENTRY);
+    Ok(())
+}
+
+#[test]
+fn ends_are_sent(rt: HostRuntime) -> Result<(), Fail> {
+    let csn = Csn::parse(CSN)?;
+    assert_bytes(&rt, "end", &end_bytes(rt.alloc(), csn)?, END);
+    assert_bytes(&rt, "busy", &busy_bytes(rt.alloc())?, BUSY);
     Ok(())
 }
 
@@ -125,7 +165,9 @@ fn request_bytes(alloc: Global, sync: &SyncRequest) -> Result<Octets, Fail> {
         scope: Scope::One,
         filter: Filter::Present(octets(alloc, b"mail")?),
     };
-    let message = search_request(alloc, 3, &wanted, sync)?;
+    let request = search_request(alloc, 3, &wanted, sync);
+    discard(wanted);
+    let message = request?;
     let bytes = message.write(alloc);
     discard(message);
     Ok(bytes?)
@@ -133,13 +175,12 @@ fn request_bytes(alloc: Global, sync: &SyncRequest) -> Result<Octets, Fail> {
 
 #[test]
 fn the_request_that_is_sent(rt: HostRuntime) -> Result<(), Fail> {
-    let alloc = rt.alloc();
     let sync = SyncRequest {
         mode: Mode::RefreshAndPersist,
-        cookie: Some(octets(alloc, b"rid=000,sid=001")?),
+        cookie: Some(octets(rt.alloc(), b"rid=000,sid=001")?),
         reload_hint: true,
     };
-    assert_eq!(rt; request_bytes(alloc, &sync)?.as_slice(), REQUEST);
+    assert_bytes(&rt, "request", &request_bytes(rt.alloc(), &sync)?, REQUEST);
     Ok(())
 }
 
@@ -158,35 +199,42 @@ fn tag_in(alloc: Global, bytes: &[u8]) -> Result<u8, Fail> {
     Ok(tag)
 }
 
+/// A message of each operation.
+const OPERATIONS: [&[u8]; 21] = [
+    b"0\x0c\x02\x01\x01`\x07\x02\x01\x03\x04\0\x80\0",
+    b"0\x0c\x02\x01\x01a\x07\x0a\x01\0\x04\0\x04\0",
+    b"0\x05\x02\x01\x01B\0",
+    b"0\x1c\x02\x01\x01c\x17\x04\0\x0a\x01\0\x0a\x01\0\x02\x01\0\x02\x01\0\x01\x01\0\x87\x02c\
+    n0\0",
+    b"0\x09\x02\x01\x01d\x04\x04\x000\0",
+    b"0\x0c\x02\x01\x01e\x07\x0a\x01\0\x04\0\x04\0",
+    b"0\x09\x02\x01\x01f\x04\x04\x000\0",
+    b"0\x0c\x02\x01\x01g\x07\x0a\x01\0\x04\0\x04\0",
+    b"0\x09\x02\x01\x01h\x04\x04\x000\0",
+    b"0\x0c\x02\x01\x01i\x07\x0a\x01\0\x04\0\x04\0",
+    b"0\x05\x02\x01\x01J\0",
+    b"0\x0c\x02\x01\x01k\x07\x0a\x01\0\x04\0\x04\0",
+    b"0\x10\x02\x01\x01l\x0b\x04\0\x04\x04cn=a\x01\x01\xff",
+    b"0\x0c\x02\x01\x01m\x07\x0a\x01\0\x04\0\x04\0",
+    b"0\x10\x02\x01\x01n\x0b\x04\x000\x07\x04\x02cn\x04\x01a",
+    b"0\x0c\x02\x01\x01o\x07\x0a\x01\x06\x04\0\x04\0",
+    b"0\x06\x02\x01\x02P\x01\x01",
+    b"0\x0f\x02\x01\x01s\x0a\x04\x08ldap://h",
+    b"0\x0a\x02\x01\x01w\x05\x80\x031.2",
+    b"0\x0c\x02\x01\x01x\x07\x0a\x01\0\x04\0\x04\0",
+    b"0\x05\x02\x01\x01y\0",
+];
+
 #[test]
 fn each_operation_has_its_tag(rt: HostRuntime) -> Result<(), Fail> {
-    let rows: [&[u8]; 21] = [
-        b"0\x0c\x02\x01\x01`\x07\x02\x01\x03\x04\0\x80\0",
-        b"0\x0c\x02\x01\x01a\x07\x0a\x01\0\x04\0\x04\0",
-        b"0\x05\x02\x01\x01B\0",
-        b"0\x1c\x02\x01\x01c\x17\x04\0\x0a\x01\0\x0a\x01\0\x02\x01\0\x02\x01\0\x01\x01\0\x87\x02c\
-        n0\0",
-        b"0\x09\x02\x01\x01d\x04\x04\x000\0",
-        b"0\x0c\x02\x01\x01e\x07\x0a\x01\0\x04\0\x04\0",
-        b"0\x09\x02\x01\x01f\x04\x04\x000\0",
-        b"0\x0c\x02\x01\x01g\x07\x0a\x01\0\x04\0\x04\0",
-        b"0\x09\x02\x01\x01h\x04\x04\x000\0",
-        b"0\x0c\x02\x01\x01i\x07\x0a\x01\0\x04\0\x04\0",
-        b"0\x05\x02\x01\x01J\0",
-        b"0\x0c\x02\x01\x01k\x07\x0a\x01\0\x04\0\x04\0",
-        b"0\x10\x02\x01\x01l\x0b\x04\0\x04\x04cn=a\x01\x01\xff",
-        b"0\x0c\x02\x01\x01m\x07\x0a\x01\0\x04\0\x04\0",
-        b"0\x10\x02\x01\x01n\x0b\x04\x000\x07\x04\x02cn\x04\x01a",
-        b"0\x0c\x02\x01\x01o\x07\x0a\x01\x06\x04\0\x04\0",
-        b"0\x06\x02\x01\x02P\x01\x01",
-        b"0\x0f\x02\x01\x01s\x0a\x04\x08ldap://h",
-        b"0\x0a\x02\x01\x01w\x05\x80\x031.2",
-        b"0\x0c\x02\x01\x01x\x07\x0a\x01\0\x04\0\x04\0",
-        b"0\x05\x02\x01\x01y\0",
-    ];
-    for bytes in rows {
+    for bytes in &OPERATIONS {
         // The tag stands behind the message's tag and length and the ID of three octets.
-        assert_eq!(rt; Some(&tag_in(rt.alloc(), bytes)?), bytes.get(5));
+        assert_same(
+            &rt,
+            "tag",
+            &Some(&tag_in(rt.alloc(), bytes)?),
+            &bytes.get(5),
+        );
     }
     Ok(())
 }
@@ -216,15 +264,25 @@ fn values_shown(alloc: Global, values: &[Octets]) -> Result<String, NoMemory> {
     Ok(text)
 }
 
-/// The name, the stamp and the attributes.
-fn entry_shown(alloc: Global, entry: &Entry) -> Result<String, NoMemory> {
+/// The type with its values.
+fn attribute_shown(alloc: Global, attribute: &Attribute) -> Result<String, NoMemory> {
+    let kind = str::from_utf8(attribute.kind.name()).unwrap_or("?");
+    let values = values_shown(alloc, attribute.values.list())?;
+    format!(in alloc; " {kind}={values}")
+}
+
+/// The name and the stamp.
+fn head_shown(alloc: Global, entry: &Entry) -> Result<String, NoMemory> {
     let name = entry.dn.write()?;
     let csn = entry.csn.write();
-    let mut text = format!(in alloc; "{} {}", shown(&name), str::from_utf8(&csn).unwrap_or("?"))?;
+    format!(in alloc; "{} {}", shown(&name), str::from_utf8(&csn).unwrap_or("?"))
+}
+
+/// The name, the stamp and the attributes.
+fn entry_shown(alloc: Global, entry: &Entry) -> Result<String, NoMemory> {
+    let mut text = head_shown(alloc, entry)?;
     for attribute in entry.attrs.list() {
-        let kind = str::from_utf8(attribute.kind.name()).unwrap_or("?");
-        let values = values_shown(alloc, attribute.values.list())?;
-        text.push_str(&format!(in alloc; " {kind}={values}")?)?;
+        text.push_str(attribute_shown(alloc, attribute)?.as_str())?;
     }
     Ok(text)
 }
@@ -311,256 +369,284 @@ fn fault_shown(alloc: Global, fault: HearingFault) -> Result<String, NoMemory> {
     }
 }
 
-/// What the message of these bytes says in this part of a search.
-fn said(alloc: Global, bytes: &[u8], persisting: bool) -> Result<String, Fail> {
-    let message = message_of(alloc, bytes)?;
-    let heard = hear(alloc, &message, persisting);
-    discard(message);
-    match heard {
-        Ok(heard) => {
-            let text = heard_shown(alloc, &heard);
-            discard(heard);
-            Ok(text?)
-        }
-        Err(fault) => Ok(fault_shown(alloc, fault)?),
+/// What is heard, or the first that is against it.
+fn outcome_shown(alloc: Global, outcome: &Result<Heard, HearingFault>) -> Result<String, NoMemory> {
+    match outcome {
+        Ok(heard) => heard_shown(alloc, heard),
+        Err(fault) => fault_shown(alloc, *fault),
     }
 }
 
-#[test]
-fn entries_are_heard(rt: HostRuntime) -> Result<(), Fail> {
-    let rows: [(&[u8], &str); 3] = [
-        // An entry that was added.
-        (
-            b"0\x81\xf8\x02\x01\x07d\x81\xbb\x04\x04dc=x0\x81\xb20'\x04\x0bobjectClass1\x18\x04\
-            \x0corganization\x04\x08dcObject0\x0f\x04\x01o1\x0a\x04\x05X Ltd\x04\x01Y0\x09\x04\
-            \x02dc1\x03\x04\x01x03\x04\x09entryUUID1&\x04$f81d4fae-7dec-11d0-a765-00a0c91e6bf606\
-            \x04\x08entryCSN1*\x04(20260101000000.000000Z#000002#001#000000\xa0503\x04\x181.3.6.1\
-            .4.1.4203.1.9.1.2\x04\x170\x15\x0a\x01\x01\x04\x10\xf8\x1dO\xae}\xec\x11\xd0\xa7e\0\
-            \xa0\xc9\x1ek\xf6",
-            "put f81d4fae7dec11d0a76500a0c91e6bf6 dc=x 20260101000000.000000Z#000002#001#000000 \
-            objectClass=organization,dcObject o=X Ltd,Y dc=x cookie -",
-        ),
-        // A modified one: types in any case, an unknown type, unknown classes, and one type twice.
-        (
-            b"0\x82\x01Q\x02\x01\x07d\x82\x01\x02\x04\x04dc=x0\x81\xf905\x04\x0bOBJECTCLASS1&\x04\
-            \x0corganization\x04\x0cunknownClass\x04\x08dcObject0\x16\x04\x0ccreatorsName1\x06\
-            \x04\x04cn=a0\x0c\x04\x01o1\x07\x04\x05X Ltd0\x09\x04\x02dc1\x03\x04\x01x0\x08\x04\
-            \x01O1\x03\x04\x01Y0\x18\x04\x0bobjectClass1\x09\x04\x07nothing03\x04\x09ENTRYUUID1&\
-            \x04$F81D4FAE-7DEC-11D0-A765-00A0C91E6BF606\x04\x08entrycsn1*\x04(20260101000000.0000\
-            00Z#000002#001#000000\xa0F0D\x04\x181.3.6.1.4.1.4203.1.9.1.2\x04(0&\x0a\x01\x02\x04\
-            \x10\xf8\x1dO\xae}\xec\x11\xd0\xa7e\0\xa0\xc9\x1ek\xf6\x04\x0frid=000,sid=001",
-            "put f81d4fae7dec11d0a76500a0c91e6bf6 dc=x 20260101000000.000000Z#000002#001#000000 \
-            objectClass=organization,dcObject o=X Ltd,Y dc=x cookie rid=000,sid=001",
-        ),
-        // A deleted one.
-        (
-            b"0U\x02\x01\x07d\x08\x04\x04dc=x0\0\xa0F0D\x04\x181.3.6.1.4.1.4203.1.9.1.2\x04(0&\
-            \x0a\x01\x03\x04\x10\xf8\x1dO\xae}\xec\x11\xd0\xa7e\0\xa0\xc9\x1ek\xf6\x04\x0frid=000\
-            ,sid=001",
-            "gone f81d4fae7dec11d0a76500a0c91e6bf6 cookie rid=000,sid=001",
-        ),
-    ];
-    for (bytes, want) in rows {
-        assert_eq!(rt; said(rt.alloc(), bytes, false)?.as_str(), want);
-        assert_eq!(rt; said(rt.alloc(), bytes, true)?.as_str(), want);
+/// What the message says in this part of a search.
+fn said_by(alloc: Global, message: &Message, persisting: bool) -> Result<String, NoMemory> {
+    let outcome = hear(alloc, message, persisting);
+    let text = outcome_shown(alloc, &outcome);
+    discard(outcome);
+    text
+}
+
+/// What the message of these bytes says in this part of a search.
+fn said(alloc: Global, bytes: &[u8], persisting: bool) -> Result<String, Fail> {
+    let message = message_of(alloc, bytes)?;
+    let text = said_by(alloc, &message, persisting);
+    discard(message);
+    Ok(text?)
+}
+
+/// The bytes of a message, and what is heard of it.
+type Row = (&'static [u8], &'static str);
+
+fn assert_said(
+    rt: &impl Abort,
+    alloc: Global,
+    bytes: &[u8],
+    persisting: bool,
+    wanted: &str,
+) -> Result<(), Fail> {
+    let text = said(alloc, bytes, persisting)?;
+    assert_same(rt, wanted, &text.as_str(), &wanted);
+    Ok(())
+}
+
+/// What is heard of each message in this part of a search.
+fn assert_heard(
+    rt: &impl Abort,
+    alloc: Global,
+    rows: &[Row],
+    persisting: bool,
+) -> Result<(), Fail> {
+    for (bytes, wanted) in rows {
+        assert_said(rt, alloc, bytes, persisting, wanted)?;
     }
     Ok(())
+}
+
+/// Entries, and what is heard of them.
+const ENTRIES: [Row; 3] = [
+    // An entry that was added.
+    (
+        b"0\x81\xf8\x02\x01\x07d\x81\xbb\x04\x04dc=x0\x81\xb20'\x04\x0bobjectClass1\x18\x04\
+        \x0corganization\x04\x08dcObject0\x0f\x04\x01o1\x0a\x04\x05X Ltd\x04\x01Y0\x09\x04\
+        \x02dc1\x03\x04\x01x03\x04\x09entryUUID1&\x04$f81d4fae-7dec-11d0-a765-00a0c91e6bf606\
+        \x04\x08entryCSN1*\x04(20260101000000.000000Z#000002#001#000000\xa0503\x04\x181.3.6.1\
+        .4.1.4203.1.9.1.2\x04\x170\x15\x0a\x01\x01\x04\x10\xf8\x1dO\xae}\xec\x11\xd0\xa7e\0\
+        \xa0\xc9\x1ek\xf6",
+        "put f81d4fae7dec11d0a76500a0c91e6bf6 dc=x 20260101000000.000000Z#000002#001#000000 \
+        objectClass=organization,dcObject o=X Ltd,Y dc=x cookie -",
+    ),
+    // A modified one: types in any case, an unknown type, unknown classes, and one type twice.
+    (
+        b"0\x82\x01Q\x02\x01\x07d\x82\x01\x02\x04\x04dc=x0\x81\xf905\x04\x0bOBJECTCLASS1&\x04\
+        \x0corganization\x04\x0cunknownClass\x04\x08dcObject0\x16\x04\x0ccreatorsName1\x06\
+        \x04\x04cn=a0\x0c\x04\x01o1\x07\x04\x05X Ltd0\x09\x04\x02dc1\x03\x04\x01x0\x08\x04\
+        \x01O1\x03\x04\x01Y0\x18\x04\x0bobjectClass1\x09\x04\x07nothing03\x04\x09ENTRYUUID1&\
+        \x04$F81D4FAE-7DEC-11D0-A765-00A0C91E6BF606\x04\x08entrycsn1*\x04(20260101000000.0000\
+        00Z#000002#001#000000\xa0F0D\x04\x181.3.6.1.4.1.4203.1.9.1.2\x04(0&\x0a\x01\x02\x04\
+        \x10\xf8\x1dO\xae}\xec\x11\xd0\xa7e\0\xa0\xc9\x1ek\xf6\x04\x0frid=000,sid=001",
+        "put f81d4fae7dec11d0a76500a0c91e6bf6 dc=x 20260101000000.000000Z#000002#001#000000 \
+        objectClass=organization,dcObject o=X Ltd,Y dc=x cookie rid=000,sid=001",
+    ),
+    // A deleted one.
+    (
+        b"0U\x02\x01\x07d\x08\x04\x04dc=x0\0\xa0F0D\x04\x181.3.6.1.4.1.4203.1.9.1.2\x04(0&\
+        \x0a\x01\x03\x04\x10\xf8\x1dO\xae}\xec\x11\xd0\xa7e\0\xa0\xc9\x1ek\xf6\x04\x0frid=000\
+        ,sid=001",
+        "gone f81d4fae7dec11d0a76500a0c91e6bf6 cookie rid=000,sid=001",
+    ),
+];
+
+#[test]
+fn entries_are_heard(rt: HostRuntime) -> Result<(), Fail> {
+    assert_heard(&rt, rt.alloc(), &ENTRIES, false)?;
+    assert_heard(&rt, rt.alloc(), &ENTRIES, true)
 }
 
 #[test]
 fn only_a_refresh_names_what_is_present(rt: HostRuntime) -> Result<(), Fail> {
-    let refresh = said(rt.alloc(), PRESENT, false)?;
-    assert_eq!(rt;
-        refresh.as_str(),
-        "present f81d4fae7dec11d0a76500a0c91e6bf6"
-    );
-    assert_eq!(rt; said(rt.alloc(), PRESENT, true)?.as_str(), "out of place");
-    Ok(())
+    let wanted = "present f81d4fae7dec11d0a76500a0c91e6bf6";
+    assert_said(&rt, rt.alloc(), PRESENT, false, wanted)?;
+    assert_said(&rt, rt.alloc(), PRESENT, true, "out of place")
 }
+
+/// Sync Info messages, and what is heard of them.
+const INFORMATION: [Row; 5] = [
+    // Deleted ones.
+    (
+        b"0]\x02\x01\x07yX\x80\x181.3.6.1.4.1.4203.1.9.1.4\x81<\xa3:\x04\x0frid=000,sid=001\
+        \x01\x01\xff1$\x04\x10\xf8\x1dO\xae}\xec\x11\xd0\xa7e\0\xa0\xc9\x1ek\xf6\x04\x10\0\
+        \x11\"3DUfw\x88\x99\xaa\xbb\xcc\xdd\xee\xff",
+        "deleted f81d4fae7dec11d0a76500a0c91e6bf6 112233445566778899aabbccddeeff cookie \
+        rid=000,sid=001",
+    ),
+    // Present ones.
+    (
+        b"07\x02\x01\x07y2\x80\x181.3.6.1.4.1.4203.1.9.1.4\x81\x16\xa3\x141\x12\x04\x10\0\x11\
+        \"3DUfw\x88\x99\xaa\xbb\xcc\xdd\xee\xff",
+        "presents 112233445566778899aabbccddeeff cookie -",
+    ),
+    // A new cookie.
+    (
+        b"02\x02\x01\x07y-\x80\x181.3.6.1.4.1.4203.1.9.1.4\x81\x11\x80\x0frid=000,sid=001",
+        "new cookie rid=000,sid=001",
+    ),
+    // RefreshDelete.
+    (
+        b"04\x02\x01\x07y/\x80\x181.3.6.1.4.1.4203.1.9.1.4\x81\x13\xa1\x11\x04\x0frid=000,sid\
+        =001",
+        "deletes end true cookie rid=000,sid=001",
+    ),
+    // RefreshPresent.
+    (
+        b"0&\x02\x01\x07y!\x80\x181.3.6.1.4.1.4203.1.9.1.4\x81\x05\xa2\x03\x01\x01\0",
+        "presents end false cookie -",
+    ),
+];
 
 #[test]
 fn sync_info_messages_are_heard(rt: HostRuntime) -> Result<(), Fail> {
-    let rows: [(&[u8], &str); 5] = [
-        // Deleted ones.
-        (
-            b"0]\x02\x01\x07yX\x80\x181.3.6.1.4.1.4203.1.9.1.4\x81<\xa3:\x04\x0frid=000,sid=001\
-            \x01\x01\xff1$\x04\x10\xf8\x1dO\xae}\xec\x11\xd0\xa7e\0\xa0\xc9\x1ek\xf6\x04\x10\0\
-            \x11\"3DUfw\x88\x99\xaa\xbb\xcc\xdd\xee\xff",
-            "deleted f81d4fae7dec11d0a76500a0c91e6bf6 112233445566778899aabbccddeeff cookie \
-            rid=000,sid=001",
-        ),
-        // Present ones.
-        (
-            b"07\x02\x01\x07y2\x80\x181.3.6.1.4.1.4203.1.9.1.4\x81\x16\xa3\x141\x12\x04\x10\0\x11\
-            \"3DUfw\x88\x99\xaa\xbb\xcc\xdd\xee\xff",
-            "presents 112233445566778899aabbccddeeff cookie -",
-        ),
-        // A new cookie.
-        (
-            b"02\x02\x01\x07y-\x80\x181.3.6.1.4.1.4203.1.9.1.4\x81\x11\x80\x0frid=000,sid=001",
-            "new cookie rid=000,sid=001",
-        ),
-        // RefreshDelete.
-        (
-            b"04\x02\x01\x07y/\x80\x181.3.6.1.4.1.4203.1.9.1.4\x81\x13\xa1\x11\x04\x0frid=000,sid\
-            =001",
-            "deletes end true cookie rid=000,sid=001",
-        ),
-        // RefreshPresent.
-        (
-            b"0&\x02\x01\x07y!\x80\x181.3.6.1.4.1.4203.1.9.1.4\x81\x05\xa2\x03\x01\x01\0",
-            "presents end false cookie -",
-        ),
-    ];
-    for (bytes, want) in rows {
-        assert_eq!(rt; said(rt.alloc(), bytes, false)?.as_str(), want);
-        assert_eq!(rt; said(rt.alloc(), bytes, true)?.as_str(), want);
-    }
-    Ok(())
+    assert_heard(&rt, rt.alloc(), &INFORMATION, false)?;
+    assert_heard(&rt, rt.alloc(), &INFORMATION, true)
 }
+
+/// Ends and other messages, and what is heard of them.
+const ENDS: [Row; 4] = [
+    // The end with a Sync Done control.
+    (
+        b"0B\x02\x01\x07e\x07\x0a\x01\0\x04\0\x04\0\xa0402\x04\x181.3.6.1.4.1.4203.1.9.1.3\
+        \x04\x160\x14\x04\x0frid=000,sid=001\x01\x01\xff",
+        "done 0 deletes true cookie rid=000,sid=001",
+    ),
+    // The end without one.
+    (b"0\x0c\x02\x01\x07e\x07\x0a\x013\x04\0\x04\0", "done 51"),
+    // A reference.
+    (b"0\x14\x02\x01\x07s\x0f\x04\x0dldap://h/dc=x", "passed"),
+    // Another intermediate response.
+    (
+        b"0\x1f\x02\x01\x07y\x1a\x80\x181.3.6.1.4.1.4203.1.9.1.9",
+        "passed",
+    ),
+];
 
 #[test]
 fn ends_and_other_messages_are_heard(rt: HostRuntime) -> Result<(), Fail> {
-    let rows: [(&[u8], &str); 4] = [
-        // The end with a Sync Done control.
-        (
-            b"0B\x02\x01\x07e\x07\x0a\x01\0\x04\0\x04\0\xa0402\x04\x181.3.6.1.4.1.4203.1.9.1.3\
-            \x04\x160\x14\x04\x0frid=000,sid=001\x01\x01\xff",
-            "done 0 deletes true cookie rid=000,sid=001",
-        ),
-        // The end without one.
-        (b"0\x0c\x02\x01\x07e\x07\x0a\x013\x04\0\x04\0", "done 51"),
-        // A reference.
-        (b"0\x14\x02\x01\x07s\x0f\x04\x0dldap://h/dc=x", "passed"),
-        // Another intermediate response.
-        (
-            b"0\x1f\x02\x01\x07y\x1a\x80\x181.3.6.1.4.1.4203.1.9.1.9",
-            "passed",
-        ),
-    ];
-    for (bytes, want) in rows {
-        assert_eq!(rt; said(rt.alloc(), bytes, false)?.as_str(), want);
-        assert_eq!(rt; said(rt.alloc(), bytes, true)?.as_str(), want);
-    }
-    Ok(())
+    assert_heard(&rt, rt.alloc(), &ENDS, false)?;
+    assert_heard(&rt, rt.alloc(), &ENDS, true)
 }
+
+/// What does not belong into a refresh, or is not as it has to be.
+const MISPLACED: [Row; 6] = [
+    // A bind response.
+    (
+        b"0\x0c\x02\x01\x07a\x07\x0a\x01\0\x04\0\x04\0",
+        "out of place",
+    ),
+    // An entry without a control.
+    (
+        b"0\x81\xc1\x02\x01\x07d\x81\xbb\x04\x04dc=x0\x81\xb20'\x04\x0bobjectClass1\x18\x04\
+        \x0corganization\x04\x08dcObject0\x0f\x04\x01o1\x0a\x04\x05X Ltd\x04\x01Y0\x09\x04\
+        \x02dc1\x03\x04\x01x03\x04\x09entryUUID1&\x04$f81d4fae-7dec-11d0-a765-00a0c91e6bf606\
+        \x04\x08entryCSN1*\x04(20260101000000.000000Z#000002#001#000000",
+        "out of place",
+    ),
+    // A state of no grammar.
+    (
+        b"0\x81\xf8\x02\x01\x07d\x81\xbb\x04\x04dc=x0\x81\xb20'\x04\x0bobjectClass1\x18\x04\
+        \x0corganization\x04\x08dcObject0\x0f\x04\x01o1\x0a\x04\x05X Ltd\x04\x01Y0\x09\x04\
+        \x02dc1\x03\x04\x01x03\x04\x09entryUUID1&\x04$f81d4fae-7dec-11d0-a765-00a0c91e6bf606\
+        \x04\x08entryCSN1*\x04(20260101000000.000000Z#000002#001#000000\xa0503\x04\x181.3.6.1\
+        .4.1.4203.1.9.1.2\x04\x170\x15\x0a\x01\x04\x04\x10\xf8\x1dO\xae}\xec\x11\xd0\xa7e\0\
+        \xa0\xc9\x1ek\xf6",
+        "bad value",
+    ),
+    // A control without a value.
+    (
+        b"0\x81\xdf\x02\x01\x07d\x81\xbb\x04\x04dc=x0\x81\xb20'\x04\x0bobjectClass1\x18\x04\
+        \x0corganization\x04\x08dcObject0\x0f\x04\x01o1\x0a\x04\x05X Ltd\x04\x01Y0\x09\x04\
+        \x02dc1\x03\x04\x01x03\x04\x09entryUUID1&\x04$f81d4fae-7dec-11d0-a765-00a0c91e6bf606\
+        \x04\x08entryCSN1*\x04(20260101000000.000000Z#000002#001#000000\xa0\x1c0\x1a\x04\x181\
+        .3.6.1.4.1.4203.1.9.1.2",
+        "bad value",
+    ),
+    // An end whose control has no value.
+    (
+        b"0*\x02\x01\x07e\x07\x0a\x01\0\x04\0\x04\0\xa0\x1c0\x1a\x04\x181.3.6.1.4.1.4203.1.9.\
+        1.3",
+        "bad value",
+    ),
+    // A Sync Info message without a value.
+    (
+        b"0\x1f\x02\x01\x07y\x1a\x80\x181.3.6.1.4.1.4203.1.9.1.4",
+        "bad value",
+    ),
+];
 
 #[test]
 fn what_does_not_belong_is_refused(rt: HostRuntime) -> Result<(), Fail> {
-    let rows: [(&[u8], &str); 6] = [
-        // A bind response.
-        (
-            b"0\x0c\x02\x01\x07a\x07\x0a\x01\0\x04\0\x04\0",
-            "out of place",
-        ),
-        // An entry without a control.
-        (
-            b"0\x81\xc1\x02\x01\x07d\x81\xbb\x04\x04dc=x0\x81\xb20'\x04\x0bobjectClass1\x18\x04\
-            \x0corganization\x04\x08dcObject0\x0f\x04\x01o1\x0a\x04\x05X Ltd\x04\x01Y0\x09\x04\
-            \x02dc1\x03\x04\x01x03\x04\x09entryUUID1&\x04$f81d4fae-7dec-11d0-a765-00a0c91e6bf606\
-            \x04\x08entryCSN1*\x04(20260101000000.000000Z#000002#001#000000",
-            "out of place",
-        ),
-        // A state of no grammar.
-        (
-            b"0\x81\xf8\x02\x01\x07d\x81\xbb\x04\x04dc=x0\x81\xb20'\x04\x0bobjectClass1\x18\x04\
-            \x0corganization\x04\x08dcObject0\x0f\x04\x01o1\x0a\x04\x05X Ltd\x04\x01Y0\x09\x04\
-            \x02dc1\x03\x04\x01x03\x04\x09entryUUID1&\x04$f81d4fae-7dec-11d0-a765-00a0c91e6bf606\
-            \x04\x08entryCSN1*\x04(20260101000000.000000Z#000002#001#000000\xa0503\x04\x181.3.6.1\
-            .4.1.4203.1.9.1.2\x04\x170\x15\x0a\x01\x04\x04\x10\xf8\x1dO\xae}\xec\x11\xd0\xa7e\0\
-            \xa0\xc9\x1ek\xf6",
-            "bad value",
-        ),
-        // A control without a value.
-        (
-            b"0\x81\xdf\x02\x01\x07d\x81\xbb\x04\x04dc=x0\x81\xb20'\x04\x0bobjectClass1\x18\x04\
-            \x0corganization\x04\x08dcObject0\x0f\x04\x01o1\x0a\x04\x05X Ltd\x04\x01Y0\x09\x04\
-            \x02dc1\x03\x04\x01x03\x04\x09entryUUID1&\x04$f81d4fae-7dec-11d0-a765-00a0c91e6bf606\
-            \x04\x08entryCSN1*\x04(20260101000000.000000Z#000002#001#000000\xa0\x1c0\x1a\x04\x181\
-            .3.6.1.4.1.4203.1.9.1.2",
-            "bad value",
-        ),
-        // An end whose control has no value.
-        (
-            b"0*\x02\x01\x07e\x07\x0a\x01\0\x04\0\x04\0\xa0\x1c0\x1a\x04\x181.3.6.1.4.1.4203.1.9.\
-            1.3",
-            "bad value",
-        ),
-        // A Sync Info message without a value.
-        (
-            b"0\x1f\x02\x01\x07y\x1a\x80\x181.3.6.1.4.1.4203.1.9.1.4",
-            "bad value",
-        ),
-    ];
-    for (bytes, want) in rows {
-        assert_eq!(rt; said(rt.alloc(), bytes, false)?.as_str(), want);
-    }
-    Ok(())
+    assert_heard(&rt, rt.alloc(), &MISPLACED, false)
 }
+
+/// Entries that cannot be held.
+const UNHELD: [Row; 6] = [
+    // An entryUUID of another entry.
+    (
+        b"0\x81\xf8\x02\x01\x07d\x81\xbb\x04\x04dc=x0\x81\xb20'\x04\x0bobjectClass1\x18\x04\
+        \x0corganization\x04\x08dcObject0\x0f\x04\x01o1\x0a\x04\x05X Ltd\x04\x01Y0\x09\x04\
+        \x02dc1\x03\x04\x01x03\x04\x09entryUUID1&\x04$f81d4fae-7dec-11d0-a765-00a0c91e6bf606\
+        \x04\x08entryCSN1*\x04(20260101000000.000000Z#000002#001#000000\xa0503\x04\x181.3.6.1\
+        .4.1.4203.1.9.1.2\x04\x170\x15\x0a\x01\x01\x04\x10\0\x11\"3DUfw\x88\x99\xaa\xbb\xcc\
+        \xdd\xee\xff",
+        "differs 112233445566778899aabbccddeeff f81d4fae7dec11d0a76500a0c91e6bf6",
+    ),
+    // A name of no grammar.
+    (
+        b"0\x81\xf6\x02\x01\x07d\x81\xb9\x04\x02dc0\x81\xb20'\x04\x0bobjectClass1\x18\x04\x0c\
+        organization\x04\x08dcObject0\x0f\x04\x01o1\x0a\x04\x05X Ltd\x04\x01Y0\x09\x04\x02dc1\
+        \x03\x04\x01x03\x04\x09entryUUID1&\x04$f81d4fae-7dec-11d0-a765-00a0c91e6bf606\x04\x08\
+        entryCSN1*\x04(20260101000000.000000Z#000002#001#000000\xa0503\x04\x181.3.6.1.4.1.420\
+        3.1.9.1.2\x04\x170\x15\x0a\x01\x01\x04\x10\xf8\x1dO\xae}\xec\x11\xd0\xa7e\0\xa0\xc9\
+        \x1ek\xf6",
+        "bad entry 34",
+    ),
+    // A value outside the syntax of its type.
+    (
+        b"0\x81\xc7\x02\x01\x07d\x81\x8a\x04\x04dc=x0\x81\x810\x12\x04\x09uidNumber1\x05\x04\
+        \x03one03\x04\x09entryUUID1&\x04$f81d4fae-7dec-11d0-a765-00a0c91e6bf606\x04\x08entryC\
+        SN1*\x04(20260101000000.000000Z#000002#001#000000\xa0503\x04\x181.3.6.1.4.1.4203.1.9.\
+        1.2\x04\x170\x15\x0a\x01\x01\x04\x10\xf8\x1dO\xae}\xec\x11\xd0\xa7e\0\xa0\xc9\x1ek\
+        \xf6",
+        "bad entry 21",
+    ),
+    // An entryUUID that is no text of one.
+    (
+        b"0\x81\xd7\x02\x01\x07d\x81\x9a\x04\x04dc=x0\x81\x910'\x04\x0bobjectClass1\x18\x04\
+        \x0corganization\x04\x08dcObject0\x0f\x04\x01o1\x0a\x04\x05X Ltd\x04\x01Y0\x09\x04\
+        \x02dc1\x03\x04\x01x0\x12\x04\x09entryUUID1\x05\x04\x03one06\x04\x08entryCSN1*\x04(20\
+        260101000000.000000Z#000002#001#000000\xa0503\x04\x181.3.6.1.4.1.4203.1.9.1.2\x04\x17\
+        0\x15\x0a\x01\x01\x04\x10\xf8\x1dO\xae}\xec\x11\xd0\xa7e\0\xa0\xc9\x1ek\xf6",
+        "bad entry 21",
+    ),
+    // No entryCSN.
+    (
+        b"0\x81\xbf\x02\x01\x07d\x81\x82\x04\x04dc=x0z0'\x04\x0bobjectClass1\x18\x04\x0corgan\
+        ization\x04\x08dcObject0\x0f\x04\x01o1\x0a\x04\x05X Ltd\x04\x01Y0\x09\x04\x02dc1\x03\
+        \x04\x01x03\x04\x09entryUUID1&\x04$f81d4fae-7dec-11d0-a765-00a0c91e6bf6\xa0503\x04\
+        \x181.3.6.1.4.1.4203.1.9.1.2\x04\x170\x15\x0a\x01\x01\x04\x10\xf8\x1dO\xae}\xec\x11\
+        \xd0\xa7e\0\xa0\xc9\x1ek\xf6",
+        "bad entry 65",
+    ),
+    // Two values of entryCSN.
+    (
+        b"0\x82\x01\"\x02\x01\x07d\x81\xe5\x04\x04dc=x0\x81\xdc0'\x04\x0bobjectClass1\x18\x04\
+        \x0corganization\x04\x08dcObject0\x0f\x04\x01o1\x0a\x04\x05X Ltd\x04\x01Y0\x09\x04\
+        \x02dc1\x03\x04\x01x03\x04\x09entryUUID1&\x04$f81d4fae-7dec-11d0-a765-00a0c91e6bf60`\
+        \x04\x08entryCSN1T\x04(20260101000000.000000Z#000002#001#000000\x04(20260101000000.00\
+        0000Z#000002#001#000000\xa0503\x04\x181.3.6.1.4.1.4203.1.9.1.2\x04\x170\x15\x0a\x01\
+        \x01\x04\x10\xf8\x1dO\xae}\xec\x11\xd0\xa7e\0\xa0\xc9\x1ek\xf6",
+        "bad entry 65",
+    ),
+];
 
 #[test]
 fn entries_that_cannot_be_held_are_refused(rt: HostRuntime) -> Result<(), Fail> {
-    let rows: [(&[u8], &str); 6] = [
-        // An entryUUID of another entry.
-        (
-            b"0\x81\xf8\x02\x01\x07d\x81\xbb\x04\x04dc=x0\x81\xb20'\x04\x0bobjectClass1\x18\x04\
-            \x0corganization\x04\x08dcObject0\x0f\x04\x01o1\x0a\x04\x05X Ltd\x04\x01Y0\x09\x04\
-            \x02dc1\x03\x04\x01x03\x04\x09entryUUID1&\x04$f81d4fae-7dec-11d0-a765-00a0c91e6bf606\
-            \x04\x08entryCSN1*\x04(20260101000000.000000Z#000002#001#000000\xa0503\x04\x181.3.6.1\
-            .4.1.4203.1.9.1.2\x04\x170\x15\x0a\x01\x01\x04\x10\0\x11\"3DUfw\x88\x99\xaa\xbb\xcc\
-            \xdd\xee\xff",
-            "differs 112233445566778899aabbccddeeff f81d4fae7dec11d0a76500a0c91e6bf6",
-        ),
-        // A name of no grammar.
-        (
-            b"0\x81\xf6\x02\x01\x07d\x81\xb9\x04\x02dc0\x81\xb20'\x04\x0bobjectClass1\x18\x04\x0c\
-            organization\x04\x08dcObject0\x0f\x04\x01o1\x0a\x04\x05X Ltd\x04\x01Y0\x09\x04\x02dc1\
-            \x03\x04\x01x03\x04\x09entryUUID1&\x04$f81d4fae-7dec-11d0-a765-00a0c91e6bf606\x04\x08\
-            entryCSN1*\x04(20260101000000.000000Z#000002#001#000000\xa0503\x04\x181.3.6.1.4.1.420\
-            3.1.9.1.2\x04\x170\x15\x0a\x01\x01\x04\x10\xf8\x1dO\xae}\xec\x11\xd0\xa7e\0\xa0\xc9\
-            \x1ek\xf6",
-            "bad entry 34",
-        ),
-        // A value outside the syntax of its type.
-        (
-            b"0\x81\xc7\x02\x01\x07d\x81\x8a\x04\x04dc=x0\x81\x810\x12\x04\x09uidNumber1\x05\x04\
-            \x03one03\x04\x09entryUUID1&\x04$f81d4fae-7dec-11d0-a765-00a0c91e6bf606\x04\x08entryC\
-            SN1*\x04(20260101000000.000000Z#000002#001#000000\xa0503\x04\x181.3.6.1.4.1.4203.1.9.\
-            1.2\x04\x170\x15\x0a\x01\x01\x04\x10\xf8\x1dO\xae}\xec\x11\xd0\xa7e\0\xa0\xc9\x1ek\
-            \xf6",
-            "bad entry 21",
-        ),
-        // An entryUUID that is no text of one.
-        (
-            b"0\x81\xd7\x02\x01\x07d\x81\x9a\x04\x04dc=x0\x81\x910'\x04\x0bobjectClass1\x18\x04\
-            \x0corganization\x04\x08dcObject0\x0f\x04\x01o1\x0a\x04\x05X Ltd\x04\x01Y0\x09\x04\
-            \x02dc1\x03\x04\x01x0\x12\x04\x09entryUUID1\x05\x04\x03one06\x04\x08entryCSN1*\x04(20\
-            260101000000.000000Z#000002#001#000000\xa0503\x04\x181.3.6.1.4.1.4203.1.9.1.2\x04\x17\
-            0\x15\x0a\x01\x01\x04\x10\xf8\x1dO\xae}\xec\x11\xd0\xa7e\0\xa0\xc9\x1ek\xf6",
-            "bad entry 21",
-        ),
-        // No entryCSN.
-        (
-            b"0\x81\xbf\x02\x01\x07d\x81\x82\x04\x04dc=x0z0'\x04\x0bobjectClass1\x18\x04\x0corgan\
-            ization\x04\x08dcObject0\x0f\x04\x01o1\x0a\x04\x05X Ltd\x04\x01Y0\x09\x04\x02dc1\x03\
-            \x04\x01x03\x04\x09entryUUID1&\x04$f81d4fae-7dec-11d0-a765-00a0c91e6bf6\xa0503\x04\
-            \x181.3.6.1.4.1.4203.1.9.1.2\x04\x170\x15\x0a\x01\x01\x04\x10\xf8\x1dO\xae}\xec\x11\
-            \xd0\xa7e\0\xa0\xc9\x1ek\xf6",
-            "bad entry 65",
-        ),
-        // Two values of entryCSN.
-        (
-            b"0\x82\x01\"\x02\x01\x07d\x81\xe5\x04\x04dc=x0\x81\xdc0'\x04\x0bobjectClass1\x18\x04\
-            \x0corganization\x04\x08dcObject0\x0f\x04\x01o1\x0a\x04\x05X Ltd\x04\x01Y0\x09\x04\
-            \x02dc1\x03\x04\x01x03\x04\x09entryUUID1&\x04$f81d4fae-7dec-11d0-a765-00a0c91e6bf60`\
-            \x04\x08entryCSN1T\x04(20260101000000.000000Z#000002#001#000000\x04(20260101000000.00\
-            0000Z#000002#001#000000\xa0503\x04\x181.3.6.1.4.1.4203.1.9.1.2\x04\x170\x15\x0a\x01\
-            \x01\x04\x10\xf8\x1dO\xae}\xec\x11\xd0\xa7e\0\xa0\xc9\x1ek\xf6",
-            "bad entry 65",
-        ),
-    ];
-    for (bytes, want) in rows {
-        assert_eq!(rt; said(rt.alloc(), bytes, true)?.as_str(), want);
-    }
-    Ok(())
+    assert_heard(&rt, rt.alloc(), &UNHELD, true)
 }

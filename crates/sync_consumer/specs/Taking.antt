@@ -4,6 +4,7 @@ use Rattle.entry_tree.specs.Selection.{Search}
 use Rattle.ldap_messages.specs.declared.message.Message.{Message}
 use Rattle.ldap_messages.specs.Whole.{Whole}
 use Rattle.sync_messages.specs.declared.request.Mode.{Mode}
+use Rattle.sync_messages.specs.declared.request.SyncRequest.{SyncRequest}
 use Rattle.sync_model.specs.Message.{SyncMessage}
 use Rattle.sync_model.specs.Copy as model
 use Rattle.sync_model.specs.Copy.{Answer as answer, Fault as fault}
@@ -32,6 +33,10 @@ abbrev pub nothing : model.Copy
 nothing = record { held = []; cookie = None; running = None }
 
 -- ---- the request
+
+-- what is asked for with its control
+abbrev pub asked_of : Following → Mode → SyncRequest
+asked_of following mode = record { mode = mode; cookie = following.copy.cookie; reload_hint = following.reload }
 
 abbrev pub request_of : Following → ℕ → Mode → Whole
 request_of following id mode = search_request following.spec id mode following.reload following.copy.cookie

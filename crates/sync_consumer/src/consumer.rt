@@ -1,6 +1,6 @@
 //! The consumer.
 
-ghost use Rattle.std.specs.Prelude.{◌≡◌, Ok, None, option_map, is_some, IfOk, OnOk, OnErr};
+ghost use Rattle.std.specs.Prelude.{◌≡◌, Ok, None, Some, option_map, is_some, IfOk, OnOk, OnErr};
 ghost use Rattle.entry_tree.specs.Selection.{search_of};
 ghost use Rattle.ldap_messages.specs.Whole.{whole_of};
 ghost use Rattle.sync_model.specs.Copy as model;
@@ -9,6 +9,7 @@ ghost use Rattle.sync_wire.specs.Requesting.{persists};
 ghost use Rattle.sync_consumer.specs.declared.consumer.Taken.TheVariants.{Fault};
 ghost use Rattle.sync_consumer.specs.declared.fault.PeerFault.TheVariants.{OutOfPlace};
 ghost use Rattle.sync_consumer.specs.Running.{running_of};
+ghost use Rattle.sync_messages.specs.Request.{request_of, request_octets};
 ghost use Rattle.sync_consumer.specs.Taking as taking;
 
 use crate::commit::Commit;
@@ -17,7 +18,7 @@ use crate::fault::{PeerFault, Refusal};
 use crate::held::{Held, copy_of};
 use crate::running::{Running, Step};
 use entry_tree::Spec;
-use ldap_ber::NoMemory;
+use ldap_ber::{NoMemory, Octets};
 use ldap_messages::Message;
 use std::alloc::Global;
 use std::marker::Model;
@@ -108,6 +109,8 @@ impl Consumer {
     pub fn request(&mut self, id: u32, mode: Mode) -> Result<Message, NoMemory>
         ensures message { IfOk result
             (λ message. whole_of message ≡ taking.request_of self.old id mode) }
+        // The value of its control is read again as what is asked.
+        ensures read_again { IfOk result (λ message. request_of (request_octets (taking.asked_of self.old mode)) ≡ Ok (taking.asked_of self.old mode)) }
         ensures ok { OnOk result (self.new
             ≡ record self.old { copy = model.asked id (persists mode) self.old.copy }) }
         ensures err { OnErr result (self.new ≡ self.old) }
@@ -168,6 +171,17 @@ impl Consumer {
         ensures { self.new ≡ record self.old { copy = record self.old.copy { cookie = None } } }
     {
         self.held.cookie = None;
+    }
+
+    /// Takes this text for the cookie, in place of the one that was there. A search that runs goes on.
+    pub fn set_cookie(&mut self, text: &[u8]) -> Result<(), NoMemory>
+        ensures ok { OnOk result (self.new
+            ≡ record self.old { copy = record self.old.copy { cookie = Some text.now } }) }
+        ensures err { OnErr result (self.new ≡ self.old) }
+    {
+        let alloc = self.held.entries.allocator();
+        self.held.cookie = Some(Octets::from_slice(alloc, text)?);
+        Ok(())
     }
 
     pub fn entries(&self) -> &EntryMap

@@ -45,11 +45,11 @@ pub crowded : (d : DirectoryState) (es : Searches) (ask : SyncSearch) (request :
 crowded d es ask request h none = base_outside d es ask request true h ∙ ap (numbered d request) none
 
 pub opposed : (d : DirectoryState) (es : Searches) (ask : SyncSearch) (request : SyncRequest) (number code : ℕ) → is_at_or_below ask.spec.base d.suffix ≡ true
-    → free_number es ≡ Some number → request_code request ≡ Some code → answer_to_request d es ask (Ok request) ≡ Refused code
+    → free_number es ≡ Some number → request_code d request ≡ Some code → answer_to_request d es ask (Ok request) ≡ Refused code
 opposed d es ask request number code h free against =
     base_outside d es ask request true h ∙ ap (numbered d request) free ∙ ap (refused_or_opened d number) against
 
 pub admitted : (d : DirectoryState) (es : Searches) (ask : SyncSearch) (request : SyncRequest) (number : ℕ) → is_at_or_below ask.spec.base d.suffix ≡ true
-    → free_number es ≡ Some number → request_code request ≡ None → answer_to_request d es ask (Ok request) ≡ Opened number (length d.writes)
+    → free_number es ≡ Some number → request_code d request ≡ None → answer_to_request d es ask (Ok request) ≡ Opened number (length d.writes)
 admitted d es ask request number h free against =
     base_outside d es ask request true h ∙ ap (numbered d request) free ∙ ap (refused_or_opened d number) against

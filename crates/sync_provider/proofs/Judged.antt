@@ -15,7 +15,7 @@ use Rattle.entry_tree.specs.declared.op.Write.{Write}
 use Rattle.sync_provider.specs.Directory.{DirectoryState, entries_of, next_stamp, has_room, judged_code, judged_at, judged, with_judged, IsAccepted, AreAcceptedFrom, AreAccepted, StampsRise}
 use Rattle.sync_provider.specs.Law.{is_sound_call}
 use Rattle.sync_provider.specs.Machine.{ProviderState, Call, called, run}
-use Rattle.sync_provider.specs.Machine.Call.{Writes, Accepts, HandsOut, Drops}
+use Rattle.sync_provider.specs.Machine.Call.{Writes, Accepts, HandsOut, Drops, SetsLogLimit}
 use Rattle.sync_provider.proofs.Stamps.{rises-push, next_rises}
 
 abbrev Name : Type 0
@@ -101,12 +101,14 @@ called_accepted p (Writes op now) sound each = judged_accepted p.directory op no
 called_accepted p (Accepts ask) sound each = each
 called_accepted p (HandsOut number) sound each = each
 called_accepted p (Drops number) sound each = each
+called_accepted p (SetsLogLimit limit) sound each = each
 
 called_rises : (p : ProviderState) (call : Call) → HasRisen p.directory → HasRisen (called p call).directory
 called_rises p (Writes op now) rise = judged_rises p.directory op now (judged p.directory op now) refl rise
 called_rises p (Accepts ask) rise = rise
 called_rises p (HandsOut number) rise = rise
 called_rises p (Drops number) rise = rise
+called_rises p (SetsLogLimit limit) rise = rise
 
 pub run_accepted : (calls : List Call) (p : ProviderState) → list_all is_sound_call calls ≡ true → HasAccepted p.directory → HasAccepted (run p calls).directory
 run_accepted [] p sound each = each
@@ -135,6 +137,7 @@ called_same p (Writes op now) = judged_same p.directory (judged p.directory op n
 called_same p (Accepts ask) = record { suffix = refl; sid = refl; history = refl }
 called_same p (HandsOut number) = record { suffix = refl; sid = refl; history = refl }
 called_same p (Drops number) = record { suffix = refl; sid = refl; history = refl }
+called_same p (SetsLogLimit limit) = record { suffix = refl; sid = refl; history = refl }
 
 pub run_same : (calls : List Call) (p : ProviderState) → IsSameDirectory p.directory (run p calls).directory
 run_same [] p = record { suffix = refl; sid = refl; history = refl }

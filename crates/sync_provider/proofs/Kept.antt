@@ -4,10 +4,9 @@ use Rattle.std.specs.Prelude.{Result, Ok, Err, not, drop, is_some}
 use Rattle.std.specs.List.{find}
 use Rattle.std.proofs.lemmas.Bool.{false≢true, true≢false}
 use Rattle.std.proofs.lemmas.List.{append-nil}
-use Rattle.csn_cookie.specs.Cookie.{cookie_text}
 use Rattle.dn_names.specs.Names.{is_at_or_below}
 use Rattle.entry_tree.specs.declared.op.Write.{Write}
-use Rattle.entry_tree.specs.Selection.{Search, search_of, select}
+use Rattle.entry_tree.specs.Selection.{Search, search_of}
 use Rattle.sync_messages.specs.Request.{request_of}
 use Rattle.sync_messages.specs.declared.fault.SyncFault.{SyncFault}
 use Rattle.sync_messages.specs.declared.request.SyncRequest.{SyncRequest}
@@ -15,52 +14,49 @@ use Rattle.sync_model.specs.Message.{SyncMessage}
 use Rattle.sync_model.specs.Message.SyncMessage.{Put, Gone, Present, IdSet, NewCookie, PhaseEnds, Done, Passed}
 use Rattle.sync_wire.specs.Sending.{sent}
 use Rattle.sync_provider.specs.Accepting as accepting
-use Rattle.sync_provider.specs.Accepting.{is_free, numbers_from, free_number, request_code, refused_or_opened, numbered, answer_to_request, answer_to}
-use Rattle.sync_provider.specs.Directory.{DirectoryState, cookie_at, entries_of, judged, with_judged}
+use Rattle.sync_provider.specs.Accepting.{is_free, numbers_from, free_number, request_code, refused_or_opened, numbered, answer_to_request, answer_to, start_of_ask}
+use Rattle.sync_provider.specs.Directory.{DirectoryState, judged, with_write, with_judged, with_log_limit}
 use Rattle.sync_provider.specs.HandingOut.{Turn, turn_of_message, turn_of_pending, turn_of_found, turn_at, search_at, after_first, without_first, closed, handed_on, after_turn}
 use Rattle.sync_provider.specs.HandingOut.Turn.{Hands, Closes, Waits, Unknown}
-use Rattle.sync_provider.specs.Law.{stream_of, session_of, IsDue, EachSearch, EachIsDue, Told, pending_of, pending_at, first_told, told, TellsItsStream}
+use Rattle.sync_provider.specs.Law.{stream_of, IsDue, EachSearch, EachIsDue, Told, pending_of, pending_at, first_told, told, TellsItsStream}
 use Rattle.sync_provider.specs.Machine.{ProviderState, Call, accepted, called, run}
-use Rattle.sync_provider.specs.Machine.Call.{Writes, Accepts, HandsOut, Drops}
-use Rattle.sync_provider.specs.Search as search
-use Rattle.sync_provider.specs.Search.{SearchState, opening, advanced, is_end}
+use Rattle.sync_provider.specs.Machine.Call.{Writes, Accepts, HandsOut, Drops, SetsLogLimit}
+use Rattle.sync_provider.specs.Search.{SearchState, session_of, refresh_from, opening, advanced, is_end}
 use Rattle.sync_provider.specs.declared.searches.Accepted.{Accepted}
 use Rattle.sync_provider.specs.declared.searches.Accepted.TheVariants.{Opened, Refused, NoMemory}
 use Rattle.sync_provider.specs.declared.searches.SyncSearch.{SyncSearch}
-use Rattle.sync_model.proofs.Histories.{ascends-state_of}
-use Rattle.sync_provider.proofs.Blanks.{stream_from-blank}
+use Rattle.sync_model.specs.Stream.{Start}
 use Rattle.sync_provider.proofs.Looking.{opened-same, opened-other, closed-other, put_on-same, put_on-other, each-opened, each-closed, each-put_on, each-at, each-weaker}
-use Rattle.sync_provider.proofs.Writes.{state_now, stamp_now}
+use Rattle.sync_provider.proofs.Refreshes.{refresh-longer}
 
 abbrev Searches : Type 0
 Searches = List (ℕ × SearchState)
 
 -- ---- a write
 
-wrote_due : (d : DirectoryState) (w : Write) (s : SearchState) → IsDue d s → IsDue (record d { writes = d.writes ++ w ∷ [] }) s
+wrote_due : (d : DirectoryState) (w : Write) (s : SearchState) → IsDue d s → IsDue (with_write d w) s
 wrote_due d w s due = record {
   within = omega (arith, due.within, length-append d.writes (w ∷ []));
   is = λ writes more is. due.is writes (w ∷ more) (sym (append_assoc d.writes (w ∷ []) more) ∙ is);
 }
 
 judged_due : (d : DirectoryState) (es : Searches) (outcome : Result Write ℕ) → EachSearch (IsDue d) es → EachSearch (IsDue (with_judged d outcome)) es
-judged_due d es (Ok w) each = each-weaker (IsDue d) (IsDue (record d { writes = d.writes ++ w ∷ [] })) es (wrote_due d w) each
+judged_due d es (Ok w) each = each-weaker (IsDue d) (IsDue (with_write d w)) es (wrote_due d w) each
 judged_due d es (Err code) each = each
 
 -- ---- a search that is accepted
 
-pub opening_is : (d : DirectoryState) (id : ℕ) (spec : Search) (writes more : List Write) → d.writes ++ more ≡ writes
-    → (opening d id spec).pending ≡ stream_of d spec (length d.writes) writes
-opening_is d id spec writes more is =
-    sym (stream_from-blank (session_of d.sid d.history spec writes) (length d.writes) refl (ascends-state_of d.history writes (length d.writes))
-    ∙ ap (λ es. search.refresh (select spec es) ((session_of d.sid d.history spec writes).cookies (length d.writes))) (state_now d writes more is)
-    ∙ ap (λ csn. search.refresh (select spec (entries_of d)) (cookie_text (cookie_at d.sid d.history csn))) (stamp_now d writes more is))
+pub opening_is : (d : DirectoryState) (id : ℕ) (spec : Search) (start : Start) (writes more : List Write) → d.writes ++ more ≡ writes
+    → (opening d id spec start).pending ≡ stream_of d spec start (length d.writes) writes
+opening_is d id spec start writes more is =
+    sym (refresh-longer d.sid d.history spec start d.writes more writes is)
+    ∙ sym (append-nil (refresh_from (session_of d.sid d.history spec writes) start (length d.writes)))
 
-opening_due : (d : DirectoryState) (id : ℕ) (spec : Search) → IsDue d (opening d id spec)
-opening_due d id spec = record { within = omega arith; is = opening_is d id spec }
+opening_due : (d : DirectoryState) (id : ℕ) (spec : Search) (start : Start) → IsDue d (opening d id spec start)
+opening_due d id spec start = record { within = omega arith; is = opening_is d id spec start }
 
 answered_due : (d : DirectoryState) (es : Searches) (ask : SyncSearch) (answer : Accepted) → EachSearch (IsDue d) es → EachSearch (IsDue d) (accepting.after_answer d es ask answer)
-answered_due d es ask (Opened number writes) each = each-opened (IsDue d) es number _ each (opening_due d ask.id (search_of ask.spec))
+answered_due d es ask (Opened number writes) each = each-opened (IsDue d) es number _ each (opening_due d ask.id (search_of ask.spec) (start_of_ask d ask))
 answered_due d es ask (Refused code) each = each
 answered_due d es ask NoMemory each = each
 
@@ -87,8 +83,8 @@ first_due d s (m ∷ rest) same due = record {
   within = due.within;
   is = λ writes more is.
       let next : suc s.handed ≡ s.handed + 1 = omega arith in
-      drop_next s.handed (stream_of d s.spec s.accepted writes) rest m (sym same ∙ due.is writes more is)
-      ∙ ap (λ k. drop k (stream_of d s.spec s.accepted writes)) next;
+      drop_next s.handed (stream_of d s.spec s.start s.accepted writes) rest m (sym same ∙ due.is writes more is)
+      ∙ ap (λ k. drop k (stream_of d s.spec s.start s.accepted writes)) next;
 }
 
 on_due : (d : DirectoryState) (es : Searches) (number : ℕ) (found : Option SearchState) → search_at es number ≡ found → EachSearch (IsDue d) es
@@ -110,6 +106,8 @@ called_due p (Writes op now) each = judged_due p.directory p.searches (judged p.
 called_due p (Accepts ask) each = answered_due p.directory p.searches ask (answer_to p.directory p.searches ask) each
 called_due p (HandsOut number) each = turn_due p.directory p.searches number (turn_at p.searches number) each
 called_due p (Drops number) each = each-closed (IsDue p.directory) p.searches number each
+called_due p (SetsLogLimit limit) each =
+    each-weaker (IsDue p.directory) (IsDue (with_log_limit p.directory limit)) p.searches (λ s due. record { within = due.within; is = due.is }) each
 
 pub run_due : (calls : List Call) (p : ProviderState) → EachIsDue p → EachIsDue (run p calls)
 run_due [] p each = each
@@ -161,7 +159,7 @@ opened_free d es ask number count = by_request (request_of ask.control)
 
     by_number : (request : SyncRequest) (n : Option ℕ) → free_number es ≡ n → numbered d request n ≡ Opened number count → IsFree d es number count
     by_number request None is e = absurd (refused 11 e)
-    by_number request (Some n) is e = by_code n is (request_code request) e
+    by_number request (Some n) is e = by_code n is (request_code d request) e
 
     by_base : (request : SyncRequest) (b : Bool) → cond b (numbered d request (free_number es)) (Refused 32) ≡ Opened number count → IsFree d es number count
     by_base request true e = by_number request (free_number es) refl e
@@ -234,6 +232,7 @@ told_is [] number p s found = ap pending_of found
 told_is (Writes op now ∷ calls) number p s found = told_is calls number (called p (Writes op now)) s found
 told_is (Accepts ask ∷ calls) number p s found =
     told_is calls number (called p (Accepts ask)) s (answered_other p.directory p.searches ask (answer_to p.directory p.searches ask) refl number s found)
+told_is (SetsLogLimit limit ∷ calls) number p s found = told_is calls number (called p (SetsLogLimit limit)) s found
 told_is (HandsOut other ∷ calls) number p s found = by (told_is calls number (called p (HandsOut other))) (nat_eq other number) refl
   where
     after : ProviderState
@@ -283,6 +282,7 @@ called_writes p (Writes op now) = judged_writes p.directory (judged p.directory 
 called_writes p (Accepts ask) = ([], append-nil p.directory.writes)
 called_writes p (HandsOut number) = ([], append-nil p.directory.writes)
 called_writes p (Drops number) = ([], append-nil p.directory.writes)
+called_writes p (SetsLogLimit limit) = ([], append-nil p.directory.writes)
 
 run_writes : (calls : List Call) (p : ProviderState) → (since : List Write) × (p.directory.writes ++ since ≡ (run p calls).directory.writes)
 run_writes [] p = ([], append-nil p.directory.writes)
@@ -295,11 +295,11 @@ pub tells_its_stream : (p : ProviderState) (ask : SyncSearch) (number count : �
     → TellsItsStream p ask number count calls
 tells_its_stream p ask number count calls answered writes more is =
     told_is calls number (accepted p ask) start found
-    ∙ opening_is p.directory ask.id (search_of ask.spec) writes ((run_writes calls (accepted p ask)).0 ++ more) begins
-    ∙ ap (λ n. stream_of p.directory (search_of ask.spec) n writes) (sym (opened_free p.directory p.searches ask number count answered).counted)
+    ∙ opening_is p.directory ask.id (search_of ask.spec) (start_of_ask p.directory ask) writes ((run_writes calls (accepted p ask)).0 ++ more) begins
+    ∙ ap (λ n. stream_of p.directory (search_of ask.spec) (start_of_ask p.directory ask) n writes) (sym (opened_free p.directory p.searches ask number count answered).counted)
   where
     start : SearchState
-    start = opening p.directory ask.id (search_of ask.spec)
+    start = opening p.directory ask.id (search_of ask.spec) (start_of_ask p.directory ask)
 
     found : search_at (accepted p ask).searches number ≡ Some start
     found = ap (λ answer. search_at (accepting.after_answer p.directory p.searches ask answer) number) answered ∙ opened-same p.searches number start

@@ -1,11 +1,19 @@
 -- Lemmas of the crate.
 pub mod Asking
-pub mod Blanks
 pub mod Copying
+pub mod Deciding
+pub mod Effects
+pub mod Incrementally
 pub mod Judged
 pub mod Kept
+pub mod Known
 pub mod Looking
 pub mod Numbers
+pub mod Pushed
+pub mod Refreshes
+pub mod Served
+pub mod Sets
 pub mod Stamps
+pub mod Told
 pub mod Turns
 pub mod Writes

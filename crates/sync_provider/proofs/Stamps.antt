@@ -5,7 +5,8 @@ use Rattle.std.specs.List.Sorted.{IsStrictlySortedBy}
 use Rattle.std.specs.Ordering.{nat_cmp, ordering_then, is_lt}
 use Rattle.std.specs.declared.cmp.Ordering.TheVariants.{Less}
 use Rattle.std.proofs.lemmas.Bool.{ltb-true}
-use Rattle.std.proofs.lemmas.List.Sums.{sum_by-cons}
+use Rattle.std.proofs.lemmas.List.{length-map}
+use Rattle.std.proofs.lemmas.List.Sums.{count_by-le-length, sum_by-cons}
 use Rattle.std.proofs.lemmas.Map.Keys.{sorted_head, sorted_tail}
 use Rattle.csn_cookie.specs.Csn.{Stamp, start, csn_cmp, is_before, is_upto, upto, greatest_micros}
 use Rattle.csn_cookie.specs.CsnMaker.{next_csn, stamp_at, greatest_count}
@@ -119,3 +120,7 @@ next_rises now last csn is =
     by false less true c h = drawn (stamp_at last.sid last.micros (last.count + 1)) (later_count last (last.count + 1) (omega arith)) h
     by false less false true h = drawn (stamp_at last.sid (last.micros + 1) 0) (later_time last (last.micros + 1) 0 (omega arith)) h
     by false less false false h = let never : ⊥ = cc in absurd never
+
+-- not more stamps are up to one than there are writes
+pub upto_low : (writes : List Write) (csn : Stamp) → upto (stamps writes) csn ≤ length writes
+upto_low writes csn = omega (arith, count_by-le-length (λ stamp. is_upto stamp csn) (stamps writes), length-map writes (λ (w : Write). w.csn))

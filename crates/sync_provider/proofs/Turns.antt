@@ -7,25 +7,26 @@ use Rattle.std.proofs.lemmas.Bool.{false≢true, true≢false}
 use Rattle.std.proofs.lemmas.List.{drop_more, at_drop_all}
 use Rattle.std.proofs.lemmas.Map.Steps.{set_value_same}
 use Rattle.std.proofs.lemmas.Option.{slice_get_within, get_or_from_slice_get}
-use Rattle.entry_tree.specs.declared.entry.Entry.{Entry}
 use Rattle.sync_model.specs.Message.{Cookie}
-use Rattle.sync_model.specs.Message.SyncMessage.{Put}
+use Rattle.sync_model.specs.Stream.{end_of}
 use Rattle.sync_provider.specs.HandingOut.{Turn, search_at, is_closing, after_own_turn, closed, handed_on, after_answer}
 use Rattle.sync_provider.specs.HandingOut.Turn.{Hands, Closes, Waits, Unknown}
-use Rattle.sync_provider.specs.Search.{SearchState, refresh, end_of}
+use Rattle.sync_provider.specs.Search.{SearchState, message_of, messages_of}
+use Rattle.sync_provider.specs.declared.parts.Part.{Part}
 use Rattle.sync_provider.proofs.Looking.{put_on}
 
 -- ---- what is pending
 
-pub pending_next : (content : List Entry) (handed : ℕ) (e : Entry) (cookie : Cookie) → slice_get content handed ≡ Some e
-    → refresh (drop handed content) cookie ≡ Put true e None ∷ refresh (drop (handed + 1) content) cookie
-pending_next content handed e cookie at =
-    ap (λ es. refresh es cookie)
-    (drop_more content handed e (slice_get_within content handed e at)
-    ∙ ap (λ first. first ∷ drop (handed + 1) content) (get_or_from_slice_get content handed e e at))
+pub pending_next : (deletes : Bool) (parts : List Part) (handed : ℕ) (p : Part) (cookie : Cookie) → slice_get parts handed ≡ Some p
+    → messages_of deletes (drop handed parts) cookie ≡ message_of deletes p ∷ messages_of deletes (drop (handed + 1) parts) cookie
+pending_next deletes parts handed p cookie at =
+    ap (λ ps. messages_of deletes ps cookie)
+    (drop_more parts handed p (slice_get_within parts handed p at)
+    ∙ ap (λ first. first ∷ drop (handed + 1) parts) (get_or_from_slice_get parts handed p p at))
 
-pub pending_end : (content : List Entry) (handed : ℕ) (cookie : Cookie) → length content ≤ handed → refresh (drop handed content) cookie ≡ end_of cookie ∷ []
-pending_end content handed cookie all = at_drop_all (λ es. refresh es cookie) content handed all
+pub pending_end : (deletes : Bool) (parts : List Part) (handed : ℕ) (cookie : Cookie) → length parts ≤ handed
+    → messages_of deletes (drop handed parts) cookie ≡ end_of false deletes cookie ∷ []
+pending_end deletes parts handed cookie all = at_drop_all (λ ps. messages_of deletes ps cookie) parts handed all
 
 -- ---- the open searches after a turn
 

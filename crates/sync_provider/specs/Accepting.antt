@@ -1,8 +1,10 @@
 -- How a search is accepted (RFC 4533, section 3.3).
-use Rattle.std.specs.Prelude.{◌≡◌, ℕ, ◌+◌, zero, suc, Bool, false, not, ◌&&◌, List, [], ◌∷◌, length, find, is_some, Option, Some, None, Result, Ok, Err, if◌then◌else◌}
+use Rattle.std.specs.Prelude.{◌≡◌, ℕ, ◌+◌, ◌==◌, zero, suc, Bool, false, not, ◌&&◌, List, [], ◌∷◌, length, find, is_some, Option, Some, None, Result, Ok, Err, if◌then◌else◌}
 use Rattle.std.specs.Ordering.{nat_cmp}
 use Rattle.std.specs.BTreeMap.{insert_entry}
-use Rattle.csn_cookie.specs.Cookie.{is_blank}
+use Rattle.csn_cookie.specs.Csn.{upto, is_upto}
+use Rattle.csn_cookie.specs.Cookie.{is_blank, cookie_of_text}
+use Rattle.csn_cookie.specs.declared.cookie.Cookie.{Cookie}
 use Rattle.dn_names.specs.Names.{is_at_or_below}
 use Rattle.entry_tree.specs.Selection.{search_of}
 use Rattle.sync_messages.specs.Request.{request_of}
@@ -10,7 +12,10 @@ use Rattle.sync_messages.specs.declared.fault.SyncFault.{SyncFault}
 use Rattle.sync_messages.specs.declared.request.Mode.{Mode}
 use Rattle.sync_messages.specs.declared.request.Mode.TheVariants.{RefreshOnly, RefreshAndPersist}
 use Rattle.sync_messages.specs.declared.request.SyncRequest.{SyncRequest}
-use Rattle.sync_provider.specs.Directory.{DirectoryState}
+use Rattle.session_log.specs.Log.{covers}
+use Rattle.sync_model.specs.Stream.{Start}
+use Rattle.sync_model.specs.Stream.Start.{Blank, Covered, Uncovered}
+use Rattle.sync_provider.specs.Directory.{DirectoryState, stamp_of, stamps}
 use Rattle.sync_provider.specs.HandingOut.{search_at}
 use Rattle.sync_provider.specs.Search.{SearchState, opening}
 use Rattle.sync_provider.specs.declared.searches.Accepted.{Accepted}
@@ -31,6 +36,38 @@ numbers_from first (suc count) = first ∷ numbers_from (first + 1) count
 abbrev pub free_number : List (ℕ × SearchState) → Option ℕ
 free_number searches = find (is_free searches) (numbers_from 1 64)
 
+-- ---- its cookie
+
+-- a cookie is servable where it is of the directory's history and its stamp is not above the last one
+abbrev pub is_ours : DirectoryState → Cookie → Bool
+is_ours d cookie = (cookie.history == d.history) && is_upto cookie.csn (stamp_of d)
+
+-- the number of writes that it names: those whose stamps are not above its own
+abbrev pub prefix_of : DirectoryState → Option Cookie → Option ℕ
+prefix_of d None = None
+prefix_of d (Some cookie) = if is_ours d cookie then Some (upto (stamps d.writes) cookie.csn) else None
+
+-- the same by the text of a request's cookie, which is None where none is given or it is not servable
+abbrev pub asked_prefix : DirectoryState → Option (List ℕ) → Option ℕ
+asked_prefix d None = None
+asked_prefix d (Some text) = prefix_of d (cookie_of_text text)
+
+-- where a search begins, by whether the log covers the number of its cookie
+abbrev pub start_at : DirectoryState → Option ℕ → Start
+start_at d None = Blank
+start_at d (Some number) = if covers number d.log then Covered number else Uncovered number
+
+abbrev pub start_of_request : DirectoryState → SyncRequest → Start
+start_of_request d request = start_at d (asked_prefix d request.cookie)
+
+-- a control outside its grammar asks for nothing
+abbrev pub start_of_read : DirectoryState → Result SyncRequest SyncFault → Start
+start_of_read d (Err fault) = Blank
+start_of_read d (Ok request) = start_of_request d request
+
+abbrev pub start_of_ask : DirectoryState → SyncSearch → Start
+start_of_ask d ask = start_of_read d (request_of ask.control)
+
 -- ---- what is against it
 
 -- a cookie that is not blank
@@ -43,9 +80,13 @@ abbrev pub mode_code : Mode → Option ℕ
 mode_code RefreshOnly = None
 mode_code RefreshAndPersist = Some 53
 
--- e-syncRefreshRequired (4096) where a cookie is to be served, then the mode's
-abbrev pub request_code : SyncRequest → Option ℕ
-request_code request = if has_cookie request.cookie && not request.reload_hint then Some 4096 else mode_code request.mode
+-- e-syncRefreshRequired (4096) where a cookie that is not servable is not to be left aside, then the mode's
+abbrev pub code_by : (servable : Bool) → SyncRequest → Option ℕ
+code_by servable request =
+    if has_cookie request.cookie && (not servable && not request.reload_hint) then Some 4096 else mode_code request.mode
+
+abbrev pub request_code : DirectoryState → SyncRequest → Option ℕ
+request_code d request = code_by (is_some (asked_prefix d request.cookie)) request
 
 abbrev pub refused_or_opened : DirectoryState → ℕ → Option ℕ → Accepted
 refused_or_opened d number None = Opened number (length d.writes)
@@ -54,7 +95,7 @@ refused_or_opened d number (Some code) = Refused code
 -- adminLimitExceeded (11) where no number is free, then the request's
 abbrev pub numbered : DirectoryState → SyncRequest → Option ℕ → Accepted
 numbered d request None = Refused 11
-numbered d request (Some number) = refused_or_opened d number (request_code request)
+numbered d request (Some number) = refused_or_opened d number (request_code d request)
 
 -- protocolError (2) where the control is outside its grammar, then noSuchObject (32) where the base is outside the suffix
 abbrev pub answer_to_request : DirectoryState → List (ℕ × SearchState) → SyncSearch → Result SyncRequest SyncFault → Accepted
@@ -75,7 +116,7 @@ Answers (Opened number writes) answer = answer ≡ Opened number writes
 -- ---- the searches after it
 
 abbrev pub opened : DirectoryState → List (ℕ × SearchState) → SyncSearch → ℕ → List (ℕ × SearchState)
-opened d searches ask number = insert_entry nat_cmp searches number (opening d ask.id (search_of ask.spec))
+opened d searches ask number = insert_entry nat_cmp searches number (opening d ask.id (search_of ask.spec) (start_of_ask d ask))
 
 abbrev pub after_answer : DirectoryState → List (ℕ × SearchState) → SyncSearch → Accepted → List (ℕ × SearchState)
 after_answer d searches ask (Opened number writes) = opened d searches ask number

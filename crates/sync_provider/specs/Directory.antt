@@ -13,17 +13,25 @@ use Rattle.entry_tree.specs.Sound.{is_sound_op}
 use Rattle.entry_tree.specs.declared.entry.Entry.{Entry}
 use Rattle.entry_tree.specs.declared.op.Op.{Op}
 use Rattle.entry_tree.specs.declared.op.Write.{Write}
+use Rattle.session_log.specs.Log.{Log, fresh, trimmed}
+use Rattle.sync_provider.specs.Touches.{Numbers, logged, IsLogged, AreNumbered}
 use Rattle.sync_provider.specs.Weights.{op_weight, kept_weight}
 
--- the suffix, the number that its stamps carry, the number of its history, and the accepted writes in order
+-- the suffix, the number that its stamps carry, the number of its history, the accepted writes in order, and the log
+-- of what they touched
 pub record DirectoryState : Type 0 where
   pub suffix : List (List TypeAndValue)
   pub sid : ℕ
   pub history : ℕ
   pub writes : List Write
+  pub log : Log
+
+-- how many notes the log of a new directory keeps
+abbrev pub first_log_limit : ℕ
+first_log_limit = 1000
 
 abbrev pub fresh_directory : List (List TypeAndValue) → ℕ → ℕ → DirectoryState
-fresh_directory suffix sid history = record { suffix = suffix; sid = sid; history = history; writes = [] }
+fresh_directory suffix sid history = record { suffix = suffix; sid = sid; history = history; writes = []; log = fresh first_log_limit }
 
 -- the entries after the writes of a list, from no entry
 abbrev pub entries_after : ℕ → List Write → List Entry
@@ -83,9 +91,20 @@ judged_at d op (Some csn) = judged_code op csn (code_of d.suffix (entries_of d) 
 abbrev pub judged : DirectoryState → Op → ℕ → Result Write ℕ
 judged d op now = if has_room d.writes op then judged_at d op (next_stamp d now) else Err 11
 
+-- an accepted write, with a note for each identity whose entry it changes
+abbrev pub with_write : DirectoryState → Write → DirectoryState
+with_write d write = record d {
+  writes = d.writes ++ write ∷ [];
+  log = logged (length d.writes + 1) (entries_of d) (entries_after d.history (d.writes ++ write ∷ [])) d.log;
+}
+
 abbrev pub with_judged : DirectoryState → Result Write ℕ → DirectoryState
-with_judged d (Ok write) = record d { writes = d.writes ++ write ∷ [] }
+with_judged d (Ok write) = with_write d write
 with_judged d (Err code) = d
+
+-- from now on the log keeps so many notes
+abbrev pub with_log_limit : DirectoryState → ℕ → DirectoryState
+with_log_limit d limit = record d { log = trimmed limit d.log }
 
 -- the directory after an operation
 abbrev pub written : DirectoryState → Op → ℕ → DirectoryState
@@ -121,9 +140,9 @@ AreAccepted suffix history writes = AreAcceptedFrom suffix history [] 0 writes
 abbrev pub StampsRise : ℕ → List Write → Type 0
 StampsRise sid writes = IsStrictlySortedBy csn_cmp (start sid ∷ stamps writes)
 
--- what holds of a directory's writes, and of the parts that are kept beside them: the entries, the last stamp, and the
--- weight of the writes
-pub record IsKept (d : DirectoryState) (entries : List Entry) (last : Stamp) (weight : ℕ) : Type 0 where
+-- what holds of a directory's writes and its log, and of the parts that are kept beside them: the entries, the last
+-- stamp, the weight of the writes, and the number of each entry's last touch
+pub record IsKept (d : DirectoryState) (entries : List Entry) (last : Stamp) (weight : ℕ) (numbers : Numbers) : Type 0 where
   pub made : entries ≡ entries_of d
   pub stamped : last ≡ stamp_of d
   pub weighed : weight ≡ kept_weight d.writes
@@ -131,3 +150,5 @@ pub record IsKept (d : DirectoryState) (entries : List Entry) (last : Stamp) (we
   pub numbered : d.sid < 4096
   pub accepted : AreAccepted d.suffix d.history d.writes
   pub rises : StampsRise d.sid d.writes
+  pub logged : IsLogged d.history d.writes d.log
+  pub touched : AreNumbered d.history d.writes entries numbers

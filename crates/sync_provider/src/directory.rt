@@ -1,18 +1,26 @@
 //! A directory by its accepted writes.
 
-ghost use Rattle.std.specs.Prelude.{◌≡◌, ◌+◌, ◌<◌, ◌&&◌, nat_lt, nat_le, true, length, IfOk, OnOk, OnErr};
+ghost use Rattle.std.specs.Prelude.{◌≡◌, ◌+◌, ◌<◌, ◌≤◌, ◌&&◌, nat_lt, nat_le, true, length, is_some, IfOk, OnOk, OnErr, IfSome};
 ghost use Rattle.csn_cookie.specs.Csn as csns;
-ghost use Rattle.entry_tree.specs.History.{identity as identity_of};
-ghost use Rattle.entry_tree.specs.Selection.{search_of, select};
+ghost use Rattle.entry_tree.specs.History.{identity as identity_of, state_of};
+ghost use Rattle.entry_tree.specs.State.{entry_at};
 ghost use Rattle.entry_tree.specs.Sound.{is_sound_op};
+ghost use Rattle.sync_provider.specs.Accepting as accepting;
 ghost use Rattle.sync_provider.specs.Directory as directory;
+ghost use Rattle.sync_provider.specs.Refreshing.{IsServed};
+ghost use Rattle.sync_provider.specs.Search.{start_of};
+ghost use Rattle.sync_provider.specs.Touches.{last_touch, IsLogged};
 ghost use Rattle.sync_provider.specs.Weights.{kept_weight};
 
 use crate::NoMemory;
+use crate::held::{Held, Mark};
+use crate::start::Start;
+use crate::touches::Touches;
 use crate::weights::op_weight;
 use csn_cookie::{Cookie, Csn, CsnMaker};
 use dn_names::Dn;
-use entry_tree::{EntryList, Op, OpFault, Spec, Tree, Write};
+use entry_tree::{Op, OpFault, Tree, Write};
+use ldap_ber::Octets;
 use std::alloc::{AllocError, Global};
 use std::marker::Model;
 
@@ -25,7 +33,10 @@ const MOST_WRITES: usize = 1_000_000;
 /// The most that the kept writes weigh, 512 MiB.
 const MOST_WRITES_WEIGHT: u64 = 536_870_912;
 
-/// The entries of a directory, with the writes that led to them.
+/// How many notes the session log of a new directory keeps.
+const FIRST_LOG_LIMIT: u64 = 1_000;
+
+/// The entries of a directory, with the writes that led to them and what these touched.
 #[derive(Drop)]
 pub struct Directory {
     suffix: Dn,
@@ -34,8 +45,8 @@ pub struct Directory {
     accepted: Vec<Write>,
     /// What the accepted writes weigh.
     weight: u64,
-    tree: Tree,
     stamps: CsnMaker,
+    held: Held,
 }
 
 impl Model for Directory {
@@ -43,11 +54,23 @@ impl Model for Directory {
 
     ghost Value = { DirectoryState };
 
-    ghost view = { λ d. record { suffix = d.suffix; sid = d.sid; history = d.history; writes = d.accepted.items } };
+    ghost view = { λ d. record {
+      suffix = d.suffix;
+      sid = d.sid;
+      history = d.history;
+      writes = d.accepted.items;
+      log = d.held.touches.log;
+    } };
 
     ghost invariant = { λ d. IsKept
-        (record { suffix = d.suffix; sid = d.sid; history = d.history; writes = d.accepted.items })
-        d.tree d.stamps d.weight };
+        (record {
+          suffix = d.suffix;
+          sid = d.sid;
+          history = d.history;
+          writes = d.accepted.items;
+          log = d.held.touches.log;
+        })
+        d.held.entries d.stamps d.weight d.held.touches.numbers };
 }
 
 impl Directory {
@@ -63,8 +86,8 @@ impl Directory {
             history,
             accepted: Vec::new(alloc),
             weight: 0,
-            tree: Tree::new(alloc),
             stamps: CsnMaker::new(sid),
+            held: Held::new(alloc, FIRST_LOG_LIMIT),
         }
     }
 
@@ -83,7 +106,7 @@ impl Directory {
     pub fn tree(&self) -> &Tree
         ensures { result.now ≡ directory.entries_of self.now }
     {
-        &self.tree
+        &self.held.tree
     }
 
     /// The accepted writes, the first of which has the number 1.
@@ -118,11 +141,74 @@ impl Directory {
         }
     }
 
-    /// A copy of the entries that are wanted, in ascending order of identity.
-    pub fn select(&self, alloc: Global, spec: &Spec) -> Result<EntryList, NoMemory>
-        ensures { IfOk result (λ found. found ≡ select (search_of spec.now) (directory.entries_of self.now)) }
+    /// What is known of which write touched which entry.
+    pub(crate) fn touches(&self) -> &Touches
+        ensures log { result.now.log ≡ self.now.log }
+        ensures logged { IsLogged self.now.history self.now.writes self.now.log }
     {
-        self.tree.select(alloc, spec)
+        &self.held.touches
+    }
+
+    /// The number of the last write that touched the entry of this identity.
+    #[tactic(auto, using(crate::proofs::Served::number_is))]
+    pub(crate) fn number_of(&self, uuid: u128) -> u64
+        requires { is_some (entry_at (directory.entries_of self.now) uuid) ≡ true }
+        ensures { result ≡ last_touch (state_of self.now.history self.now.writes) (length self.now.writes) uuid }
+    {
+        self.held.touches.number_of(uuid).unwrap_or(0)
+    }
+
+    /// The number of writes that a request's cookie names, where one is given and is servable: it
+    /// is of this directory's history, and its stamp is not above the last one.
+    pub(crate) fn asked_prefix(&self, cookie: &Option<Octets>) -> Option<u64>
+        ensures value { result ≡ accepting.asked_prefix self.now cookie.now }
+        ensures low { IfSome result (λ number. number ≤ length self.now.writes) }
+    {
+        match cookie {
+            None => None,
+            Some(text) => match Cookie::parse(text.as_slice()) {
+                Ok(cookie) => self.prefix_of(&cookie),
+                Err(_) => None,
+            },
+        }
+    }
+
+    #[tactic(auto, using(crate::proofs::Stamps::upto_low))]
+    fn prefix_of(&self, cookie: &Cookie) -> Option<u64>
+        ensures value { result ≡ accepting.prefix_of self.now (Some cookie.now) }
+        ensures low { IfSome result (λ number. number ≤ length self.now.writes) }
+    {
+        if cookie.history == self.history && cookie.csn <= self.stamps.last() {
+            Some(self.upto(cookie.csn))
+        } else {
+            None
+        }
+    }
+
+    /// Where a search begins that has the content after so many writes, or none.
+    #[tactic(auto, using(crate::proofs::Served::covered, crate::proofs::Served::uncovered))]
+    pub(crate) fn start_at(&self, prefix: Option<u64>) -> Start
+        requires { IfSome prefix (λ number. number ≤ length self.now.writes) }
+        ensures value { start_of result ≡ accepting.start_at self.now prefix }
+        ensures served { IsServed self.now (start_of result) }
+    {
+        match prefix {
+            None => Start::Blank,
+            Some(number) => {
+                if self.held.touches.covers(number) {
+                    Start::Covered(number)
+                } else {
+                    Start::Uncovered(number)
+                }
+            }
+        }
+    }
+
+    /// The session log keeps so many notes from now on.
+    pub fn set_log_limit(&mut self, limit: u64)
+        ensures { self.new ≡ directory.with_log_limit self.old limit }
+    {
+        self.held.set_log_limit(limit);
     }
 
     /// Applies a write where the clock shows `now`, in microseconds from the first moment of 1970
@@ -137,13 +223,15 @@ impl Directory {
         if !self.has_room(weight) {
             return Ok(ADMIN_LIMIT_EXCEEDED);
         }
-        self.accepted.reserve(1)?;
         let mut stamps = self.stamps.copy();
         let Ok(csn) = stamps.next(now) else {
             return Ok(ADMIN_LIMIT_EXCEEDED);
         };
-        let uuid = identity(self.history, self.accepted.len() as u64 + 1);
-        if let Err(fault) = self.tree.apply(alloc, &op, &self.suffix, uuid, csn) {
+        let number = self.accepted.len() as u64 + 1;
+        let uuid = identity(self.history, number);
+        self.accepted.reserve(1)?;
+        let mark = Mark { number, uuid, csn };
+        if let Err(fault) = self.held.apply(alloc, &op, &self.suffix, mark) {
             return code_of(fault);
         }
         self.accepted.push_reserved(Write { csn, op });

@@ -2,6 +2,9 @@
 
 ghost use Rattle.sync_provider.specs.Law.{
   CookiesNameTheirPrefix,
+  LogsTellWhatWasTouched,
+  NumbersTellWhatWasTouched,
+  RefreshesAreIncremental,
   SearchesKeepTheirPlace,
   SearchesTellTheirStreams,
   WritesWereAccepted,
@@ -19,6 +22,18 @@ pub fn cookies_name_their_prefix()
     ensures { CookiesNameTheirPrefix }
 {}
 
+/// After every list of calls, where the session log covers a number of writes it tells exactly the
+/// identities whose entries the writes since then touched; and it covers the number of all writes.
+pub fn logs_tell_what_was_touched()
+    ensures { LogsTellWhatWasTouched }
+{}
+
+/// After every list of calls, the number of an identity's last touch is above a number exactly
+/// where the writes since then touched it.
+pub fn numbers_tell_what_was_touched()
+    ensures { NumbersTellWhatWasTouched }
+{}
+
 /// After every list of calls, what is pending of each open search is its Stream over the writes
 /// without the messages that were handed out.
 pub fn searches_keep_their_place()
@@ -29,4 +44,11 @@ pub fn searches_keep_their_place()
 /// was dropped or is looked at, is its Stream over the writes.
 pub fn searches_tell_their_streams()
     ensures { SearchesTellTheirStreams }
+{}
+
+/// Over every list of calls, a search that begins with a servable cookie sends an entry whole only
+/// where the writes after those that the cookie names touched it, up to the number of writes that
+/// the cookie of its end names.
+pub fn refreshes_are_incremental()
+    ensures { RefreshesAreIncremental }
 {}

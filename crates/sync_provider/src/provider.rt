@@ -123,6 +123,14 @@ impl Provider {
         self.searches.remove(&number).is_some()
     }
 
+    /// The session log keeps so many notes from now on: of each write, one for each entry that it
+    /// touched. It takes no memory.
+    pub fn set_log_limit(&mut self, limit: u64)
+        ensures { self.new ≡ machine.log_limited self.old limit }
+    {
+        self.directory.set_log_limit(limit);
+    }
+
     pub fn suffix(&self) -> &Dn
         ensures { result.now ≡ self.now.directory.suffix }
     {

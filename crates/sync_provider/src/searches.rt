@@ -3,13 +3,16 @@
 ghost use Rattle.std.specs.Prelude.{◌≡◌, length, Ok, IfOk, OnOk, OnErr};
 ghost use Rattle.entry_tree.specs.Selection.{search_of};
 ghost use Rattle.std.specs.Ordering.{nat_cmp};
+ghost use Rattle.sync_messages.specs.Request.{request_of};
 ghost use Rattle.std.specs.BTreeMap.{insert_entry};
 ghost use Rattle.sync_provider.specs.Accepting as accepting;
-ghost use Rattle.sync_provider.specs.Search.{opening};
+ghost use Rattle.sync_provider.specs.Refreshing.{IsServed};
+ghost use Rattle.sync_provider.specs.Search.{opening, start_of};
 
 use crate::directory::ADMIN_LIMIT_EXCEEDED;
-use crate::open_search::OpenSearch;
+use crate::open_search::{OpenSearch, Opening};
 use crate::provider::Provider;
+use crate::start::Start;
 use csn_cookie::is_blank;
 use entry_tree::Spec;
 use ldap_ber::{NoMemory, Octets};
@@ -54,9 +57,12 @@ pub enum Accepted {
 impl Provider {
     /// Opens a search, or tells the first code that is against it: 2 where the control's value is
     /// outside its grammar; 32 where the base is not at or below the suffix; 11 where each number
-    /// from 1 to 64 is that of an open search; 4096 where a cookie is given that is not blank, and
-    /// not to be left aside by the client's hint; 53 where the search is to go on after its
-    /// refresh. Its number is the least from 1 to 64 that no open search has.
+    /// from 1 to 64 is that of an open search; 4096 where a cookie is given that is neither blank
+    /// nor servable, and the client does not ask to reload then; 53 where the search is to go on
+    /// after its refresh. Its number is the least from 1 to 64 that no open search has.
+    ///
+    /// A cookie is servable where it is of the directory's history and its stamp is not above the
+    /// last one. The search then begins with the content after the writes that it names.
     #[tactic(auto, using(crate::proofs::Asking::value_refused, crate::proofs::Asking::value_read))]
     pub fn accept(&mut self, alloc: Global, ask: SyncSearch) -> Accepted
         ensures answer { accepting.Answers result
@@ -75,6 +81,7 @@ impl Provider {
     /// The same, with the request that the control's value spells.
     #[tactic(auto, using(crate::proofs::Asking::outside, crate::proofs::Asking::crowded, crate::proofs::Asking::opposed, crate::proofs::Asking::admitted))]
     fn accept_request(&mut self, alloc: Global, request: &SyncRequest, ask: SyncSearch) -> Accepted
+        requires { request_of ask.control ≡ Ok request.now }
         ensures answer { accepting.Answers result
             (accepting.answer_to_request self.old.directory self.old.searches ask (Ok request.now)) }
         ensures state { self.new ≡ record self.old {
@@ -87,29 +94,45 @@ impl Provider {
         let Some(number) = self.free_number() else {
             return Accepted::Refused(ADMIN_LIMIT_EXCEEDED);
         };
-        if let Some(code) = code_of(request) {
+        let prefix = self.directory.asked_prefix(&request.cookie);
+        if let Some(code) = code_of(request, prefix.is_some()) {
             return Accepted::Refused(code);
         }
-        match self.open(alloc, number, ask.id, ask.spec) {
+        let start = self.directory.start_at(prefix);
+        match self.open(alloc, number, ask.id, ask.spec, start) {
             Ok(writes) => Accepted::Opened(number, writes),
             Err(_) => Accepted::NoMemory,
         }
     }
 
     /// Opens a search with this number, and answers how many writes the directory has.
-    fn open(&mut self, alloc: Global, number: u64, id: u32, spec: Spec) -> Result<u64, NoMemory>
+    fn open(
+        &mut self,
+        alloc: Global,
+        number: u64,
+        id: u32,
+        spec: Spec,
+        start: Start,
+    ) -> Result<u64, NoMemory>
+        requires { IsServed self.old.directory (start_of start) }
         ensures writes { IfOk result (λ writes. writes ≡ length self.old.directory.writes) }
         ensures ok { OnOk result (self.new ≡ record self.old {
           searches = insert_entry nat_cmp self.old.searches number
-              (opening self.old.directory id (search_of spec));
+              (opening self.old.directory id (search_of spec) (start_of start));
         }) }
         ensures err { OnErr result (self.new ≡ self.old) }
     {
-        let content = self.directory.select(alloc, &spec)?;
-        let writes = self.writes();
-        let search = OpenSearch::new(id, spec, writes, content, self.directory.cookie());
+        let parts = self.directory.refresh(alloc, &spec, start)?;
+        let accepted = self.writes();
+        let opening = Opening {
+            id,
+            spec,
+            start,
+            accepted,
+        };
+        let search = OpenSearch::new(opening, parts, self.directory.cookie());
         self.searches.insert(number, search)?;
-        Ok(writes)
+        Ok(accepted)
     }
 
     /// The least number from 1 to 64 that no open search has.
@@ -126,11 +149,11 @@ impl Provider {
     }
 }
 
-/// The code that is against what a control asks for.
-fn code_of(request: &SyncRequest) -> Option<u32>
-    ensures { result ≡ accepting.request_code request.now }
+/// The code that is against what a control asks for, by whether its cookie is servable.
+fn code_of(request: &SyncRequest, servable: bool) -> Option<u32>
+    ensures { result ≡ accepting.code_by servable request.now }
 {
-    if asks_with_cookie(request) && !request.reload_hint {
+    if asks_with_cookie(request) && !servable && !request.reload_hint {
         return Some(REFRESH_REQUIRED);
     }
     match request.mode {

@@ -1,5 +1,5 @@
 -- Operations without where they lie in memory.
-use Rattle.std.proofs.Common.{◌≡◌, ℕ, Bool, List, refl}
+use Rattle.std.proofs.Common.{◌≡◌, ℕ, Bool, List, Option, refl}
 use Rattle.schema_rules.specs.declared.raw.RawAttribute.{RawAttribute}
 use Rattle.ldap_filter.specs.declared.filter.Filter.{Filter}
 use Rattle.ldap_filter.specs.Tree.{tree_of}
@@ -23,3 +23,7 @@ pub search_operation : (base : List ℕ) (scope : SearchScope) (deref size_limit
     ≡ operation.search ((base, (scope_number scope, (deref, (size_limit, (time_limit, types_only))))), (tree_of filter, attributes))
 unfolding operation_of
 search_operation base scope deref size_limit time_limit types_only filter attributes = refl
+
+pub info_operation : (name value : Option (List ℕ)) → operation_of (op.IntermediateResponse name value) ≡ operation.intermediate (name, value)
+unfolding operation_of
+info_operation name value = refl

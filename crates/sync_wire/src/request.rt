@@ -1,9 +1,10 @@
 //! The request of a search (RFC 4511, section 4.5.1; RFC 4533, section 2.2).
 
-ghost use Rattle.std.specs.Prelude.{◌≡◌, [], ◌∷◌, codes, IfOk};
+ghost use Rattle.std.specs.Prelude.{◌≡◌, [], ◌∷◌, codes, Ok, IfOk};
 ghost use Rattle.entry_tree.specs.Selection.{search_of};
 ghost use Rattle.ldap_messages.specs.Search.{scope_number};
 ghost use Rattle.ldap_messages.specs.Whole.{whole_of};
+ghost use Rattle.sync_messages.specs.Request.{request_of, request_octets};
 ghost use Rattle.sync_wire.specs.Requesting as spec;
 
 use entry_tree::{Scope, Spec};
@@ -23,8 +24,10 @@ pub fn search_request(
     wanted: &Spec,
     sync: &SyncRequest,
 ) -> Result<Message, NoMemory>
-    ensures { IfOk result (λ message. whole_of message
+    ensures message { IfOk result (λ message. whole_of message
         ≡ spec.search_request (search_of wanted.now) id sync.now.mode sync.now.reload_hint sync.now.cookie) }
+    // The value of its control is read again as what is asked.
+    ensures read_again { IfOk result (λ message. request_of (request_octets sync.now) ≡ Ok sync.now) }
 {
     let base = wanted.base.write()?;
     let filter = wanted.filter.copy()?;
@@ -68,8 +71,9 @@ fn all_attributes(alloc: Global) -> Result<OctetsList, NoMemory>
 
 /// The control that asks for content synchronization.
 fn sync_control(alloc: Global, sync: &SyncRequest) -> Result<ControlList, NoMemory>
-    ensures { IfOk result
+    ensures controls { IfOk result
         (λ controls. controls ≡ spec.sync_control sync.now.mode sync.now.reload_hint sync.now.cookie ∷ []) }
+    ensures read_again { IfOk result (λ controls. request_of (request_octets sync.now) ≡ Ok sync.now) }
 {
     let mut controls = ControlList::new(alloc);
     controls.push(Control {

@@ -2,7 +2,7 @@
 ghost use Rattle.std.specs.Prelude.{◌≡◌, ◌<◌, ◌∷◌, ◌++◌, [], true, false, pos, Some, None, IfOk, OnOk, codes};
 ghost use Rattle.csn_cookie.specs.Cookie.{cookie_text};
 ghost use Rattle.ldap_messages.specs.Whole.{whole_of};
-ghost use Rattle.sync_model.specs.Message.SyncMessage.{Put, Done};
+ghost use Rattle.sync_model.specs.Message.SyncMessage.{Put, IdSet, Done};
 ghost use Rattle.sync_wire.specs.Sending.{sent, attributes_of, marks_of, single as attribute, result_of, uuid_text};
 
 use csn_cookie::Cookie;
@@ -11,7 +11,7 @@ use ldap_ber::{NoMemory, Octets, OctetsList};
 use ldap_messages::{Control, ControlList, LdapResult, Message, Protocol};
 use schema_rules::{RawAttribute, RawList};
 use std::alloc::Global;
-use sync_messages::{State, SyncDone, SyncState};
+use sync_messages::{IdList, State, SyncDone, SyncInfo, SyncState};
 use uuid::Uuid;
 
 /// The name of the Sync State control.
@@ -19,6 +19,9 @@ const SYNC_STATE: &[u8] = b"1.3.6.1.4.1.4203.1.9.1.2";
 
 /// The name of the Sync Done control.
 const SYNC_DONE: &[u8] = b"1.3.6.1.4.1.4203.1.9.1.3";
+
+/// The name of the Sync Info message.
+const SYNC_INFO: &[u8] = b"1.3.6.1.4.1.4203.1.9.1.4";
 
 /// The end of a search, with this result code and no control.
 #[tactic(auto, using(crate::proofs::Operations::done_operation))]
@@ -33,16 +36,23 @@ pub fn done_message(alloc: Global, id: u32, code: u32) -> Result<Message, NoMemo
     })
 }
 
-/// The end of a refresh that succeeded and told what is present, with the cookie of its content.
+/// The end of a refresh that succeeded, with the cookie of its content. It told what is deleted, or
+/// else what is present.
 #[tactic(auto, using(crate::proofs::Operations::done_operation))]
-pub fn end_message(alloc: Global, id: u32, cookie: &Cookie) -> Result<Message, NoMemory>
+pub fn end_message(
+    alloc: Global,
+    id: u32,
+    deletes: bool,
+    cookie: &Cookie,
+) -> Result<Message, NoMemory>
     requires rid { cookie.now.rid < 1000 }
     requires sid { cookie.now.sid < 4096 }
-    ensures { IfOk result (λ message. whole_of message ≡ sent id (Done (pos 0) (Some (false, Some (cookie_text cookie.now))))) }
+    ensures { IfOk result (λ message. whole_of message ≡ sent id
+        (Done (pos 0) (Some (deletes, Some (cookie_text cookie.now))))) }
 {
     let done = SyncDone {
         cookie: Some(Octets::from_slice(alloc, &cookie.write())?),
-        refresh_deletes: false,
+        refresh_deletes: deletes,
     };
     let controls = one_control(alloc, SYNC_DONE, done.write(alloc)?)?;
     let result = result_of(alloc, 0)?;
@@ -71,6 +81,39 @@ pub fn entry_message(alloc: Global, id: u32, entry: &Entry) -> Result<Message, N
         op: Protocol::SearchResultEntry { name, attributes },
         controls,
     })
+}
+
+/// The entries of these identities are deleted, or else present (RFC 4533, section 2.5), without a
+/// cookie.
+#[tactic(auto, using(crate::proofs::Operations::info_operation))]
+pub fn names_message(
+    alloc: Global,
+    id: u32,
+    deletes: bool,
+    uuids: &[u128],
+) -> Result<Message, NoMemory>
+    ensures { IfOk result (λ message. whole_of message ≡ sent id (IdSet deletes uuids.now None)) }
+{
+    let names = SyncInfo::IdSet(None, deletes, list_of(alloc, uuids)?);
+    Ok(Message {
+        id,
+        op: Protocol::IntermediateResponse {
+            name: Some(Octets::from_slice(alloc, SYNC_INFO)?),
+            value: Some(names.write(alloc)?),
+        },
+        controls: ControlList::new(alloc),
+    })
+}
+
+/// The identities as a list of their own.
+fn list_of(alloc: Global, uuids: &[u128]) -> Result<IdList, NoMemory>
+    ensures { IfOk result (λ list. list ≡ uuids.now) }
+{
+    let mut list = IdList::new(alloc);
+    for uuid in uuids {
+        list.push(*uuid)?;
+    }
+    Ok(list)
 }
 
 /// The attributes in the order held, then `entryUUID` (RFC 4530) and `entryCSN`.

@@ -8,7 +8,7 @@ use Rattle.std.specs.Io.KnownBytes.{Keeps, IsAtEnd}
 use Rattle.std.specs.Prelude.{IfSome, nat_lt}
 use Rattle.sync_io.specs.Faults.{Rose}
 use Rattle.cascade_world.specs.declared.fault.Cause.{Cause}
-use Rattle.cascade_world.specs.declared.fault.Cause.TheVariants.{BadCommand, UnknownNode, NameTaken, BadRecord, LimitReached, OutsideSuffix, NotYet, NoMemory}
+use Rattle.cascade_world.specs.declared.fault.Cause.TheVariants.{BadCommand, UnknownNode, NameTaken, BadRecord, LimitReached, OutsideSuffix, LaterCookie, NotYet, NoMemory}
 use Rattle.cascade_world.specs.Lines.{kept_bytes, most_bytes, most_lines, text_lines, up_to_last, has_more, limit_passed}
 use Rattle.cascade_world.specs.Reader.{Reader, reader_of}
 use Rattle.cascade_world.specs.Run.{IsScript}
@@ -167,6 +167,7 @@ status_is NameTaken = inl refl
 status_is BadRecord = inl refl
 status_is (LimitReached number) = inr refl
 status_is OutsideSuffix = inl refl
+status_is (LaterCookie held given) = inl refl
 status_is NotYet = inl refl
 status_is NoMemory = inl refl
 

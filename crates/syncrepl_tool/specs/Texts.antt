@@ -1,9 +1,9 @@
 -- What the program says of a run that did not end well.
-use Rattle.std.specs.Prelude.{ℕ, Option, List, ◌++◌, codes}
+use Rattle.std.specs.Prelude.{ℕ, Option, Some, None, List, ◌++◌, codes}
 use Rattle.std.specs.Fmt.{decimal}
 use Rattle.std.specs.Io.KnownBytes.{Appends}
 use Rattle.cascade_world.specs.declared.fault.Cause.{Cause}
-use Rattle.cascade_world.specs.declared.fault.Cause.TheVariants.{BadCommand, UnknownNode, NameTaken, BadRecord, LimitReached, OutsideSuffix, NotYet, NoMemory}
+use Rattle.cascade_world.specs.declared.fault.Cause.TheVariants.{BadCommand, UnknownNode, NameTaken, BadRecord, LimitReached, OutsideSuffix, LaterCookie, NotYet, NoMemory}
 use Rattle.sync_io.specs.Faults.{Rose}
 use Rattle.sync_io.specs.Sink.{AppendsFront}
 
@@ -16,14 +16,28 @@ read_fault_text = codes "syncrepl: read fault\n"
 unfoldable pub write_fault_text : List ℕ
 write_fault_text = codes "syncrepl: write fault\n"
 
--- the name of a cause, and the limit that is passed
+-- `LimitReached N`
+abbrev pub limit_text : ℕ → List ℕ
+limit_text number = codes "LimitReached " ++ decimal number
+
+-- the cookie that is held, or `-` where none is
+abbrev pub held_text : Option (List ℕ) → List ℕ
+held_text None = codes "-"
+held_text (Some text) = text
+
+-- `LaterCookie HELD GIVEN`
+abbrev pub later_cookie_text : Option (List ℕ) → List ℕ → List ℕ
+later_cookie_text held given = codes "LaterCookie " ++ held_text held ++ codes " " ++ given
+
+-- the name of a cause, with the limit that is passed or the cookies that are compared
 unfoldable pub cause_text : Cause → List ℕ
 cause_text BadCommand = codes "BadCommand"
 cause_text UnknownNode = codes "UnknownNode"
 cause_text NameTaken = codes "NameTaken"
 cause_text BadRecord = codes "BadRecord"
-cause_text (LimitReached number) = codes "LimitReached " ++ decimal number
+cause_text (LimitReached number) = limit_text number
 cause_text OutsideSuffix = codes "OutsideSuffix"
+cause_text (LaterCookie held given) = later_cookie_text held given
 cause_text NotYet = codes "NotYet"
 cause_text NoMemory = codes "NoMemory"
 

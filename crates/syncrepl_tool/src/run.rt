@@ -6,7 +6,7 @@ ghost use Rattle.cascade_world.specs.Run.{IsScript};
 ghost use Rattle.cascade_world.specs.World.{no_nodes};
 ghost use Rattle.std.specs.String.{string_bytes};
 ghost use Rattle.cascade_world.specs.declared.fault.Cause.TheVariants.{NoMemory};
-ghost use Rattle.syncrepl_tool.specs.Texts.{Says, usage_text, read_fault_text, write_fault_text, refusal_text, cause_text};
+ghost use Rattle.syncrepl_tool.specs.Texts.{Says, usage_text, read_fault_text, write_fault_text, refusal_text, cause_text, limit_text, later_cookie_text};
 ghost use Rattle.syncrepl_tool.specs.Cascade.{WritesFront, WritesWhole, IsRefused, IsRefusedStatus, status_of, Ends, RunEnds, IsInput, OnCode, Decides, IsCascade, IsStatus, IsCascadeStatus};
 
 use cascade_world::{Cause, NoMemory, Script, ScriptFault, World, read_event};
@@ -42,8 +42,9 @@ pub fn run<R: Threads + Wait + Sync, I: Source, O: Sink, E: Sink>(
 
     // Each `stored` line names a prefix of the provider's accepted writes, no shorter than when the
     // consumer's search was opened, and the consumer's entries are exactly what its specification
-    // selects from it; a `show` of the consumer prints these until the next one. Each consumer is
-    // what the lines of its messages make of it.
+    // selects from it; a `show` of the consumer prints these until the next one. A search is refused
+    // with 4096 exactly where the consumer's cookie is in its way. Each consumer is what the lines of
+    // its messages make of it.
     ensures headline { IfSome (I.bytes_left input.old) (λ text.
         WritesFront (reader_of text) (O.bytes_held output.old) (O.bytes_held output.new)) }
 
@@ -137,8 +138,9 @@ pub fn run_cascade<I: Source, O: Sink, E: Sink>(
 
     // Each `stored` line names a prefix of the provider's accepted writes, no shorter than when the
     // consumer's search was opened, and the consumer's entries are exactly what its specification
-    // selects from it; a `show` of the consumer prints these until the next one. Each consumer is
-    // what the lines of its messages make of it.
+    // selects from it; a `show` of the consumer prints these until the next one. A search is refused
+    // with 4096 exactly where the consumer's cookie is in its way. Each consumer is what the lines of
+    // its messages make of it.
     ensures headline { IfSome (I.bytes_left input.old) (λ text.
         WritesFront (reader_of text) (O.bytes_held output.old) (O.bytes_held output.new)) }
 
@@ -211,16 +213,16 @@ fn refuse<E: Sink>(alloc: Global, errors: &mut E, fault: ScriptFault) -> Result<
         (E.bytes_held errors.old) (E.bytes_held errors.new)
         (E.write_fault_count errors.old) (E.write_fault_count errors.new)) }
 {
-    let text = refusal_text(alloc, fault)?;
+    let text = refusal_text(alloc, &fault)?;
     say(errors, &text);
     Ok(Status {
-        code: status_of(fault.cause),
+        code: status_of(&fault.cause),
     })
 }
 
 /// The status of a refusal.
-fn status_of(cause: Cause) -> u8
-    ensures { result ≡ status_of cause }
+fn status_of(cause: &Cause) -> u8
+    ensures { result ≡ status_of cause.now }
 {
     match cause {
         Cause::LimitReached(_) => 8,
@@ -230,33 +232,59 @@ fn status_of(cause: Cause) -> u8
 
 /// The place of a refusal and its cause.
 #[tactic(auto, unfolding(crate::specs::Texts::refusal_text))]
-fn refusal_text(alloc: Global, fault: ScriptFault) -> Result<Vec<u8>, NoMemory>
-    ensures { IfOk result (λ text. text.items ≡ refusal_text fault.line fault.cause) }
+fn refusal_text(alloc: Global, fault: &ScriptFault) -> Result<Vec<u8>, NoMemory>
+    ensures { IfOk result (λ text. text.items ≡ refusal_text fault.now.line fault.now.cause) }
 {
     let line = fault.line;
     let place = format!(in alloc; "syncrepl: line {line}: ")?;
-    let cause = cause_text(alloc, fault.cause)?;
+    let cause = cause_text(alloc, &fault.cause)?;
     let mut text = place.as_bytes().to_vec(alloc)?;
-    text.extend_from_slice(cause.as_bytes())?;
+    text.extend_from_slice(&cause)?;
     text.push(b'\n')?;
     Ok(text)
 }
 
-/// The name of a cause, and the limit that is passed.
+/// The name of a cause, with the limit that is passed or the cookies that are compared.
 #[tactic(auto, unfolding(crate::specs::Texts::cause_text))]
-fn cause_text(alloc: Global, cause: Cause) -> Result<String, NoMemory>
-    ensures { IfOk result (λ text. string_bytes text ≡ cause_text cause) }
+fn cause_text(alloc: Global, cause: &Cause) -> Result<Vec<u8>, NoMemory>
+    ensures { IfOk result (λ text. text.items ≡ cause_text cause.now) }
 {
     match cause {
-        Cause::BadCommand => String::from_str(alloc, "BadCommand"),
-        Cause::UnknownNode => String::from_str(alloc, "UnknownNode"),
-        Cause::NameTaken => String::from_str(alloc, "NameTaken"),
-        Cause::BadRecord => String::from_str(alloc, "BadRecord"),
-        Cause::LimitReached(number) => format!(in alloc; "LimitReached {number}"),
-        Cause::OutsideSuffix => String::from_str(alloc, "OutsideSuffix"),
-        Cause::NotYet => String::from_str(alloc, "NotYet"),
-        Cause::NoMemory => String::from_str(alloc, "NoMemory"),
+        Cause::BadCommand => b"BadCommand".to_vec(alloc),
+        Cause::UnknownNode => b"UnknownNode".to_vec(alloc),
+        Cause::NameTaken => b"NameTaken".to_vec(alloc),
+        Cause::BadRecord => b"BadRecord".to_vec(alloc),
+        Cause::LimitReached(number) => limit_text(alloc, *number),
+        Cause::OutsideSuffix => b"OutsideSuffix".to_vec(alloc),
+        Cause::LaterCookie(held, given) => later_cookie_text(alloc, held, given),
+        Cause::NotYet => b"NotYet".to_vec(alloc),
+        Cause::NoMemory => b"NoMemory".to_vec(alloc),
     }
+}
+
+fn limit_text(alloc: Global, number: u64) -> Result<Vec<u8>, NoMemory>
+    ensures { IfOk result (λ text. text.items ≡ limit_text number) }
+{
+    let text = format!(in alloc; "LimitReached {number}")?;
+    text.as_bytes().to_vec(alloc)
+}
+
+/// `LaterCookie HELD GIVEN`, where `-` stands for no cookie.
+fn later_cookie_text(
+    alloc: Global,
+    held: &Option<Octets>,
+    given: &Octets,
+) -> Result<Vec<u8>, NoMemory>
+    ensures { IfOk result (λ text. text.items ≡ later_cookie_text held.now given.now) }
+{
+    let mut text = b"LaterCookie ".to_vec(alloc)?;
+    match held {
+        Some(held) => text.extend_from_slice(held.as_slice())?,
+        None => text.push(b'-')?,
+    }
+    text.push(b' ')?;
+    text.extend_from_slice(given.as_slice())?;
+    Ok(text)
 }
 
 /// How reading the input ended.
@@ -314,7 +342,7 @@ fn run_text<O: Sink, E: Sink>(
 }
 
 /// How the events of a script ended.
-#[derive(Clone, Copy, Debug, PartialEq, Eq)]
+#[derive(Drop)]
 pub enum Outcome {
     Done,
     /// The script is refused.

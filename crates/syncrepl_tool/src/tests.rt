@@ -153,7 +153,9 @@ stored c 1 entries 1 sha256 8f8bbfc32f02a834239e30b6652655f8b425d92fe020ac9bd789
 settled c 1
 wrote p 0 2
 opened c 2
-sent c 30819302010165070a010004000400a081843081810418312e332e362e312e342e312e343230332e312e392e312e330465306304617269643d3030302c7369643d3030312c63736e3d31393730303130313030303030302e3030303030305a2330303030303223303031233030303030302c67656e3d3030303030303030303030303030303030303030303030303030303030303031
+sent c 303a02010179358018312e332e362e312e342e312e343230332e312e392e312e348119a3170101ff3112041000000000000180008000000000000001
+taken c
+sent c 30819602010165070a010004000400a081873081840418312e332e362e312e342e312e343230332e312e392e312e330468306604617269643d3030302c7369643d3030312c63736e3d31393730303130313030303030302e3030303030305a2330303030303223303031233030303030302c67656e3d30303030303030303030303030303030303030303030303030303030303030310101ff
 stored c 2 entries 0 sha256 e3b0c44298fc1c149afbf4c8996fb92427ae41e4649b934ca495991b7852b855 origin p 2
 settled c 2
 ",
@@ -478,7 +480,7 @@ respec c sub \"dc=x\" => BadCommand
 respec c sub \"dc=x\" \"(cn=)(\" => BadCommand
 replica r from p sub \"dc=x\" \"(objectClass=*)\" => NotYet
 replica r from p sub \"dc=x\" \"(objectClass=*)\" reload => NotYet
-consumer d from p sub \"dc=x\" \"(objectClass=*)\" reload => NotYet
+consumer d from p sub \"dc=x\" \"(objectClass=*)\" reload now => BadCommand
 send c 1000001 => BadCommand
 send c 01 => BadCommand
 take c 0 => BadCommand
@@ -496,11 +498,19 @@ take p => UnknownNode
 take nobody 2 => UnknownNode
 cut p => UnknownNode
 cut nobody => UnknownNode
-lose c => NotYet
-cookie c \"rid=000 x\" => NotYet
+lose nobody => UnknownNode
+lose p => UnknownNode
+lose c c => BadCommand
+cookie nobody \"\" => UnknownNode
+cookie p \"\" => UnknownNode
+cookie c rid=000 => BadCommand
+cookie c \"\"\" => BadCommand
 repoint c p => NotYet
 respec c one \"dc=x\" \"(cn=a)\" => NotYet
-log p 0 => NotYet
+log c 0 => UnknownNode
+log nobody 0 => UnknownNode
+log p 1000001 => BadCommand
+log p => BadCommand
 queue p 1000000 => NotYet
 settle q => UnknownNode
 settle p => UnknownNode

@@ -1,4 +1,5 @@
 //! Filters as text, and what they say of an entry.
+use crate::assertions::{assert_same, discard};
 use ldap_ber::{NoMemory, Octets, OctetsList};
 use ldap_filter::{Filter, FilterFault, FilterList, Truth};
 use schema_rules::{Attrs, RawAttribute, RawList};
@@ -54,16 +55,47 @@ const TEXTS: &str = "(cn=Babs Jensen)
 (cn=\\c3\\28\\FF) => (cn=\\c3\\28\\ff)
 (cn=\\c3\\a9\\e2\\82\\e2\\82\\ac) => (cn=é\\e2\\82€)";
 
+/// How a copy of the filter is written.
+fn written_copy(alloc: Global, filter: &Filter) -> Result<Octets, FilterFault> {
+    let copied = copy(filter)?;
+    let text = write(alloc, &copied);
+    discard(copied);
+    text
+}
+
+/// Whether the text is read as this filter.
+fn is_read_as(alloc: Global, text: &[u8], filter: &Filter) -> Result<bool, FilterFault> {
+    let again = read(alloc, text)?;
+    let is_same = same(&again, filter);
+    discard(again);
+    Ok(is_same)
+}
+
+/// How the filter is written, and whether it is read from there as it was.
+fn again(alloc: Global, filter: &Filter) -> Result<(Octets, bool), FilterFault> {
+    let text = written_copy(alloc, filter)?;
+    let is_same = is_read_as(alloc, text.as_slice(), filter)?;
+    Ok((text, is_same))
+}
+
+/// The same of the filter of this text.
+fn rewritten(alloc: Global, text: &str) -> Result<(Octets, bool), FilterFault> {
+    let filter = read(alloc, text.as_bytes())?;
+    let found = again(alloc, &filter);
+    discard(filter);
+    found
+}
+
 #[test]
 fn texts_both_ways(rt: HostRuntime) -> Result<(), Fail> {
     for line in TEXTS.lines() {
         let (text, written) = line.split_once(" => ").unwrap_or((line, line));
-        let filter = read(rt.alloc(), text.as_bytes())?;
-        let again = write(rt.alloc(), &copy(&filter)?)?;
-        assert_eq!(rt; again.as_slice(), written.as_bytes(), "{line}");
-        assert!(rt;
-            same(&read(rt.alloc(), again.as_slice())?, &filter),
-            "{line}"
+        let (found, is_same) = rewritten(rt.alloc(), text)?;
+        assert_same(
+            &rt,
+            line,
+            &(found.as_slice(), is_same),
+            &(written.as_bytes(), true),
         );
     }
     Ok(())
@@ -103,28 +135,38 @@ const REFUSED: &str = "3 (cn:caseExactMatch:=Fred Flintstone)
 8 (&(cn=a)x)
 2 (cé=a)";
 
+/// Bytes that are no text, and the place of the first that cannot stand there.
+const NO_TEXTS: [(&[u8], usize); 3] = [
+    (b"(cn=\xff)", 4),
+    (b"(cn=a\xe2\x82)", 5),
+    (b"(cn=a)\xff", 6),
+];
+
+fn fault_of(alloc: Global, text: &[u8]) -> Option<FilterFault> {
+    read(alloc, text).err()
+}
+
 #[test]
 fn texts_refused(rt: HostRuntime) -> Result<(), Fail> {
     for line in REFUSED.lines() {
         let (place, text) = line.split_once(' ').ok_or(line)?;
-        let place = place.parse::<usize>()?;
-        match read(rt.alloc(), text.as_bytes()) {
-            Ok(_) => return Err(Fail::from(line)),
-            Err(fault) => assert_eq!(rt; fault, FilterFault::BadFilter(place), "{line}"),
-        }
-    }
-    let rows: [(&[u8], usize); 3] = [
-        (b"(cn=\xff)", 4),
-        (b"(cn=a\xe2\x82)", 5),
-        (b"(cn=a)\xff", 6),
-    ];
-    for (text, place) in rows {
-        match read(rt.alloc(), text) {
-            Ok(_) => return Err(Fail::from("bytes that are no text were read")),
-            Err(fault) => assert_eq!(rt; fault, FilterFault::BadFilter(place)),
-        }
+        let wanted = FilterFault::BadFilter(place.parse::<usize>()?);
+        assert_same(
+            &rt,
+            line,
+            &fault_of(rt.alloc(), text.as_bytes()),
+            &Some(wanted),
+        );
     }
     Ok(())
+}
+
+#[test]
+fn bytes_refused(rt: HostRuntime) {
+    for (text, place) in &NO_TEXTS {
+        let wanted = FilterFault::BadFilter(*place);
+        assert_same(&rt, "no text", &fault_of(rt.alloc(), text), &Some(wanted));
+    }
 }
 
 /// So many times `front`, then `item`, then as many times `)`.
@@ -140,62 +182,142 @@ fn nested(alloc: Global, front: &str, item: &str, levels: usize) -> Result<Vec<u
     Ok(text)
 }
 
+/// What is nested, how often, and whether it is read.
+const LEVELS: [(&str, &str, usize, bool); 6] = [
+    ("(!", "(cn=a)", 31, true),
+    ("(!", "(cn=a)", 32, false),
+    ("(&", "", 32, true),
+    ("(&", "", 33, false),
+    ("(|(cn=a)", "(|)", 31, true),
+    ("(|(cn=a)", "(|)", 32, false),
+];
+
+/// What refuses a filter of too many levels.
+fn too_deep(is_read: bool) -> Option<FilterFault> {
+    if is_read {
+        None
+    } else {
+        Some(FilterFault::TooDeep)
+    }
+}
+
 #[test]
 fn levels_of_filters(rt: HostRuntime) -> Result<(), Fail> {
-    let rows = [
-        ("(!", "(cn=a)", 31, true),
-        ("(!", "(cn=a)", 32, false),
-        ("(&", "", 32, true),
-        ("(&", "", 33, false),
-        ("(|(cn=a)", "(|)", 31, true),
-        ("(|(cn=a)", "(|)", 32, false),
-    ];
-    for (front, item, levels, is_read) in rows {
-        let text = nested(rt.alloc(), front, item, levels)?;
-        match read(rt.alloc(), &text) {
-            Ok(_) => assert!(rt; is_read, "{levels}"),
-            Err(fault) => {
-                assert!(rt; !is_read, "{levels}");
-                assert_eq!(rt; fault, FilterFault::TooDeep);
-            }
-        }
+    for (front, item, levels, is_read) in &LEVELS {
+        let text = nested(rt.alloc(), front, item, *levels)?;
+        assert_same(
+            &rt,
+            front,
+            &fault_of(rt.alloc(), &text),
+            &too_deep(*is_read),
+        );
     }
     Ok(())
 }
+
+/// The front, as many times the piece, and the end.
+fn long_text(alloc: Global, front: &str, piece: &str, count: usize) -> Result<Vec<u8>, NoMemory> {
+    let mut text = Vec::from_slice(alloc, front.as_bytes())?;
+    for _ in 0..count {
+        text.extend_from_slice(piece.as_bytes())?;
+    }
+    text.push(b')')?;
+    Ok(text)
+}
+
+/// How a copy of the filter is written, and whether it is the same.
+fn copied(alloc: Global, filter: &Filter) -> Result<(Octets, bool), FilterFault> {
+    let copied = copy(filter)?;
+    let is_same = same(filter, &copied);
+    let text = write(alloc, &copied);
+    discard(copied);
+    Ok((text?, is_same))
+}
+
+/// The same of the filter of this text.
+fn copied_from(alloc: Global, text: &[u8]) -> Result<(Octets, bool), FilterFault> {
+    let filter = read(alloc, text)?;
+    let found = copied(alloc, &filter);
+    discard(filter);
+    found
+}
+
+const LONG: [(&str, &str); 2] = [("(|", "(cn=a)"), ("(cn=a", "*b")];
 
 /// Long lists take no more of the stack than short ones.
 #[test]
 fn long_filters(rt: HostRuntime) -> Result<(), Fail> {
-    for (front, piece) in [("(|", "(cn=a)"), ("(cn=a", "*b")] {
-        let mut text = Vec::new(rt.alloc());
-        text.extend_from_slice(front.as_bytes())?;
-        for _ in 0..10_000 {
-            text.extend_from_slice(piece.as_bytes())?;
-        }
-        text.push(b')')?;
-        let filter = read(rt.alloc(), &text)?;
-        let copied = copy(&filter)?;
-        assert!(rt; same(&filter, &copied));
-        assert_eq!(rt; write(rt.alloc(), &copied)?.as_slice(), text.as_slice());
+    for (front, piece) in &LONG {
+        let text = long_text(rt.alloc(), front, piece, 10_000)?;
+        let (found, is_same) = copied_from(rt.alloc(), &text)?;
+        assert_same(
+            &rt,
+            front,
+            &(found.as_slice(), is_same),
+            &(text.as_slice(), true),
+        );
     }
     Ok(())
 }
 
+/// Filters of this text have none of their own.
+const WITHOUT_TEXT: [&str; 4] = ["(cn=a**b)", "(cn=**)", "(!(&(cn=a)(cn=**b)))", "(cn=***)"];
+
+/// Names that are no types.
+const NO_TYPES: [&str; 3] = ["", "c n", "é"];
+
+/// Why the filter is not written. It is dropped.
+fn fault_of_writing(alloc: Global, filter: Filter) -> Option<FilterFault> {
+    let fault = write(alloc, &filter).err();
+    discard(filter);
+    fault
+}
+
+fn fault_of_rewriting(alloc: Global, text: &str) -> Result<Option<FilterFault>, FilterFault> {
+    Ok(fault_of_writing(alloc, read(alloc, text.as_bytes())?))
+}
+
+const NO_TEXT: Option<FilterFault> = Some(FilterFault::NoText);
+
 #[test]
 fn filters_without_text(rt: HostRuntime) -> Result<(), Fail> {
-    for text in ["(cn=a**b)", "(cn=**)", "(!(&(cn=a)(cn=**b)))", "(cn=***)"] {
-        let filter = read(rt.alloc(), text.as_bytes())?;
-        assert_eq!(rt; write(rt.alloc(), &filter).err(), Some(FilterFault::NoText));
+    for text in &WITHOUT_TEXT {
+        assert_same(&rt, text, &fault_of_rewriting(rt.alloc(), text)?, &NO_TEXT);
     }
-    for name in ["", "c n", "é"] {
-        let filter = Filter::Present(Octets::from_slice(rt.alloc(), name.as_bytes())?);
-        assert_eq!(rt; write(rt.alloc(), &filter).err(), Some(FilterFault::NoText));
+    Ok(())
+}
+
+fn presence(alloc: Global, name: &str) -> Result<Filter, NoMemory> {
+    Ok(Filter::Present(Octets::from_slice(alloc, name.as_bytes())?))
+}
+
+#[test]
+fn types_without_text(rt: HostRuntime) -> Result<(), Fail> {
+    for name in &NO_TYPES {
+        let filter = presence(rt.alloc(), name)?;
+        assert_same(&rt, name, &fault_of_writing(rt.alloc(), filter), &NO_TEXT);
     }
-    let mut parts = FilterList::new(rt.alloc());
-    parts.push(Filter::Extensible(Octets::from_slice(rt.alloc(), b"")?))?;
-    assert_eq!(rt;
-        write(rt.alloc(), &Filter::And(parts)).err(),
-        Some(FilterFault::NoText)
+    Ok(())
+}
+
+fn extensible(alloc: Global) -> Result<Filter, NoMemory> {
+    Ok(Filter::Extensible(Octets::from_slice(alloc, b"")?))
+}
+
+fn list_of_extensible(alloc: Global) -> Result<Filter, NoMemory> {
+    let mut parts = FilterList::new(alloc);
+    parts.push(extensible(alloc)?)?;
+    Ok(Filter::And(parts))
+}
+
+#[test]
+fn extensible_filters_have_no_text(rt: HostRuntime) -> Result<(), Fail> {
+    let filter = list_of_extensible(rt.alloc())?;
+    assert_same(
+        &rt,
+        "extensible",
+        &fault_of_writing(rt.alloc(), filter),
+        &NO_TEXT,
     );
     Ok(())
 }
@@ -213,17 +335,42 @@ different (&) (|)
 different (cn=a*b) (cn=a\\2ab)
 different (cn=a*b*) (cn=a*b)";
 
+/// Whether each of the filters is the same as the other.
+fn is_same_as(alloc: Global, one: &Filter, other: &str) -> Result<(bool, bool), FilterFault> {
+    let other = read(alloc, other.as_bytes())?;
+    let are_same = (same(one, &other), same(&other, one));
+    discard(other);
+    Ok(are_same)
+}
+
+fn are_same(alloc: Global, one: &str, other: &str) -> Result<(bool, bool), FilterFault> {
+    let one = read(alloc, one.as_bytes())?;
+    let are_same = is_same_as(alloc, &one, other);
+    discard(one);
+    are_same
+}
+
 #[test]
 fn same_filters(rt: HostRuntime) -> Result<(), Fail> {
     for line in PAIRS.lines() {
         let (word, pair) = line.split_once(' ').ok_or(line)?;
-        let (one, two) = pair.split_once(' ').ok_or(line)?;
-        let one = read(rt.alloc(), one.as_bytes())?;
-        let two = read(rt.alloc(), two.as_bytes())?;
-        assert_eq!(rt; same(&one, &two), word == "same", "{line}");
-        assert_eq!(rt; same(&two, &one), word == "same", "{line}");
+        let (one, other) = pair.split_once(' ').ok_or(line)?;
+        let wanted = word == "same";
+        assert_same(
+            &rt,
+            line,
+            &are_same(rt.alloc(), one, other)?,
+            &(wanted, wanted),
+        );
     }
     Ok(())
+}
+
+fn attribute(alloc: Global, name: &str, value: &str) -> Result<RawAttribute, NoMemory> {
+    let mut values = OctetsList::new(alloc);
+    values.push(Octets::from_slice(alloc, value.as_bytes())?)?;
+    let name = Octets::from_slice(alloc, name.as_bytes())?;
+    Ok(RawAttribute { name, values })
 }
 
 /// The attributes of a line: each piece is one attribute with one value.
@@ -231,10 +378,7 @@ fn attributes(alloc: Global, line: &str) -> Result<RawList, NoMemory> {
     let mut raw = RawList::new(alloc);
     for piece in line.split('|') {
         if let Some((name, value)) = piece.split_once('=') {
-            let mut values = OctetsList::new(alloc);
-            values.push(Octets::from_slice(alloc, value.as_bytes())?)?;
-            let name = Octets::from_slice(alloc, name.as_bytes())?;
-            raw.push(RawAttribute { name, values })?;
+            raw.push(attribute(alloc, name, value)?)?;
         }
     }
     Ok(raw)
@@ -304,19 +448,44 @@ False (&(cn=bab)(foo=1)(cn=x))
 True (|(foo=1)(cn=x)(cn=bab))
 Undefined (|(cn=x)(!(&(cn=bab)(foo=1))))";
 
+fn entry(alloc: Global) -> Result<Attrs, Fail> {
+    Ok(Attrs::read(alloc, &attributes(alloc, ENTRY)?)?)
+}
+
+/// The truth of the filter of this text.
+fn truth_of(alloc: Global, text: &str, attrs: &Attrs) -> Result<Truth, FilterFault> {
+    let filter = read(alloc, text.as_bytes())?;
+    let truth = value(alloc, &filter, attrs);
+    discard(filter);
+    Ok(truth?)
+}
+
 #[test]
 fn truth_on_an_entry(rt: HostRuntime) -> Result<(), Fail> {
-    let attrs = Attrs::read(rt.alloc(), &attributes(rt.alloc(), ENTRY)?)?;
+    let attrs = entry(rt.alloc())?;
     for line in TRUTHS.lines() {
         let (word, text) = line.split_once(' ').ok_or(line)?;
-        let filter = read(rt.alloc(), text.as_bytes())?;
-        assert_eq!(rt;
-            word_of(value(rt.alloc(), &filter, &attrs)?),
-            word,
-            "{line}"
+        assert_same(
+            &rt,
+            line,
+            &word_of(truth_of(rt.alloc(), text, &attrs)?),
+            &word,
         );
     }
-    let extensible = Filter::Extensible(Octets::from_slice(rt.alloc(), b"")?);
-    assert_eq!(rt; value(rt.alloc(), &extensible, &attrs)?, Truth::Undefined);
+    Ok(())
+}
+
+fn truth_of_extensible(alloc: Global, attrs: &Attrs) -> Result<Truth, NoMemory> {
+    let filter = extensible(alloc)?;
+    let truth = value(alloc, &filter, attrs);
+    discard(filter);
+    truth
+}
+
+#[test]
+fn truth_of_an_extensible_filter(rt: HostRuntime) -> Result<(), Fail> {
+    let attrs = entry(rt.alloc())?;
+    let truth = truth_of_extensible(rt.alloc(), &attrs)?;
+    assert_same(&rt, "extensible", &truth, &Truth::Undefined);
     Ok(())
 }

@@ -1,8 +1,9 @@
 //! Records and texts from outside: after the examples of RFC 2849, and its rules one by one.
+use crate::assertions::{assert_same, discard};
 use csn_cookie::Csn;
 use ldap_ber::{NoMemory, Octets, OctetsList};
 use ldif_text::{LdifFault, Records, write_entry};
-use schema_rules::{Attrs, Change, How, RawAttribute, RawList};
+use schema_rules::{Attrs, Change, EditList, How, RawAttribute, RawList};
 use std::alloc::{AllocError, Global};
 use std::test::Fail;
 
@@ -24,39 +25,115 @@ fn push_word(text: &mut Vec<u8>, word: &[u8], name: &[u8]) -> Result<(), NoMemor
     Ok(())
 }
 
-fn push_change(text: &mut Vec<u8>, change: &Change) -> Result<(), NoMemory> {
-    match change {
-        Change::Add(name, list) => {
-            push_word(text, b"add", name.as_slice())?;
-            for attribute in list.list() {
-                push_attribute(text, attribute)?;
-            }
-        }
-        Change::Delete(name) => push_word(text, b"delete", name.as_slice())?,
-        Change::Modify(name, list) => {
-            push_word(text, b"modify", name.as_slice())?;
-            for edit in list.list() {
-                let sign: &[u8] = match edit.how {
-                    How::Add => b" +",
-                    How::Delete => b" -",
-                    How::Replace => b" =",
-                };
-                text.extend_from_slice(sign)?;
-                push_attribute(text, &edit.attribute)?;
-            }
-        }
-        Change::Rename(name, rdn, drops, superior) => {
-            push_word(text, b"rename", name.as_slice())?;
-            push_word(text, b" to", rdn.as_slice())?;
-            if *drops {
-                text.extend_from_slice(b" dropping")?;
-            }
-            if let Some(superior) = superior {
-                push_word(text, b" below", superior.as_slice())?;
-            }
-        }
+/// Appends the added entry.
+fn push_add(text: &mut Vec<u8>, name: &Octets, list: &RawList) -> Result<(), NoMemory> {
+    push_word(text, b"add", name.as_slice())?;
+    for attribute in list.list() {
+        push_attribute(text, attribute)?;
     }
     Ok(())
+}
+
+fn sign_of(how: How) -> &'static [u8] {
+    match how {
+        How::Add => b" +",
+        How::Delete => b" -",
+        How::Replace => b" =",
+    }
+}
+
+/// Appends the entry with its edits, each behind its sign.
+fn push_modify(text: &mut Vec<u8>, name: &Octets, edits: &EditList) -> Result<(), NoMemory> {
+    push_word(text, b"modify", name.as_slice())?;
+    for edit in edits.list() {
+        text.extend_from_slice(sign_of(edit.how))?;
+        push_attribute(text, &edit.attribute)?;
+    }
+    Ok(())
+}
+
+fn push_superior(text: &mut Vec<u8>, superior: &Option<Octets>) -> Result<(), NoMemory> {
+    match superior {
+        Some(superior) => push_word(text, b" below", superior.as_slice()),
+        None => Ok(()),
+    }
+}
+
+/// Appends the entry with what its name becomes.
+fn push_rename(
+    text: &mut Vec<u8>,
+    name: &Octets,
+    rdn: &Octets,
+    drops: bool,
+    superior: &Option<Octets>,
+) -> Result<(), NoMemory> {
+    push_word(text, b"rename", name.as_slice())?;
+    push_word(text, b" to", rdn.as_slice())?;
+    if drops {
+        text.extend_from_slice(b" dropping")?;
+    }
+    push_superior(text, superior)
+}
+
+fn push_change(text: &mut Vec<u8>, change: &Change) -> Result<(), NoMemory> {
+    match change {
+        Change::Add(name, list) => push_add(text, name, list),
+        Change::Delete(name) => push_word(text, b"delete", name.as_slice()),
+        Change::Modify(name, list) => push_modify(text, name, list),
+        Change::Rename(name, rdn, drops, superior) => {
+            push_rename(text, name, rdn, *drops, superior)
+        }
+    }
+}
+
+/// Appends the record with the number of its last line, behind which the reading goes on.
+fn push_record(
+    alloc: Global,
+    text: &mut Vec<u8>,
+    change: &Change,
+    line: u64,
+) -> Result<bool, NoMemory> {
+    push_change(text, change)?;
+    let line = format!(in alloc; " @{line}\n")?;
+    text.extend_from_slice(line.as_bytes())?;
+    Ok(true)
+}
+
+/// Appends what refuses the text, with which the reading ends.
+fn push_fault(alloc: Global, text: &mut Vec<u8>, fault: LdifFault) -> Result<bool, NoMemory> {
+    if fault == LdifFault::NoMemory {
+        return Err(AllocError);
+    }
+    let shown = format!(in alloc; "{fault:?}")?;
+    text.extend_from_slice(shown.as_bytes())?;
+    Ok(false)
+}
+
+fn push_end(text: &mut Vec<u8>) -> Result<bool, NoMemory> {
+    text.extend_from_slice(b"end")?;
+    Ok(false)
+}
+
+/// Appends what was read, or how the reading ends, and answers whether it goes on.
+fn push_read(
+    alloc: Global,
+    text: &mut Vec<u8>,
+    read: &Result<Option<Change>, LdifFault>,
+    line: u64,
+) -> Result<bool, NoMemory> {
+    match read {
+        Ok(Some(change)) => push_record(alloc, text, change, line),
+        Ok(None) => push_end(text),
+        Err(fault) => push_fault(alloc, text, *fault),
+    }
+}
+
+/// Appends the next record, or how the reading ends, and answers whether it goes on.
+fn push_next(alloc: Global, text: &mut Vec<u8>, records: &mut Records) -> Result<bool, NoMemory> {
+    let read = records.next(alloc);
+    let goes_on = push_read(alloc, text, &read, records.line());
+    discard(read);
+    goes_on
 }
 
 /// The records of the text, each with the number of its last line, and how the reading ends.
@@ -64,19 +141,9 @@ fn told(alloc: Global, text: &[u8]) -> Result<Vec<u8>, NoMemory> {
     let mut records = Records::new(text, 1);
     let mut told = Vec::new(alloc);
     for _ in 0..10 {
-        let end = match records.next(alloc) {
-            Ok(Some(change)) => {
-                push_change(&mut told, &change)?;
-                let line = format!(in alloc; " @{}\n", records.line())?;
-                told.extend_from_slice(line.as_bytes())?;
-                continue;
-            }
-            Ok(None) => format!(in alloc; "end")?,
-            Err(LdifFault::NoMemory) => return Err(AllocError),
-            Err(fault) => format!(in alloc; "{fault:?}")?,
-        };
-        told.extend_from_slice(end.as_bytes())?;
-        return Ok(told);
+        if !push_next(alloc, &mut told, &mut records)? {
+            break;
+        }
     }
     Ok(told)
 }
@@ -311,11 +378,9 @@ end",
 
 #[test]
 fn examples_are_read(rt: HostRuntime) -> Result<(), Fail> {
-    for (text, want) in EXAMPLES {
-        assert_eq!(rt;
-            told(rt.alloc(), text.as_bytes())?.as_slice(),
-            want.as_bytes()
-        );
+    for (text, want) in &EXAMPLES {
+        let found = told(rt.alloc(), text.as_bytes())?;
+        assert_same(&rt, text, &found.as_slice(), &want.as_bytes());
     }
     Ok(())
 }
@@ -412,55 +477,70 @@ const RULES: [(&[u8], &[u8]); 45] = [
 
 #[test]
 fn rules_of_records(rt: HostRuntime) -> Result<(), Fail> {
-    for (text, want) in RULES {
-        assert_eq!(rt; told(rt.alloc(), text)?.as_slice(), want);
+    for (text, want) in &RULES {
+        assert_same(&rt, "rule", &told(rt.alloc(), text)?.as_slice(), want);
     }
     Ok(())
 }
+
+fn fault_of(read: Result<Option<Change>, LdifFault>) -> Option<LdifFault> {
+    read.err()
+}
+
+/// Why the next record is refused, if it is, and the line behind it.
+fn read_next(alloc: Global, records: &mut Records) -> (Option<LdifFault>, u64) {
+    let fault = fault_of(records.next(alloc));
+    (fault, records.line())
+}
+
+const REFUSED_TWICE: [(Option<LdifFault>, u64); 3] = [
+    (None, 8),
+    (Some(LdifFault::BadLine(11)), 8),
+    (Some(LdifFault::BadLine(11)), 8),
+];
 
 #[test]
-fn a_refusal_changes_nothing(rt: HostRuntime) -> Result<(), Fail> {
+fn a_refusal_changes_nothing(rt: HostRuntime) {
     let mut records = Records::new(b"dn: a\ncn: x\n\ndn: b\ncn\n", 7);
-    assert_eq!(rt; records.line(), 7);
-    let _first = records.next(rt.alloc())?;
-    assert_eq!(rt; records.line(), 8);
-    for _ in 0..2 {
-        assert_eq!(rt;
-            records.next(rt.alloc()).err(),
-            Some(LdifFault::BadLine(11))
-        );
-        assert_eq!(rt; records.line(), 8);
+    assert_same(&rt, "first line", &records.line(), &7);
+    for wanted in &REFUSED_TWICE {
+        assert_same(&rt, "next", &read_next(rt.alloc(), &mut records), wanted);
     }
-    Ok(())
 }
 
-/// An entry of these types and values.
-fn entry(alloc: Global, lines: &[(&[u8], &[u8])]) -> Result<Attrs, Fail> {
+/// The types and values of an entry.
+type Lines = &'static [(&'static [u8], &'static [u8])];
+
+fn raw_attribute(alloc: Global, name: &[u8], value: &[u8]) -> Result<RawAttribute, NoMemory> {
+    let mut values = OctetsList::new(alloc);
+    values.push(Octets::from_slice(alloc, value)?)?;
+    let name = Octets::from_slice(alloc, name)?;
+    Ok(RawAttribute { name, values })
+}
+
+fn raw_list(alloc: Global, lines: Lines) -> Result<RawList, NoMemory> {
     let mut list = RawList::new(alloc);
     for (name, value) in lines {
-        let mut values = OctetsList::new(alloc);
-        values.push(Octets::from_slice(alloc, value)?)?;
-        let name = Octets::from_slice(alloc, name)?;
-        list.push(RawAttribute { name, values })?;
+        list.push(raw_attribute(alloc, name, value)?)?;
     }
-    Ok(Attrs::read(alloc, &list)?)
+    Ok(list)
 }
 
-#[test]
-fn entries_with_marks(rt: HostRuntime) -> Result<(), Fail> {
-    let root = entry(
-        rt.alloc(),
+/// A name, what its entry has, the identity and the stamp, and the lines of it all.
+type Marked = (&'static [u8], Lines, u128, &'static [u8], &'static [u8]);
+
+const MARKED: [Marked; 2] = [
+    (
+        b"dc=x",
         &[
             (b"objectClass", b"organization"),
             (b"objectClass", b"dcObject"),
             (b"o", b"X"),
             (b"dc", b"x"),
         ],
-    )?;
-    let csn = Csn::parse(b"19700101000000.000000Z#000001#001#000000")?;
-    let marks = Some((0x0000_0000_0001_8000_8000_0000_0000_0001, csn));
-    let text = write_entry(rt.alloc(), b"dc=x", &root, marks)?;
-    let want: &[u8] = b"dn: dc=x
+        0x0000_0000_0001_8000_8000_0000_0000_0001,
+        b"19700101000000.000000Z#000001#001#000000",
+        b"dn: dc=x
 objectClass: organization
 objectClass: dcObject
 o: X
@@ -468,23 +548,46 @@ dc: x
 entryUUID: 00000000-0001-8000-8000-000000000001
 entryCSN: 19700101000000.000000Z#000001#001#000000
 
-";
-    assert_eq!(rt; text.as_slice(), want);
-    let unit = entry(
-        rt.alloc(),
+",
+    ),
+    (
+        b"ou=a,dc=x",
         &[(b"objectClass", b"organizationalUnit"), (b"ou", b"a")],
-    )?;
-    let csn = Csn::parse(b"19700101000000.000000Z#000002#001#000000")?;
-    let marks = Some((0x0000_0000_0001_8000_8000_0000_0000_0002, csn));
-    let text = write_entry(rt.alloc(), b"ou=a,dc=x", &unit, marks)?;
-    let want: &[u8] = b"dn: ou=a,dc=x
+        0x0000_0000_0001_8000_8000_0000_0000_0002,
+        b"19700101000000.000000Z#000002#001#000000",
+        b"dn: ou=a,dc=x
 objectClass: organizationalUnit
 ou: a
 entryUUID: 00000000-0001-8000-8000-000000000002
 entryCSN: 19700101000000.000000Z#000002#001#000000
 
-";
-    assert_eq!(rt; text.as_slice(), want);
+",
+    ),
+];
+
+/// The lines of a name and an entry with its marks.
+fn written(
+    alloc: Global,
+    name: &[u8],
+    lines: Lines,
+    marks: Option<(u128, Csn)>,
+) -> Result<Vec<u8>, Fail> {
+    let list = raw_list(alloc, lines)?;
+    let attrs = Attrs::read(alloc, &list)?;
+    Ok(write_entry(alloc, name, &attrs, marks)?)
+}
+
+#[test]
+fn entries_with_marks(rt: HostRuntime) -> Result<(), Fail> {
+    for (name, lines, uuid, csn, want) in &MARKED {
+        let marks = Some((*uuid, Csn::parse(csn)?));
+        assert_same(
+            &rt,
+            "entry",
+            &written(rt.alloc(), name, lines, marks)?.as_slice(),
+            want,
+        );
+    }
     Ok(())
 }
 
@@ -510,12 +613,24 @@ const NAMES: [(&[u8], &[u8]); 16] = [
 
 #[test]
 fn values_as_lines(rt: HostRuntime) -> Result<(), Fail> {
-    let nothing = Attrs::new(rt.alloc());
-    for (name, want) in NAMES {
-        let text = write_entry(rt.alloc(), name, &nothing, None)?;
-        assert_eq!(rt; text.as_slice(), want);
+    for (name, want) in &NAMES {
+        assert_same(
+            &rt,
+            "name",
+            &written(rt.alloc(), name, &[], None)?.as_slice(),
+            want,
+        );
     }
     Ok(())
+}
+
+/// A record of a million lines: comments, values, and what continues those.
+fn million_lines(alloc: Global) -> Result<Vec<u8>, NoMemory> {
+    let mut text = Vec::from_slice(alloc, b"dn: a\n")?;
+    for _ in 0..333_333 {
+        text.extend_from_slice(b"# c\ncn: x\n y\n")?;
+    }
+    Ok(text)
 }
 
 /// How many values the one attribute of an added entry has, or 0 for any other change.
@@ -529,16 +644,19 @@ fn added_values(change: &Option<Change>) -> usize {
     }
 }
 
-/// A record of a million lines: comments, values, and what continues those.
+/// How many values the first record adds, and the line behind it.
+fn first_added(alloc: Global, text: &[u8]) -> Result<(usize, u64), LdifFault> {
+    let mut records = Records::new(text, 1);
+    let change = records.next(alloc)?;
+    let values = added_values(&change);
+    discard(change);
+    Ok((values, records.line()))
+}
+
 #[test]
 fn a_text_of_a_million_lines(rt: HostRuntime) -> Result<(), Fail> {
-    let mut text = Vec::from_slice(rt.alloc(), b"dn: a\n")?;
-    for _ in 0..333_333 {
-        text.extend_from_slice(b"# c\ncn: x\n y\n")?;
-    }
-    let mut records = Records::new(text.as_slice(), 1);
-    let change = records.next(rt.alloc())?;
-    assert_eq!(rt; added_values(&change), 333_333);
-    assert_eq!(rt; records.line(), 1_000_000);
+    let text = million_lines(rt.alloc())?;
+    let found = first_added(rt.alloc(), text.as_slice())?;
+    assert_same(&rt, "a million lines", &found, &(333_333, 1_000_000));
     Ok(())
 }

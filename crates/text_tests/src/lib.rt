@@ -3,6 +3,8 @@
 #![tactic(auto)]
 
 #[cfg(test)]
+mod assertions;
+#[cfg(test)]
 mod dn_names_tests;
 #[cfg(test)]
 mod ldap_filter_tests;

@@ -1,6 +1,6 @@
 use Rattle.std.proofs.Common.{inl, inr}
 use Rattle.std.proofs.lemmas.Result.{IfOk-weaker}
-use Rattle.syncrepl_tool.proofs.Ending.{up_to_kept, refused_ends}
+use Rattle.syncrepl_tool.proofs.Ending.{front_kept, up_to_kept, refused_ends}
 use Rattle.syncrepl_tool.proofs.run.run_text.Goals as goal
 
 pub returns-in-Refused-clause-ends : goal.returns-in-Refused-clause-ends
@@ -8,3 +8,8 @@ returns-in-Refused-clause-ends g c =
     let ends = rw c.in-Refused.is at c.in_ok-outcome.ensures.ends in
     let told = rw c.new-script.ensures at ends in
     IfOk-weaker c.refuse.result _ _ (λ status is. refused_ends _ _ (up_to_kept told _ c.if-not-flush.ensures.bytes) is.0 is.1) c.refuse.ensures
+
+pub returns-then-not-flush-clause-front : goal.returns-then-not-flush-clause-front
+returns-then-not-flush-clause-front g c =
+    let front = rw c.new-script.ensures at c.in_ok-outcome.ensures.front in
+    front_kept front _ c.flush.ensures.bytes

@@ -1,0 +1,11 @@
+//! What the tests assert of each row of their tables.
+use std::fmt::Debug;
+use std::process::Abort;
+
+/// Asserts that what was found is what is wanted, or tells the row.
+pub(crate) fn assert_same<T: PartialEq + Debug>(rt: &impl Abort, row: &str, found: &T, wanted: &T) {
+    assert!(rt;
+        *found == *wanted,
+        "{row}: {found:?} in place of {wanted:?}"
+    );
+}

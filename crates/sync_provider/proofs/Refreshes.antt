@@ -1,0 +1,77 @@
+-- A refresh in one piece, over a directory and over each longer history.
+use Rattle.std.proofs.Common.{◌≡◌, ℕ, ◌-◌, false, List, [], ◌∷◌, ◌++◌, length, refl, sym, ap, ◌∙◌, arith}
+use Rattle.std.specs.List.{flat_map}
+use Rattle.std.proofs.lemmas.List.{append-nil, take-append-le}
+use Rattle.entry_tree.specs.declared.entry.Entry.{Entry}
+use Rattle.entry_tree.specs.declared.op.Write.{Write}
+use Rattle.csn_cookie.specs.Csn.{start}
+use Rattle.csn_cookie.specs.Cookie.{cookie_text}
+use Rattle.entry_tree.specs.History.{state_of, differing_over}
+use Rattle.entry_tree.specs.Selection.{Search, select}
+use Rattle.entry_tree.specs.State.{entry_at}
+use Rattle.entry_tree.specs.Touched.{identities}
+use Rattle.sync_model.specs.Message.{Cookie, SyncMessage}
+use Rattle.sync_model.specs.Stream.{Session, Start, Decision, among, content_after, is_covered, walk, is_sent, decided, decide, gathered, end_of, after_walk, late_uuids}
+use Rattle.sync_model.specs.Stream.Start.{Blank, Covered, Uncovered}
+use Rattle.sync_model.proofs.Steps.{over_none}
+use Rattle.sync_provider.specs.Directory.{cookie_at, last_stamp}
+use Rattle.sync_provider.specs.Search.{cookie_after, session_of, refresh_from}
+use Rattle.sync_provider.proofs.Told.{Agree, agree-longer, over-agree_upto}
+
+no_late : (session : Session) (count : ℕ) → late_uuids session count count ≡ []
+no_late session count =
+    let none : count - count ≡ 0 = omega arith in
+    ap (differing_over (λ number. content_after session number) count) none ∙ over_none (λ number. content_after session number) count
+
+-- what is decided of the walk, and the end
+abbrev pub decided_all : Session → Start → ℕ → List Decision
+decided_all session start count = flat_map (decide session start count) (walk session start count)
+
+abbrev pub told_of : Session → Start → ℕ → List Decision → List SyncMessage
+told_of session start count decisions = gathered (is_covered start) decisions ++ end_of session.persists (is_covered start) (session.cookies count) ∷ []
+
+pub refresh_from-is : (session : Session) (start : Start) (count : ℕ) → refresh_from session start count ≡ told_of session start count (decided_all session start count)
+refresh_from-is session start count =
+    ap (λ late. gathered (is_covered start) (decided_all session start count ++ []) ++ after_walk session (is_covered start) count late) (no_late session count)
+    ∙ ap (told_of session start count) (append-nil (decided_all session start count))
+
+-- ---- two histories that agree
+
+module _ (spec : Search) (f g : ℕ → List Entry) (c d : ℕ → Cookie) (count : ℕ) (same : Agree f g count) (cookie : c count ≡ d count) where
+  abbrev one : Session
+  one = record { persists = false; selection = spec; states = f; cookies = c }
+
+  abbrev other : Session
+  other = record { persists = false; selection = spec; states = g; cookies = d }
+
+  now : f count ≡ g count
+  now = same count (omega arith)
+
+  walks : (start : Start) → walk one start count ≡ walk other start count
+  walks Blank = ap identities now
+  walks (Covered a) = over-agree_upto f g a count same
+  walks (Uncovered a) = ap identities now
+
+  sent : (start : Start) (u : ℕ) → is_sent one start count u ≡ is_sent other start count u
+  sent Blank u = refl
+  sent (Covered a) u = refl
+  sent (Uncovered a) u = ap (among u) (over-agree_upto f g a count same)
+
+  decides : (start : Start) → decided_all one start count ≡ decided_all other start count
+  decides start i = flat_map (λ u. decided (is_covered start) (sent start u i) u (entry_at (select spec (now i)) u)) (walks start i)
+
+  pub refresh-agrees : (start : Start) → refresh_from one start count ≡ refresh_from other start count
+  refresh-agrees start =
+      refresh_from-is one start count
+      ∙ (λ i. gathered (is_covered start) (decides start i) ++ end_of false (is_covered start) (cookie i) ∷ [])
+      ∙ sym (refresh_from-is other start count)
+
+-- a longer history tells the same
+pub refresh-longer : (sid history : ℕ) (spec : Search) (start_at : Start) (writes more whole : List Write) → writes ++ more ≡ whole
+    → refresh_from (session_of sid history spec whole) start_at (length writes) ≡ refresh_from (session_of sid history spec writes) start_at (length writes)
+refresh-longer sid history spec start_at writes more whole is =
+    ap (λ ws. refresh_from (session_of sid history spec ws) start_at (length writes)) (sym is)
+    ∙ refresh-agrees spec (state_of history (writes ++ more)) (state_of history writes) (cookie_after sid history (writes ++ more)) (cookie_after sid history writes) (length writes)
+    (agree-longer history writes more)
+    (ap (λ ws. cookie_text (cookie_at sid history (last_stamp (start sid) ws))) (take-append-le (length writes) writes more (omega arith)))
+    start_at

@@ -1,0 +1,97 @@
+-- Which writes touch an entry: those after which what its identity has differs from what it had before.
+use Rattle.std.specs.Prelude.{◌≡◌, ℕ, ◌<◌, zero, suc, ◌+◌, true, cond, is_some, List, [], ◌++◌, length, map, Option, Some, None}
+use Rattle.std.specs.List.{fold}
+use Rattle.std.specs.Ordering.{nat_cmp}
+use Rattle.std.specs.Map.{lookup, remove_entry, set_value}
+use Rattle.std.specs.BTreeMap.{is_at}
+use Rattle.entry_tree.specs.declared.entry.Entry.{Entry}
+use Rattle.entry_tree.specs.declared.op.Write.{Write}
+use Rattle.entry_tree.specs.declared.touched.Touch.{Touch}
+use Rattle.entry_tree.specs.Bytes.{is_one_found}
+use Rattle.entry_tree.specs.History.{state_of}
+use Rattle.entry_tree.specs.State.{entry_at}
+use Rattle.entry_tree.specs.Touched.{touched}
+use Rattle.session_log.specs.declared.note.Note.{Note}
+use Rattle.session_log.specs.Calls.{IsLogOf}
+use Rattle.session_log.specs.Log.{Log, noted}
+
+-- the identities of what differs, ascending
+abbrev pub uuids_of : List Touch → List ℕ
+uuids_of touches = map (λ touch. touch.uuid) touches
+
+-- the number of the last of so many writes that touches the identity, or 0
+abbrev pub last_touch : (ℕ → List Entry) → ℕ → ℕ → ℕ
+last_touch states zero uuid = 0
+last_touch states (suc count) uuid =
+    cond (is_one_found (entry_at (states count) uuid) (entry_at (states (count + 1)) uuid)) (last_touch states count uuid) (count + 1)
+
+-- ---- the log
+
+-- the log after one note for each identity
+abbrev pub noted_each : ℕ → List ℕ → Log → Log
+noted_each number uuids log = fold (λ before uuid. noted number uuid before) log uuids
+
+-- the log after a write that leads from one state to another
+abbrev pub logged : ℕ → List Entry → List Entry → Log → Log
+logged number old new log = noted_each number (uuids_of (touched old new)) log
+
+abbrev pub notes_of : ℕ → List ℕ → List Note
+notes_of number uuids = map (λ uuid. record { number = number; uuid = uuid }) uuids
+
+-- of each of so many writes, one note for each identity that it touched, ascending
+abbrev pub all_notes : (ℕ → List Entry) → ℕ → List Note
+all_notes states zero = []
+all_notes states (suc count) = all_notes states count ++ notes_of (count + 1) (uuids_of (touched (states count) (states (count + 1))))
+
+-- the log is what is left of all these notes: a front of them was dropped, and the floor is the greatest number there
+abbrev pub IsLogged : ℕ → List Write → Log → Type 0
+IsLogged history writes log = IsLogOf (all_notes (state_of history writes) (length writes)) log
+
+-- ---- the numbers that are kept beside the entries
+
+-- identities with the number of the write that touched each last
+abbrev pub Numbers : Type 0
+Numbers = List (ℕ × ℕ)
+
+abbrev pub number_at : Numbers → ℕ → Option ℕ
+number_at numbers uuid = lookup (is_at (nat_cmp uuid)) numbers
+
+-- the number of a write that changed what an identity has: where it has an entry now, that number is kept for it, if
+-- it has a place
+abbrev pub renewed_at : ℕ → Numbers → ℕ → Option Entry → Numbers
+renewed_at number numbers uuid None = remove_entry (is_at (nat_cmp uuid)) numbers
+renewed_at number numbers uuid (Some entry) = set_value (is_at (nat_cmp uuid)) numbers number
+
+abbrev pub renewed_by : ℕ → Numbers → Touch → Numbers
+renewed_by number numbers touch = renewed_at number numbers touch.uuid touch.now
+
+abbrev pub renewed : ℕ → Numbers → List Touch → Numbers
+renewed number numbers touches = fold (renewed_by number) numbers touches
+
+-- what is kept for an identity stays
+abbrev pub KeepsNumbers : Numbers → Numbers → Type 0
+KeepsNumbers old new = (uuid number : ℕ) → 0 < number → number_at old uuid ≡ Some number → number_at new uuid ≡ Some number
+
+-- an identity got a place, then what a write touched was renewed
+pub record IsRenewed (number uuid : ℕ) (touches : List Touch) (old new : Numbers) : Type 0 where
+  pub made : Numbers
+  pub place : is_some (number_at made uuid) ≡ true
+  pub kept : KeepsNumbers old made
+  pub left : KeepsNumbers (renewed number made touches) new
+
+-- each entry has its number
+abbrev pub AreNumbered : ℕ → List Write → List Entry → Numbers → Type 0
+AreNumbered history writes entries numbers =
+    (uuid : ℕ) (entry : Entry) → entry_at entries uuid ≡ Some entry
+    → number_at numbers uuid ≡ Some (last_touch (state_of history writes) (length writes) uuid)
+
+-- the log with how many notes it has room for, and the numbers
+pub record TouchState : Type 0 where
+  pub log : Log
+  pub spare : ℕ
+  pub numbers : Numbers
+
+-- entries, and what is known of which write touched which
+pub record HeldState : Type 0 where
+  pub entries : List Entry
+  pub touches : TouchState

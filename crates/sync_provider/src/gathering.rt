@@ -1,0 +1,72 @@
+//! How what is decided is gathered into messages (RFC 4533, section 3.3.2).
+
+ghost use Rattle.std.specs.Prelude.{◌≡◌, [], OnOk, IfOk};
+ghost use Rattle.sync_provider.specs.Gathering as spec;
+
+use crate::NoMemory;
+use crate::parts::Part;
+use entry_tree::Entry;
+use std::alloc::Global;
+use std::marker::Model;
+use std::mem;
+use sync_messages::IdList;
+
+/// The most identities of a syncIdSet.
+const MOST_NAMES: usize = 256;
+
+/// The messages so far, and the names that wait for a set to be full.
+#[derive(Drop)]
+pub(crate) struct Gathering {
+    parts: Vec<Part>,
+    names: IdList,
+}
+
+impl Model for Gathering {
+    ghost use Rattle.sync_provider.specs.Gathering.{Gathered};
+
+    ghost Value = { Gathered };
+
+    ghost view = { λ g. record { parts = g.parts.items; names = g.names } };
+}
+
+impl Gathering {
+    pub(crate) fn new(alloc: Global) -> Gathering
+        ensures { result ≡ record { parts = []; names = [] } }
+    {
+        Gathering {
+            parts: Vec::new(alloc),
+            names: IdList::new(alloc),
+        }
+    }
+
+    /// The entry is sent whole.
+    pub(crate) fn send(&mut self, entry: Entry) -> Result<(), NoMemory>
+        ensures { OnOk result (self.new ≡ spec.with_entry self.old entry) }
+    {
+        self.parts.push(Part::Whole(entry))?;
+        Ok(())
+    }
+
+    /// The identity is named. A set that is full goes at once.
+    pub(crate) fn name(&mut self, alloc: Global, uuid: u128) -> Result<(), NoMemory>
+        ensures { OnOk result (self.new ≡ spec.with_name self.old uuid) }
+    {
+        self.names.push(uuid)?;
+        if self.names.list().len() >= MOST_NAMES {
+            let full = mem::replace(&mut self.names, IdList::new(alloc));
+            self.parts.push(Part::Names(full))?;
+        }
+        Ok(())
+    }
+
+    /// All messages. The rest of the names goes last.
+    pub(crate) fn finish(self) -> Result<Vec<Part>, NoMemory>
+        ensures { IfOk result (λ parts. parts.items ≡ spec.finished self) }
+    {
+        let Gathering { mut parts, names } = self;
+        if !names.list().is_empty() {
+            parts.push(Part::Names(names))?;
+        }
+        Ok(parts)
+    }
+}
