@@ -35,6 +35,7 @@ with_accepted-untouched history suffix name time writes (asks.Consumer other sou
 with_accepted-untouched history suffix name time writes (asks.Clock new) h = refl
 with_accepted-untouched history suffix name time writes (asks.Write target change) h = rw h refl
 with_accepted-untouched history suffix name time writes (asks.OpenOnce other) h = refl
+with_accepted-untouched history suffix name time writes (asks.OpenStay other) h = refl
 with_accepted-untouched history suffix name time writes (asks.Send other count) h = refl
 with_accepted-untouched history suffix name time writes (asks.Take other count) h = refl
 with_accepted-untouched history suffix name time writes (asks.Cut other) h = refl
@@ -42,6 +43,7 @@ with_accepted-untouched history suffix name time writes (asks.Settle other) h = 
 with_accepted-untouched history suffix name time writes (asks.Lose other) h = refl
 with_accepted-untouched history suffix name time writes (asks.Cookie other text) h = refl
 with_accepted-untouched history suffix name time writes (asks.Log other limit) h = refl
+with_accepted-untouched history suffix name time writes (asks.Queue other limit) h = refl
 with_accepted-untouched history suffix name time writes (asks.Show other) h = refl
 
 -- a declaration stays one, and a new one is one

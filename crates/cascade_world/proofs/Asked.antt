@@ -1,9 +1,12 @@
 -- A provider of a script: its answers, and the message ID of its searches.
-use Rattle.std.proofs.Common.{◌≡◌, ◌≤◌, ℕ, Option, Some, None, List, [], ◌∷◌, refl, ap, sym, subst, ◌∙◌, arith}
+use Rattle.std.proofs.Common.{◌≡◌, ◌≢◌, ◌≤◌, ℕ, Bool, true, false, cond, Option, Some, None, List, [], ◌∷◌, ◌++◌, refl, ap, sym, subst, ◌∙◌, arith, eq-eqb, eqb-true}
 use Rattle.std.specs.BTreeMap.{insert_entry}
 use Rattle.std.specs.Ordering.{nat_cmp}
-use Rattle.std.specs.Prelude.{Ok, Err, Result, IfSome}
+use Rattle.std.specs.Prelude.{◌==◌, Ok, Err, Result, IfSome}
+use Rattle.directory_writes.specs.Directory.{DirectoryState, judged}
 use Rattle.entry_tree.specs.Selection.{search_of}
+use Rattle.entry_tree.specs.declared.op.Op.{Op}
+use Rattle.entry_tree.specs.declared.op.Write.{Write}
 use Rattle.ldap_messages.specs.Whole.{HasSpelling}
 use Rattle.sync_messages.specs.Request.{request_of}
 use Rattle.sync_messages.specs.declared.fault.SyncFault.{SyncFault}
@@ -11,10 +14,11 @@ use Rattle.sync_messages.specs.declared.request.SyncRequest.{SyncRequest}
 use Rattle.sync_model.specs.Message.{SyncMessage}
 use Rattle.sync_model.specs.Message.SyncMessage.{Put, Gone, Present, IdSet, NewCookie, PhaseEnds, Done, Passed}
 use Rattle.sync_provider.specs.Accepting as accepting
-use Rattle.sync_provider.specs.HandingOut.{Turn, turn_of_message, turn_of_pending, turn_of_found, turn_at, turn_of, search_at, after_first, without_first, closed, handed_on, after_turn, after_answer}
+use Rattle.sync_provider.specs.HandingOut.{Turn, turn_of_message, turn_of_pending, turn_of_found, turn_at, turn_of, search_at, without_first, closed, handed_on, after_turn, after_answer}
 use Rattle.sync_provider.specs.HandingOut.Turn.{Hands, Closes, Waits, Unknown}
-use Rattle.sync_provider.specs.Machine.{ProviderState}
-use Rattle.sync_provider.specs.Search.{SearchState, opening}
+use Rattle.sync_provider.specs.Machine.{ProviderState, each_informed, searches_after, wrote}
+use Rattle.sync_provider.specs.Queueing.{overflowed, queued, pushed, informed, is_full, group_of, is_queueing}
+use Rattle.sync_provider.specs.Search.{SearchState, pending, opening, advanced}
 use Rattle.sync_provider.specs.declared.handed.Handed.{Handed}
 use Rattle.sync_provider.specs.declared.handed.Handed.TheVariants as handed
 use Rattle.sync_provider.specs.declared.searches.Accepted.{Accepted}
@@ -41,19 +45,62 @@ accepted_ours p ask accepted.NoMemory id ours = ours
 -- the searches after it, which the messages of a script number
 pub accepted_state : (p after : ProviderState) (ask : SyncSearch) (answer : Accepted) → ask.id ≡ message_id → after ≡ record p { searches = accepting.after_answer p.directory p.searches ask answer } → after ≡ after_accepted p (search_of ask.spec) ask.control answer
 accepted_state p after ask (accepted.Opened number writes) id is =
-    is ∙ ap (λ n. record p { searches = insert_entry nat_cmp p.searches number (opening p.directory n (search_of ask.spec) (accepting.start_of_ask p.directory ask)) }) id
+    is ∙ ap (λ n. record p { searches = insert_entry nat_cmp p.searches number (opening p.directory n (search_of ask.spec) (accepting.start_of_ask p.directory ask) (accepting.persists_of_ask ask)) }) id
 accepted_state p after ask (accepted.Refused code) id is = is
 accepted_state p after ask accepted.NoMemory id is = is
 
+-- ---- writes
+
+queued_ours : (limit : ℕ) (s : SearchState) (items : List SyncMessage) → IsOurs s → IsOurs (queued limit s items)
+queued_ours limit s items ours = by (is_full limit items)
+  where
+    by : (full : Bool) → IsOurs (cond full (overflowed s) (record s { due = items }))
+    by true = ours
+    by false = ours
+
+pushed_ours : (limit : ℕ) (s : SearchState) (items : List SyncMessage) → IsOurs s → IsOurs (pushed limit items s)
+pushed_ours limit s [] ours = ours
+pushed_ours limit s (message ∷ messages) ours = queued_ours limit s (s.due ++ message ∷ messages) ours
+
+informed_ours : (limit : ℕ) (d : DirectoryState) (write : Write) (s : SearchState) → IsOurs s → IsOurs (informed limit d write s)
+informed_ours limit d write s ours = by (is_queueing s)
+  where
+    by : (queueing : Bool) → IsOurs (cond queueing (pushed limit (group_of d s write) s) s)
+    by true = pushed_ours limit s (group_of d s write) ours
+    by false = ours
+
+each_ours : (limit : ℕ) (d : DirectoryState) (write : Write) (searches : List (ℕ × SearchState)) → AreOurs searches → AreOurs (each_informed limit d write searches)
+each_ours limit d write [] ours = tt
+each_ours limit d write (search ∷ searches) ours = (informed_ours limit d write search.1 ours.0, each_ours limit d write searches ours.1)
+
+after_ours_by : (p : ProviderState) (found : Result Write ℕ) → AreOurs p.searches → AreOurs (searches_after p found)
+after_ours_by p (Ok write) ours = each_ours p.queue_limit p.directory write p.searches ours
+after_ours_by p (Err code) ours = ours
+
+-- the searches of a provider after a write, or as they were where memory ran out
+pub wrote_ours : (p after : ProviderState) (op : Op) (now code : ℕ) → AreOurs p.searches → (code ≢ 80 → after ≡ wrote p op now) → (code ≡ 80 → after ≡ p) → AreOurs after.searches
+wrote_ours p after op now code ours done starved = by (code == 80) refl
+  where
+    ours_of : (q : ProviderState) → after ≡ q → AreOurs q.searches → AreOurs after.searches
+    ours_of q is there = subst (λ (r : ProviderState). AreOurs r.searches) (sym is) there
+
+    by : (full : Bool) → (code == 80) ≡ full → AreOurs after.searches
+    by true is = ours_of p (starved (eqb-true code 80 is)) ours
+    by false is = ours_of (wrote p op now) (done (λ same. differs is same)) (after_ours_by p (judged p.directory op now) ours)
+      where
+        differs : (code == 80) ≡ false → code ≡ 80 → ⊥
+        differs is same = let hit : (code == 80) ≡ true = eq-eqb code 80 same in cc
+
 -- ---- turns
 
-first_ours : (s : SearchState) (pending : List SyncMessage) → IsOurs s → IsOurs (after_first s pending)
-first_ours s [] ours = ours
-first_ours s (message ∷ rest) ours = ours
+first_ours : (s : SearchState) (rest due : List SyncMessage) → IsOurs s → IsOurs (advanced s rest due)
+first_ours s [] [] ours = ours
+first_ours s [] (message ∷ due) ours = ours
+first_ours s (message ∷ rest) due ours = ours
 
 on_ours : (es : List (ℕ × SearchState)) (number : ℕ) (found : Option SearchState) → search_at es number ≡ found → AreOurs es → AreOurs (handed_on es number found)
 on_ours es number None at ours = ours
-on_ours es number (Some s) at ours = each-put_on IsOurs es number (without_first s) ours (first_ours s s.pending (each-at IsOurs es number s ours at))
+on_ours es number (Some s) at ours = each-put_on IsOurs es number (without_first s) ours (first_ours s s.rest s.due (each-at IsOurs es number s ours at))
 
 after_ours : (es : List (ℕ × SearchState)) (number : ℕ) (turn : Turn) → AreOurs es → AreOurs (after_turn es number turn)
 after_ours es number (Hands message) ours = on_ours es number (search_at es number) refl ours
@@ -94,7 +141,7 @@ of_found : (es : List (ℕ × SearchState)) (number : ℕ) (found : Option Searc
 of_found es number None at ours = tt
 of_found es number (Some s) at ours =
     let id : s.id ≡ message_id = each-at IsOurs es number s ours at in
-    of_pending s.id s.pending (omega (arith, id))
+    of_pending s.id (pending s) (omega (arith, id))
 
 turn_spelled : (es : List (ℕ × SearchState)) (number : ℕ) → AreOurs es → IsSpelledTurn (turn_at es number)
 turn_spelled es number ours = of_found es number (search_at es number) refl ours

@@ -1,110 +1,155 @@
 -- Parts of an event one after another keep what each keeps.
-use Rattle.std.proofs.Common.{◌≡◌, ℕ, Option, List, [], ◌∷◌, ◌++◌, refl, ap, sym, ◌∙◌, subst}
-use Rattle.std.specs.Prelude.{Ok, Err, fold}
+use Rattle.std.proofs.Common.{◌≡◌, ℕ, true, false, nat_eq, eq-eqb, eqb-true, Option, Some, None, List, [], ◌∷◌, ◌++◌, refl, ap, sym, ◌∙◌, inl, inr, subst}
+use Rattle.std.specs.Prelude.{◌⊎◌, Ok, Err, fold}
+use Rattle.std.proofs.lemmas.Bool.{cases_Bool}
 use Rattle.std.proofs.lemmas.List.Sums.{fold-append}
 use Rattle.dn_names.specs.Names.{TypeAndValue}
+use Rattle.sync_model.specs.Stream.{among}
+use Rattle.sync_provider.specs.HandingOut.{search_at}
 use Rattle.sync_provider.specs.Machine.{ProviderState}
+use Rattle.sync_provider.specs.Search.{SearchState}
 use Rattle.cascade_world.specs.declared.node.Follower.{Follower}
 use Rattle.cascade_world.specs.Exchange.{Pair, Outcome, after_lines, and_then}
-use Rattle.cascade_world.specs.Headline.{Holding, opened_after, held_after}
+use Rattle.cascade_world.specs.Headline.{Known, known_after}
 use Rattle.cascade_world.specs.Report.{Told}
-use Rattle.cascade_world.proofs.Feeding.{IsSource, IsFed, Frame, frame_of, LinesAreRightOf, IsKept}
+use Rattle.cascade_world.proofs.Feeding.{IsSource, IsFed, HasRoom, OwnsNew, Frame, frame_of, LineIsRightOf, LinesAreRightOf, IsKept}
 
--- the number and what is held that these lines leave
-abbrev pub opened_by_lines : List ℕ → Option ℕ → List Told → Option ℕ
-opened_by_lines name opened lines = fold (opened_after name) opened lines
+-- what these lines leave known
+abbrev pub known_by_lines : List ℕ → Known → List Told → Known
+known_by_lines name known lines = fold (known_after name) known lines
 
-abbrev pub stored_by_lines : List ℕ → Holding → List Told → Holding
-stored_by_lines name stored lines = fold (held_after name) stored lines
-
-lines-append : (lines more : List Told) (number : ℕ) (frame : Frame) (opened : Option ℕ) (stored : Holding) → LinesAreRightOf number frame opened stored lines
-    → LinesAreRightOf number frame (opened_by_lines frame.name opened lines) (stored_by_lines frame.name stored lines) more → LinesAreRightOf number frame opened stored (lines ++ more)
-lines-append [] more number frame opened stored right later = later
-lines-append (line ∷ lines) more number frame opened stored right later =
-    (right.0, lines-append lines more number frame (opened_after frame.name opened line) (held_after frame.name stored line) right.1 later)
+lines-append : (lines more : List Told) (number : ℕ) (frame : Frame) (known : Known) → LinesAreRightOf number frame known lines
+    → LinesAreRightOf number frame (known_by_lines frame.name known lines) more → LinesAreRightOf number frame known (lines ++ more)
+lines-append [] more number frame known right later = later
+lines-append (line ∷ lines) more number frame known right later = (right.0, lines-append lines more number frame (known_after frame.name known line) right.1 later)
 
 -- what is fed after lines of this name and more of that one
-fed-append : (number : ℕ) (p : ProviderState) (f : Follower) (name other : List ℕ) (opened : Option ℕ) (stored : Holding) (lines more : List Told) → other ≡ name
-    → IsFed number p f (opened_by_lines other (opened_by_lines name opened lines) more) (stored_by_lines other (stored_by_lines name stored lines) more)
-    → IsFed number p f (opened_by_lines name opened (lines ++ more)) (stored_by_lines name stored (lines ++ more))
-fed-append number p f name other opened stored lines more same fed =
-    subst (λ o. IsFed number p f o (stored_by_lines name stored (lines ++ more)))
-    (ap (λ n. opened_by_lines n (opened_by_lines name opened lines) more) same ∙ sym (fold-append (opened_after name) opened lines more))
-    (subst (IsFed number p f (opened_by_lines other (opened_by_lines name opened lines) more))
-    (ap (λ n. stored_by_lines n (stored_by_lines name stored lines) more) same ∙ sym (fold-append (held_after name) stored lines more)) fed)
+fed-append : (number : ℕ) (p : ProviderState) (f : Follower) (name other : List ℕ) (known : Known) (lines more : List Told) → other ≡ name
+    → IsFed number p f (known_by_lines other (known_by_lines name known lines) more) → IsFed number p f (known_by_lines name known (lines ++ more))
+fed-append number p f name other known lines more same fed =
+    subst (IsFed number p f) (ap (λ n. known_by_lines n (known_by_lines name known lines) more) same ∙ sym (fold-append (known_after name) known lines more)) fed
 
-pub kept-then : (number : ℕ) (suffix : List (List TypeAndValue)) (one two three : Pair) (lines more : List Told) (opened : Option ℕ) (stored : Holding)
-    → IsKept number suffix one two lines opened stored
-    → IsKept number suffix two three more (opened_by_lines one.follower.name opened lines) (stored_by_lines one.follower.name stored lines)
-    → IsKept number suffix one three (lines ++ more) opened stored
-kept-then number suffix one two three lines more opened stored first then = record {
+-- ---- the searches of others
+
+-- a number of a search is this one or another
+pub cases_Some : (found : Option ℕ) (at : ℕ) → (found ≡ Some at) ⊎ (found ≡ Some at → ⊥)
+cases_Some None at = inr (λ same. let never : ⊥ = cc in never)
+cases_Some (Some k) at = elim (cases_Bool (nat_eq k at)) [
+  | inl here ↦ inl (ap Some (eqb-true k at here))
+  | inr miss ↦ inr (λ same. let one : k ≡ at = cc in let bad : true ≡ false = sym (eq-eqb k at one) ∙ miss in let never : ⊥ = cc in never)
+]
+
+-- those that are open are few still
+pub room_after : (one two : Pair) → OwnsNew one two → HasRoom one.provider one.follower → HasRoom two.provider two.follower
+room_after one two owns room = record {
+  others = room.others;
+  few = room.few;
+  each = λ at s found. by at (owns at s found);
+}
+  where
+    left : (at : ℕ) → (one.follower.search ≡ Some at → ⊥) → (one.follower.search ≡ Some at) ⊎ (among at room.others ≡ true) → among at room.others ≡ true
+    left at other (inl mine) = absurd (other mine)
+    left at other (inr there) = there
+
+    by : (at : ℕ) → (two.follower.search ≡ Some at) ⊎ ((was : SearchState) × (search_at one.provider.searches at ≡ Some was) × (one.follower.search ≡ Some at → ⊥))
+        → (two.follower.search ≡ Some at) ⊎ (among at room.others ≡ true)
+    by at (inl mine) = inl mine
+    by at (inr was) = inr (left at was.2 (room.each at was.0 was.1))
+
+owns-then : (one two three : Pair) → OwnsNew one two → OwnsNew two three → OwnsNew one three
+owns-then one two three first then at s found = by (then at s found)
+  where
+    before : (two.follower.search ≡ Some at → ⊥) → (two.follower.search ≡ Some at) ⊎ ((was : SearchState) × (search_at one.provider.searches at ≡ Some was) × (one.follower.search ≡ Some at → ⊥))
+        → (was : SearchState) × (search_at one.provider.searches at ≡ Some was) × (one.follower.search ≡ Some at → ⊥)
+    before other (inl mine) = absurd (other mine)
+    before other (inr was) = was
+
+    by : (three.follower.search ≡ Some at) ⊎ ((was : SearchState) × (search_at two.provider.searches at ≡ Some was) × (two.follower.search ≡ Some at → ⊥))
+        → (three.follower.search ≡ Some at) ⊎ ((was : SearchState) × (search_at one.provider.searches at ≡ Some was) × (one.follower.search ≡ Some at → ⊥))
+    by (inl mine) = inl mine
+    by (inr was) = inr (before was.2 (first at was.0 was.1))
+
+-- ---- one part after another
+
+pub kept-then : (number : ℕ) (suffix : List (List TypeAndValue)) (one two three : Pair) (lines more : List Told) (known : Known)
+    → IsKept number suffix one two lines known → IsKept number suffix two three more (known_by_lines one.follower.name known lines)
+    → IsKept number suffix one three (lines ++ more) known
+kept-then number suffix one two three lines more known first then = record {
   source = then.source;
-  fed = fed-append number three.provider three.follower one.follower.name two.follower.name opened stored lines more (ap (λ (frame : Frame). frame.name) first.same) then.fed;
+  fed = fed-append number three.provider three.follower one.follower.name two.follower.name known lines more (ap (λ (frame : Frame). frame.name) first.same) then.fed;
   right =
-      lines-append lines more number (frame_of one.provider one.follower) opened stored first.right
-      (subst (λ frame. LinesAreRightOf number frame (opened_by_lines one.follower.name opened lines) (stored_by_lines one.follower.name stored lines) more) first.same then.right);
+      lines-append lines more number (frame_of one.provider one.follower) known first.right
+      (subst (λ frame. LinesAreRightOf number frame (known_by_lines one.follower.name known lines) more) first.same then.right);
   same = then.same ∙ first.same;
-  others = λ g o s fed apart. let now = first.others g o s fed apart in then.others g o s now.0 now.1;
+  others = λ g k fed apart. let now = first.others g k fed apart in then.others g k now.0 now.1;
+  owns = owns-then one two three first.owns then.owns;
 }
 
 -- a part that is refused changes nothing
-abbrev pub IsKeptIn : ℕ → List (List TypeAndValue) → Pair → Option ℕ → Holding → Outcome → Type 0
-IsKeptIn number suffix pair opened stored (Ok next) = IsKept number suffix pair next.0 next.1 opened stored
-IsKeptIn number suffix pair opened stored (Err cause) = Unit {0}
+abbrev pub IsKeptIn : ℕ → List (List TypeAndValue) → Pair → Known → Outcome → Type 0
+IsKeptIn number suffix pair known (Ok next) = IsKept number suffix pair next.0 next.1 known
+IsKeptIn number suffix pair known (Err cause) = Unit {0}
 
 -- what a part keeps of each source and what is fed by it
 abbrev pub Keeps : ℕ → List (List TypeAndValue) → (Pair → Outcome) → Type 0
 Keeps number suffix part =
-    (pair : Pair) (opened : Option ℕ) (stored : Holding) → IsSource number suffix pair.provider → IsFed number pair.provider pair.follower opened stored
-    → IsKeptIn number suffix pair opened stored (part pair)
+    (pair : Pair) (known : Known) → IsSource number suffix pair.provider → IsFed number pair.provider pair.follower known → HasRoom pair.provider pair.follower
+    → IsKeptIn number suffix pair known (part pair)
 
-pub kept-lines : (number : ℕ) (suffix : List (List TypeAndValue)) (one two : Pair) (lines : List Told) (opened : Option ℕ) (stored : Holding) (outcome : Outcome)
-    → IsKept number suffix one two lines opened stored
-    → IsKeptIn number suffix two (opened_by_lines one.follower.name opened lines) (stored_by_lines one.follower.name stored lines) outcome
-    → IsKeptIn number suffix one opened stored (after_lines lines outcome)
-kept-lines number suffix one two lines opened stored (Ok next) first then = kept-then number suffix one two next.0 lines next.1 opened stored first then
-kept-lines number suffix one two lines opened stored (Err cause) first then = tt
+pub kept-lines : (number : ℕ) (suffix : List (List TypeAndValue)) (one two : Pair) (lines : List Told) (known : Known) (outcome : Outcome)
+    → IsKept number suffix one two lines known → IsKeptIn number suffix two (known_by_lines one.follower.name known lines) outcome
+    → IsKeptIn number suffix one known (after_lines lines outcome)
+kept-lines number suffix one two lines known (Ok next) first then = kept-then number suffix one two next.0 lines next.1 known first then
+kept-lines number suffix one two lines known (Err cause) first then = tt
 
-pub kept-part : (number : ℕ) (suffix : List (List TypeAndValue)) (one two : Pair) (lines : List Told) (opened : Option ℕ) (stored : Holding) (part : Pair → Outcome)
-    → IsKept number suffix one two lines opened stored → Keeps number suffix part → IsKeptIn number suffix one opened stored (after_lines lines (part two))
-kept-part number suffix one two lines opened stored part first keeps =
-    kept-lines number suffix one two lines opened stored (part two) first
-    (keeps two (opened_by_lines one.follower.name opened lines) (stored_by_lines one.follower.name stored lines) first.source first.fed)
+pub kept-part : (number : ℕ) (suffix : List (List TypeAndValue)) (one two : Pair) (lines : List Told) (known : Known) (part : Pair → Outcome)
+    → IsKept number suffix one two lines known → HasRoom one.provider one.follower → Keeps number suffix part → IsKeptIn number suffix one known (after_lines lines (part two))
+kept-part number suffix one two lines known part first room keeps =
+    kept-lines number suffix one two lines known (part two) first
+    (keeps two (known_by_lines one.follower.name known lines) first.source first.fed (room_after one two first.owns room))
 
 pub keeps-then : (number : ℕ) (suffix : List (List TypeAndValue)) (first next : Pair → Outcome) → Keeps number suffix first → Keeps number suffix next
     → Keeps number suffix (λ pair. and_then (first pair) next)
-keeps-then number suffix first next one two pair opened stored source fed = by (first pair) (one pair opened stored source fed)
+keeps-then number suffix first next one two pair known source fed room = by (first pair) (one pair known source fed room)
   where
-    by : (outcome : Outcome) → IsKeptIn number suffix pair opened stored outcome → IsKeptIn number suffix pair opened stored (and_then outcome next)
-    by (Ok after) kept = kept-part number suffix pair after.0 after.1 opened stored next kept two
+    by : (outcome : Outcome) → IsKeptIn number suffix pair known outcome → IsKeptIn number suffix pair known (and_then outcome next)
+    by (Ok after) kept = kept-part number suffix pair after.0 after.1 known next kept room two
     by (Err cause) kept = tt
 
--- ---- a part that changes nothing, and tells nothing of a search
+-- ---- a part that changes nothing, and a line that tells nothing of what is known
 
-pub kept-still : (number : ℕ) (suffix : List (List TypeAndValue)) (pair : Pair) (opened : Option ℕ) (stored : Holding)
-    → IsSource number suffix pair.provider → IsFed number pair.provider pair.follower opened stored → IsKept number suffix pair pair [] opened stored
-kept-still number suffix pair opened stored source fed = record {
+pub owns-still : (p : ProviderState) (f g : Follower) (own : (at : ℕ) → f.search ≡ Some at → g.search ≡ Some at) → OwnsNew (record { provider = p; follower = f }) (record { provider = p; follower = g })
+owns-still p f g own at s found = by f.search refl
+  where
+    by : (search : Option ℕ) → f.search ≡ search → (g.search ≡ Some at) ⊎ ((was : SearchState) × (search_at p.searches at ≡ Some was) × (f.search ≡ Some at → ⊥))
+    by search is = elim (cases_Some search at) [
+      | inl mine ↦ inl (own at (is ∙ mine))
+      | inr other ↦ inr (s, found, λ mine. other (sym is ∙ mine))
+    ]
+
+pub kept-still : (number : ℕ) (suffix : List (List TypeAndValue)) (pair : Pair) (known : Known)
+    → IsSource number suffix pair.provider → IsFed number pair.provider pair.follower known → IsKept number suffix pair pair [] known
+kept-still number suffix pair known source fed = record {
   source = source;
   fed = fed;
   right = tt;
   same = refl;
-  others = λ g o s other apart. (other, apart);
+  others = λ g k other apart. (other, apart);
+  owns = owns-still pair.provider pair.follower pair.follower (λ at mine. mine);
 }
 
--- a line that tells no opening, and nothing of what is held
-pub record IsQuiet (line : Told) : Type 0 where
-  pub opened : (name : List ℕ) (opened : Option ℕ) → opened_after name opened line ≡ opened
-  pub stored : (name : List ℕ) (stored : Holding) → held_after name stored line ≡ stored
-  pub right : (number : ℕ) (frame : Frame) (opened : Option ℕ) (stored : Holding) → LinesAreRightOf number frame opened stored (line ∷ [])
+-- a line that leaves what is known
+abbrev pub IsStill : Told → Type 0
+IsStill line = (name : List ℕ) (known : Known) → known_after name known line ≡ known
 
-pub kept-told : (number : ℕ) (suffix : List (List TypeAndValue)) (one two : Pair) (line : Told) (opened : Option ℕ) (stored : Holding) → IsQuiet line
-    → IsKept number suffix one two [] opened stored → IsKept number suffix one two (line ∷ []) opened stored
-kept-told number suffix one two line opened stored quiet kept = record {
+pub kept-told : (number : ℕ) (suffix : List (List TypeAndValue)) (one two : Pair) (line : Told) (known : Known) → IsStill line
+    → LineIsRightOf number (frame_of one.provider one.follower) known line
+    → IsKept number suffix one two [] known → IsKept number suffix one two (line ∷ []) known
+kept-told number suffix one two line known still right kept = record {
   source = kept.source;
-  fed =
-      subst (λ o. IsFed number two.provider two.follower o (stored_by_lines one.follower.name stored (line ∷ []))) (sym (quiet.opened one.follower.name opened))
-      (subst (IsFed number two.provider two.follower opened) (sym (quiet.stored one.follower.name stored)) kept.fed);
-  right = quiet.right number (frame_of one.provider one.follower) opened stored;
+  fed = subst (IsFed number two.provider two.follower) (sym (still one.follower.name known)) kept.fed;
+  right = (right, tt);
   same = kept.same;
   others = kept.others;
+  owns = kept.owns;
 }

@@ -1,12 +1,12 @@
 -- What holds of the nodes after a declaration.
-use Rattle.std.proofs.Common.{◌≡◌, ◌+◌, ◌<◌, ◌≤◌, ℕ, Bool, true, Option, Some, None, List, [], ◌∷◌, ◌++◌, length, refl, ap, sym, subst, ◌∙◌, inl, inr, arith, append-nil, length-append}
+use Rattle.std.proofs.Common.{◌≡◌, ◌+◌, ◌<◌, ◌≤◌, ℕ, Bool, true, false, Option, Some, None, List, [], ◌∷◌, ◌++◌, length, refl, ap, sym, subst, ◌∙◌, inl, inr, arith, append-nil, length-append}
 use Rattle.std.proofs.lemmas.Bool.{cases_Bool, leb-false}
 use Rattle.std.specs.Prelude.{Ok, Err, count_by, not, nat_le}
 use Rattle.dn_names.specs.Names.{TypeAndValue, is_at_or_below}
 use Rattle.entry_tree.specs.Selection.{Search}
 use Rattle.cascade_world.specs.declared.node.Root.{Root}
 use Rattle.cascade_world.specs.Cookies.{most_nodes}
-use Rattle.cascade_world.specs.Headline.{empty_handed, time_after, time_from, is_declaration, IsDeclared, latest_opened, EachTellsRight}
+use Rattle.cascade_world.specs.Headline.{nothing_known, time_after, time_from, is_declaration, IsDeclared, EachTellsRight}
 use Rattle.cascade_world.specs.Orders.{Order}
 use Rattle.cascade_world.specs.Orders.{Order as asks}
 use Rattle.cascade_world.specs.Report.{Told}
@@ -15,6 +15,7 @@ use Rattle.cascade_world.proofs.Accepted.{time_from-push}
 use Rattle.cascade_world.proofs.Feeding.{IsFed, RestIsFed, FreshIsSource}
 use Rattle.cascade_world.proofs.Finding.{find-more}
 use Rattle.cascade_world.proofs.Growing.{count_more, roots_kept, roots_pushed, followers_kept, followers_pushed, apart_pushed}
+use Rattle.cascade_world.proofs.Owning.{owned_root, owned_follower}
 use Rattle.cascade_world.proofs.Saying.{IsLeft, left_by_none, left_for_new}
 use Rattle.cascade_world.proofs.Tracking.{IsRoot, IsFollower, Tracks}
 use Rattle.cascade_world.proofs.Traces.{AreTold}
@@ -73,6 +74,8 @@ root_tracked fresh_is before said state name suffix is room =
           followers_kept before order said [] state.roots (state.roots ++ root ∷ []) state.followers left_by_none
           (λ n r e. find-more _ state.roots root r e) is.followers;
       apart = is.apart;
+      few = omega (arith, more, room);
+      owned = owned_root state.roots state.followers root refl is.owned;
     }
 
 pub provider_after : FreshIsSource → (before : List Order) (said : List Told) (state : State) (name : List ℕ) (suffix : List (List TypeAndValue)) → Tracks before said state
@@ -89,26 +92,24 @@ provider_after fresh_is before said state name suffix is =
 
 -- ---- a consumer
 
-new_follower_is : RestIsFed → (before : List Order) (said : List Told) (state : State) (name source : List ℕ) (search : Search) (reload : Bool) (root : Root) → root_named source state ≡ Some root → IsLeft name said
+new_follower_is : RestIsFed → (before : List Order) (said : List Told) (state : State) (name source : List ℕ) (search : Search) (reload : Bool) (root : Root) → root_named source state ≡ Some root → IsLeft name said → is_at_or_below search.base root.provider.directory.suffix ≡ true
     → count_nodes state ≡ count_by is_declaration before → IsFollower (before ++ asks.Consumer name source search reload ∷ []) said state.roots (new_follower name source search reload)
-new_follower_is rest_is before said state name source search reload root e left count =
+new_follower_is rest_is before said state name source search reload root e left below count =
     let f = new_follower name source search reload in
     let number = root.provider.directory.history in
-    let fed : IsFed number root.provider f None empty_handed = rest_is number root.provider f refl refl refl refl refl in
+    let fed : IsFed number root.provider f nothing_known = rest_is number root.provider f refl refl refl refl refl below in
     record {
       place = count_nodes state + 1;
       since = [];
       declared = declared_now before (count_nodes state) (asks.Consumer name source search reload) count;
       root = root;
       there = e;
-      fed =
-          subst (λ s. IsFed number root.provider f (latest_opened name said) s) (sym (left.stored empty_handed))
-          (subst (λ o. IsFed number root.provider f o empty_handed) (sym (left.opened None)) fed);
+      fed = subst (IsFed number root.provider f) (sym (left.known nothing_known)) fed;
     }
 
-follower_tracked : RestIsFed → (before : List Order) (said : List Told) (state : State) (name source : List ℕ) (search : Search) (reload : Bool) (root : Root) → root_named source state ≡ Some root → IsLeft name said → Tracks before said state
-    → Tracks (before ++ asks.Consumer name source search reload ∷ []) (said ++ []) (record state { followers = state.followers ++ new_follower name source search reload ∷ [] })
-follower_tracked rest_is before said state name source search reload root e left is =
+follower_tracked : RestIsFed → (before : List Order) (said : List Told) (state : State) (name source : List ℕ) (search : Search) (reload : Bool) (root : Root) → root_named source state ≡ Some root → IsLeft name said → is_at_or_below search.base root.provider.directory.suffix ≡ true
+    → count_nodes state < most_nodes → Tracks before said state → Tracks (before ++ asks.Consumer name source search reload ∷ []) (said ++ []) (record state { followers = state.followers ++ new_follower name source search reload ∷ [] })
+follower_tracked rest_is before said state name source search reload root e left below room is =
     let order = asks.Consumer name source search reload in
     let f = new_follower name source search reload in
     let more : length state.roots + length (state.followers ++ f ∷ []) ≡ count_nodes state + 1 = ap (λ n. length state.roots + n) (length-append state.followers (f ∷ [])) ∙ omega arith in
@@ -118,10 +119,16 @@ follower_tracked rest_is before said state name source search reload root e left
       roots = roots_kept before order state.roots (λ n. tt) is.roots;
       followers =
           followers_pushed (before ++ order ∷ []) (said ++ []) state.roots state.followers f
-          (subst (λ s. IsFollower (before ++ order ∷ []) s state.roots f) (sym (append-nil said)) (new_follower_is rest_is before said state name source search reload root e left is.count))
+          (subst (λ s. IsFollower (before ++ order ∷ []) s state.roots f) (sym (append-nil said)) (new_follower_is rest_is before said state name source search reload root e left below is.count))
           (followers_kept before order said [] state.roots state.roots state.followers left_by_none (λ n r h. h) is.followers);
       apart = apart_pushed state.followers f refl is.apart;
+      few = omega (arith, more, room);
+      owned = owned_follower state.roots state.followers f is.owned;
     }
+
+inside_is : (b : Bool) → not b ≡ false → b ≡ true
+inside_is true h = refl
+inside_is false h = let never : ⊥ = cc in absurd never
 
 follow_after : RestIsFed → (before : List Order) (said : List Told) (state : State) (name source : List ℕ) (search : Search) (reload : Bool) (root : Option Root) → root_named source state ≡ root → IsLeft name said → Tracks before said state
     → After before said (asks.Consumer name source search reload) (follow state name source search reload root)
@@ -132,7 +139,7 @@ follow_after rest_is before said state name source search reload (Some root) e l
       | inr inside ↦
           rw inside (
           room_after before said (asks.Consumer name source search reload) state (record state { followers = state.followers ++ new_follower name source search reload ∷ [] })
-          (λ room. follower_tracked rest_is before said state name source search reload root e left is)
+          (λ room. follower_tracked rest_is before said state name source search reload root e left (inside_is (is_at_or_below search.base root.provider.directory.suffix) inside) room is)
           )
     ]
 

@@ -1,5 +1,5 @@
 -- What holds of the nodes after a part of an event that a consumer went through with its provider.
-use Rattle.std.proofs.Common.{◌≡◌, ℕ, false, Option, Some, None, List, [], ◌∷◌, ◌++◌, ap, sym, subst, ◌∙◌, inl, inr}
+use Rattle.std.proofs.Common.{◌≡◌, ℕ, false, Some, List, [], ◌∷◌, ◌++◌, ap, sym, subst, ◌∙◌, inl, inr}
 use Rattle.std.proofs.lemmas.Bool.{cases_Bool, both_ways}
 use Rattle.std.proofs.lemmas.List.Sums.{fold-append}
 use Rattle.std.specs.List.{fold}
@@ -7,7 +7,7 @@ use Rattle.std.specs.Str.{bytes_eq}
 use Rattle.cascade_world.specs.declared.node.Root.{Root}
 use Rattle.cascade_world.specs.declared.node.Follower.{Follower}
 use Rattle.cascade_world.specs.Exchange.{Pair, pair_of}
-use Rattle.cascade_world.specs.Headline.{empty_handed, Holding, IsDeclared, opened_after, held_after, latest_opened, last_held}
+use Rattle.cascade_world.specs.Headline.{Known, nothing_known, IsDeclared, known_after, known_of}
 use Rattle.cascade_world.specs.Orders.{Order}
 use Rattle.cascade_world.specs.Orders.{Order as asks}
 use Rattle.cascade_world.specs.Report.{Told}
@@ -25,10 +25,10 @@ flipped f g apart = λ at left right. apart at right left
 
 -- ---- the provider
 
-pub root_done : (before : List Order) (order : Order) (root : Root) (f : Follower) (after : Pair) (lines : List Told) (opened : Option ℕ) (stored : Holding) → Untouched order root.name
-    → IsKept root.provider.directory.history root.provider.directory.suffix (pair_of root.provider f) after lines opened stored → Keeps (pair_of root.provider f) after lines → IsRoot before root
+pub root_done : (before : List Order) (order : Order) (root : Root) (f : Follower) (after : Pair) (lines : List Told) (known : Known) → Untouched order root.name
+    → IsKept root.provider.directory.history root.provider.directory.suffix (pair_of root.provider f) after lines known → Keeps (pair_of root.provider f) after lines → IsRoot before root
     → IsRoot (before ++ order ∷ []) (record root { provider = after.provider })
-root_done before order root f after lines opened stored quiet kept keeps is =
+root_done before order root f after lines known quiet kept keeps is =
     let number = root.provider.directory.history in
     let suffix = root.provider.directory.suffix in
     provider_now (before ++ order ∷ []) root.name number suffix after.provider
@@ -49,54 +49,48 @@ declared_done before order place since before' after lines keeps is =
     subst (λ d. IsDeclared (before ++ order ∷ []) place d (since ++ order ∷ [])) same (declared-push before place (asks.Consumer f.name f.source f.consumer.spec f.consumer.reload) since order is)
 
 -- what its lines have told
-opened_done : (name now : List ℕ) (said lines : List Told) → now ≡ name → fold (opened_after name) (latest_opened name said) lines ≡ latest_opened now (said ++ lines)
-opened_done name now said lines same = sym (fold-append (opened_after name) None said lines) ∙ ap (λ n. latest_opened n (said ++ lines)) (sym same)
-
-stored_done : (name now : List ℕ) (said lines : List Told) → now ≡ name → fold (held_after name) (last_held name said) lines ≡ last_held now (said ++ lines)
-stored_done name now said lines same = sym (fold-append (held_after name) empty_handed said lines) ∙ ap (λ n. last_held n (said ++ lines)) (sym same)
+known_done : (name now : List ℕ) (said lines : List Told) → now ≡ name → fold (known_after name) (known_of name said) lines ≡ known_of now (said ++ lines)
+known_done name now said lines same = sym (fold-append (known_after name) nothing_known said lines) ∙ ap (λ n. known_of n (said ++ lines)) (sym same)
 
 pub follower_done : (before : List Order) (order : Order) (said : List Told) (roots next : List Root) (root : Root) (f : Follower) (after : Pair) (lines : List Told)
-    → IsKept root.provider.directory.history root.provider.directory.suffix (pair_of root.provider f) after lines (latest_opened f.name said) (last_held f.name said) → Keeps (pair_of root.provider f) after lines
+    → IsKept root.provider.directory.history root.provider.directory.suffix (pair_of root.provider f) after lines (known_of f.name said) → Keeps (pair_of root.provider f) after lines
     → roots_by next f.source ≡ Some (record root { provider = after.provider }) → IsFollower before said roots f → IsFollower (before ++ order ∷ []) (said ++ lines) next after.follower
 follower_done before order said roots next root f after lines kept keeps there is =
     let p = after.provider in
     let g = after.follower in
     let number = p.directory.history in
-    let opened = fold (opened_after f.name) (latest_opened f.name said) lines in
-    let stored = fold (held_after f.name) (last_held f.name said) lines in
-    let now : IsFed number p g opened stored = fed_now root.provider.directory.history root.provider.directory.suffix p g opened stored kept.source kept.fed in
+    let known = fold (known_after f.name) (known_of f.name said) lines in
+    let now : IsFed number p g known = fed_now root.provider.directory.history root.provider.directory.suffix p g known kept.source kept.fed in
     record {
       place = is.place;
       since = is.since ++ order ∷ [];
       declared = declared_done before order is.place is.since (pair_of root.provider f) after lines keeps is.declared;
       root = record root { provider = after.provider };
       there = ap (roots_by next) keeps.source ∙ there;
-      fed =
-          subst (λ s. IsFed number p g (latest_opened g.name (said ++ lines)) s) (stored_done f.name g.name said lines keeps.name)
-          (subst (λ o. IsFed number p g o stored) (opened_done f.name g.name said lines keeps.name) now);
+      fed = subst (IsFed number p g) (known_done f.name g.name said lines keeps.name) now;
     }
 
 -- ---- the other consumers
 
 -- what another consumer of the same provider keeps
-pub other_fed : (before : List Order) (said : List Told) (roots : List Root) (root : Root) (f g : Follower) (after : Pair) (lines : List Told) (opened : Option ℕ) (stored : Holding)
-    → IsKept root.provider.directory.history root.provider.directory.suffix (pair_of root.provider f) after lines opened stored
+pub other_fed : (before : List Order) (said : List Told) (roots : List Root) (root : Root) (f g : Follower) (after : Pair) (lines : List Told) (known : Known)
+    → IsKept root.provider.directory.history root.provider.directory.suffix (pair_of root.provider f) after lines known
     → roots_by roots f.source ≡ Some root → g.source ≡ f.source → IsFollower before said roots g → AreApart f g
-    → IsFed root.provider.directory.history after.provider g (latest_opened g.name said) (last_held g.name said) × AreApart after.follower g
-other_fed before said roots root f g after lines opened stored kept e same is apart =
-    kept.others g (latest_opened g.name said) (last_held g.name said) (fed_by before said roots f.source root g e same is) apart
+    → IsFed root.provider.directory.history after.provider g (known_of g.name said) × AreApart after.follower g
+other_fed before said roots root f g after lines known kept e same is apart =
+    kept.others g (known_of g.name said) (fed_by before said roots f.source root g e same is) apart
 
-pub other_done : (before : List Order) (order : Order) (said : List Told) (roots next : List Root) (root : Root) (f g : Follower) (after : Pair) (lines : List Told) (opened : Option ℕ) (stored : Holding)
-    → IsKept root.provider.directory.history root.provider.directory.suffix (pair_of root.provider f) after lines opened stored → Keeps (pair_of root.provider f) after lines
+pub other_done : (before : List Order) (order : Order) (said : List Told) (roots next : List Root) (root : Root) (f g : Follower) (after : Pair) (lines : List Told) (known : Known)
+    → IsKept root.provider.directory.history root.provider.directory.suffix (pair_of root.provider f) after lines known → Keeps (pair_of root.provider f) after lines
     → roots_by roots f.source ≡ Some root → IsChanged (roots_by roots) (roots_by next) f.source (record root { provider = after.provider }) → bytes_eq f.name g.name ≡ false
     → (g.source ≡ f.source → AreApart f g) → IsFollower before said roots g → IsFollower (before ++ order ∷ []) (said ++ lines) next g
-other_done before order said roots next root f g after lines opened stored kept keeps e changed apart idle is =
+other_done before order said roots next root f g after lines known kept keeps e changed apart idle is =
     let left = left_by_other g.name f.name lines apart keeps.own in
     elim (cases_Bool (bytes_eq g.source f.source)) [
       | inl hit ↦
           let same : g.source ≡ f.source = same_name g.source f.source hit in
-          let fed = other_fed before said roots root f g after lines opened stored kept e same is (idle same) in
-          let now = fed_now root.provider.directory.history root.provider.directory.suffix after.provider g (latest_opened g.name said) (last_held g.name said) kept.source fed.0 in
+          let fed = other_fed before said roots root f g after lines known kept e same is (idle same) in
+          let now = fed_now root.provider.directory.history root.provider.directory.suffix after.provider g (known_of g.name said) kept.source fed.0 in
           follower_kept before order said lines roots next (record root { provider = after.provider }) g left (ap (roots_by next) same ∙ changed.here) now is
       | inr miss ↦ follower_kept before order said lines roots next is.root g left (changed.others g.source miss ∙ is.there) is.fed is
     ]
@@ -104,7 +98,7 @@ other_done before order said roots next root f g after lines opened stored kept 
 -- ---- all of them
 
 pub followers_done : (before : List Order) (order : Order) (said : List Told) (roots next : List Root) (followers after : List Follower) (name : List ℕ) (root : Root) (f : Follower) (pair : Pair) (lines : List Told)
-    → IsKept root.provider.directory.history root.provider.directory.suffix (pair_of root.provider f) pair lines (latest_opened f.name said) (last_held f.name said) → Keeps (pair_of root.provider f) pair lines
+    → IsKept root.provider.directory.history root.provider.directory.suffix (pair_of root.provider f) pair lines (known_of f.name said) → Keeps (pair_of root.provider f) pair lines
     → roots_by roots f.source ≡ Some root → IsChanged (roots_by roots) (roots_by next) f.source (record root { provider = pair.provider })
     → followers_by followers name ≡ Some f → IsChanged (followers_by followers) (followers_by after) name pair.follower
     → AllApart followers → AreFollowers before said roots followers → AreFollowers (before ++ order ∷ []) (said ++ lines) next after
@@ -114,7 +108,7 @@ followers_done before order said roots next followers after name root f pair lin
       | inr was ↦
           let differs : bytes_eq f.name g.name ≡ false =
           ap (λ n. bytes_eq n g.name) (sym (follower_name followers name f e')) ∙ ap (bytes_eq name) (sym (follower_name followers other g was.1)) ∙ other_way other name was.0 in
-          other_done before order said roots next root f g pair lines (latest_opened f.name said) (last_held f.name said) kept keeps e changed differs
+          other_done before order said roots next root f g pair lines (known_of f.name said) kept keeps e changed differs
           (λ same. apart name other f g e' was.1 was.0 (sym same)) (is other g was.1)
     ]
 

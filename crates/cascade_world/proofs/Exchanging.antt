@@ -4,6 +4,8 @@ use Rattle.std.proofs.lemmas.Bool.{cases_Bool}
 use Rattle.std.proofs.lemmas.List.Sums.{fold-append}
 use Rattle.std.specs.Prelude.{Ok, Err}
 use Rattle.std.specs.List.{fold}
+use Rattle.sync_messages.specs.declared.request.Mode.{Mode}
+use Rattle.sync_messages.specs.declared.request.Mode.TheVariants.{RefreshOnly}
 use Rattle.sync_model.specs.Copy.{Copy}
 use Rattle.sync_provider.specs.HandingOut.{Turn}
 use Rattle.sync_provider.specs.HandingOut.Turn.{Hands, Closes, Waits, Unknown}
@@ -12,7 +14,7 @@ use Rattle.sync_provider.specs.declared.searches.Accepted.{Accepted}
 use Rattle.sync_provider.specs.declared.searches.Accepted.TheVariants as accepted
 use Rattle.cascade_world.specs.declared.exchange.Exchange.{Exchange}
 use Rattle.cascade_world.specs.declared.exchange.Exchange.TheVariants as goes
-use Rattle.cascade_world.specs.Exchange.{Pair, Outcome, part_of, fits, after_lines, and_then, name_of, copy_of, Sending, turn_of, handed, sends, sending_by, sending, sent_before, sent, closed, given_up, taken_as, taken_from, taking, taken_before, taken_some, takes, is_busy, cut, idle, answer_of, is_required, opened_by, opened_idle, opens, asked_again, opens_anew, left_to_send, ran_before, ran_some, runs, drains, settled_told, settles, holding, lost, given}
+use Rattle.cascade_world.specs.Exchange.{Pair, Outcome, part_of, fits, after_lines, and_then, name_of, copy_of, Sending, turn_of, handed, sends, sending_by, sending, sent_before, sent, closed, given_up, taken_as, taken_from, taking, taken_before, taken_some, takes, is_busy, cut, idle, answer_of, is_required, opened_by, opened_idle, opens, asked_again, opens_anew, left_to_send, ran_before, ran_some, runs, drains, follows_on, catches_up, settled_told, settles, holding, lost, given}
 use Rattle.cascade_world.specs.Exchange.Sending.{Sends, Rests, Overflows}
 use Rattle.cascade_world.specs.Hearing.{Came, heard}
 use Rattle.cascade_world.specs.Hearing.{Came as came}
@@ -196,22 +198,23 @@ idle_keeps pair =
       | inr free ↦ rw free (keeps_nothing pair)
     ]
 
-opened_by_keeps : (pair : Pair) (answer : Accepted) → KeepsIn pair (opened_by pair answer)
-opened_by_keeps pair (accepted.Opened number writes) = record { name = refl; source = refl; spec = refl; reload = refl; directory = refl; own = (refl, tt); traced = refl }
-opened_by_keeps pair (accepted.Refused code) = record { name = refl; source = refl; spec = refl; reload = refl; directory = refl; own = (refl, tt); traced = refl }
-opened_by_keeps pair accepted.NoMemory = keeps_nothing pair
+opened_by_keeps : (mode : Mode) (pair : Pair) (answer : Accepted) → KeepsIn pair (opened_by mode pair answer)
+opened_by_keeps mode pair (accepted.Opened number writes) = record { name = refl; source = refl; spec = refl; reload = refl; directory = refl; own = (refl, tt); traced = refl }
+opened_by_keeps mode pair (accepted.Refused code) = record { name = refl; source = refl; spec = refl; reload = refl; directory = refl; own = (refl, tt); traced = refl }
+opened_by_keeps mode pair accepted.NoMemory = keeps_nothing pair
 
-idly_keeps : (pair : Pair) → KeepsIn pair (opened_idle pair)
-idly_keeps pair = opened_by_keeps pair (answer_of pair)
+idly_keeps : (mode : Mode) (pair : Pair) → KeepsIn pair (opened_idle mode pair)
+idly_keeps mode pair = opened_by_keeps mode pair (answer_of mode pair)
 
-pub opens_keeps : (pair : Pair) → KeepsIn pair (opens pair)
-opens_keeps pair = keeps_then pair (idle pair) opened_idle (idle_keeps pair) idly_keeps
+pub opens_keeps : (mode : Mode) (pair : Pair) → KeepsIn pair (opens mode pair)
+opens_keeps mode pair = keeps_then pair (idle pair) (opened_idle mode) (idle_keeps pair) (idly_keeps mode)
 
 again_keeps : (pair : Pair) → KeepsIn pair (asked_again pair)
 again_keeps pair =
-    elim (cases_Bool (is_required (answer_of pair))) [
-      | inl required ↦ rw required (keeps_then pair (opened_idle pair) opened_idle (idly_keeps pair) idly_keeps)
-      | inr served ↦ rw served (idly_keeps pair)
+    elim (cases_Bool (is_required (answer_of RefreshOnly pair))) [
+      | inl required ↦
+          rw required (keeps_then pair (opened_idle RefreshOnly pair) (opened_idle RefreshOnly) (idly_keeps RefreshOnly pair) (idly_keeps RefreshOnly))
+      | inr served ↦ rw served (idly_keeps RefreshOnly pair)
     ]
 
 anew_keeps : (pair : Pair) → KeepsIn pair (opens_anew pair)
@@ -239,14 +242,19 @@ drains_keeps pair = taken_some_keeps (length pair.follower.link) pair.follower.n
 settled_keeps : (pair : Pair) → KeepsIn pair (settled_told pair)
 settled_keeps pair = keeps_quiet pair (told.Settled (name_of pair) (length pair.provider.directory.writes)) refl refl
 
+catching_keeps : (pair : Pair) → KeepsIn pair (catches_up pair)
+catching_keeps pair =
+    elim (cases_Bool (follows_on pair)) [
+      | inl follows ↦ rw follows (keeps_nothing pair)
+      | inr free ↦ rw free (keeps_then pair (opens_anew pair) runs (anew_keeps pair) runs_keeps)
+    ]
+
 pub settles_keeps : (pair : Pair) → KeepsIn pair (settles pair)
 settles_keeps pair =
-    keeps_then pair (and_then (and_then (and_then (drains pair) runs) opens_anew) runs) settled_told
-    (keeps_then pair (and_then (and_then (drains pair) runs) opens_anew) runs
-    (keeps_then pair (and_then (drains pair) runs) opens_anew
+    keeps_then pair (and_then (and_then (drains pair) runs) catches_up) settled_told
+    (keeps_then pair (and_then (drains pair) runs) catches_up
     (keeps_then pair (drains pair) runs (drains_keeps pair) runs_keeps)
-    anew_keeps)
-    runs_keeps)
+    catching_keeps)
     settled_keeps
 
 -- ---- cookies
@@ -267,7 +275,7 @@ given_keeps text pair =
 -- ---- what goes on
 
 pub part_keeps : (exchange : Exchange) (pair : Pair) → KeepsIn pair (part_of exchange pair)
-part_keeps goes.Open pair = opens_keeps pair
+part_keeps (goes.Open mode) pair = opens_keeps mode pair
 part_keeps (goes.Send count) pair = sent_keeps count pair
 part_keeps (goes.Take count) pair = takes_keeps count pair
 part_keeps goes.Cut pair = cut_keeps pair

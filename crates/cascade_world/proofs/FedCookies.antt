@@ -1,17 +1,21 @@
 -- A consumer that loses its cookie, or is given one, holds the entries of before, and its search goes on.
-use Rattle.std.proofs.Common.{◌≡◌, ℕ, Bool, true, false, cond, Option, Some, None, List, [], ◌∷◌, refl, ap, sym, ◌∙◌, inl, inr, subst}
-use Rattle.std.specs.Prelude.{◌⊎◌, Ok, Err}
+use Rattle.std.proofs.Common.{◌≡◌, ℕ, Bool, true, false, cond, Option, Some, None, List, refl, ap, sym, inl, inr, subst}
+use Rattle.std.specs.Prelude.{◌⊎◌, Err}
 use Rattle.std.proofs.lemmas.Slice.Eq.{bytes_eq-Decides}
 use Rattle.dn_names.specs.Names.{TypeAndValue}
+use Rattle.entry_tree.specs.declared.entry.Entry.{Entry}
+use Rattle.sync_model.specs.Copy.{Copy}
+use Rattle.sync_model.specs.Message.{SyncMessage}
+use Rattle.sync_model.specs.Stream.{Session, Start}
 use Rattle.sync_provider.specs.Machine.{ProviderState}
 use Rattle.cascade_world.specs.declared.fault.Cause.TheVariants.{LaterCookie}
 use Rattle.cascade_world.specs.declared.node.Follower.{Follower}
 use Rattle.cascade_world.specs.Cookies.{held_cookie, is_later}
-use Rattle.cascade_world.specs.Exchange.{Pair, Outcome, pair_of, copy_of, with_text, holding, lost, given}
-use Rattle.cascade_world.specs.Headline.{Holding, kept_of, held_after, text_of_kept}
+use Rattle.cascade_world.specs.Exchange.{Pair, Outcome, copy_of, with_text, holding, lost, given}
+use Rattle.cascade_world.specs.Headline.{Opening, Known, kept_of, known_after, text_of_kept, session_over}
 use Rattle.cascade_world.specs.Report.{Told as told}
-use Rattle.cascade_world.proofs.Composing.{IsKeptIn, Keeps}
-use Rattle.cascade_world.proofs.Feeding.{IsSource, IsPromised, IsWithinWrites, GoesOn, IsAtRest, IsGoing, IsFed, IsKept}
+use Rattle.cascade_world.proofs.Composing.{IsKeptIn, Keeps, owns-still}
+use Rattle.cascade_world.proofs.Feeding.{IsSource, IsPromised, IsWithinWrites, InRefresh, AtWhole, InGroup, IsWhere, GoesOn, IsAtRest, IsGoing, IsFed}
 use Rattle.cascade_world.proofs.Served.{given_promised}
 use Rattle.cascade_world.proofs.Sharing.{others-none}
 
@@ -19,8 +23,8 @@ abbrev Name : Type 0
 Name = List (List TypeAndValue)
 
 -- what was told of the cookie, and what is held of it
-own_cookie : (name : List ℕ) (stored : Holding) (cookie : Option (List ℕ)) → held_after name stored (told.Holds name cookie) ≡ record stored { kept = kept_of cookie }
-own_cookie name stored cookie = ap (λ same. cond same (record stored { kept = kept_of cookie }) stored) ((bytes_eq-Decides name name).1 refl)
+own_cookie : (name : List ℕ) (known : Known) (cookie : Option (List ℕ)) → known_after name known (told.Holds name cookie) ≡ record known { kept = kept_of cookie }
+own_cookie name known cookie = ap (λ same. cond same (record known { kept = kept_of cookie }) known) ((bytes_eq-Decides name name).1 refl)
 
 text_is : (number : ℕ) (p : ProviderState) (cookie : Option (List ℕ)) → cookie ≡ text_of_kept number p.directory.writes (kept_of cookie)
 text_is number p None = refl
@@ -31,66 +35,125 @@ within_is most None = tt
 within_is most (Some text) = tt
 
 -- the search goes on with another cookie
-goes_with : (number : ℕ) (p : ProviderState) (f : Follower) (opened : ℕ) (stored : Holding) (cookie : Option (List ℕ)) → GoesOn number p f opened stored
-    → GoesOn number p (with_text f cookie) opened (record stored { kept = kept_of cookie })
-goes_with number p f opened stored cookie goes = record {
-  within = goes.within;
-  start = goes.start;
-  begins = goes.begins;
-  taken = goes.taken;
-  linked = goes.linked;
-  pending = goes.pending;
-  whole = goes.whole;
-  copy = λ i. record (goes.copy i) { cookie = cookie };
-  link = goes.link;
-  next = goes.next;
-  later = goes.later;
-  left = goes.left;
-  search = goes.search;
+abbrev other_cookie : Copy → Option (List ℕ) → Copy
+other_cookie copy cookie = record copy { cookie = cookie }
+
+refresh_with : (session : Session) (start : Start) (opened count : ℕ) (entries : List Entry) (held : Copy) (taken ahead : List SyncMessage) (cookie : Option (List ℕ))
+    → InRefresh session start opened count entries held taken ahead → InRefresh session start opened count entries (other_cookie held cookie) taken ahead
+refresh_with session start opened count entries held taken ahead cookie is = record {
+  begins = is.begins;
+  rest = is.rest;
+  some = is.some;
+  whole = is.whole;
+  behind = is.behind;
+  copy = λ i. record (is.copy i) { cookie = cookie };
 }
 
-fed_with : (number : ℕ) (p : ProviderState) (f : Follower) (opened : Option ℕ) (stored : Holding) (cookie : Option (List ℕ)) → IsFed number p f opened stored
-    → IsPromised number f.consumer.spec p.directory.writes stored.entries (held_cookie cookie)
-    → IsFed number p (with_text f cookie) opened (record stored { kept = kept_of cookie })
-fed_with number p f opened stored cookie fed promised = record {
+whole_with : (session : Session) (opened count : ℕ) (entries : List Entry) (held : Copy) (ahead : List SyncMessage) (cookie : Option (List ℕ)) → AtWhole session opened count entries held ahead
+    → AtWhole session opened count entries (other_cookie held cookie) ahead
+whole_with session opened count entries held ahead cookie is = record {
+  number = is.number;
+  more = is.more;
+  from = is.from;
+  sum = is.sum;
+  content = is.content;
+  behind = is.behind;
+  ended = is.ended;
+  copy = λ i. record (is.copy i) { cookie = cookie };
+}
+
+group_with : (session : Session) (opened count : ℕ) (entries : List Entry) (held : Copy) (ahead : List SyncMessage) (cookie : Option (List ℕ)) → InGroup session opened count entries held ahead
+    → InGroup session opened count entries (other_cookie held cookie) ahead
+group_with session opened count entries held ahead cookie is = record {
+  number = is.number;
+  more = is.more;
+  from = is.from;
+  sum = is.sum;
+  content = is.content;
+  before = is.before;
+  touch = is.touch;
+  after = is.after;
+  at = is.at;
+  behind = is.behind;
+  ended = is.ended;
+  copy = λ i. record (is.copy i) { cookie = cookie };
+}
+
+place_with : (session : Session) (start : Start) (opened count : ℕ) (entries : List Entry) (held : Copy) (taken ahead : List SyncMessage) (cookie : Option (List ℕ))
+    → IsWhere session start opened count entries held taken ahead → IsWhere session start opened count entries (other_cookie held cookie) taken ahead
+place_with session start opened count entries held taken ahead cookie (inl is) = inl (refresh_with session start opened count entries held taken ahead cookie is)
+place_with session start opened count entries held taken ahead cookie (inr is) = inr (is.0, past is.1)
+  where
+    past : AtWhole session opened count entries held ahead ⊎ InGroup session opened count entries held ahead
+        → AtWhole session opened count entries (other_cookie held cookie) ahead ⊎ InGroup session opened count entries (other_cookie held cookie) ahead
+    past (inl at) = inl (whole_with session opened count entries held ahead cookie at)
+    past (inr at) = inr (group_with session opened count entries held ahead cookie at)
+
+goes_with : (number : ℕ) (p : ProviderState) (f : Follower) (opening : Opening) (entries : List Entry) (cookie : Option (List ℕ)) → GoesOn number p f opening entries
+    → GoesOn number p (with_text f cookie) opening entries
+goes_with number p f opening entries cookie goes = record {
+  count = goes.count;
+  upto = goes.upto;
+  start = goes.start;
+  from = goes.from;
+  taken = goes.taken;
+  ahead = goes.ahead;
+  whole = goes.whole;
+  cut = goes.cut;
+  lasts = goes.lasts;
+  all = goes.all;
+  linked = goes.linked;
+  pending = goes.pending;
+  left = goes.left;
+  told = goes.told;
+  link = goes.link;
+  search = goes.search;
+  place = place_with (session_over number f.consumer.spec p.directory.writes opening) goes.start opening.writes goes.count entries f.consumer.copy goes.taken goes.ahead cookie goes.place;
+}
+
+fed_with : (number : ℕ) (p : ProviderState) (f : Follower) (known : Known) (cookie : Option (List ℕ)) → IsFed number p f known
+    → IsPromised number f.consumer.spec p.directory.writes known.entries (held_cookie cookie)
+    → IsFed number p (with_text f cookie) (record known { kept = kept_of cookie })
+fed_with number p f known cookie fed promised = record {
   held = fed.held;
   ascending = fed.ascending;
   cookie = text_is number p cookie;
   prefix = within_is _ cookie;
   promised = promised;
-  state = by opened fed.state;
+  below = fed.below;
+  state = by fed.state;
 }
   where
-    by : (o : Option ℕ) → IsAtRest f ⊎ IsGoing number p f o stored → IsAtRest (with_text f cookie) ⊎ IsGoing number p (with_text f cookie) o (record stored { kept = kept_of cookie })
-    by o (inl rest) = inl (record { search = rest.search; running = rest.running; link = rest.link })
-    by None (inr goes) = absurd goes
-    by (Some at) (inr goes) = inr (goes_with number p f at stored cookie goes)
+    by : IsAtRest f ⊎ IsGoing number p f known → IsAtRest (with_text f cookie) ⊎ IsGoing number p (with_text f cookie) (record known { kept = kept_of cookie })
+    by (inl rest) = inl (record { search = rest.search; running = rest.running; link = rest.link })
+    by (inr going) = inr (record { opening = going.opening; latest = going.latest; goes = goes_with number p f going.opening known.entries cookie going.goes })
 
-holding_kept : (number : ℕ) (suffix : Name) (pair : Pair) (opened : Option ℕ) (stored : Holding) (cookie : Option (List ℕ)) → IsSource number suffix pair.provider
-    → IsFed number pair.provider pair.follower opened stored → IsPromised number pair.follower.consumer.spec pair.provider.directory.writes stored.entries (held_cookie cookie)
-    → IsKeptIn number suffix pair opened stored (holding pair cookie)
-holding_kept number suffix pair opened stored cookie source fed promised = record {
+holding_kept : (number : ℕ) (suffix : Name) (pair : Pair) (known : Known) (cookie : Option (List ℕ)) → IsSource number suffix pair.provider
+    → IsFed number pair.provider pair.follower known → IsPromised number pair.follower.consumer.spec pair.provider.directory.writes known.entries (held_cookie cookie)
+    → IsKeptIn number suffix pair known (holding pair cookie)
+holding_kept number suffix pair known cookie source fed promised = record {
   source = source;
   fed =
-      subst (IsFed number pair.provider (with_text pair.follower cookie) opened) (sym (own_cookie pair.follower.name stored cookie))
-      (fed_with number pair.provider pair.follower opened stored cookie fed promised);
+      subst (IsFed number pair.provider (with_text pair.follower cookie)) (sym (own_cookie pair.follower.name known cookie))
+      (fed_with number pair.provider pair.follower known cookie fed promised);
   right = (tt, tt);
   same = refl;
   others = others-none number pair.provider pair.follower (with_text pair.follower cookie) refl;
+  owns = owns-still pair.provider pair.follower (with_text pair.follower cookie) (λ at mine. mine);
 }
 
 pub lost_keeps : (number : ℕ) (suffix : Name) → Keeps number suffix lost
-lost_keeps number suffix pair opened stored source fed = holding_kept number suffix pair opened stored None source fed tt
+lost_keeps number suffix pair known source fed room = holding_kept number suffix pair known None source fed tt
 
 pub given_keeps : (text : List ℕ) (number : ℕ) (suffix : Name) → Keeps number suffix (given text)
-given_keeps text number suffix pair opened stored source fed = by (is_later (copy_of pair.follower).cookie text) refl
+given_keeps text number suffix pair known source fed room = by (is_later (copy_of pair.follower).cookie text) refl
   where
     refused : Outcome
     refused = Err (LaterCookie (copy_of pair.follower).cookie text)
 
-    by : (later : Bool) → is_later (copy_of pair.follower).cookie text ≡ later → IsKeptIn number suffix pair opened stored (cond later refused (holding pair (Some text)))
+    by : (later : Bool) → is_later (copy_of pair.follower).cookie text ≡ later → IsKeptIn number suffix pair known (cond later refused (holding pair (Some text)))
     by true is = tt
     by false is =
-        holding_kept number suffix pair opened stored (Some text) source fed
-        (given_promised number source.first source.small pair.follower.consumer.spec pair.provider.directory.writes stored.entries
+        holding_kept number suffix pair known (Some text) source fed
+        (given_promised number source.first source.small pair.follower.consumer.spec pair.provider.directory.writes known.entries
         (held_cookie (copy_of pair.follower).cookie) (held_cookie (Some text)) fed.promised is)

@@ -1,32 +1,34 @@
 -- A cut leaves a consumer at rest, with its entries.
 use Rattle.std.proofs.Common.{◌≡◌, ℕ, Bool, true, false, cond, Option, Some, None, List, [], ◌∷◌, length, refl, ap, sym, ◌∙◌, inl, arith, eqb-true, subst}
 use Rattle.std.specs.Prelude.{◌||◌, ◌==◌, not, is_some, Ok}
-use Rattle.dn_names.specs.Names.{TypeAndValue}
-use Rattle.sync_provider.specs.Directory.{DirectoryState}
+use Rattle.directory_writes.specs.Directory.{DirectoryState}
+use Rattle.directory_writes.proofs.Keyed.{closed-other}
+use Rattle.dn_names.specs.Names.{TypeAndValue, is_at_or_below}
 use Rattle.sync_provider.specs.HandingOut as handing
 use Rattle.sync_provider.specs.Machine.{ProviderState}
-use Rattle.sync_provider.proofs.Looking.{closed-other}
 use Rattle.cascade_world.specs.declared.node.Follower.{Follower}
-use Rattle.cascade_world.specs.Exchange.{Pair, Outcome, pair_of, copy_of, closed, emptied, given_up, is_busy, cut, name_of}
 use Rattle.cascade_world.specs.Cookies.{held_cookie}
-use Rattle.cascade_world.specs.Headline.{Holding, text_of_kept}
+use Rattle.cascade_world.specs.Exchange.{Pair, Outcome, pair_of, copy_of, closed, emptied, given_up, is_busy, cut, name_of}
+use Rattle.cascade_world.specs.Headline.{Known, text_of_kept}
 use Rattle.cascade_world.specs.Report.{Told as told}
-use Rattle.cascade_world.proofs.Composing.{IsKeptIn, IsQuiet, Keeps, kept-still, kept-told}
+use Rattle.cascade_world.proofs.Composing.{IsKeptIn, Keeps, kept-still, kept-told, owns-still}
+use Rattle.cascade_world.proofs.Distinct.{AreDistinct, closed-same, distinct-closed}
 use Rattle.cascade_world.proofs.Feeding.{IsSource, IsPromised, IsWithinWrites, IsAtRest, IsFed, IsKept}
-use Rattle.cascade_world.proofs.Sharing.{Searches, with_searches, others-none, others-changed}
+use Rattle.cascade_world.proofs.Sharing.{Searches, with_searches, others-none, others-changed, owns-changed}
 
 abbrev Name : Type 0
 Name = List (List TypeAndValue)
 
 -- a provider with other searches is a source still
-pub source-searches : (number : ℕ) (suffix : Name) (p : ProviderState) (searches : Searches) → IsSource number suffix p → IsSource number suffix (with_searches p.directory searches)
-source-searches number suffix p searches source = record {
+pub source-searches : (number : ℕ) (suffix : Name) (p : ProviderState) (searches : Searches) → AreDistinct searches → IsSource number suffix p → IsSource number suffix (with_searches p searches)
+source-searches number suffix p searches apart source = record {
   first = source.first;
   small = source.small;
   directory = source.directory;
   rises = source.rises;
   accepted = source.accepted;
   few = source.few;
+  apart = apart;
 }
 
 -- what a consumer has when it rests
@@ -36,70 +38,69 @@ pub record IsAsBefore (f g : Follower) : Type 0 where
   pub spec : g.consumer.spec ≡ f.consumer.spec
 
 -- a consumer at rest is fed by any provider with the same writes
-pub fed-rest : (number : ℕ) (p q : ProviderState) (f g : Follower) (opened : Option ℕ) (stored : Holding) → q.directory ≡ p.directory → IsFed number p f opened stored → IsAsBefore f g → IsAtRest g
-    → IsFed number q g opened stored
-fed-rest number p q f g opened stored same fed is rest = record {
+pub fed-rest : (number : ℕ) (p q : ProviderState) (f g : Follower) (known : Known) → q.directory ≡ p.directory → IsFed number p f known → IsAsBefore f g → IsAtRest g
+    → IsFed number q g known
+fed-rest number p q f g known same fed is rest = record {
   held = is.held ∙ fed.held;
   ascending = fed.ascending;
-  cookie = is.cookie ∙ fed.cookie ∙ ap (λ (d : DirectoryState). text_of_kept number d.writes stored.kept) (sym same);
-  prefix = subst (λ (d : DirectoryState). IsWithinWrites (length d.writes) stored.kept) (sym same) fed.prefix;
+  cookie = is.cookie ∙ fed.cookie ∙ ap (λ (d : DirectoryState). text_of_kept number d.writes known.kept) (sym same);
+  prefix = subst (λ (d : DirectoryState). IsWithinWrites (length d.writes) known.kept) (sym same) fed.prefix;
   promised =
-      subst (λ (d : DirectoryState). IsPromised number g.consumer.spec d.writes stored.entries (held_cookie g.consumer.copy.cookie)) (sym same)
-      (subst (λ s. IsPromised number s p.directory.writes stored.entries (held_cookie g.consumer.copy.cookie)) (sym is.spec)
-      (subst (λ c. IsPromised number f.consumer.spec p.directory.writes stored.entries (held_cookie c)) (sym is.cookie) fed.promised));
+      subst (λ (d : DirectoryState). IsPromised number g.consumer.spec d.writes known.entries (held_cookie g.consumer.copy.cookie)) (sym same)
+      (subst (λ s. IsPromised number s p.directory.writes known.entries (held_cookie g.consumer.copy.cookie)) (sym is.spec)
+      (subst (λ c. IsPromised number f.consumer.spec p.directory.writes known.entries (held_cookie c)) (sym is.cookie) fed.promised));
+  below = (λ i. is_at_or_below (is.spec i).base (same i).suffix) ∙ fed.below;
   state = inl rest;
 }
 
 emptied_rests : (f : Follower) → IsAtRest (emptied f (copy_of f))
 emptied_rests f = record { search = refl; running = refl; link = refl }
 
-pub given_up_kept : (number : ℕ) (suffix : Name) (p : ProviderState) (f : Follower) (opened : Option ℕ) (stored : Holding) → IsSource number suffix p → IsFed number p f opened stored
-    → IsKept number suffix (pair_of p f) (given_up (pair_of p f) (copy_of f)) [] opened stored
-given_up_kept number suffix p f opened stored source fed = by f.search refl
+pub given_up_kept : (number : ℕ) (suffix : Name) (p : ProviderState) (f : Follower) (known : Known) → IsSource number suffix p → IsFed number p f known
+    → IsKept number suffix (pair_of p f) (given_up (pair_of p f) (copy_of f)) [] known
+given_up_kept number suffix p f known source fed = by f.search refl
   where
     after : Follower
     after = emptied f (copy_of f)
 
-    fed_after : (q : ProviderState) → q.directory ≡ p.directory → IsFed number q after opened stored
-    fed_after q same = fed-rest number p q f after opened stored same fed (record { held = refl; cookie = refl; spec = refl }) (emptied_rests f)
+    fed_after : (q : ProviderState) → q.directory ≡ p.directory → IsFed number q after known
+    fed_after q same = fed-rest number p q f after known same fed (record { held = refl; cookie = refl; spec = refl }) (emptied_rests f)
 
-    by : (own : Option ℕ) → f.search ≡ own → IsKept number suffix (pair_of p f) (pair_of (closed p own) after) [] opened stored
+    by : (own : Option ℕ) → f.search ≡ own → IsKept number suffix (pair_of p f) (pair_of (closed p own) after) [] known
     by None is = record {
       source = source;
       fed = fed_after p refl;
       right = tt;
       same = refl;
       others = others-none number p f after is;
+      owns = owns-still p f after (λ at mine. let bad : None ≡ Some at = sym is ∙ mine in let never : ⊥ = cc in absurd never);
     }
     by (Some at) is = record {
-      source = source-searches number suffix p (handing.closed p.searches at) source;
-      fed = fed_after (with_searches p.directory (handing.closed p.searches at)) refl;
+      source = source-searches number suffix p (handing.closed p.searches at) (distinct-closed p.searches at source.apart) source;
+      fed = fed_after (with_searches p (handing.closed p.searches at)) refl;
       right = tt;
       same = refl;
       others =
-          others-changed number p.directory p.searches (handing.closed p.searches at) f after at is (λ k far. closed-other p.searches at k far)
+          others-changed number p (handing.closed p.searches at) f after at is (λ k far. closed-other p.searches at k far)
           (λ k mine. let never : ⊥ = cc in absurd never);
+      owns =
+          owns-changed p (handing.closed p.searches at) f after at is (λ k far. closed-other p.searches at k far)
+          (λ s found. let bad : None ≡ Some s = sym (closed-same p.searches at source.apart) ∙ found in let never : ⊥ = cc in absurd never);
     }
 
-cut_quiet : (name : List ℕ) → IsQuiet (told.Cut name)
-cut_quiet name = record { opened = λ n o. refl; stored = λ n s. refl; right = λ k frame o s. (tt, tt) }
+pub cut_kept : (number : ℕ) (suffix : Name) (pair : Pair) (known : Known) → IsSource number suffix pair.provider → IsFed number pair.provider pair.follower known
+    → IsKept number suffix pair (given_up pair (copy_of pair.follower)) (told.Cut (name_of pair) ∷ []) known
+cut_kept number suffix pair known source fed =
+    kept-told number suffix pair (given_up pair (copy_of pair.follower)) (told.Cut (name_of pair)) known (λ name k. refl) tt
+    (given_up_kept number suffix pair.provider pair.follower known source fed)
 
-pub nothing_quiet : (name : List ℕ) → IsQuiet (told.Nothing name)
-nothing_quiet name = record { opened = λ n o. refl; stored = λ n s. refl; right = λ k frame o s. (tt, tt) }
-
-pub cut_kept : (number : ℕ) (suffix : Name) (pair : Pair) (opened : Option ℕ) (stored : Holding) → IsSource number suffix pair.provider → IsFed number pair.provider pair.follower opened stored
-    → IsKept number suffix pair (given_up pair (copy_of pair.follower)) (told.Cut (name_of pair) ∷ []) opened stored
-cut_kept number suffix pair opened stored source fed =
-    kept-told number suffix pair (given_up pair (copy_of pair.follower)) (told.Cut (name_of pair)) opened stored (cut_quiet (name_of pair))
-    (given_up_kept number suffix pair.provider pair.follower opened stored source fed)
-
-pub nothing_kept : (number : ℕ) (suffix : Name) (pair : Pair) (name : List ℕ) (opened : Option ℕ) (stored : Holding) → IsSource number suffix pair.provider → IsFed number pair.provider pair.follower opened stored
-    → IsKept number suffix pair pair (told.Nothing name ∷ []) opened stored
-nothing_kept number suffix pair name opened stored source fed =
-    kept-told number suffix pair pair (told.Nothing name) opened stored (nothing_quiet name) (kept-still number suffix pair opened stored source fed)
+pub nothing_kept : (number : ℕ) (suffix : Name) (pair : Pair) (name : List ℕ) (known : Known) → IsSource number suffix pair.provider → IsFed number pair.provider pair.follower known
+    → IsKept number suffix pair pair (told.Nothing name ∷ []) known
+nothing_kept number suffix pair name known source fed =
+    kept-told number suffix pair pair (told.Nothing name) known (λ other k. refl) tt (kept-still number suffix pair known source fed)
 
 pub cut_keeps : (number : ℕ) (suffix : Name) → Keeps number suffix cut
-cut_keeps number suffix pair opened stored source fed = by (is_busy pair.follower)
+cut_keeps number suffix pair known source fed room = by (is_busy pair.follower)
   where
     done : Outcome
     done = Ok (given_up pair (copy_of pair.follower), told.Cut (name_of pair) ∷ [])
@@ -107,9 +108,9 @@ cut_keeps number suffix pair opened stored source fed = by (is_busy pair.followe
     nothing : Outcome
     nothing = Ok (pair, told.Nothing (name_of pair) ∷ [])
 
-    by : (busy : Bool) → IsKeptIn number suffix pair opened stored (cond busy done nothing)
-    by true = cut_kept number suffix pair opened stored source fed
-    by false = nothing_kept number suffix pair (name_of pair) opened stored source fed
+    by : (busy : Bool) → IsKeptIn number suffix pair known (cond busy done nothing)
+    by true = cut_kept number suffix pair known source fed
+    by false = nothing_kept number suffix pair (name_of pair) known source fed
 
 -- ---- a consumer that is not busy is at rest
 

@@ -1,44 +1,58 @@
 -- A search that is opened feeds a consumer, and one that is refused leaves it at rest.
-use Rattle.std.proofs.Common.{◌≡◌, ℕ, Bool, true, false, cond, Option, Some, None, List, [], ◌∷◌, ◌++◌, length, take, refl, ap, sym, ◌∙◌, inl, inr, arith, subst}
-use Rattle.std.specs.Prelude.{◌&&◌, ◌==◌, Result, Ok, Err, find, is_some, not}
+use Rattle.std.proofs.Common.{◌≡◌, ℕ, Bool, true, false, cond, eq-eqb, Option, Some, None, List, [], ◌∷◌, ◌++◌, length, take, refl, ap, sym, ◌∙◌, inl, inr, arith, subst}
+use Rattle.std.specs.Prelude.{◌⊎◌, ◌&&◌, ◌==◌, Ok, Err, find, is_some, not}
 use Rattle.std.specs.BTreeMap.{insert_entry}
 use Rattle.std.specs.Ordering.{nat_cmp}
-use Rattle.std.specs.Str.{bytes_eq}
 use Rattle.std.proofs.Math.Seq.{take-length}
-use Rattle.std.proofs.lemmas.Bool.{cases_Bool}
+use Rattle.std.proofs.lemmas.Bool.{false≢true}
+use Rattle.std.proofs.lemmas.List.Sums.{fold-append}
 use Rattle.std.proofs.lemmas.Slice.Eq.{bytes_eq-Decides}
+use Rattle.directory_writes.specs.Directory.{DirectoryState}
+use Rattle.directory_writes.proofs.Keyed.{opened-same}
 use Rattle.dn_names.specs.Names.{TypeAndValue, is_at_or_below}
 use Rattle.entry_tree.specs.Selection.{Search}
+use Rattle.entry_tree.specs.declared.entry.Entry.{Entry}
 use Rattle.entry_tree.specs.declared.op.Write.{Write}
+use Rattle.sync_messages.specs.declared.request.Mode.{Mode}
+use Rattle.sync_messages.specs.declared.request.Mode.TheVariants.{RefreshOnly}
 use Rattle.sync_messages.specs.declared.request.SyncRequest.{SyncRequest}
+use Rattle.sync_model.specs.Incremental.{number_of}
 use Rattle.sync_model.specs.Law.{Begins}
 use Rattle.sync_model.specs.Message.{SyncMessage}
-use Rattle.sync_model.specs.Stream.{Start}
+use Rattle.sync_model.specs.Stream.{Session, Start, later}
+use Rattle.sync_wire.specs.Requesting.{persists}
 use Rattle.sync_provider.specs.Accepting.{is_free, numbers_from, free_number, request_code, refused_or_opened, numbered}
-use Rattle.sync_provider.specs.Directory.{DirectoryState}
 use Rattle.sync_provider.specs.HandingOut.{search_at}
 use Rattle.sync_provider.specs.Machine.{ProviderState}
-use Rattle.sync_provider.specs.Search.{SearchState, session_of, refresh_from, opening}
+use Rattle.sync_provider.specs.Search.{SearchState, session_of, refresh_from, opening, pending}
 use Rattle.sync_provider.specs.declared.searches.Accepted.{Accepted}
 use Rattle.sync_provider.specs.declared.searches.Accepted.TheVariants as accepted
-use Rattle.sync_provider.proofs.Kept.{IsFree}
-use Rattle.sync_provider.proofs.Looking.{opened-same}
 use Rattle.cascade_world.specs.declared.node.Follower.{Follower}
 use Rattle.cascade_world.specs.Cookies.{held_cookie}
 use Rattle.cascade_world.specs.Exchange.{Pair, Outcome, pair_of, copy_of, with_copy, name_of, is_busy, given_up, after_lines, and_then, idle, asking, request_from, start_of, answer_of, is_required, refused_copy, opened_by, opened_idle, opens, asked_again, opens_anew}
-use Rattle.cascade_world.specs.Headline.{Holding, NoCookie, opened_after, held_after, text_of_kept, IsServed, IsUnserved}
+use Rattle.cascade_world.specs.Headline.{Opening, Known, NoCookie, known_after, text_of_kept, IsServed, IsUnserved, BeginsFrom, session_over, stream_over}
 use Rattle.cascade_world.specs.Opening.{message_id, answer_to_request, with_opened}
+use Rattle.cascade_world.specs.Report.{Told}
 use Rattle.cascade_world.specs.Report.{Told as told}
-use Rattle.cascade_world.proofs.Composing.{IsKeptIn, IsQuiet, Keeps, kept-still, kept-told, kept-lines, kept-part}
-use Rattle.cascade_world.proofs.Feeding.{IsSource, IsPromised, IsWithinWrites, GoesOn, IsAtRest, IsFed, IsKept, session_at, refresh_at}
-use Rattle.cascade_world.proofs.FedCutting.{source-searches, fed-rest, cut_kept, idle_rests}
-use Rattle.cascade_world.proofs.Refreshes.{part, last, refresh_is}
+use Rattle.cascade_world.proofs.Composing.{IsKeptIn, Keeps, known_by_lines, room_after, kept-still, kept-then, kept-lines, owns-still}
+use Rattle.cascade_world.proofs.Distinct.{distinct-opened}
+use Rattle.cascade_world.proofs.Feeding.{HasNext, IsSource, IsPromised, HasRoom, GoesOn, IsAtRest, IsFed, Frame, IsKept}
+use Rattle.cascade_world.proofs.FedCutting.{source-searches, cut_kept, idle_rests}
+use Rattle.cascade_world.proofs.FedTaking.{where_running}
+use Rattle.cascade_world.proofs.Refreshes.{no_messages, part, last, refresh_is}
 use Rattle.cascade_world.proofs.Refusing.{IsOver, refused_over}
-use Rattle.cascade_world.proofs.Served.{Says, answer_says, start_begins}
-use Rattle.cascade_world.proofs.Sharing.{others-none, others-opened}
+use Rattle.cascade_world.proofs.Room.{number_free}
+use Rattle.cascade_world.proofs.Served.{Says, answer_says, start_from, start_begins}
+use Rattle.cascade_world.proofs.Sharing.{Searches, others-none, others-opened, owns-opened}
+use Rattle.cascade_world.proofs.Streams.{some_next}
 
 abbrev Name : Type 0
 Name = List (List TypeAndValue)
+
+-- no open search has the number, and the count is that of the writes
+pub record IsFree (d : DirectoryState) (searches : Searches) (number count : ℕ) : Type 0 where
+  pub free : search_at searches number ≡ None
+  pub counted : count ≡ length d.writes
 
 -- ---- the number of a search that is accepted is free, and the count is that of the writes
 
@@ -87,197 +101,344 @@ sids_of number suffix p source = ap (λ (d : DirectoryState). d.sid) source.dire
 histories_of : (number : ℕ) (suffix : Name) (p : ProviderState) → IsSource number suffix p → p.directory.history ≡ number
 histories_of number suffix p source = ap (λ (d : DirectoryState). d.history) source.directory
 
-opening_pending : (number : ℕ) (suffix : Name) (p : ProviderState) (spec : Search) (start : Start) (count : ℕ) → IsSource number suffix p → count ≡ length p.directory.writes
-    → (opening p.directory message_id spec start).pending ≡ refresh_at number spec p.directory.writes start count
-opening_pending number suffix p spec start count source counted =
-    ap (λ sid. refresh_from (session_of sid p.directory.history spec p.directory.writes) start (length p.directory.writes)) (sids_of number suffix p source)
-    ∙ ap (λ history. refresh_from (session_of number history spec p.directory.writes) start (length p.directory.writes)) (histories_of number suffix p source)
-    ∙ ap (λ (front : List Write). refresh_from (session_of number number spec front) start (length p.directory.writes)) (sym (take-length p.directory.writes))
-    ∙ ap (refresh_at number spec p.directory.writes start) (sym counted)
+refresh_some : (session : Session) (start : Start) (opened : ℕ) → HasNext (refresh_from session start opened)
+refresh_some session start opened = subst HasNext (sym (refresh_is session start opened)) (some_next (part session start opened) (last session start opened))
 
--- messages of which one is the last
-pub record HasNext (messages : List SyncMessage) : Type 0 where
-  pub next : SyncMessage
-  pub later : List SyncMessage
-  pub same : messages ≡ next ∷ later
+front_some : (front back : List SyncMessage) → HasNext front → HasNext (front ++ back)
+front_some front back some = record { next = some.next; later = some.later ++ back; same = ap (λ ms. ms ++ back) some.same }
 
-pub some_next : (more : List SyncMessage) (m : SyncMessage) → HasNext (more ++ m ∷ [])
-some_next [] m = record { next = m; later = []; same = refl }
-some_next (x ∷ more) m = record { next = x; later = more ++ m ∷ []; same = refl }
-
-refresh_some : (number : ℕ) (search : Search) (writes : List Write) (start : Start) (opened : ℕ) → HasNext (refresh_at number search writes start opened)
-refresh_some number search writes start opened =
-    subst HasNext (sym (refresh_is number search (take opened writes) start opened))
-    (some_next (part number search (take opened writes) start opened) (last number search (take opened writes) start opened))
+none_later : (persists : Bool) → cond persists [] [] ≡ no_messages
+none_later true = refl
+none_later false = refl
 
 -- ---- a search that is opened
 
-abbrev with_search : Follower → ℕ → Follower
-with_search f at = record (with_copy f (asking (copy_of f))) { search = Some at }
+abbrev with_search : Follower → Bool → ℕ → Follower
+with_search f persists at = record (with_copy f (asking persists (copy_of f))) { search = Some at }
 
-start_is : (number : ℕ) (suffix : Name) (p : ProviderState) (f : Follower) (opened : Option ℕ) (stored : Holding) (count : ℕ) → IsSource number suffix p → IsFed number p f opened stored
-    → count ≡ length p.directory.writes → Begins (session_at number f.consumer.spec p.directory.writes count) (start_of (pair_of p f)) count stored.entries
-start_is number suffix p f opened stored count source fed counted =
-    subst (λ n. Begins (session_at number f.consumer.spec p.directory.writes n) (start_of (pair_of p f)) n stored.entries) (sym counted)
-    (subst (λ (front : List Write). Begins (session_of number number f.consumer.spec front) (start_of (pair_of p f)) (length p.directory.writes) stored.entries) (sym (take-length p.directory.writes))
-    (start_begins p.directory number (sids_of number suffix p source) (histories_of number suffix p source) source.rises f.consumer.spec stored.entries fed.ascending f.consumer.copy.cookie fed.promised))
+abbrev opening_of : Known → Bool → ℕ → Opening
+opening_of known persists count = record { writes = count; persists = persists; kept = known.kept; sent = [] }
 
-opened_goes : (number : ℕ) (suffix : Name) (p : ProviderState) (f : Follower) (opened : Option ℕ) (stored : Holding) (at count : ℕ) → IsSource number suffix p → IsFed number p f opened stored → f.link ≡ []
-    → count ≡ length p.directory.writes → GoesOn number (with_opened p at f.consumer.spec (start_of (pair_of p f))) (with_search f at) count stored
-opened_goes number suffix p f opened stored at count source fed link counted = record {
-  within = omega (arith, counted);
-  start = start;
-  begins = start_is number suffix p f opened stored count source fed counted;
-  taken = [];
-  linked = [];
-  pending = refresh_at number f.consumer.spec p.directory.writes start count;
-  whole = refl;
-  copy = λ i. asking (record f.consumer.copy { held = fed.held i });
-  link = link;
-  next = some.next;
-  later = some.later;
-  left = some.same;
-  search = record {
-    search = opening p.directory message_id f.consumer.spec start;
-    found = opened-same p.searches at (opening p.directory message_id f.consumer.spec start);
-    id = refl;
-    same = opening_pending number suffix p f.consumer.spec start count source counted;
-    first = some.next;
-    rest = some.later;
-    some = some.same;
-  };
-}
-  where
-    start : Start
-    start = start_of (pair_of p f)
+module _ (number : ℕ) (suffix : Name) (p : ProviderState) (f : Follower) (known : Known) (persists : Bool) (at count : ℕ) (source : IsSource number suffix p) (fed : IsFed number p f known) (rest : IsAtRest f)
+    (counted : count ≡ length p.directory.writes) where
+  abbrev writes : List Write
+  writes = p.directory.writes
 
-    some : HasNext (refresh_at number f.consumer.spec p.directory.writes start count)
-    some = refresh_some number f.consumer.spec p.directory.writes start count
+  abbrev start : Start
+  start = start_of (pair_of p f)
 
-own_opening : (name : List ℕ) (opened : Option ℕ) (count : ℕ) → opened_after name opened (told.Opened name count) ≡ Some count
-own_opening name opened count = ap (λ same. cond same (Some count) opened) ((bytes_eq-Decides name name).1 refl)
+  abbrev opened : Opening
+  opened = opening_of known persists count
 
-opened_kept : (number : ℕ) (suffix : Name) (p : ProviderState) (f : Follower) (opened : Option ℕ) (stored : Holding) (at count : ℕ) → IsSource number suffix p → IsFed number p f opened stored
-    → IsAtRest f → IsFree p.directory p.searches at count → IsServed f.consumer.reload number p.directory.writes (text_of_kept number p.directory.writes stored.kept)
-    → IsKept number suffix (pair_of p f) (pair_of (with_opened p at f.consumer.spec (start_of (pair_of p f))) (with_search f at)) (told.Opened f.name count ∷ []) opened stored
-opened_kept number suffix p f opened stored at count source fed rest free served = record {
-  source = source-searches number suffix p (insert_entry nat_cmp p.searches at (opening p.directory message_id f.consumer.spec (start_of (pair_of p f)))) source;
-  fed =
-      subst (λ o. IsFed number (with_opened p at f.consumer.spec (start_of (pair_of p f))) (with_search f at) o stored) (sym (own_opening f.name opened count))
-      (record {
-        held = fed.held;
-        ascending = fed.ascending;
-        cookie = fed.cookie;
-        prefix = fed.prefix;
-        promised = fed.promised;
-        state = inr (opened_goes number suffix p f opened stored at count source fed rest.link free.counted);
-      });
-  right = ((refl, served), tt);
-  same = refl;
-  others = others-opened number p.directory p.searches f (with_search f at) at (opening p.directory message_id f.consumer.spec (start_of (pair_of p f))) free.free refl;
-}
+  abbrev session : Session
+  session = session_over number f.consumer.spec writes opened
+
+  abbrev after : ProviderState
+  after = with_opened p at f.consumer.spec start persists
+
+  all_taken : take count writes ≡ writes
+  all_taken = ap (λ n. take n writes) counted ∙ take-length writes
+
+  begins : Begins session start count known.entries
+  begins =
+      subst (λ n. Begins session start n known.entries) (sym counted)
+      (start_begins p.directory number (sids_of number suffix p source) (histories_of number suffix p source) source.rises persists f.consumer.spec known.entries fed.ascending f.consumer.copy.cookie fed.promised)
+
+  from : BeginsFrom number (take count writes) (text_of_kept number (take count writes) known.kept) (number_of start)
+  from =
+      subst (λ ws. BeginsFrom number ws (text_of_kept number ws known.kept) (number_of start)) (sym all_taken)
+      (subst (λ text. BeginsFrom number writes text (number_of start)) fed.cookie
+      (start_from p.directory number (sids_of number suffix p source) (histories_of number suffix p source) f.consumer.copy.cookie))
+
+  rest_is : (opening p.directory message_id f.consumer.spec start persists).rest ≡ refresh_from session start count
+  rest_is =
+      ap (λ sid. refresh_from (session_of persists sid p.directory.history f.consumer.spec writes) start (length writes)) (sids_of number suffix p source)
+      ∙ ap (λ history. refresh_from (session_of persists number history f.consumer.spec writes) start (length writes)) (histories_of number suffix p source)
+      ∙ ap (refresh_from session start) (sym counted)
+
+  abbrev ahead : List SyncMessage
+  ahead = stream_over number f.consumer.spec writes opened start 0
+
+  pending_is : pending (opening p.directory message_id f.consumer.spec start persists) ≡ ahead
+  pending_is = (λ i. rest_is i ++ sym (none_later persists) i)
+
+  opened_goes : GoesOn number after (with_search f persists at) opened known.entries
+  opened_goes = record {
+    count = 0;
+    upto = omega (arith, counted);
+    start = start;
+    from = from;
+    taken = [];
+    ahead = ahead;
+    whole = refl;
+    cut = false;
+    lasts = λ bad. absurd (false≢true bad);
+    all = λ waits. omega (arith, counted);
+    linked = [];
+    pending = ahead;
+    left = refl;
+    told = refl;
+    link = rest.link;
+    search = record {
+      search = opening p.directory message_id f.consumer.spec start persists;
+      found = opened-same p.searches at (opening p.directory message_id f.consumer.spec start persists);
+      id = refl;
+      spec = refl;
+      persists = refl;
+      over = refl;
+      same = pending_is;
+      some = λ waits. front_some (refresh_from session start count) (cond persists (later session count 0) []) (refresh_some session start count);
+    };
+    place = inl (record {
+      begins = begins;
+      rest = refresh_from session start count;
+      some = refresh_some session start count;
+      whole = refl;
+      behind = refl;
+      copy = λ i. asking persists (record f.consumer.copy { held = fed.held i });
+    });
+  }
+
+  own_opening : known_after f.name known (told.Opened f.name persists count) ≡ record known { opening = Some opened }
+  own_opening = ap (λ same. cond same (record known { opening = Some opened }) known) ((bytes_eq-Decides f.name f.name).1 refl)
+
+  pub opened_kept : search_at p.searches at ≡ None → IsServed f.consumer.reload number writes (text_of_kept number writes known.kept)
+      → IsKept number suffix (pair_of p f) (pair_of after (with_search f persists at)) (told.Opened f.name persists count ∷ []) known
+  opened_kept free served = record {
+    source = source-searches number suffix p (insert_entry nat_cmp p.searches at (opening p.directory message_id f.consumer.spec start persists)) (distinct-opened p.searches at (opening p.directory message_id f.consumer.spec start persists) free source.apart) source;
+    fed =
+        subst (IsFed number after (with_search f persists at)) (sym own_opening)
+        (record {
+          held = fed.held;
+          ascending = fed.ascending;
+          cookie = fed.cookie;
+          prefix = fed.prefix;
+          promised = fed.promised;
+          below = fed.below;
+          state = inr (record { opening = opened; latest = refl; goes = opened_goes });
+        });
+    right = ((refl, (counted, served)), tt);
+    same = refl;
+    others = others-opened number p f (with_search f persists at) at (opening p.directory message_id f.consumer.spec start persists) free refl;
+    owns = owns-opened p f (with_search f persists at) at (opening p.directory message_id f.consumer.spec start persists) rest.search refl;
+  }
 
 -- ---- a search that is refused
 
-abbrev with_refusal : Follower → ℕ → Follower
-with_refusal f code = with_copy f (refused_copy (asking (copy_of f)) code)
+abbrev with_refusal : Follower → Bool → ℕ → Follower
+with_refusal f persists code = with_copy f (refused_copy (asking persists (copy_of f)) code)
 
-own_refusal : (name : List ℕ) (stored : Holding) (code : ℕ) → held_after name stored (told.Refused name code) ≡ cond (code == 4096) (record stored { kept = NoCookie }) stored
-own_refusal name stored code = ap (λ same. cond (same && code == 4096) (record stored { kept = NoCookie }) stored) ((bytes_eq-Decides name name).1 refl)
+own_refusal : (name : List ℕ) (known : Known) (persists : Bool) (code : ℕ) → known_after name known (told.Refused name persists code) ≡ cond (code == 4096) (record known { kept = NoCookie }) known
+own_refusal name known persists code = ap (λ same. cond (same && code == 4096) (record known { kept = NoCookie }) known) ((bytes_eq-Decides name name).1 refl)
 
-fed_refused : (number : ℕ) (p : ProviderState) (f g : Follower) (opened : Option ℕ) (stored : Holding) (lost : Bool) → IsFed number p f opened stored → IsAtRest g
-    → g.consumer.spec ≡ f.consumer.spec → g.consumer.copy.held ≡ f.consumer.copy.held → g.consumer.copy.cookie ≡ cond lost None f.consumer.copy.cookie
-    → IsFed number p g opened (cond lost (record stored { kept = NoCookie }) stored)
-fed_refused number p f g opened stored false fed rest spec held cookie = fed-rest number p p f g opened stored refl fed (record { held = held; cookie = cookie; spec = spec }) rest
-fed_refused number p f g opened stored true fed rest spec held cookie = record {
-  held = held ∙ fed.held;
-  ascending = fed.ascending;
-  cookie = cookie;
-  prefix = tt;
-  promised = subst (λ c. IsPromised number g.consumer.spec p.directory.writes stored.entries (held_cookie c)) (sym cookie) tt;
-  state = inl rest;
-}
-
-refused_kept : (number : ℕ) (suffix : Name) (p : ProviderState) (f : Follower) (opened : Option ℕ) (stored : Holding) (code : ℕ) → IsSource number suffix p → IsFed number p f opened stored
-    → IsAtRest f → (code ≡ 4096 → IsUnserved f.consumer.reload number p.directory.writes (text_of_kept number p.directory.writes stored.kept))
-    → IsKept number suffix (pair_of p f) (pair_of p (with_refusal f code)) (told.Refused f.name code ∷ []) opened stored
-refused_kept number suffix p f opened stored code source fed rest unserved = record {
+-- a search that is refused for the cookie leaves the consumer at rest, without one
+refused_kept : (number : ℕ) (suffix : Name) (p : ProviderState) (f : Follower) (known : Known) (persists : Bool) (code : ℕ) → IsSource number suffix p → IsFed number p f known
+    → IsAtRest f → code ≡ 4096 → IsUnserved f.consumer.reload number p.directory.writes (text_of_kept number p.directory.writes known.kept)
+    → IsKept number suffix (pair_of p f) (pair_of p (with_refusal f persists code)) (told.Refused f.name persists code ∷ []) known
+refused_kept number suffix p f known persists code source fed rest required unserved = record {
   source = source;
   fed =
-      subst (IsFed number p (with_refusal f code) opened) (sym (own_refusal f.name stored code))
-      (fed_refused number p f (with_refusal f code) opened stored (code == 4096) fed (record { search = rest.search; running = now.running; link = rest.link }) refl now.held now.cookie);
-  right = ((refl, unserved), tt);
+      subst (IsFed number p (with_refusal f persists code)) (sym (own_refusal f.name known persists code ∙ ap (λ b. cond b (record known { kept = NoCookie }) known) lost))
+      (record {
+        held = now.held ∙ fed.held;
+        ascending = fed.ascending;
+        cookie = none;
+        prefix = tt;
+        promised = subst (λ c. IsPromised number f.consumer.spec p.directory.writes known.entries (held_cookie c)) (sym none) tt;
+        below = fed.below;
+        state = inl (record { search = rest.search; running = now.running; link = rest.link });
+      });
+  right = ((refl, required, unserved), tt);
   same = refl;
-  others = others-none number p f (with_refusal f code) refl;
+  others = others-none number p f (with_refusal f persists code) refl;
+  owns = owns-still p f (with_refusal f persists code) (λ at mine. mine);
 }
   where
-    now : IsOver f.consumer.copy (code == 4096) (refused_copy (asking (copy_of f)) code)
-    now = refused_over f.consumer.copy code
+    now : IsOver f.consumer.copy (code == 4096) (refused_copy (asking persists (copy_of f)) code)
+    now = refused_over persists f.consumer.copy code
+
+    lost : (code == 4096) ≡ true
+    lost = eq-eqb code 4096 required
+
+    none : (refused_copy (asking persists (copy_of f)) code).cookie ≡ None
+    none = now.cookie ∙ ap (λ b. cond b None f.consumer.copy.cookie) lost
 
 -- ---- a consumer at rest asks
 
-rest_opens : (number : ℕ) (suffix : Name) (p : ProviderState) (f : Follower) (opened : Option ℕ) (stored : Holding) → IsSource number suffix p → IsFed number p f opened stored → IsAtRest f
-    → IsKeptIn number suffix (pair_of p f) opened stored (opened_idle (pair_of p f))
-rest_opens number suffix p f opened stored source fed rest = by (answer_of (pair_of p f)) refl
-  where
-    text : Option (List ℕ)
-    text = text_of_kept number p.directory.writes stored.kept
+-- a search of this mode is open then, which was opened after all writes
+pub record IsOpened (number : ℕ) (p : ProviderState) (f : Follower) (known : Known) (persists : Bool) : Type 0 where
+  pub opening : Opening
+  pub latest : known.opening ≡ Some opening
+  pub all : opening.writes ≡ length p.directory.writes
+  pub mode : opening.persists ≡ persists
+  pub goes : GoesOn number p f opening known.entries
+  pub link : f.link ≡ []
 
-    says : Says number p.directory.writes f.consumer.reload (answer_of (pair_of p f)) text
-    says = subst (Says number p.directory.writes f.consumer.reload (answer_of (pair_of p f))) fed.cookie
-        (answer_says p.directory number (sids_of number suffix p source) (histories_of number suffix p source) p.searches f.consumer.spec f.consumer.copy.cookie f.consumer.reload)
+-- or the consumer is at rest, and holds no cookie
+pub record IsRefused (f : Follower) : Type 0 where
+  pub rest : IsAtRest f
+  pub cookie : f.consumer.copy.cookie ≡ None
 
-    by : (answer : Accepted) → answer_of (pair_of p f) ≡ answer → IsKeptIn number suffix (pair_of p f) opened stored (opened_by (pair_of p f) answer)
-    by (accepted.Opened at count) is =
-        opened_kept number suffix p f opened stored at count source fed rest (opened_free p f.consumer.spec (request_from (pair_of p f)) at count is)
-        (subst (λ a. Says number p.directory.writes f.consumer.reload a text) is says)
-    by (accepted.Refused code) is =
-        refused_kept number suffix p f opened stored code source fed rest (subst (λ a. Says number p.directory.writes f.consumer.reload a text) is says)
-    by accepted.NoMemory is = kept-still number suffix (pair_of p f) opened stored source fed
+-- what comes of asking
+pub record IsAsked (number : ℕ) (suffix : Name) (pair next : Pair) (lines : List Told) (known : Known) (persists : Bool) : Type 0 where
+  pub kept : IsKept number suffix pair next lines known
+  pub state : IsOpened number next.provider next.follower (known_by_lines pair.follower.name known lines) persists ⊎ IsRefused next.follower
 
--- a search that is refused leaves the consumer at rest, which may ask again
-rest_again : (number : ℕ) (suffix : Name) (p : ProviderState) (f : Follower) (opened : Option ℕ) (stored : Holding) → IsSource number suffix p → IsFed number p f opened stored → IsAtRest f
-    → IsKeptIn number suffix (pair_of p f) opened stored (asked_again (pair_of p f))
-rest_again number suffix p f opened stored source fed rest = by (answer_of (pair_of p f)) refl (rest_opens number suffix p f opened stored source fed rest)
+abbrev pub AskedIn : ℕ → Name → Pair → Known → Bool → Outcome → Type 0
+AskedIn number suffix pair known persists (Ok next) = IsAsked number suffix pair next.0 next.1 known persists
+AskedIn number suffix pair known persists (Err cause) = ⊥
+
+-- and of asking for a search that can't be refused
+abbrev pub OpenedIn : ℕ → Name → Pair → Known → Bool → Outcome → Type 0
+OpenedIn number suffix pair known persists (Ok next) =
+    IsKept number suffix pair next.0 next.1 known × IsOpened number next.0.provider next.0.follower (known_by_lines pair.follower.name known next.1) persists
+OpenedIn number suffix pair known persists (Err cause) = ⊥
+
+-- a search that goes on without a message in the link is open
+open_search : (number : ℕ) (p : ProviderState) (f : Follower) (opening : Opening) (entries : List Entry) → GoesOn number p f opening entries → IsAtRest f → ⊥
+open_search number p f opening entries goes rest = let is = where_running (session_over number f.consumer.spec p.directory.writes opening) goes.start opening.writes goes.count entries f.consumer.copy goes.taken goes.ahead goes.place in
+    let bad : None ≡ Some is.running = sym rest.running ∙ is.runs in
+    let never : ⊥ = cc in
+    never
+
+module _ (number : ℕ) (suffix : Name) (mode : Mode) (p : ProviderState) (f : Follower) (known : Known) (source : IsSource number suffix p) (fed : IsFed number p f known) (rest : IsAtRest f)
+    (room : HasRoom p f) where
+  abbrev text : Option (List ℕ)
+  text = text_of_kept number p.directory.writes known.kept
+
+  free_one : (n : ℕ) × (free_number p.searches ≡ Some n)
+  free_one = number_free p f rest.search room
+
+  says : Says number p.directory.writes f.consumer.reload (answer_of mode (pair_of p f)) text
+  says = subst (Says number p.directory.writes f.consumer.reload (answer_of mode (pair_of p f))) fed.cookie
+      (answer_says p.directory number (sids_of number suffix p source) (histories_of number suffix p source) p f.consumer.spec mode f.consumer.copy.cookie f.consumer.reload free_one.0 refl fed.below free_one.1)
+
+  -- a search that is accepted is open then
+  opened_now : (at count : ℕ) → answer_of mode (pair_of p f) ≡ accepted.Opened at count
+      → IsOpened number (with_opened p at f.consumer.spec (start_of (pair_of p f)) (persists mode)) (with_search f (persists mode) at) (known_after f.name known (told.Opened f.name (persists mode) count)) (persists mode)
+  opened_now at count is =
+      let free = opened_free p f.consumer.spec (request_from mode (pair_of p f)) at count is in
+      let same = own_opening number suffix p f known (persists mode) at count source fed rest free.counted in
+      record {
+        opening = opening_of known (persists mode) count;
+        latest = ap (λ (k : Known). k.opening) same;
+        all = free.counted;
+        mode = refl;
+        goes =
+            subst (λ (k : Known). GoesOn number (with_opened p at f.consumer.spec (start_of (pair_of p f)) (persists mode)) (with_search f (persists mode) at) (opening_of known (persists mode) count) k.entries)
+            (sym same) (opened_goes number suffix p f known (persists mode) at count source fed rest free.counted);
+        link = rest.link;
+      }
+
+  pub rest_opens : AskedIn number suffix (pair_of p f) known (persists mode) (opened_idle mode (pair_of p f))
+  rest_opens = by (answer_of mode (pair_of p f)) refl
+    where
+      by : (answer : Accepted) → answer_of mode (pair_of p f) ≡ answer → AskedIn number suffix (pair_of p f) known (persists mode) (opened_by mode (pair_of p f) answer)
+      by (accepted.Opened at count) is =
+          let free = opened_free p f.consumer.spec (request_from mode (pair_of p f)) at count is in
+          record {
+            kept =
+                opened_kept number suffix p f known (persists mode) at count source fed rest free.counted free.free
+                (subst (λ a. Says number p.directory.writes f.consumer.reload a text) is says);
+            state = inl (opened_now at count is);
+          }
+      by (accepted.Refused code) is =
+          let why = subst (λ a. Says number p.directory.writes f.consumer.reload a text) is says in
+          let now = refused_over (persists mode) f.consumer.copy code in
+          record {
+            kept = refused_kept number suffix p f known (persists mode) code source fed rest why.0 why.1;
+            state = inr (record {
+              rest = record { search = rest.search; running = now.running; link = rest.link };
+              cookie = now.cookie ∙ ap (λ b. cond b None f.consumer.copy.cookie) (eq-eqb code 4096 why.0);
+            });
+          }
+      by accepted.NoMemory is = absurd (subst (λ a. Says number p.directory.writes f.consumer.reload a text) is says)
+
+  -- without a cookie nothing is in the way
+  pub bare_opens : f.consumer.copy.cookie ≡ None → OpenedIn number suffix (pair_of p f) known (persists mode) (opened_idle mode (pair_of p f))
+  bare_opens none = by (answer_of mode (pair_of p f)) refl
+    where
+      by : (answer : Accepted) → answer_of mode (pair_of p f) ≡ answer → OpenedIn number suffix (pair_of p f) known (persists mode) (opened_by mode (pair_of p f) answer)
+      by (accepted.Opened at count) is =
+          let free = opened_free p f.consumer.spec (request_from mode (pair_of p f)) at count is in (
+            opened_kept number suffix p f known (persists mode) at count source fed rest free.counted free.free
+                (subst (λ a. Says number p.directory.writes f.consumer.reload a text) is says),
+            opened_now at count is,
+          )
+      by (accepted.Refused code) is =
+          let why = subst (λ a. Says number p.directory.writes f.consumer.reload a text) is says in
+          absurd (subst (IsUnserved f.consumer.reload number p.directory.writes) (sym fed.cookie ∙ none) why.1)
+      by accepted.NoMemory is = absurd (subst (λ a. Says number p.directory.writes f.consumer.reload a text) is says)
+
+-- ---- a search that is refused is asked for again, without a cookie
+
+kept_opened : (number : ℕ) (suffix : Name) (one two : Pair) (lines : List Told) (known : Known) (mode : Bool) (outcome : Outcome) → IsKept number suffix one two lines known
+    → OpenedIn number suffix two (known_by_lines one.follower.name known lines) mode outcome → OpenedIn number suffix one known mode (after_lines lines outcome)
+kept_opened number suffix one two lines known mode (Err cause) first then = then
+kept_opened number suffix one two lines known mode (Ok next) first then = (
+  kept-then number suffix one two next.0 lines next.1 known first then.0,
+  subst (λ k. IsOpened number next.0.provider next.0.follower k mode)
+      (ap (λ n. known_by_lines n (known_by_lines one.follower.name known lines) next.1) (ap (λ (frame : Frame). frame.name) first.same) ∙ sym (fold-append (known_after one.follower.name) known lines next.1)) then.1,
+)
+
+rest_again : (number : ℕ) (suffix : Name) (p : ProviderState) (f : Follower) (known : Known) → IsSource number suffix p → IsFed number p f known → IsAtRest f → HasRoom p f
+    → OpenedIn number suffix (pair_of p f) known false (asked_again (pair_of p f))
+rest_again number suffix p f known source fed rest room = by (answer_of RefreshOnly (pair_of p f)) refl (rest_opens number suffix RefreshOnly p f known source fed rest room)
   where
     pair : Pair
     pair = pair_of p f
 
-    once : Outcome
-    once = opened_idle pair
+    Opened' : Outcome → Type 0
+    Opened' outcome = OpenedIn number suffix pair known false outcome
 
-    second : (code : ℕ) → IsKept number suffix pair (pair_of p (with_refusal f code)) (told.Refused f.name code ∷ []) opened stored
-        → IsKeptIn number suffix pair opened stored (after_lines (told.Refused f.name code ∷ []) (opened_idle (pair_of p (with_refusal f code))))
-    second code kept =
-        kept-lines number suffix pair (pair_of p (with_refusal f code)) (told.Refused f.name code ∷ []) opened stored (opened_idle (pair_of p (with_refusal f code))) kept
-        (rest_opens number suffix p (with_refusal f code) _ _ kept.source kept.fed (record { search = rest.search; running = (refused_over f.consumer.copy code).running; link = rest.link }))
+    second : (code : ℕ) → IsAsked number suffix pair (pair_of p (with_refusal f false code)) (told.Refused f.name false code ∷ []) known false
+        → Opened' (after_lines (told.Refused f.name false code ∷ []) (opened_idle RefreshOnly (pair_of p (with_refusal f false code))))
+    second code asked =
+        kept_opened number suffix pair (pair_of p (with_refusal f false code)) (told.Refused f.name false code ∷ []) known false (opened_idle RefreshOnly (pair_of p (with_refusal f false code))) asked.kept
+        (bare_opens number suffix RefreshOnly p (with_refusal f false code) (known_after f.name known (told.Refused f.name false code)) asked.kept.source asked.kept.fed over'.rest
+        (room_after pair (pair_of p (with_refusal f false code)) asked.kept.owns room) over'.cookie)
+      where
+        not_open : IsOpened number p (with_refusal f false code) (known_after f.name known (told.Refused f.name false code)) false → ⊥
+        not_open opened' = open_search number p (with_refusal f false code) opened'.opening _ opened'.goes (record { search = rest.search; running = (refused_over false f.consumer.copy code).running; link = rest.link })
 
-    if_required : (b : Bool) (code : ℕ) → IsKept number suffix pair (pair_of p (with_refusal f code)) (told.Refused f.name code ∷ []) opened stored
-        → IsKeptIn number suffix pair opened stored (cond b (and_then (opened_by pair (accepted.Refused code)) opened_idle) (opened_by pair (accepted.Refused code)))
-    if_required true code kept = second code kept
-    if_required false code kept = kept
+        refused' : IsOpened number p (with_refusal f false code) (known_after f.name known (told.Refused f.name false code)) false ⊎ IsRefused (with_refusal f false code) → IsRefused (with_refusal f false code)
+        refused' (inl opened') = absurd (not_open opened')
+        refused' (inr is) = is
 
-    by : (answer : Accepted) → answer_of pair ≡ answer → IsKeptIn number suffix pair opened stored (opened_by pair (answer_of pair))
-        → IsKeptIn number suffix pair opened stored (cond (is_required (answer_of pair)) (and_then (opened_by pair (answer_of pair)) opened_idle) (opened_by pair (answer_of pair)))
-    by (accepted.Opened at count) is kept =
-        subst (λ a. IsKeptIn number suffix pair opened stored (cond (is_required a) (and_then (opened_by pair a) opened_idle) (opened_by pair a))) (sym is)
-        (subst (λ a. IsKeptIn number suffix pair opened stored (opened_by pair a)) is kept)
-    by (accepted.Refused code) is kept =
-        subst (λ a. IsKeptIn number suffix pair opened stored (cond (is_required a) (and_then (opened_by pair a) opened_idle) (opened_by pair a))) (sym is)
-        (if_required (code == 4096) code (subst (λ a. IsKeptIn number suffix pair opened stored (opened_by pair a)) is kept))
-    by accepted.NoMemory is kept =
-        subst (λ a. IsKeptIn number suffix pair opened stored (cond (is_required a) (and_then (opened_by pair a) opened_idle) (opened_by pair a))) (sym is)
-        (subst (λ a. IsKeptIn number suffix pair opened stored (opened_by pair a)) is kept)
+        over' : IsRefused (with_refusal f false code)
+        over' = refused' asked.state
+
+    by : (answer : Accepted) → answer_of RefreshOnly pair ≡ answer → AskedIn number suffix pair known false (opened_by RefreshOnly pair (answer_of RefreshOnly pair))
+        → Opened' (cond (is_required (answer_of RefreshOnly pair)) (and_then (opened_by RefreshOnly pair (answer_of RefreshOnly pair)) (opened_idle RefreshOnly)) (opened_by RefreshOnly pair (answer_of RefreshOnly pair)))
+    by (accepted.Opened at count) is asked =
+        subst (λ a. Opened' (cond (is_required a) (and_then (opened_by RefreshOnly pair a) (opened_idle RefreshOnly)) (opened_by RefreshOnly pair a))) (sym is)
+        (now.kept, opened_now number suffix RefreshOnly p f known source fed rest room at count is)
+      where
+        now : AskedIn number suffix pair known false (opened_by RefreshOnly pair (accepted.Opened at count))
+        now = subst (λ a. AskedIn number suffix pair known false (opened_by RefreshOnly pair a)) is asked
+    by (accepted.Refused code) is asked =
+        subst (λ a. Opened' (cond (is_required a) (and_then (opened_by RefreshOnly pair a) (opened_idle RefreshOnly)) (opened_by RefreshOnly pair a))) (sym is)
+        (subst (λ b. Opened' (cond b (and_then (opened_by RefreshOnly pair (accepted.Refused code)) (opened_idle RefreshOnly)) (opened_by RefreshOnly pair (accepted.Refused code)))) (sym required) (second code now))
+      where
+        now : AskedIn number suffix pair known false (opened_by RefreshOnly pair (accepted.Refused code))
+        now = subst (λ a. AskedIn number suffix pair known false (opened_by RefreshOnly pair a)) is asked
+
+        required : (code == 4096) ≡ true
+        required = eq-eqb code 4096 now.kept.right.0.1
+    by accepted.NoMemory is asked =
+        let now = subst (λ a. Says number p.directory.writes f.consumer.reload a (text_of_kept number p.directory.writes known.kept)) is
+        (says number suffix RefreshOnly p f known source fed rest room) in
+        absurd now
 
 -- ---- a consumer that is busy is cut before it asks
 
-abbrev RestKeeps : ℕ → Name → (Pair → Outcome) → Type 0
-RestKeeps number suffix asks =
-    (p : ProviderState) (f : Follower) (opened : Option ℕ) (stored : Holding) → IsSource number suffix p → IsFed number p f opened stored → IsAtRest f
-    → IsKeptIn number suffix (pair_of p f) opened stored (asks (pair_of p f))
-
-idle_then : (number : ℕ) (suffix : Name) (asks : Pair → Outcome) → RestKeeps number suffix asks → Keeps number suffix (λ pair. and_then (idle pair) asks)
-idle_then number suffix asks rests pair opened stored source fed = by (is_busy pair.follower) refl
+-- the consumer is at rest then
+idle_then : (number : ℕ) (suffix : Name) (asks : Pair → Outcome) (Good : Pair → Known → Outcome → Type 0) (pair : Pair) (known : Known)
+    → ((lines : List Told) (two : Pair) (outcome : Outcome) → IsKept number suffix pair two lines known → Good two (known_by_lines pair.follower.name known lines) outcome → Good pair known (after_lines lines outcome))
+    → ((p : ProviderState) (f : Follower) (k : Known) → IsSource number suffix p → IsFed number p f k → IsAtRest f → HasRoom p f → Good (pair_of p f) k (asks (pair_of p f)))
+    → IsSource number suffix pair.provider → IsFed number pair.provider pair.follower known → HasRoom pair.provider pair.follower
+    → Good pair known (and_then (idle pair) asks)
+idle_then number suffix asks Good pair known joins rests source fed room = by (is_busy pair.follower) refl
   where
     after : Pair
     after = given_up pair (copy_of pair.follower)
@@ -291,22 +452,34 @@ idle_then number suffix asks rests pair opened stored source fed = by (is_busy p
     none : Outcome
     none = Ok (pair, [])
 
-    cut : IsKept number suffix pair after (told.Cut (name_of pair) ∷ []) opened stored
-    cut = cut_kept number suffix pair opened stored source fed
+    cut : IsKept number suffix pair after (told.Cut (name_of pair) ∷ []) known
+    cut = cut_kept number suffix pair known source fed
 
-    idly : (outcome : Outcome) → IsKeptIn number suffix pair opened stored outcome → IsKeptIn number suffix pair opened stored (after_lines [] outcome)
-    idly (Ok next) kept = kept
-    idly (Err cause) kept = tt
-
-    by : (busy : Bool) → is_busy pair.follower ≡ busy → IsKeptIn number suffix pair opened stored (and_then (cond busy (cond (is_busy pair.follower) cut_off nothing) none) asks)
+    by : (busy : Bool) → is_busy pair.follower ≡ busy → Good pair known (and_then (cond busy (cond (is_busy pair.follower) cut_off nothing) none) asks)
     by true is =
-        subst (λ b. IsKeptIn number suffix pair opened stored (and_then (cond b cut_off nothing) asks)) (sym is)
-        (kept-lines number suffix pair after (told.Cut (name_of pair) ∷ []) opened stored (asks after) cut
-        (rests after.provider after.follower _ _ cut.source cut.fed (record { search = refl; running = refl; link = refl })))
-    by false is = idly (asks pair) (rests pair.provider pair.follower opened stored source fed (idle_rests pair.follower is))
+        subst (λ b. Good pair known (and_then (cond b cut_off nothing) asks)) (sym is)
+        (joins (told.Cut (name_of pair) ∷ []) after (asks after) cut
+        (rests after.provider after.follower known cut.source cut.fed (record { search = refl; running = refl; link = refl }) (room_after pair after cut.owns room)))
+    by false is =
+        joins [] pair (asks pair) (kept-still number suffix pair known source fed)
+        (rests pair.provider pair.follower known source fed (idle_rests pair.follower is) room)
 
-pub opens_keeps : (number : ℕ) (suffix : Name) → Keeps number suffix opens
-opens_keeps number suffix = idle_then number suffix opened_idle (rest_opens number suffix)
+asked_kept : (number : ℕ) (suffix : Name) (pair : Pair) (known : Known) (mode : Bool) (outcome : Outcome) → AskedIn number suffix pair known mode outcome → IsKeptIn number suffix pair known outcome
+asked_kept number suffix pair known mode (Ok next) asked = asked.kept
+asked_kept number suffix pair known mode (Err cause) asked = tt
 
-pub opens_anew_keeps : (number : ℕ) (suffix : Name) → Keeps number suffix opens_anew
-opens_anew_keeps number suffix = idle_then number suffix asked_again (rest_again number suffix)
+pub opens_keeps : (mode : Mode) (number : ℕ) (suffix : Name) → Keeps number suffix (opens mode)
+opens_keeps mode number suffix pair known source fed room =
+    idle_then number suffix (opened_idle mode) (IsKeptIn number suffix) pair known
+    (λ lines two outcome first then. kept-lines number suffix pair two lines known outcome first then)
+    (λ p f k source' fed' rest room'. asked_kept number suffix (pair_of p f) k (persists mode) (opened_idle mode (pair_of p f)) (rest_opens number suffix mode p f k source' fed' rest room'))
+    source fed room
+
+-- a search that ends with its refresh is open then
+pub opens_anew_opens : (number : ℕ) (suffix : Name) (pair : Pair) (known : Known) → IsSource number suffix pair.provider → IsFed number pair.provider pair.follower known → HasRoom pair.provider pair.follower
+    → OpenedIn number suffix pair known false (opens_anew pair)
+opens_anew_opens number suffix pair known source fed room =
+    idle_then number suffix asked_again (λ one k outcome. OpenedIn number suffix one k false outcome) pair known
+    (λ lines two outcome first then. kept_opened number suffix pair two lines known false outcome first then)
+    (λ p f k source' fed' rest room'. rest_again number suffix p f k source' fed' rest room')
+    source fed room

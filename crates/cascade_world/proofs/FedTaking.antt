@@ -1,312 +1,470 @@
--- A message that is taken from the link is the next of those that the consumer is fed, and the last one brings the
--- content of its search into effect.
-use Rattle.std.proofs.Common.{◌≡◌, ◌<◌, ◌≤◌, ℕ, true, false, cond, Option, Some, None, List, [], ◌∷◌, ◌++◌, length, map, take, take-take, length-take, refl, ap, sym, ◌∙◌, inl, inr, arith, append_assoc, subst}
-use Rattle.std.specs.Prelude.{◌⊎◌, All}
+-- A message that is taken from the link is the next of those that the consumer is fed, and the last one of a refresh or of
+-- a later write brings the content after some of the writes into effect.
+use Rattle.std.proofs.Common.{◌≡◌, ◌≤◌, ℕ, Bool, true, false, cond, Option, Some, None, List, [], ◌∷◌, ◌++◌, length, map, take, refl, ap, sym, ◌∙◌, inl, inr, arith, append_assoc, subst}
+use Rattle.std.specs.Prelude.{◌⊎◌, ◌||◌, ◌==◌, not, pos, All}
+use Rattle.std.specs.Ordering.{int_eq}
+use Rattle.std.proofs.lemmas.Bool.{true≢false}
 use Rattle.std.proofs.lemmas.Slice.Eq.{bytes_eq-Decides}
 use Rattle.csn_cookie.specs.Cookie.{cookie_text}
 use Rattle.csn_cookie.specs.Csn.{IsCsn, start}
 use Rattle.csn_cookie.specs.declared.cookie.Cookie.{Cookie}
 use Rattle.csn_cookie.proofs.CookieLemmas.{cookie_of_text-cookie_text}
 use Rattle.csn_cookie.proofs.OrderLemmas.{is_upto-itself}
-use Rattle.dn_names.specs.Names.{TypeAndValue}
 use Rattle.directory_laws.specs.Accepted.{WereAccepted}
-use Rattle.directory_laws.proofs.Histories.{accepted-take, WereAccepted-take, sent-state_of}
+use Rattle.directory_laws.proofs.Histories.{accepted-take, sent-state_of}
 use Rattle.directory_laws.proofs.Stamps.{IsCsn-start}
 use Rattle.directory_laws.proofs.States.{IsWithin-state_of}
+use Rattle.directory_writes.specs.Directory.{cookie_at, entries_after, last_stamp, stamps}
+use Rattle.directory_writes.proofs.Stamps.{upto_stamp}
+use Rattle.dn_names.specs.Names.{TypeAndValue}
 use Rattle.entry_tree.specs.History.{state_of}
-use Rattle.entry_tree.specs.Selection.{Search, is_selected, select}
+use Rattle.entry_tree.specs.Selection.{is_selected, select}
 use Rattle.entry_tree.specs.State.{ascends}
 use Rattle.entry_tree.specs.declared.entry.Entry.{Entry}
 use Rattle.entry_tree.specs.declared.op.Write.{Write}
 use Rattle.entry_tree.proofs.Directory.{ascends_filter}
-use Rattle.sync_model.specs.Copy.{Copy, Answer}
-use Rattle.sync_model.specs.Law.{IsWithin}
+use Rattle.sync_model.specs.Copy.{Copy, Running, Answer, refused, taken, taken_by, taken_in, taken_done, over}
+use Rattle.sync_model.specs.Copy.Fault.{OutOfPlace}
+use Rattle.sync_model.specs.Copy.Answer.{Over}
+use Rattle.sync_model.specs.Law.{Ascending, IsWithin}
 use Rattle.sync_model.specs.Message.{SyncMessage}
-use Rattle.sync_model.specs.Stream.{content_after, is_covered}
-use Rattle.sync_model.specs.Within.{taken_within}
+use Rattle.sync_model.specs.Stream.{Session, Start, content_after}
+use Rattle.sync_model.specs.Within.{limit_fault, refused_by, taken_within}
 use Rattle.sync_model.proofs.Histories.{ascends-state_of}
+use Rattle.sync_model.proofs.Later.{running_on, staged_all}
 use Rattle.sync_model.proofs.Taking.{running_in, names_after, stage_after}
 use Rattle.sync_wire.specs.CanBeSent.{CanBeSent}
-use Rattle.sync_provider.specs.Directory.{cookie_at, entries_after, last_stamp, stamps}
 use Rattle.sync_provider.specs.Machine.{ProviderState}
-use Rattle.sync_provider.specs.Search.{session_of, cookie_after, refresh_from}
-use Rattle.sync_provider.proofs.Stamps.{upto_stamp}
+use Rattle.sync_provider.specs.Search.{cookie_after}
 use Rattle.cascade_world.specs.declared.node.Follower.{Follower}
 use Rattle.cascade_world.specs.Cookies.{held_cookie}
 use Rattle.cascade_world.specs.Exchange.{Pair, pair_of, copy_of, with_copy, number_of_cookie, stored_number, taken_as, taken_from, taking}
-use Rattle.cascade_world.specs.Headline.{Holding, OfPrefix, held_after}
+use Rattle.cascade_world.specs.Headline.{Opening, Known, OfPrefix, known_after, session_over, stream_over, octets_of, busy}
 use Rattle.cascade_world.specs.Hearing.{Came, came_of, heard}
-use Rattle.cascade_world.specs.Opening.{message_id}
 use Rattle.cascade_world.specs.Report.{Told}
 use Rattle.cascade_world.specs.Report.{Told as told}
-use Rattle.cascade_world.proofs.Carried.{IsOfRefresh, heard_sent}
-use Rattle.cascade_world.proofs.Composing.{IsQuiet, kept-told}
-use Rattle.cascade_world.proofs.Feeding.{IsSource, IsPromised, HasPending, GoesOn, IsAtRest, IsGoing, IsFed, IsRightOf, IsKept, frame_of, refresh_at, content_at}
-use Rattle.cascade_world.proofs.FedOpening.{HasNext, some_next}
-use Rattle.cascade_world.proofs.FedSending.{octets}
-use Rattle.cascade_world.proofs.Refreshes.{IsMidst, IsEnd, Next, IsStaged, IsStored, staging, part, last, follows, midst_sent, midst_staged, end_stored}
+use Rattle.cascade_world.proofs.Carried.{IsOfSearch, heard_sent}
+use Rattle.cascade_world.proofs.Coming.{StagesOne, IsOver, StoresOne, TakesOne, one_comes}
+use Rattle.cascade_world.proofs.Composing.{kept-told, owns-still}
+use Rattle.cascade_world.proofs.Feeding.{Remains, waits, cut_waits, IsSource, IsPromised, HasPending, AtWhole, InGroup, IsPast, IsWhere, GoesOn, IsAtRest, IsGoing, IsFed, IsRightOf, IsKept, frame_of, content_at}
+use Rattle.cascade_world.proofs.Groups.{heads, tails}
 use Rattle.cascade_world.proofs.Sharing.{Searches, others-none}
 use Rattle.cascade_world.proofs.Sources.{last_in_range}
 
 abbrev Name : Type 0
 Name = List (List TypeAndValue)
 
--- ---- the cookie of a refresh
+-- ---- the cookie of a content
 
 abbrev cookie_of_number : ℕ → List Write → ℕ → Cookie
-cookie_of_number number writes opened = cookie_at number number (last_stamp (start number) (take opened writes))
+cookie_of_number number writes count = cookie_at number number (last_stamp (start number) (take count writes))
 
-stamp_in_range : (number : ℕ) (suffix : Name) (writes : List Write) (opened : ℕ) → number ≤ 16 → WereAccepted suffix number writes → IsCsn (last_stamp (start number) (take opened writes))
-stamp_in_range number suffix writes opened small accepted =
-    last_in_range (start number) (take opened writes) (IsCsn-start number (omega (arith, small)))
-    (λ n other low. (accepted-take suffix number writes opened accepted n other low).stamp)
+stamp_in_range : (number : ℕ) (suffix : Name) (writes : List Write) (count : ℕ) → number ≤ 16 → WereAccepted suffix number writes → IsCsn (last_stamp (start number) (take count writes))
+stamp_in_range number suffix writes count small accepted =
+    last_in_range (start number) (take count writes) (IsCsn-start number (omega (arith, small)))
+    (λ n other low. (accepted-take suffix number writes count accepted n other low).stamp)
 
 -- it is read again
-cookie_read : (number : ℕ) (suffix : Name) (p : ProviderState) (opened : ℕ) → IsSource number suffix p
-    → held_cookie (Some (cookie_after number number p.directory.writes opened)) ≡ Some (cookie_of_number number p.directory.writes opened)
-cookie_read number suffix p opened source =
-    cookie_of_text-cookie_text (cookie_of_number number p.directory.writes opened)
+cookie_read : (number : ℕ) (suffix : Name) (p : ProviderState) (count : ℕ) → IsSource number suffix p
+    → held_cookie (Some (cookie_after number number p.directory.writes count)) ≡ Some (cookie_of_number number p.directory.writes count)
+cookie_read number suffix p count source =
+    cookie_of_text-cookie_text (cookie_of_number number p.directory.writes count)
     (record {
       rid = omega arith;
       sid = omega (arith, source.small);
-      csn = stamp_in_range number suffix p.directory.writes opened source.small source.accepted;
+      csn = stamp_in_range number suffix p.directory.writes count source.small source.accepted;
       history = omega (arith, source.small);
     })
 
 -- and its stamp tells how many writes led to the content
-pub cookie_numbers : (number : ℕ) (suffix : Name) (p : ProviderState) (opened : ℕ) → IsSource number suffix p → opened ≤ length p.directory.writes
-    → stored_number p.directory (Some (cookie_after number number p.directory.writes opened)) ≡ opened
-cookie_numbers number suffix p opened source within =
-    ap (number_of_cookie (stamps p.directory.writes)) (cookie_read number suffix p opened source)
-    ∙ upto_stamp number p.directory.writes source.rises opened within
+pub cookie_numbers : (number : ℕ) (suffix : Name) (p : ProviderState) (count : ℕ) → IsSource number suffix p → count ≤ length p.directory.writes
+    → stored_number p.directory (Some (cookie_after number number p.directory.writes count)) ≡ count
+cookie_numbers number suffix p count source within =
+    ap (number_of_cookie (stamps p.directory.writes)) (cookie_read number suffix p count source)
+    ∙ upto_stamp number p.directory.writes source.rises count within
+
+own_stored : (name : List ℕ) (known : Known) (entries : List Entry) (number : ℕ) (root : List ℕ) (origin : ℕ)
+    → known_after name known (told.Stored name number entries root origin) ≡ record known { entries = entries; kept = OfPrefix number }
+own_stored name known entries number root origin =
+    ap (λ same. cond same (record known { entries = entries; kept = OfPrefix number }) known) ((bytes_eq-Decides name name).1 refl)
+
+-- ---- what is left behind the first message
+
+pub none_left : (link messages : List SyncMessage) → link ++ messages ≡ [] → (link ≡ []) × (messages ≡ [])
+none_left [] messages same = (refl, same)
+none_left (m ∷ link) messages same = let never : ⊥ = cc in absurd never
+
+pub own_over : (searches : Searches) (own : Option ℕ) (p : ProviderState) (f : Follower) (mode cut : Bool) (messages : List SyncMessage) → messages ≡ [] → waits mode cut ≡ false
+    → HasPending p.searches f.consumer.spec mode cut own messages → own ≡ None
+own_over searches None p f mode cut messages none ends has = refl
+own_over searches (Some at) p f mode cut messages none ends has = let some = (has.some ends).same in let bad : [] ≡ (has.some ends).next ∷ (has.some ends).later = sym none ∙ some in let never : ⊥ = cc in absurd never
+
+-- the first message is the next of the Stream, or the end with busy
+record IsFirst (cut : Bool) (ahead : List SyncMessage) (m : SyncMessage) (more : List SyncMessage) : Type 0 where
+  behind : List SyncMessage
+  next : ahead ≡ m ∷ behind
+  left : Remains cut behind more
+
+record IsBusy (cut : Bool) (m : SyncMessage) (more : List SyncMessage) : Type 0 where
+  over_is : cut ≡ true
+  message : m ≡ busy
+  none : more ≡ []
+
+first_left : (cut : Bool) (ahead : List SyncMessage) (m : SyncMessage) (more : List SyncMessage) → Remains cut ahead (m ∷ more) → IsFirst cut ahead m more ⊎ IsBusy cut m more
+first_left false ahead m more left = inl (record { behind = more; next = sym left; left = refl })
+first_left true ahead m more left = by left.0 left.1 left.2 left.3
+  where
+    by : (front dropped : List SyncMessage) → m ∷ more ≡ front ++ busy ∷ [] → front ++ dropped ≡ ahead → IsFirst true ahead m more ⊎ IsBusy true m more
+    by [] dropped one all = inr (record { over_is = refl; message = heads m busy more [] one; none = tails m busy more [] one })
+    by (x ∷ front) dropped one all =
+        inl (record {
+          behind = front ++ dropped;
+          next = sym all ∙ ap (λ y. y ∷ (front ++ dropped)) (sym (heads m x more (front ++ busy ∷ []) one));
+          left = (front, dropped, tails m x more (front ++ busy ∷ []) one, refl);
+        })
+
+-- ---- a search runs wherever it goes on
+
+pub record IsRunning (persists : Bool) (held : Copy) : Type 0 where
+  pub running : Running
+  pub runs : held.running ≡ Some running
+  pub id : running.id ≡ 1
+  pub mode : running.persists ≡ persists
+
+pub where_running : (session : Session) (first : Start) (opened count : ℕ) (entries : List Entry) (held : Copy) (taken ahead : List SyncMessage) → IsWhere session first opened count entries held taken ahead
+    → IsRunning session.persists held
+where_running session first opened count entries held taken ahead (inl is) =
+    record { running = running_in 1 session.persists false (names_after [] taken) (stage_after [] taken); runs = ap (λ (c : Copy). c.running) is.copy; id = refl; mode = refl }
+where_running session first opened count entries held taken ahead (inr is) = by is.1
+  where
+    by : AtWhole session opened count entries held ahead ⊎ InGroup session opened count entries held ahead → IsRunning session.persists held
+    by (inl at) = record { running = running_on 1 at.ended []; runs = ap (λ (c : Copy). c.running) at.copy; id = refl; mode = sym is.0 }
+    by (inr at) = record { running = running_on 1 at.ended (staged_all [] at.before); runs = ap (λ (c : Copy). c.running) at.copy; id = refl; mode = sym is.0 }
+
+-- the end with busy ends a search that goes on
+taken_over : (held : Copy) (running : Running) → held.running ≡ Some running → running.id ≡ 1 → running.persists ≡ true
+    → taken_within 1 held busy ≡ (record { held = held.held; cookie = held.cookie; running = None }, Over (pos 51))
+taken_over held running runs id mode =
+    ap (λ (o : Copy × Answer). refused_by (limit_fault false o.0 o.1) held o) here ∙ refl
+  where
+    here : taken 1 held busy ≡ over held (pos 51)
+    here =
+        ap (λ found. taken_by found 1 held busy) runs
+        ∙ ap (λ k. cond (1 == k) (taken_in held running busy) (refused held OutOfPlace)) id
+        ∙ ap (λ b. cond (b || not (int_eq (pos 51) (pos 0))) (over held (pos 51)) (taken_done held running None)) mode
 
 -- ---- what a consumer is told
 
-abbrev pub TakingKept : ℕ → Name → Pair → Option ℕ → Holding → Option (Pair × Told) → Type 0
-TakingKept number suffix pair opened stored None = Unit {0}
-TakingKept number suffix pair opened stored (Some next) = IsKept number suffix pair next.0 (next.1 ∷ []) opened stored
+abbrev pub TakingKept : ℕ → Name → Pair → Known → Option (Pair × Told) → Type 0
+TakingKept number suffix pair known None = Unit {0}
+TakingKept number suffix pair known (Some next) = IsKept number suffix pair next.0 (next.1 ∷ []) known
 
-taken_quiet : (name : List ℕ) → IsQuiet (told.Taken name)
-taken_quiet name = record { opened = λ n o. refl; stored = λ n s. refl; right = λ k frame o s. (tt, tt) }
+module _ (number : ℕ) (suffix : Name) (p : ProviderState) (f : Follower) (known : Known) (opening : Opening) (latest : known.opening ≡ Some opening) (source : IsSource number suffix p)
+    (fed : IsFed number p f known) (goes : GoesOn number p f opening known.entries) where
+  abbrev writes : List Write
+  writes = p.directory.writes
 
-own_stored : (name : List ℕ) (stored : Holding) (entries : List Entry) (number : ℕ) (root : List ℕ) (origin : ℕ)
-    → held_after name stored (told.Stored name number entries root origin) ≡ record { entries = entries; kept = OfPrefix number }
-own_stored name stored entries number root origin =
-    ap (λ same. cond same (record { entries = entries; kept = OfPrefix number }) stored) ((bytes_eq-Decides name name).1 refl)
+  abbrev session : Session
+  session = session_over number f.consumer.spec writes opening
 
--- nothing is left behind the last message
-none_left : (link pending : List SyncMessage) → link ++ pending ≡ [] → (link ≡ []) × (pending ≡ [])
-none_left [] pending same = (refl, same)
-none_left (m ∷ link) pending same = let never : ⊥ = cc in absurd never
+  ascending : Ascending session
+  ascending count = ascends-state_of number writes count
 
-own_over : (searches : Searches) (own : Option ℕ) (pending : List SyncMessage) → pending ≡ [] → HasPending searches own pending → own ≡ None
-own_over searches None pending none has = refl
-own_over searches (Some at) pending none has = let some = has.some in let never : ⊥ = cc in absurd never
+  within : (count : ℕ) → IsWithin (session.states count)
+  within count = IsWithin-state_of suffix number writes source.accepted (omega (arith, source.few)) count
 
-module _ (number : ℕ) (suffix : Name) (p : ProviderState) (f : Follower) (opened : ℕ) (stored : Holding) (source : IsSource number suffix p) (fed : IsFed number p f (Some opened) stored)
-    (goes : GoesOn number p f opened stored) (m : SyncMessage) (rest : List SyncMessage) (first : goes.linked ≡ m ∷ rest) where
-  -- the writes that the search is over
-  abbrev front : List Write
-  front = take opened p.directory.writes
+  sent : (count : ℕ) → All CanBeSent (session.states count)
+  sent count = sent-state_of suffix number writes count source.accepted
 
-  abbrev content : List Entry
-  content = content_at number f.consumer.spec p.directory.writes opened
+  texts : (count : ℕ) → (cookie : Cookie) × (session.cookies count ≡ cookie_text cookie)
+  texts count = (cookie_of_number number writes count, refl)
 
-  abbrev cookie : List ℕ
-  cookie = cookie_after number number p.directory.writes opened
+  abbrev held : Copy
+  held = copy_of f
 
-  abbrev Part : List SyncMessage
-  Part = part number f.consumer.spec front goes.start opened
+  -- what a taking leaves: the search goes on, or what is held is the content after some writes not before the opening
+  pub record IsTaken (after : Pair) (line : Told) : Type 0 where
+    pub kept : IsKept number suffix (pair_of p f) after (line ∷ []) known
+    pub then : GoesOn number after.provider after.follower opening (known_after f.name known line).entries
+        ⊎ (IsAtRest after.follower × ((opening.persists ≡ true)
+        ⊎ ((known_after f.name known line).entries ≡ content_at number f.consumer.spec writes opening.writes)))
+    pub still : (known_after f.name known line).opening ≡ known.opening
 
-  abbrev Last : SyncMessage
-  Last = last number f.consumer.spec front goes.start opened
+  module _ (m : SyncMessage) (rest : List SyncMessage) (first : goes.linked ≡ m ∷ rest) where
+    abbrev outcome : Copy × Answer
+    outcome = taken_within 1 held m
 
-  -- the copy before the message, and what comes of it
-  abbrev before : Copy
-  before = staging stored.entries f.consumer.copy.cookie goes.taken
+    abbrev left : List (List ℕ)
+    left = map octets_of rest
 
-  abbrev outcome : Copy × Answer
-  outcome = taken_within message_id before m
+    abbrev after : Copy → Follower
+    after copy = record (with_copy f copy) { link = left }
 
-  abbrev left : List (List ℕ)
-  left = map octets rest
+    remains : Remains goes.cut goes.ahead (m ∷ (rest ++ goes.pending))
+    remains = subst (λ ms. Remains goes.cut goes.ahead (ms ++ goes.pending)) first goes.left
 
-  abbrev after : Follower
-  after = record (with_copy f outcome.0) { link = left }
+    is_running : IsRunning opening.persists held
+    is_running = where_running session goes.start opening.writes goes.count known.entries held goes.taken goes.ahead goes.place
 
-  accepted : WereAccepted suffix number front
-  accepted = WereAccepted-take suffix number p.directory.writes opened source.accepted
+    -- the bytes are heard as the message
+    heard_is : IsOfSearch m → heard held (octets_of m) ≡ (outcome.0, came_of outcome.1)
+    heard_is can = heard_sent held is_running.running m is_running.runs is_running.id can
 
-  front_long : length front ≤ 1000000
-  front_long = omega (arith, length-take opened p.directory.writes, source.few)
+    abbrev Is : Copy → Came → Type 0
+    Is copy came = IsTaken (taken_as (pair_of p f) left copy came).0 (taken_as (pair_of p f) left copy came).1
 
-  states_within : (count : ℕ) → IsWithin (state_of number front count)
-  states_within count = IsWithin-state_of suffix number front accepted (omega (arith, front_long)) count
+    -- ---- the next message of the Stream
 
-  states_sent : (count : ℕ) → All CanBeSent (state_of number front count)
-  states_sent count = sent-state_of suffix number front count accepted
+    module _ (is : IsFirst goes.cut goes.ahead m (rest ++ goes.pending)) where
+      more_taken : (goes.taken ++ m ∷ []) ++ is.behind ≡ stream_over number f.consumer.spec writes opening goes.start goes.count
+      more_taken = append_assoc goes.taken (m ∷ []) is.behind ∙ ap (λ ms. goes.taken ++ ms) (sym is.next) ∙ goes.whole
 
-  whole : goes.taken ++ m ∷ (rest ++ goes.pending) ≡ refresh_from (session_of number number f.consumer.spec front) goes.start opened
-  whole = ap (λ ms. goes.taken ++ (ms ++ goes.pending)) (sym first) ∙ goes.whole
+      told_still : opening.sent ≡ map octets_of ((goes.taken ++ m ∷ []) ++ rest)
+      told_still = goes.told ∙ ap (λ ms. map octets_of (goes.taken ++ ms)) first ∙ ap (map octets_of) (sym (append_assoc goes.taken (m ∷ []) rest))
 
-  next : Next Part goes.taken Last m (rest ++ goes.pending)
-  next = follows number f.consumer.spec front goes.start opened goes.taken (rest ++ goes.pending) m whole
+      -- the search goes on from there
+      goes_now : (copy : Copy) (entries : List Entry) → IsWhere session goes.start opening.writes goes.count entries copy (goes.taken ++ m ∷ []) is.behind → GoesOn number p (after copy) opening entries
+      goes_now copy entries place = record {
+        count = goes.count;
+        upto = goes.upto;
+        start = goes.start;
+        from = goes.from;
+        taken = goes.taken ++ m ∷ [];
+        ahead = is.behind;
+        whole = more_taken;
+        cut = goes.cut;
+        lasts = goes.lasts;
+        all = goes.all;
+        linked = rest;
+        pending = goes.pending;
+        left = is.left;
+        told = told_still;
+        link = refl;
+        search = goes.search;
+        place = place;
+      }
 
-  of_refresh : Next Part goes.taken Last m (rest ++ goes.pending) → IsOfRefresh m
-  of_refresh (inl is) = midst_sent number f.consumer.spec front goes.start opened states_sent goes.taken (rest ++ goes.pending) m is
-  of_refresh (inr is) = subst IsOfRefresh (sym is.message) (cookie_at number number (last_stamp (start number) (take opened front)), is_covered goes.start, refl, refl)
+      takes : TakesOne session ascending within sent texts goes.start opening.writes goes.count known.entries held goes.taken m is.behind
+      takes =
+          one_comes session ascending within sent texts goes.start opening.writes goes.count known.entries held goes.taken is.behind m
+          (subst (IsWhere session goes.start opening.writes goes.count known.entries held goes.taken) is.next goes.place)
 
-  -- the bytes are heard as the message
-  heard_is : heard (copy_of f) (octets m) ≡ (outcome.0, came_of outcome.1)
-  heard_is =
-      ap (λ c. heard c (octets m)) goes.copy
-      ∙ heard_sent before (running_in 1 false false (names_after [] goes.taken) (stage_after [] goes.taken)) m refl refl refl (of_refresh next)
+      staged_is : StagesOne session ascending within sent texts goes.start opening.writes goes.count known.entries held (goes.taken ++ m ∷ []) is.behind outcome → Is outcome.0 (came_of outcome.1)
+      staged_is now =
+          subst (λ a. Is outcome.0 (came_of a)) (sym now.answer) (record {
+            kept = kept-told number suffix (pair_of p f) (pair_of p (after outcome.0)) (told.Taken f.name) known (λ name k. refl) tt (record {
+              source = source;
+              fed = record {
+                held = now.same;
+                ascending = fed.ascending;
+                cookie = now.cookie ∙ fed.cookie;
+                prefix = fed.prefix;
+                promised = subst (λ c. IsPromised number f.consumer.spec writes known.entries (held_cookie c)) (sym now.cookie) fed.promised;
+                below = fed.below;
+                state = inr (record { opening = opening; latest = latest; goes = goes_now outcome.0 known.entries now.place });
+              };
+              right = tt;
+              same = refl;
+              others = others-none number p f (after outcome.0) refl;
+              owns = owns-still p f (after outcome.0) (λ at mine. mine);
+            });
+            then = inl (goes_now outcome.0 known.entries now.place);
+            still = refl;
+          })
 
-  abbrev Kept : Copy → Came → Type 0
-  Kept copy came = IsKept number suffix (pair_of p f) (taken_as (pair_of p f) left copy came).0 ((taken_as (pair_of p f) left copy came).1 ∷ []) (Some opened) stored
+      -- ---- a content is stored
 
-  -- a message in the midst
-  midst_goes : IsMidst Part goes.taken Last m (rest ++ goes.pending) → outcome.0 ≡ staging stored.entries f.consumer.copy.cookie (goes.taken ++ m ∷ []) → GoesOn number p after opened stored
-  midst_goes is copy = record {
-    within = goes.within;
-    start = goes.start;
-    begins = goes.begins;
-    taken = goes.taken ++ m ∷ [];
-    linked = rest;
-    pending = goes.pending;
-    whole = append_assoc goes.taken (m ∷ []) (rest ++ goes.pending) ∙ whole;
-    copy = copy ∙ ap (λ (c : Copy). staging stored.entries c.cookie (goes.taken ++ m ∷ [])) (sym copy);
-    link = refl;
-    next = more.next;
-    later = more.later;
-    left = is.left ∙ more.same;
-    search = goes.search;
-  }
-    where
-      more : HasNext (is.more ++ Last ∷ [])
-      more = some_next is.more Last
+      module _ (now : StoresOne session ascending within sent texts goes.start opening.writes goes.count is.behind outcome) where
+        abbrev content : List Entry
+        content = content_at number f.consumer.spec writes now.number
 
-  midst_kept : IsMidst Part goes.taken Last m (rest ++ goes.pending) → Kept outcome.0 (came_of outcome.1)
-  midst_kept is =
-      let now = midst_staged number f.consumer.spec front goes.start opened stored.entries goes.begins states_within f.consumer.copy.cookie goes.taken (rest ++ goes.pending) m whole is in
-      let cookie' : outcome.0.cookie ≡ f.consumer.copy.cookie = ap (λ (c : Copy). c.cookie) now.copy in
-      subst (λ a. Kept outcome.0 (came_of a)) (sym now.answer)
-      (kept-told number suffix (pair_of p f) (pair_of p after) (told.Taken f.name) (Some opened) stored (taken_quiet f.name)
-      (record {
-        source = source;
-        fed = record {
-          held = ap (λ (c : Copy). c.held) now.copy;
-          ascending = fed.ascending;
-          cookie = cookie' ∙ fed.cookie;
-          prefix = fed.prefix;
-          promised = subst (λ c. IsPromised number f.consumer.spec p.directory.writes stored.entries (held_cookie c)) (sym cookie') fed.promised;
-          state = inr (midst_goes is now.copy);
-        };
-        right = tt;
-        same = refl;
-        others = others-none number p f after refl;
-      }))
+        abbrev n : ℕ
+        n = stored_number p.directory outcome.0.cookie
 
-  -- the end
-  end_rests : IsEnd Part goes.taken Last m (rest ++ goes.pending) → outcome.0.running ≡ None → IsAtRest after
-  end_rests is none =
-      let parts = none_left rest goes.pending is.none in
-      record { search = own_over p.searches f.search goes.pending parts.1 goes.search; running = none; link = ap (map octets) parts.0 }
+        abbrev line : Told
+        line = told.Stored f.name n outcome.0.held f.source n
 
-  -- what is stored is of all the writes, too
-  same_front : take opened front ≡ front
-  same_front = take-take opened opened p.directory.writes (omega arith)
+        abbrev then_known : Known
+        then_known = record known { entries = outcome.0.held; kept = OfPrefix n }
 
-  content_is : content_after (session_of number number f.consumer.spec front) opened ≡ content
-  content_is = ap (λ (ws : List Write). select f.consumer.spec (entries_after number ws)) same_front
+        low : now.number ≤ length writes
+        low = omega (arith, now.upto, goes.upto)
 
-  cookie_is : cookie_after number number front opened ≡ cookie
-  cookie_is = ap (λ (ws : List Write). cookie_text (cookie_at number number (last_stamp (start number) ws))) same_front
+        right_number : n ≡ now.number
+        right_number = ap (stored_number p.directory) now.cookie ∙ cookie_numbers number suffix p now.number source low
 
-  content_ascends : ascends content ≡ true
-  content_ascends = ascends_filter (is_selected f.consumer.spec) (state_of number p.directory.writes opened) (ascends-state_of number p.directory.writes opened)
+        right_entries : IsRightOf number (frame_of p f) known n outcome.0.held f.source n
+        right_entries = record {
+          prefix = omega (arith, right_number, low);
+          opening = opening;
+          latest = latest;
+          no_shorter = omega (arith, right_number, now.from);
+          exactly = now.held ∙ ap (λ k. select f.consumer.spec (entries_after number (take k writes))) (sym right_number);
+          from_root = refl;
+          from_prefix = refl;
+        }
 
-  abbrev Is : Copy → Type 0
-  Is copy = copy ≡ record { held = content; cookie = Some cookie; running = None }
+        content_ascends : ascends content ≡ true
+        content_ascends = ascends_filter (is_selected f.consumer.spec) (state_of number writes now.number) (ascends-state_of number writes now.number)
 
-  stored_is : IsStored (content_after (session_of number number f.consumer.spec front) opened) (cookie_after number number front opened) outcome → Is outcome.0
-  stored_is now = now.copy ∙ (λ i. record { held = content_is i; cookie = Some (cookie_is i); running = None })
+        -- the new cookie promises what is held
+        promised_now : IsPromised number f.consumer.spec writes outcome.0.held (held_cookie outcome.0.cookie)
+        promised_now =
+            subst (λ es. IsPromised number f.consumer.spec writes es (held_cookie outcome.0.cookie)) (sym now.held)
+            (subst (λ c. IsPromised number f.consumer.spec writes content (held_cookie c)) (sym now.cookie)
+            (subst (IsPromised number f.consumer.spec writes content) (sym (cookie_read number suffix p now.number source))
+            (λ own. record { count = now.number; within = low; not_below = is_upto-itself (last_stamp (start number) (take now.number writes)); same = refl })))
 
-  right_number : (copy : Copy) → Is copy → stored_number p.directory copy.cookie ≡ opened
-  right_number copy is = ap (λ (c : Copy). stored_number p.directory c.cookie) is ∙ cookie_numbers number suffix p opened source goes.within
+        no_more : IsOver session ascending within sent texts goes.start opening.writes goes.count is.behind outcome.0 → goes.cut ≡ false
+        no_more over = by goes.cut refl
+          where
+            by : (cut : Bool) → goes.cut ≡ cut → goes.cut ≡ false
+            by false here = here
+            by true here = absurd (true≢false (sym (goes.lasts here) ∙ over.ends))
 
-  right_entries : (copy : Copy) (n : ℕ) → Is copy → n ≡ opened → IsRightOf number (frame_of p f) (Some opened) n copy.held f.source n
-  right_entries copy n is same = record {
-    prefix = omega (arith, same, goes.within);
-    at = opened;
-    latest = refl;
-    no_shorter = omega (arith, same);
-    exactly = ap (λ (c : Copy). c.held) is ∙ ap (λ k. select f.consumer.spec (entries_after number (take k p.directory.writes))) (sym same);
-    from_root = refl;
-    from_prefix = refl;
-  }
+        rests : IsOver session ascending within sent texts goes.start opening.writes goes.count is.behind outcome.0 → IsAtRest (after outcome.0)
+        rests over = record { search = own_over p.searches f.search p f opening.persists goes.cut goes.pending none.1 (ap (λ b. waits b goes.cut) over.ends) goes.search; running = over.running; link = ap (map octets_of) none.0 }
+          where
+            none : (rest ≡ []) × (goes.pending ≡ [])
+            none = none_left rest goes.pending (subst (λ cut. Remains cut is.behind (rest ++ goes.pending)) (no_more over) is.left ∙ over.none)
 
-  -- the new cookie promises what is held
-  end_promised : (copy : Copy) → Is copy → IsPromised number f.consumer.spec p.directory.writes copy.held (held_cookie copy.cookie)
-  end_promised copy is =
-      subst (λ (c : Copy). IsPromised number f.consumer.spec p.directory.writes c.held (held_cookie c.cookie)) (sym is)
-      (subst (IsPromised number f.consumer.spec p.directory.writes content) (sym (cookie_read number suffix p opened source))
-      (λ own. record { count = opened; within = goes.within; not_below = is_upto-itself (last_stamp (start number) front); same = refl }))
+        state_now : IsPast session opening.writes goes.count (content_after session now.number) outcome.0 is.behind ⊎ IsOver session ascending within sent texts goes.start opening.writes goes.count is.behind outcome.0
+            → GoesOn number p (after outcome.0) opening outcome.0.held ⊎ (IsAtRest (after outcome.0) × ((opening.persists ≡ true) ⊎ (outcome.0.held ≡ content_at number f.consumer.spec writes opening.writes)))
+        state_now (inl past) = inl (subst (GoesOn number p (after outcome.0) opening) (sym now.held) (goes_now outcome.0 content (inr past)))
+        state_now (inr over) = inr (rests over, inr (now.held ∙ ap (content_at number f.consumer.spec writes) (ends_there over)))
+          where
+            ends_there : IsOver session ascending within sent texts goes.start opening.writes goes.count is.behind outcome.0 → now.number ≡ opening.writes
+            ends_there over = now.whole over.ends
 
-  end_fed : (copy : Copy) (n : ℕ) → Is copy → n ≡ opened → IsAtRest (record (with_copy f copy) { link = left })
-      → IsFed number p (record (with_copy f copy) { link = left }) (Some opened) (record { entries = copy.held; kept = OfPrefix n })
-  end_fed copy n is same rests = record {
-    held = refl;
-    ascending = ap (λ (c : Copy). ascends c.held) is ∙ content_ascends;
-    cookie = ap (λ (c : Copy). c.cookie) is ∙ ap (λ k. Some (cookie_after number number p.directory.writes k)) (sym same);
-    prefix = omega (arith, same, goes.within);
-    promised = end_promised copy is;
-    state = inl rests;
-  }
+        fed_now : GoesOn number p (after outcome.0) opening outcome.0.held ⊎ (IsAtRest (after outcome.0) × ((opening.persists ≡ true) ⊎ (outcome.0.held ≡ content_at number f.consumer.spec writes opening.writes)))
+            → IsFed number p (after outcome.0) then_known
+        fed_now state = record {
+          held = refl;
+          ascending = ap ascends now.held ∙ content_ascends;
+          cookie = now.cookie ∙ ap (λ k. Some (cookie_after number number writes k)) (sym right_number);
+          prefix = omega (arith, right_number, low);
+          promised = promised_now;
+          below = fed.below;
+          state = by state;
+        }
+          where
+            by : GoesOn number p (after outcome.0) opening outcome.0.held ⊎ (IsAtRest (after outcome.0) × ((opening.persists ≡ true) ⊎ (outcome.0.held ≡ content_at number f.consumer.spec writes opening.writes)))
+                → IsAtRest (after outcome.0) ⊎ IsGoing number p (after outcome.0) then_known
+            by (inl going) = inr (record { opening = opening; latest = latest; goes = going })
+            by (inr rest') = inl rest'.0
 
-  end_kept : IsEnd Part goes.taken Last m (rest ++ goes.pending) → Kept outcome.0 (came_of outcome.1)
-  end_kept is =
-      subst (λ a. Kept outcome.0 (came_of a)) (sym now.answer)
-      (record {
-        source = source;
-        fed =
-            subst (IsFed number p after (Some opened)) (sym (own_stored f.name stored outcome.0.held n f.source n))
-            (end_fed outcome.0 n copy (right_number outcome.0 copy) (end_rests is (ap (λ (c : Copy). c.running) copy)));
-        right = ((refl, right_entries outcome.0 n copy (right_number outcome.0 copy)), tt);
-        same = refl;
-        others = others-none number p f after refl;
-      })
-    where
-      now : IsStored (content_after (session_of number number f.consumer.spec front) opened) (cookie_after number number front opened) outcome
-      now = end_stored number f.consumer.spec front goes.start opened stored.entries goes.begins states_within f.consumer.copy.cookie goes.taken (rest ++ goes.pending) m whole is
+        stored_is : Is outcome.0 (came_of outcome.1)
+        stored_is = subst (λ a. Is outcome.0 (came_of a)) (sym now.answer) (record {
+          kept = record {
+            source = source;
+            fed = subst (IsFed number p (after outcome.0)) (sym known_is) (fed_now (state_now now.then));
+            right = ((refl, right_entries), tt);
+            same = refl;
+            others = others-none number p f (after outcome.0) refl;
+            owns = owns-still p f (after outcome.0) (λ at mine. mine);
+          };
+          then =
+              subst
+              (λ (k : Known). GoesOn number p (after outcome.0) opening k.entries
+              ⊎ (IsAtRest (after outcome.0) × ((opening.persists ≡ true) ⊎ (k.entries ≡ content_at number f.consumer.spec writes opening.writes))))
+              (sym known_is) (state_now now.then);
+          still = ap (λ (k : Known). k.opening) known_is;
+        })
+          where
+            known_is : known_after f.name known line ≡ then_known
+            known_is = own_stored f.name known outcome.0.held n f.source n
 
-      copy : Is outcome.0
-      copy = stored_is now
+      first_is : IsTaken (taken_as (pair_of p f) left (heard held (octets_of m)).0 (heard held (octets_of m)).1).0 (taken_as (pair_of p f) left (heard held (octets_of m)).0 (heard held (octets_of m)).1).1
+      first_is = subst (λ (h : Copy × Came). Is h.0 h.1) (sym (heard_is takes.can)) (by takes.comes)
+        where
+          by : StagesOne session ascending within sent texts goes.start opening.writes goes.count known.entries held (goes.taken ++ m ∷ []) is.behind outcome
+              ⊎ StoresOne session ascending within sent texts goes.start opening.writes goes.count is.behind outcome → Is outcome.0 (came_of outcome.1)
+          by (inl now) = staged_is now
+          by (inr now) = stored_is now
 
-      n : ℕ
-      n = stored_number p.directory outcome.0.cookie
+    -- ---- the end with busy
 
-  first_kept : TakingKept number suffix (pair_of p f) (Some opened) stored (taken_from (pair_of p f) (octets m ∷ left))
-  first_kept = subst (λ (h : Copy × Came). Kept h.0 h.1) (sym heard_is) (by next)
-    where
-      by : Next Part goes.taken Last m (rest ++ goes.pending) → Kept outcome.0 (came_of outcome.1)
-      by (inl is) = midst_kept is
-      by (inr is) = end_kept is
+    module _ (is : IsBusy goes.cut m (rest ++ goes.pending)) where
+      abbrev ended : Copy
+      ended = record { held = held.held; cookie = held.cookie; running = None }
 
-going_taken : (number : ℕ) (suffix : Name) (p : ProviderState) (f : Follower) (opened : ℕ) (stored : Holding) (source : IsSource number suffix p) (fed : IsFed number p f (Some opened) stored)
-    (goes : GoesOn number p f opened stored) (linked : List SyncMessage) → goes.linked ≡ linked → TakingKept number suffix (pair_of p f) (Some opened) stored (taken_from (pair_of p f) (map octets linked))
-going_taken number suffix p f opened stored source fed goes [] is = tt
-going_taken number suffix p f opened stored source fed goes (m ∷ rest) is = first_kept number suffix p f opened stored source fed goes m rest is
+      goes_past : opening.persists ≡ true
+      goes_past = goes.lasts is.over_is
 
-pub taking_kept : (number : ℕ) (suffix : Name) (pair : Pair) (opened : Option ℕ) (stored : Holding) → IsSource number suffix pair.provider → IsFed number pair.provider pair.follower opened stored
-    → TakingKept number suffix pair opened stored (taking pair)
-taking_kept number suffix pair opened stored source fed = by opened fed fed.state
+      outcome_is : outcome ≡ (ended, Over (pos 51))
+      outcome_is = ap (taken_within 1 held) is.message ∙ taken_over held is_running.running is_running.runs is_running.id (is_running.mode ∙ goes_past)
+
+      rests_now : IsAtRest (after ended)
+      rests_now = record {
+        search = own_over p.searches f.search p f opening.persists goes.cut goes.pending none.1 (ap (waits opening.persists) is.over_is ∙ cut_waits opening.persists) goes.search;
+        running = refl;
+        link = ap (map octets_of) none.0;
+      }
+        where
+          none : (rest ≡ []) × (goes.pending ≡ [])
+          none = none_left rest goes.pending is.none
+
+      ended_is : Is ended (came_of (Over (pos 51)))
+      ended_is = record {
+        kept = kept-told number suffix (pair_of p f) (pair_of p (after ended)) (told.Ended f.name (pos 51)) known (λ name k. refl) refl (record {
+          source = source;
+          fed = record {
+            held = fed.held;
+            ascending = fed.ascending;
+            cookie = fed.cookie;
+            prefix = fed.prefix;
+            promised = fed.promised;
+            below = fed.below;
+            state = inl rests_now;
+          };
+          right = tt;
+          same = refl;
+          others = others-none number p f (after ended) refl;
+          owns = owns-still p f (after ended) (λ at mine. mine);
+        });
+        then = inr (rests_now, inl goes_past);
+        still = refl;
+      }
+
+      busy_is : IsTaken (taken_as (pair_of p f) left (heard held (octets_of m)).0 (heard held (octets_of m)).1).0 (taken_as (pair_of p f) left (heard held (octets_of m)).0 (heard held (octets_of m)).1).1
+      busy_is =
+          subst (λ (h : Copy × Came). Is h.0 h.1) (sym (heard_is (subst IsOfSearch (sym is.message) (inr (refl, refl)))))
+          (subst (λ (o : Copy × Answer). Is o.0 (came_of o.1)) (sym outcome_is) ended_is)
+
+    pub one_taken : IsTaken (taken_as (pair_of p f) left (heard held (octets_of m)).0 (heard held (octets_of m)).1).0 (taken_as (pair_of p f) left (heard held (octets_of m)).0 (heard held (octets_of m)).1).1
+    one_taken = by (first_left goes.cut goes.ahead m (rest ++ goes.pending) remains)
+      where
+        by : IsFirst goes.cut goes.ahead m (rest ++ goes.pending) ⊎ IsBusy goes.cut m (rest ++ goes.pending)
+            → IsTaken (taken_as (pair_of p f) left (heard held (octets_of m)).0 (heard held (octets_of m)).1).0 (taken_as (pair_of p f) left (heard held (octets_of m)).0 (heard held (octets_of m)).1).1
+        by (inl is) = first_is is
+        by (inr is) = busy_is is
+
+-- what a consumer whose search goes on takes
+abbrev pub GoingTaken : (number : ℕ) (suffix : Name) (p : ProviderState) (f : Follower) (known : Known) (opening : Opening) → known.opening ≡ Some opening → IsSource number suffix p → IsFed number p f known
+    → GoesOn number p f opening known.entries → Option (Pair × Told) → Type 0
+GoingTaken number suffix p f known opening latest source fed goes None = f.link ≡ []
+GoingTaken number suffix p f known opening latest source fed goes (Some next) = IsTaken number suffix p f known opening latest source fed goes next.0 next.1
+
+pub going_taken : (number : ℕ) (suffix : Name) (p : ProviderState) (f : Follower) (known : Known) (opening : Opening) (latest : known.opening ≡ Some opening) (source : IsSource number suffix p)
+    (fed : IsFed number p f known) (goes : GoesOn number p f opening known.entries) → GoingTaken number suffix p f known opening latest source fed goes (taking (pair_of p f))
+going_taken number suffix p f known opening latest source fed goes = by goes.linked refl
   where
-    Kept : Option ℕ → List (List ℕ) → Type 0
-    Kept o link = TakingKept number suffix pair o stored (taken_from pair link)
+    Good : List (List ℕ) → Type 0
+    Good link = GoingTaken number suffix p f known opening latest source fed goes (taken_from (pair_of p f) link)
 
-    by : (o : Option ℕ) → IsFed number pair.provider pair.follower o stored → IsAtRest pair.follower ⊎ IsGoing number pair.provider pair.follower o stored → Kept o pair.follower.link
-    by o is (inl rest) = subst (Kept o) (sym rest.link) tt
-    by None is (inr goes) = absurd goes
-    by (Some at) is (inr goes) =
-        subst (Kept (Some at)) (sym goes.link) (going_taken number suffix pair.provider pair.follower at stored source is goes goes.linked refl)
+    by : (linked : List SyncMessage) → goes.linked ≡ linked → Good f.link
+    by [] none = subst Good (sym (goes.link ∙ ap (map octets_of) none)) (goes.link ∙ ap (map octets_of) none)
+    by (m ∷ rest) some = subst Good (sym (goes.link ∙ ap (map octets_of) some)) (one_taken number suffix p f known opening latest source fed goes m rest some)
+
+pub taking_kept : (number : ℕ) (suffix : Name) (pair : Pair) (known : Known) → IsSource number suffix pair.provider → IsFed number pair.provider pair.follower known
+    → TakingKept number suffix pair known (taking pair)
+taking_kept number suffix pair known source fed = by fed.state
+  where
+    going : (is : IsGoing number pair.provider pair.follower known) (next : Option (Pair × Told))
+        → GoingTaken number suffix pair.provider pair.follower known is.opening is.latest source fed is.goes next → TakingKept number suffix pair known next
+    going is None taken = tt
+    going is (Some next) taken = taken.kept
+
+    by : IsAtRest pair.follower ⊎ IsGoing number pair.provider pair.follower known → TakingKept number suffix pair known (taking pair)
+    by (inl rest) = subst (λ link. TakingKept number suffix pair known (taken_from pair link)) (sym rest.link) tt
+    by (inr is) = going is (taking pair) (going_taken number suffix pair.provider pair.follower known is.opening is.latest source fed is.goes)

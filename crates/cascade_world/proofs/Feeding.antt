@@ -1,38 +1,42 @@
 -- What holds of a provider of a script and of each of its consumers at every moment of a run, and what each part of an
 -- event keeps of that.
-use Rattle.std.specs.Prelude.{◌≡◌, ◌⊎◌, ℕ, ◌<◌, ◌≤◌, Bool, true, false, Option, Some, None, Ok, List, [], ◌∷◌, ◌++◌, length, map, take, fold}
+use Rattle.std.proofs.Common.{refl}
+use Rattle.std.specs.Prelude.{◌≡◌, ◌⊎◌, ℕ, pos, ◌+◌, ◌≤◌, Bool, true, false, cond, ◌&&◌, not, Option, Some, None, Ok, List, [], ◌∷◌, ◌++◌, length, map, take, fold}
 use Rattle.csn_cookie.specs.Csn.{Stamp, start, is_upto}
 use Rattle.csn_cookie.specs.declared.cookie.Cookie.{Cookie}
-use Rattle.dn_names.specs.Names.{TypeAndValue}
+use Rattle.dn_names.specs.Names.{TypeAndValue, is_at_or_below}
 use Rattle.directory_laws.specs.Accepted.{WereAccepted}
+use Rattle.directory_writes.specs.Directory.{StampsRise, entries_after, last_stamp}
 use Rattle.entry_tree.specs.Selection.{Search, select}
 use Rattle.entry_tree.specs.State.{ascends}
+use Rattle.entry_tree.specs.Touched.{touched}
 use Rattle.entry_tree.specs.declared.entry.Entry.{Entry}
 use Rattle.entry_tree.specs.declared.op.Write.{Write}
-use Rattle.ldap_messages.specs.Whole.{message_octets}
+use Rattle.entry_tree.specs.declared.touched.Touch.{Touch}
 use Rattle.sync_model.specs.Copy.{Copy}
-use Rattle.sync_model.specs.Law.{Begins}
-use Rattle.sync_model.specs.Stream.{Session, Start}
+use Rattle.sync_model.specs.Incremental.{number_of}
+use Rattle.sync_model.specs.Law.{Begins, settled}
 use Rattle.sync_model.specs.Message.{SyncMessage}
-use Rattle.sync_provider.specs.Directory.{StampsRise, entries_after, last_stamp}
+use Rattle.sync_model.specs.Stream.{Session, Start, content_after, among, told_all, later}
+use Rattle.sync_model.proofs.Later.{stepping, staged_all}
 use Rattle.sync_provider.specs.HandingOut.{search_at}
-use Rattle.sync_provider.specs.Machine.{ProviderState, fresh, log_limited}
-use Rattle.sync_provider.specs.Search.{SearchState, session_of, refresh_from}
-use Rattle.sync_wire.specs.Sending as wire
+use Rattle.sync_provider.specs.Machine.{ProviderState, fresh, log_limited, queue_limited}
+use Rattle.sync_provider.specs.Search.{SearchState, session_of, refresh_from, pending}
 use Rattle.schema_rules.specs.declared.raw.Change.{Change}
 use Rattle.cascade_world.specs.declared.exchange.Exchange.{Exchange}
 use Rattle.cascade_world.specs.declared.node.Follower.{Follower}
 use Rattle.cascade_world.specs.Cookies.{held_cookie}
-use Rattle.cascade_world.specs.Directory.{logged_directory, changed}
+use Rattle.cascade_world.specs.Directory.{logged_directory, wrote_change}
 use Rattle.cascade_world.specs.Exchange.{Pair, part_of}
-use Rattle.cascade_world.specs.Headline.{Kept, NoCookie, OfPrefix, Given, Holding, empty_handed, opened_after, held_after, text_of_kept, IsServed, IsUnserved}
+use Rattle.cascade_world.specs.Headline.{Kept, NoCookie, OfPrefix, Given, Opening, Known, nothing_known, known_after, text_of_kept, IsUnserved, IsOpenedAt, BeginsFrom, session_over, stream_over, octets_of, busy, IsNextOf}
 use Rattle.cascade_world.specs.Opening.{message_id}
 use Rattle.cascade_world.specs.Report.{Told}
-use Rattle.cascade_world.specs.Report.Told.{Opened, Refused, Stored, Shown}
+use Rattle.cascade_world.specs.Report.Told.{Opened, Refused, Sent, Stored, Ended, Faulted, Settled, Shown}
+use Rattle.cascade_world.proofs.Distinct.{AreDistinct}
 use Rattle.cascade_world.proofs.Refreshes.{staging}
 
 -- a provider: its stamps carry the number of its node, which is that of its history too, and its writes were accepted
--- one after another, each with a stamp above those before it
+-- one after another, each with a stamp above those before it; and its searches have numbers of their own
 pub record IsSource (number : ℕ) (suffix : List (List TypeAndValue)) (p : ProviderState) : Type 0 where
   pub first : 1 ≤ number
   pub small : number ≤ 16
@@ -40,14 +44,11 @@ pub record IsSource (number : ℕ) (suffix : List (List TypeAndValue)) (p : Prov
   pub rises : StampsRise number p.directory.writes
   pub accepted : WereAccepted suffix number p.directory.writes
   pub few : length p.directory.writes ≤ 1000000
+  pub apart : AreDistinct p.searches
 
--- a search over the first so many of these writes
-abbrev pub session_at : ℕ → Search → List Write → ℕ → Session
-session_at number search writes opened = session_of number number search (take opened writes)
-
--- the messages of a refresh after so many of these writes
-abbrev pub refresh_at : ℕ → Search → List Write → Start → ℕ → List SyncMessage
-refresh_at number search writes start opened = refresh_from (session_at number search writes opened) start opened
+-- a search over these writes
+abbrev pub session_at : ℕ → Bool → Search → List Write → Session
+session_at number persists search writes = session_of persists number number search writes
 
 -- what is selected after so many of these writes
 abbrev pub content_at : ℕ → Search → List Write → ℕ → List Entry
@@ -75,38 +76,107 @@ IsWithinWrites most (Given text) = Unit {0}
 
 -- ---- a search that goes on
 
--- the search of this number has these messages pending, of which there are some
-pub record IsPending (searches : List (ℕ × SearchState)) (at : ℕ) (pending : List SyncMessage) : Type 0 where
+-- there are some messages
+pub record HasNext (messages : List SyncMessage) : Type 0 where
+  pub next : SyncMessage
+  pub later : List SyncMessage
+  pub same : messages ≡ next ∷ later
+
+-- what is left of messages that are to come: all of them, or a front of them and the end with busy
+abbrev pub Remains : (cut : Bool) → List SyncMessage → List SyncMessage → Type 0
+Remains false ahead left = left ≡ ahead
+Remains true ahead left = (front : List SyncMessage) × (dropped : List SyncMessage) × (left ≡ front ++ busy ∷ []) × (front ++ dropped ≡ ahead)
+
+-- the search waits for later writes
+abbrev pub waits : (persists cut : Bool) → Bool
+waits persists cut = persists && not cut
+
+pub cut_waits : (persists : Bool) → waits persists true ≡ false
+cut_waits true = refl
+cut_waits false = refl
+
+-- the search of this number, with this specification and in this mode, has these messages pending, of which there are
+-- some unless it waits for later writes
+pub record IsPending (searches : List (ℕ × SearchState)) (selection : Search) (mode cut : Bool) (at : ℕ) (messages : List SyncMessage) : Type 0 where
   pub search : SearchState
   pub found : search_at searches at ≡ Some search
   pub id : search.id ≡ message_id
-  pub same : search.pending ≡ pending
-  pub first : SyncMessage
-  pub rest : List SyncMessage
-  pub some : pending ≡ first ∷ rest
+  pub spec : search.spec ≡ selection
+  pub persists : search.persists ≡ mode
+  pub over : search.over ≡ cut
+  pub same : pending search ≡ messages
+  pub some : waits mode cut ≡ false → HasNext messages
 
 -- what the search that a consumer is fed by has pending, which is nothing after its end
-abbrev pub HasPending : List (ℕ × SearchState) → Option ℕ → List SyncMessage → Type 0
-HasPending searches None pending = pending ≡ []
-HasPending searches (Some at) pending = IsPending searches at pending
+abbrev pub HasPending : List (ℕ × SearchState) → Search → (mode cut : Bool) → Option ℕ → List SyncMessage → Type 0
+HasPending searches selection mode cut None messages = (messages ≡ []) × (waits mode cut ≡ false)
+HasPending searches selection mode cut (Some at) messages = IsPending searches selection mode cut at messages
 
--- a search that was opened after so many writes goes on: its messages are those that were taken, those in the link and
--- those that are pending, of which some are left; the entries are still those of before, and no message is needed of
--- the cookie, which may have changed since
-pub record GoesOn (number : ℕ) (p : ProviderState) (f : Follower) (opened : ℕ) (stored : Holding) : Type 0 where
-  pub within : opened ≤ length p.directory.writes
+-- in the refresh: these messages of it were taken, and some are to come, before those of later writes; the entries are
+-- still those of before, and no message is needed of the cookie, which may have changed since
+pub record InRefresh (session : Session) (start : Start) (opened count : ℕ) (entries : List Entry) (held : Copy) (taken ahead : List SyncMessage) : Type 0 where
+  pub begins : Begins session start opened entries
+  pub rest : List SyncMessage
+  pub some : HasNext rest
+  pub whole : taken ++ rest ≡ refresh_from session start opened
+  pub behind : ahead ≡ rest ++ cond session.persists (later session opened count) []
+  pub copy : held ≡ staging session.persists entries held.cookie taken
+
+-- after it: all messages of some writes were taken, and the entries are those after them
+pub record AtWhole (session : Session) (opened count : ℕ) (entries : List Entry) (held : Copy) (ahead : List SyncMessage) : Type 0 where
+  pub number : ℕ
+  pub more : ℕ
+  pub from : opened ≤ number
+  pub sum : number + more ≡ opened + count
+  pub content : entries ≡ content_after session number
+  pub behind : ahead ≡ later session number more
+  pub ended : Bool
+  pub copy : held ≡ settled 1 true ended entries held.cookie
+
+-- or some messages of one write more, but not the last of them
+pub record InGroup (session : Session) (opened count : ℕ) (entries : List Entry) (held : Copy) (ahead : List SyncMessage) : Type 0 where
+  pub number : ℕ
+  pub more : ℕ
+  pub from : opened ≤ number
+  pub sum : number + 1 + more ≡ opened + count
+  pub content : entries ≡ content_after session number
+  pub before : List Touch
+  pub touch : Touch
+  pub after : List Touch
+  pub at : touched (content_after session number) (content_after session (number + 1)) ≡ before ++ touch ∷ after
+  pub behind : ahead ≡ told_all (session.cookies (number + 1)) (touch ∷ after) ++ later session (number + 1) more
+  pub ended : Bool
+  pub copy : held ≡ stepping 1 ended entries held.cookie (staged_all [] before)
+
+-- the search goes on after its refresh
+abbrev pub IsPast : Session → ℕ → ℕ → List Entry → Copy → List SyncMessage → Type 0
+IsPast session opened count entries held ahead =
+    (session.persists ≡ true) × (AtWhole session opened count entries held ahead ⊎ InGroup session opened count entries held ahead)
+
+abbrev pub IsWhere : Session → Start → ℕ → ℕ → List Entry → Copy → List SyncMessage → List SyncMessage → Type 0
+IsWhere session start opened count entries held taken ahead =
+    InRefresh session start opened count entries held taken ahead ⊎ IsPast session opened count entries held ahead
+
+-- a search of that opening goes on: its messages, up to so many writes after the opening, are those that were taken and
+-- those to come, of which these are in the link and those are pending
+pub record GoesOn (number : ℕ) (p : ProviderState) (f : Follower) (opening : Opening) (entries : List Entry) : Type 0 where
+  pub count : ℕ
+  pub upto : opening.writes + count ≤ length p.directory.writes
   pub start : Start
-  pub begins : Begins (session_at number f.consumer.spec p.directory.writes opened) start opened stored.entries
+  pub from : BeginsFrom number (take opening.writes p.directory.writes) (text_of_kept number (take opening.writes p.directory.writes) opening.kept) (number_of start)
   pub taken : List SyncMessage
+  pub ahead : List SyncMessage
+  pub whole : taken ++ ahead ≡ stream_over number f.consumer.spec p.directory.writes opening start count
+  pub cut : Bool
+  pub lasts : cut ≡ true → opening.persists ≡ true
+  pub all : waits opening.persists cut ≡ true → opening.writes + count ≡ length p.directory.writes
   pub linked : List SyncMessage
   pub pending : List SyncMessage
-  pub whole : taken ++ (linked ++ pending) ≡ refresh_at number f.consumer.spec p.directory.writes start opened
-  pub copy : f.consumer.copy ≡ staging stored.entries f.consumer.copy.cookie taken
-  pub link : f.link ≡ map (λ message. message_octets (wire.sent message_id message)) linked
-  pub next : SyncMessage
-  pub later : List SyncMessage
-  pub left : linked ++ pending ≡ next ∷ later
-  pub search : HasPending p.searches f.search pending
+  pub left : Remains cut ahead (linked ++ pending)
+  pub told : opening.sent ≡ map octets_of (taken ++ linked)
+  pub link : f.link ≡ map octets_of linked
+  pub search : HasPending p.searches f.consumer.spec opening.persists cut f.search pending
+  pub place : IsWhere (session_over number f.consumer.spec p.directory.writes opening) start opening.writes count entries f.consumer.copy taken ahead
 
 -- no search of the consumer is open or runs, and nothing is in its link
 pub record IsAtRest (f : Follower) : Type 0 where
@@ -114,19 +184,22 @@ pub record IsAtRest (f : Follower) : Type 0 where
   pub running : f.consumer.copy.running ≡ None
   pub link : f.link ≡ []
 
-abbrev pub IsGoing : ℕ → ProviderState → Follower → Option ℕ → Holding → Type 0
-IsGoing number p f None stored = ⊥
-IsGoing number p f (Some opened) stored = GoesOn number p f opened stored
+-- the search of the latest opening goes on
+pub record IsGoing (number : ℕ) (p : ProviderState) (f : Follower) (known : Known) : Type 0 where
+  pub opening : Opening
+  pub latest : known.opening ≡ Some opening
+  pub goes : GoesOn number p f opening known.entries
 
--- the latest `opened` line of the consumer told this number, and what was told since it was declared is that it holds
--- these entries and this cookie
-pub record IsFed (number : ℕ) (p : ProviderState) (f : Follower) (opened : Option ℕ) (stored : Holding) : Type 0 where
-  pub held : f.consumer.copy.held ≡ stored.entries
-  pub ascending : ascends stored.entries ≡ true
-  pub cookie : f.consumer.copy.cookie ≡ text_of_kept number p.directory.writes stored.kept
-  pub prefix : IsWithinWrites (length p.directory.writes) stored.kept
-  pub promised : IsPromised number f.consumer.spec p.directory.writes stored.entries (held_cookie f.consumer.copy.cookie)
-  pub state : IsAtRest f ⊎ IsGoing number p f opened stored
+-- what the lines tell of the consumer is so: it holds these entries and this cookie, and its search, if one goes on, is
+-- that of its latest opening
+pub record IsFed (number : ℕ) (p : ProviderState) (f : Follower) (known : Known) : Type 0 where
+  pub held : f.consumer.copy.held ≡ known.entries
+  pub ascending : ascends known.entries ≡ true
+  pub cookie : f.consumer.copy.cookie ≡ text_of_kept number p.directory.writes known.kept
+  pub prefix : IsWithinWrites (length p.directory.writes) known.kept
+  pub promised : IsPromised number f.consumer.spec p.directory.writes known.entries (held_cookie f.consumer.copy.cookie)
+  pub below : is_at_or_below f.consumer.spec.base p.directory.suffix ≡ true
+  pub state : IsAtRest f ⊎ IsGoing number p f known
 
 -- two consumers have no search in common
 abbrev pub AreApart : Follower → Follower → Type 0
@@ -146,81 +219,119 @@ abbrev pub frame_of : ProviderState → Follower → Frame
 frame_of p f = record { writes = p.directory.writes; name = f.name; source = f.source; spec = f.consumer.spec; reload = f.consumer.reload }
 
 -- a `stored` line of the consumer after the latest `opened` line told this number
-pub record IsRightOf (number : ℕ) (frame : Frame) (opened : Option ℕ) (n : ℕ) (entries : List Entry) (root : List ℕ) (origin : ℕ) : Type 0 where
+pub record IsRightOf (number : ℕ) (frame : Frame) (known : Known) (n : ℕ) (entries : List Entry) (root : List ℕ) (origin : ℕ) : Type 0 where
   pub prefix : n ≤ length frame.writes
-  pub at : ℕ
-  pub latest : opened ≡ Some at
-  pub no_shorter : at ≤ n
+  pub opening : Opening
+  pub latest : known.opening ≡ Some opening
+  pub no_shorter : opening.writes ≤ n
   pub exactly : entries ≡ select frame.spec (entries_after number (take n frame.writes))
   pub from_root : root ≡ frame.source
   pub from_prefix : origin ≡ n
 
+-- a `sent` line after the latest `opened` line
+pub record IsSentOf (number : ℕ) (frame : Frame) (known : Known) (octets : List ℕ) : Type 0 where
+  pub opening : Opening
+  pub latest : known.opening ≡ Some opening
+  pub next : IsNextOf number frame.spec frame.writes opening octets
+
+-- a `settled` line
+pub record IsSettledOf (number : ℕ) (frame : Frame) (known : Known) (n : ℕ) : Type 0 where
+  pub all : n ≡ length frame.writes
+  pub exactly : known.entries ≡ select frame.spec (entries_after number frame.writes)
+
 -- the text of the cookie that is held
-abbrev pub text_held : ℕ → Frame → Holding → Option (List ℕ)
-text_held number frame stored = text_of_kept number frame.writes stored.kept
+abbrev pub text_held : ℕ → Frame → Known → Option (List ℕ)
+text_held number frame known = text_of_kept number frame.writes known.kept
 
-abbrev pub LineIsRightOf : ℕ → Frame → Option ℕ → Holding → Told → Type 0
-LineIsRightOf number frame opened stored (Stored name n entries root origin) = (name ≡ frame.name) × IsRightOf number frame opened n entries root origin
-LineIsRightOf number frame opened stored (Opened name n) = (name ≡ frame.name) × IsServed frame.reload number frame.writes (text_held number frame stored)
-LineIsRightOf number frame opened stored (Refused name code) =
-    (name ≡ frame.name) × (code ≡ 4096 → IsUnserved frame.reload number frame.writes (text_held number frame stored))
-LineIsRightOf number frame opened stored (Shown name entries) = ⊥
-LineIsRightOf number frame opened stored _ = Unit {0}
+abbrev pub LineIsRightOf : ℕ → Frame → Known → Told → Type 0
+LineIsRightOf number frame known (Stored name n entries root origin) = (name ≡ frame.name) × IsRightOf number frame known n entries root origin
+LineIsRightOf number frame known (Opened name persists n) = (name ≡ frame.name) × IsOpenedAt n frame.reload number frame.writes (text_held number frame known)
+LineIsRightOf number frame known (Refused name persists code) =
+    (name ≡ frame.name) × (code ≡ 4096) × IsUnserved frame.reload number frame.writes (text_held number frame known)
+LineIsRightOf number frame known (Sent name octets) = (name ≡ frame.name) × IsSentOf number frame known octets
+LineIsRightOf number frame known (Ended name code) = code ≡ pos 51
+LineIsRightOf number frame known (Faulted name fault) = ⊥
+LineIsRightOf number frame known (Settled name n) = (name ≡ frame.name) × IsSettledOf number frame known n
+LineIsRightOf number frame known (Shown name entries) = ⊥
+LineIsRightOf number frame known _ = Unit {0}
 
-abbrev pub LinesAreRightOf : ℕ → Frame → Option ℕ → Holding → List Told → Type 0
-LinesAreRightOf number frame opened stored [] = Unit {0}
-LinesAreRightOf number frame opened stored (line ∷ lines) =
-    LineIsRightOf number frame opened stored line
-    × LinesAreRightOf number frame (opened_after frame.name opened line) (held_after frame.name stored line) lines
+abbrev pub LinesAreRightOf : ℕ → Frame → Known → List Told → Type 0
+LinesAreRightOf number frame known [] = Unit {0}
+LinesAreRightOf number frame known (line ∷ lines) =
+    LineIsRightOf number frame known line × LinesAreRightOf number frame (known_after frame.name known line) lines
 
-abbrev pub IsRight : ℕ → ProviderState → Follower → Option ℕ → ℕ → List Entry → List ℕ → ℕ → Type 0
-IsRight number p f opened n entries root origin = IsRightOf number (frame_of p f) opened n entries root origin
+abbrev pub IsRight : ℕ → ProviderState → Follower → Known → ℕ → List Entry → List ℕ → ℕ → Type 0
+IsRight number p f known n entries root origin = IsRightOf number (frame_of p f) known n entries root origin
 
-abbrev pub LineIsRight : ℕ → ProviderState → Follower → Option ℕ → Holding → Told → Type 0
-LineIsRight number p f opened stored line = LineIsRightOf number (frame_of p f) opened stored line
+abbrev pub LineIsRight : ℕ → ProviderState → Follower → Known → Told → Type 0
+LineIsRight number p f known line = LineIsRightOf number (frame_of p f) known line
 
-abbrev pub LinesAreRight : ℕ → ProviderState → Follower → Option ℕ → Holding → List Told → Type 0
-LinesAreRight number p f opened stored lines = LinesAreRightOf number (frame_of p f) opened stored lines
+abbrev pub LinesAreRight : ℕ → ProviderState → Follower → Known → List Told → Type 0
+LinesAreRight number p f known lines = LinesAreRightOf number (frame_of p f) known lines
 
 -- the other consumers of a provider are fed as before
 abbrev pub KeepsOthers : ℕ → Pair → Pair → Type 0
 KeepsOthers number before after =
-    (g : Follower) (o : Option ℕ) (s : Holding) → IsFed number before.provider g o s → AreApart before.follower g
-    → IsFed number after.provider g o s × AreApart after.follower g
+    (g : Follower) (known : Known) → IsFed number before.provider g known → AreApart before.follower g
+    → IsFed number after.provider g known × AreApart after.follower g
+
+-- each search that is open then is that of the consumer, or was open before and was another's
+abbrev pub OwnsNew : Pair → Pair → Type 0
+OwnsNew before after =
+    (at : ℕ) (s : SearchState) → search_at after.provider.searches at ≡ Some s
+    → (after.follower.search ≡ Some at)
+    ⊎ ((was : SearchState) × (search_at before.provider.searches at ≡ Some was) × (before.follower.search ≡ Some at → ⊥))
+
+-- each open search is that of the consumer, or one of some few others
+pub record HasRoom (p : ProviderState) (f : Follower) : Type 0 where
+  pub others : List ℕ
+  pub few : length others ≤ 16
+  pub each : (at : ℕ) (s : SearchState) → search_at p.searches at ≡ Some s → (f.search ≡ Some at) ⊎ (among at others ≡ true)
 
 -- what holds after a part of an event that a consumer goes through
-pub record IsKept (number : ℕ) (suffix : List (List TypeAndValue)) (before after : Pair) (lines : List Told) (opened : Option ℕ) (stored : Holding) : Type 0 where
+pub record IsKept (number : ℕ) (suffix : List (List TypeAndValue)) (before after : Pair) (lines : List Told) (known : Known) : Type 0 where
   pub source : IsSource number suffix after.provider
-  pub fed : IsFed number after.provider after.follower (fold (opened_after before.follower.name) opened lines) (fold (held_after before.follower.name) stored lines)
-  pub right : LinesAreRight number before.provider before.follower opened stored lines
+  pub fed : IsFed number after.provider after.follower (fold (known_after before.follower.name) known lines)
+  pub right : LinesAreRight number before.provider before.follower known lines
   pub same : frame_of after.provider after.follower ≡ frame_of before.provider before.follower
   pub others : KeepsOthers number before after
+  pub owns : OwnsNew before after
 
 abbrev pub PartsAreKept : Type 0
 PartsAreKept =
-    (number : ℕ) (suffix : List (List TypeAndValue)) (before after : Pair) (lines : List Told) (opened : Option ℕ) (stored : Holding) (exchange : Exchange)
-    → IsSource number suffix before.provider → IsFed number before.provider before.follower opened stored → part_of exchange before ≡ Ok (after, lines)
-    → IsKept number suffix before after lines opened stored
+    (number : ℕ) (suffix : List (List TypeAndValue)) (before after : Pair) (lines : List Told) (known : Known) (exchange : Exchange)
+    → IsSource number suffix before.provider → IsFed number before.provider before.follower known → HasRoom before.provider before.follower
+    → part_of exchange before ≡ Ok (after, lines) → IsKept number suffix before after lines known
 
 -- a new consumer is at rest; a provider without writes is a source
 abbrev pub RestIsFed : Type 0
 RestIsFed =
     (number : ℕ) (p : ProviderState) (f : Follower) → f.search ≡ None → f.link ≡ [] → f.consumer.copy.running ≡ None → f.consumer.copy.held ≡ []
-    → f.consumer.copy.cookie ≡ None → IsFed number p f None empty_handed
+    → f.consumer.copy.cookie ≡ None → is_at_or_below f.consumer.spec.base p.directory.suffix ≡ true → IsFed number p f nothing_known
 
 abbrev pub FreshIsSource : Type 0
 FreshIsSource = (number : ℕ) (suffix : List (List TypeAndValue)) → 1 ≤ number → number ≤ 16 → IsSource number suffix (fresh suffix number number)
 
--- a write keeps a source and what its consumers are fed
+-- each search that is open was open before
+abbrev pub OpensNone : ProviderState → ProviderState → Type 0
+OpensNone p q = (at : ℕ) (s : SearchState) → search_at q.searches at ≡ Some s → (was : SearchState) × (search_at p.searches at ≡ Some was)
+
+-- a change of a provider alone that keeps it a source, and what its consumers are fed
+pub record KeepsAll (number : ℕ) (suffix : List (List TypeAndValue)) (p q : ProviderState) : Type 0 where
+  pub source : IsSource number suffix q
+  pub fed : (g : Follower) (known : Known) → IsFed number p g known → IsFed number q g known
+  pub opens : OpensNone p q
+
 abbrev pub WritesAreKept : Type 0
 WritesAreKept =
     (number : ℕ) (suffix : List (List TypeAndValue)) (p : ProviderState) (now : ℕ) (change : Change) → IsSource number suffix p
-    → IsSource number suffix (record p { directory = changed p.directory now change })
-    × ((g : Follower) (o : Option ℕ) (s : Holding) → IsFed number p g o s → IsFed number (record p { directory = changed p.directory now change }) g o s)
+    → KeepsAll number suffix p (wrote_change p now change)
 
--- so does a limit of the log
+-- so do a limit of the log and one of the queues
 abbrev pub LimitsAreKept : Type 0
 LimitsAreKept =
-    (number : ℕ) (suffix : List (List TypeAndValue)) (p : ProviderState) (limit : ℕ) → IsSource number suffix p
-    → IsSource number suffix (log_limited p limit)
-    × ((g : Follower) (o : Option ℕ) (s : Holding) → IsFed number p g o s → IsFed number (log_limited p limit) g o s)
+    (number : ℕ) (suffix : List (List TypeAndValue)) (p : ProviderState) (limit : ℕ) → IsSource number suffix p → KeepsAll number suffix p (log_limited p limit)
+
+abbrev pub QueuesAreKept : Type 0
+QueuesAreKept =
+    (number : ℕ) (suffix : List (List TypeAndValue)) (p : ProviderState) (limit : ℕ) → IsSource number suffix p → KeepsAll number suffix p (queue_limited p limit)

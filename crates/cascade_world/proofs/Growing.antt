@@ -1,5 +1,5 @@
 -- What holds of the nodes after one more order and its lines.
-use Rattle.std.proofs.Common.{◌≡◌, ◌+◌, ℕ, Bool, true, false, Option, Some, None, List, [], ◌∷◌, ◌++◌, refl, ap, sym, subst, ◌∙◌, inl, inr, add-zero}
+use Rattle.std.proofs.Common.{◌≡◌, ◌+◌, ℕ, Bool, true, false, Some, None, List, [], ◌∷◌, ◌++◌, refl, ap, sym, subst, ◌∙◌, inl, inr, add-zero}
 use Rattle.std.proofs.lemmas.List.Sums.{sum_by-append}
 use Rattle.std.specs.Prelude.{count_by}
 use Rattle.std.specs.Str.{bytes_eq}
@@ -7,7 +7,7 @@ use Rattle.dn_names.specs.Names.{TypeAndValue}
 use Rattle.sync_provider.specs.Machine.{ProviderState}
 use Rattle.cascade_world.specs.declared.node.Root.{Root}
 use Rattle.cascade_world.specs.declared.node.Follower.{Follower}
-use Rattle.cascade_world.specs.Headline.{Holding, time_from, accepted_from, latest_opened, last_held}
+use Rattle.cascade_world.specs.Headline.{Known, time_from, accepted_from, known_of}
 use Rattle.cascade_world.specs.Orders.{Order}
 use Rattle.cascade_world.specs.Orders.{Order as asks}
 use Rattle.cascade_world.specs.Report.{Told}
@@ -15,7 +15,7 @@ use Rattle.cascade_world.specs.World.{is_root, is_follower}
 use Rattle.cascade_world.proofs.Accepted.{accepted_from-push, Untouched, with_accepted-untouched, declared-push}
 use Rattle.cascade_world.proofs.Feeding.{IsSource, IsFed}
 use Rattle.cascade_world.proofs.Finding.{find-push, IsChanged, found_after, roots_by, root_name, same_root}
-use Rattle.cascade_world.proofs.Saying.{IsLeft, opened_still, stored_still}
+use Rattle.cascade_world.proofs.Saying.{IsLeft, known_still}
 use Rattle.cascade_world.proofs.Traces.{other_way}
 use Rattle.cascade_world.proofs.Tracking.{IsProvider, IsRoot, IsFollower, AreRoots, AreFollowers, AllApart}
 
@@ -51,9 +51,9 @@ pub provider_now : (before : List Order) (name : List ℕ) (number : ℕ) (suffi
     → IsProvider before name number suffix p → IsProvider before name p.directory.history p.directory.suffix p
 provider_now before name number suffix p is = subst (λ d. IsProvider before name d.history d.suffix p) (sym is.source.directory) is
 
-pub fed_now : (number : ℕ) (suffix : List (List TypeAndValue)) (p : ProviderState) (f : Follower) (opened : Option ℕ) (stored : Holding)
-    → IsSource number suffix p → IsFed number p f opened stored → IsFed p.directory.history p f opened stored
-fed_now number suffix p f opened stored source fed = subst (λ d. IsFed d.history p f opened stored) (sym source.directory) fed
+pub fed_now : (number : ℕ) (suffix : List (List TypeAndValue)) (p : ProviderState) (f : Follower) (known : Known)
+    → IsSource number suffix p → IsFed number p f known → IsFed p.directory.history p f known
+fed_now number suffix p f known source fed = subst (λ d. IsFed d.history p f known) (sym source.directory) fed
 
 root_kept : (before : List Order) (order : Order) (root : Root) → Untouched order root.name → IsRoot before root → IsRoot (before ++ order ∷ []) root
 root_kept before order root quiet is =
@@ -86,14 +86,14 @@ roots_pushed before order roots root quiet now is = λ name r e.
 
 -- the consumer is fed by the provider that is found
 pub fed_by : (before : List Order) (said : List Told) (roots : List Root) (name : List ℕ) (root : Root) (f : Follower) → roots_by roots name ≡ Some root → f.source ≡ name → IsFollower before said roots f
-    → IsFed root.provider.directory.history root.provider f (latest_opened f.name said) (last_held f.name said)
+    → IsFed root.provider.directory.history root.provider f (known_of f.name said)
 fed_by before said roots name root f e same is =
     let one : is.root ≡ root = same_root roots f.source name is.root root is.there e same in
-    subst (λ (r : Root). IsFed r.provider.directory.history r.provider f (latest_opened f.name said) (last_held f.name said)) one is.fed
+    subst (λ (r : Root). IsFed r.provider.directory.history r.provider f (known_of f.name said)) one is.fed
 
 -- a consumer that stays as it is, with lines of others
 pub follower_kept : (before : List Order) (order : Order) (said lines : List Told) (roots after : List Root) (root : Root) (f : Follower) → IsLeft f.name lines → roots_by after f.source ≡ Some root
-    → IsFed root.provider.directory.history root.provider f (latest_opened f.name said) (last_held f.name said) → IsFollower before said roots f → IsFollower (before ++ order ∷ []) (said ++ lines) after f
+    → IsFed root.provider.directory.history root.provider f (known_of f.name said) → IsFollower before said roots f → IsFollower (before ++ order ∷ []) (said ++ lines) after f
 follower_kept before order said lines roots after root f left there fed is =
     let number = root.provider.directory.history in
     record {
@@ -102,9 +102,7 @@ follower_kept before order said lines roots after root f left there fed is =
       declared = declared-push before is.place (asks.Consumer f.name f.source f.consumer.spec f.consumer.reload) is.since order is.declared;
       root = root;
       there = there;
-      fed =
-          subst (λ s. IsFed number root.provider f (latest_opened f.name (said ++ lines)) s) (sym (stored_still f.name said lines left))
-          (subst (λ o. IsFed number root.provider f o (last_held f.name said)) (sym (opened_still f.name said lines left)) fed);
+      fed = subst (IsFed number root.provider f) (sym (known_still f.name said lines left)) fed;
     }
 
 -- no consumer is changed, and each provider is still there

@@ -1,7 +1,8 @@
 -- Each line of a run is right, for the orders and the lines before it.
-use Rattle.std.proofs.Common.{◌≡◌, ℕ, Option, Some, None, List, [], ◌∷◌, ◌++◌, refl, sym, subst, ◌∙◌}
+use Rattle.std.proofs.Common.{◌≡◌, ℕ, Option, Some, None, List, [], ◌∷◌, ◌++◌, refl, sym, subst, ◌∙◌, arith}
+use Rattle.sync_messages.specs.declared.request.Mode.TheVariants.{RefreshOnly, RefreshAndPersist}
 use Rattle.entry_tree.specs.declared.entry.Entry.{Entry}
-use Rattle.sync_provider.specs.Directory.{entries_of}
+use Rattle.directory_writes.specs.Directory.{entries_of}
 use Rattle.cascade_world.specs.declared.exchange.Exchange.TheVariants as goes
 use Rattle.cascade_world.specs.declared.node.Root.{Root}
 use Rattle.cascade_world.specs.declared.node.Follower.{Follower}
@@ -14,18 +15,18 @@ use Rattle.cascade_world.specs.Report.Told.{Shown}
 use Rattle.cascade_world.specs.Run.{Runs}
 use Rattle.cascade_world.specs.World.{State, no_nodes, step, root_named, follower_named, shown_of, show_of}
 use Rattle.cascade_world.proofs.PartsKept.{parts_are_kept}
-use Rattle.cascade_world.proofs.Sources.{rest_is_fed, fresh_is_source, writes_are_kept, limits_are_kept}
+use Rattle.cascade_world.proofs.Sources.{rest_is_fed, fresh_is_source, writes_are_kept, limits_are_kept, queues_are_kept}
 use Rattle.cascade_world.proofs.Accepted.{time_from-push}
 use Rattle.cascade_world.proofs.Declarations.{After, time_still, provider_after, consumer_after}
 use Rattle.cascade_world.proofs.Exchanges.{exchange_after}
-use Rattle.cascade_world.proofs.Feeding.{PartsAreKept, RestIsFed, FreshIsSource, WritesAreKept, LimitsAreKept}
+use Rattle.cascade_world.proofs.Feeding.{PartsAreKept, RestIsFed, FreshIsSource, WritesAreKept, LimitsAreKept, QueuesAreKept}
 use Rattle.cascade_world.proofs.Finding.{follower_name}
 use Rattle.cascade_world.proofs.Growing.{count_same, roots_kept, followers_kept}
 use Rattle.cascade_world.proofs.Saying.{left_by_none}
 use Rattle.cascade_world.proofs.Telling.{root_shown, copy_shown}
 use Rattle.cascade_world.proofs.Traces.{AreTold, ToldAfter, step_told_after}
 use Rattle.cascade_world.proofs.Tracking.{Tracks}
-use Rattle.cascade_world.proofs.Written.{write_after, limit_after}
+use Rattle.cascade_world.proofs.Written.{write_after, log_after, queue_after}
 
 -- what is known of providers and of what they feed their consumers
 pub record Known : Type 0 where
@@ -33,6 +34,7 @@ pub record Known : Type 0 where
   pub fresh : FreshIsSource
   pub writes : WritesAreKept
   pub limits : LimitsAreKept
+  pub queues : QueuesAreKept
   pub parts : PartsAreKept
 
 -- ---- the clock
@@ -46,6 +48,8 @@ clock_after before said state time is =
         roots = roots_kept before order state.roots (λ n. tt) is.roots;
         followers = followers_kept before order said [] state.roots state.roots state.followers left_by_none (λ n r h. h) is.followers;
         apart = is.apart;
+        few = is.few;
+        owned = is.owned;
       },
       tt,
     )
@@ -72,9 +76,11 @@ show_after before said state name (Some entries) e is =
         count = is.count ∙ sym (count_same is_declaration before order refl);
         roots = roots_kept before order state.roots (λ n. tt) is.roots;
         followers =
-            followers_kept before order said (Shown name entries ∷ []) state.roots state.roots state.followers (λ n. record { opened = λ o. refl; stored = λ s. refl })
+            followers_kept before order said (Shown name entries ∷ []) state.roots state.roots state.followers (λ n. record { known = λ k. refl })
             (λ n r h. h) is.followers;
         apart = is.apart;
+        few = is.few;
+        owned = is.owned;
       },
       (shown_right before said state name (root_named name state) (follower_named name state) entries refl refl e is, tt),
     )
@@ -86,14 +92,16 @@ step_after known before said state (asks.Provider name suffix) told is = provide
 step_after known before said state (asks.Consumer name source search reload) told is = consumer_after known.rest before said state name source search reload told is
 step_after known before said state (asks.Clock time) told is = clock_after before said state time is
 step_after known before said state (asks.Write name change) told is = write_after known.writes before said state name change (root_named name state) refl is
-step_after known before said state (asks.OpenOnce name) told is = exchange_after known.parts before said state name goes.Open (follower_named name state) refl is
+step_after known before said state (asks.OpenOnce name) told is = exchange_after known.parts before said state name (goes.Open RefreshOnly) (follower_named name state) refl is
+step_after known before said state (asks.OpenStay name) told is = exchange_after known.parts before said state name (goes.Open RefreshAndPersist) (follower_named name state) refl is
 step_after known before said state (asks.Send name count) told is = exchange_after known.parts before said state name (goes.Send count) (follower_named name state) refl is
 step_after known before said state (asks.Take name count) told is = exchange_after known.parts before said state name (goes.Take count) (follower_named name state) refl is
 step_after known before said state (asks.Cut name) told is = exchange_after known.parts before said state name goes.Cut (follower_named name state) refl is
 step_after known before said state (asks.Settle name) told is = exchange_after known.parts before said state name goes.Settle (follower_named name state) refl is
 step_after known before said state (asks.Lose name) told is = exchange_after known.parts before said state name goes.Lose (follower_named name state) refl is
 step_after known before said state (asks.Cookie name text) told is = exchange_after known.parts before said state name (goes.Give text) (follower_named name state) refl is
-step_after known before said state (asks.Log name limit) told is = limit_after known.limits before said state name limit (root_named name state) refl is
+step_after known before said state (asks.Log name limit) told is = log_after known.limits before said state name limit (root_named name state) refl is
+step_after known before said state (asks.Queue name limit) told is = queue_after known.queues before said state name limit (root_named name state) refl is
 step_after known before said state (asks.Show name) told is = show_after before said state name (shown_of (root_named name state) (follower_named name state)) refl is
 
 -- ---- runs
@@ -108,7 +116,7 @@ run_right known before said state reader (o ∷ orders) (t ∷ report) end rest 
     (next.1, run_right known (before ++ o ∷ []) (said ++ t) r.2 r.1 orders report end rest told' next.0 r.5)
 
 start_tracked : Tracks [] [] no_nodes
-start_tracked = record { time = refl; count = refl; roots = λ name root e. cc; followers = λ name f e. cc; apart = λ name other f g e e' apart same. cc }
+start_tracked = record { time = refl; count = refl; roots = λ name root e. cc; followers = λ name f e. cc; apart = λ name other f g e e' apart same. cc; few = omega arith; owned = λ name root e at s found. cc }
 
 -- each line of a run from no nodes is right
 pub runs_lines_right_by : Known → (reader : Reader) (orders : List Order) (report : List (List Told)) (end : State) (rest : Reader) → Runs no_nodes reader orders report end rest → LinesAreRight [] [] orders report
@@ -117,4 +125,4 @@ runs_lines_right_by known reader orders report end rest r =
 
 -- with what is known of them
 pub runs_lines_right : (reader : Reader) (orders : List Order) (report : List (List Told)) (end : State) (rest : Reader) → Runs no_nodes reader orders report end rest → LinesAreRight [] [] orders report
-runs_lines_right = runs_lines_right_by (record { rest = rest_is_fed; fresh = fresh_is_source; writes = writes_are_kept; limits = limits_are_kept; parts = parts_are_kept })
+runs_lines_right = runs_lines_right_by (record { rest = rest_is_fed; fresh = fresh_is_source; writes = writes_are_kept; limits = limits_are_kept; queues = queues_are_kept; parts = parts_are_kept })

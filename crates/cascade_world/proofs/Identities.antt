@@ -1,5 +1,5 @@
 -- What a refresh says can be sent: its entries, and the identities that it names, of which a set has few.
-use Rattle.std.proofs.Common.{◌≡◌, ◌<◌, ◌≤◌, ◌^◌, ◌+◌, ◌-◌, ℕ, zero, suc, Bool, true, false, cond, nat_eq, List, [], ◌∷◌, ◌++◌, length, length-append, Option, Some, None, refl, ap, sym, ◌∙◌, arith, subst, eq-eqb}
+use Rattle.std.proofs.Common.{◌≡◌, ◌<◌, ◌≤◌, ◌+◌, ◌-◌, ℕ, zero, suc, Bool, true, false, cond, nat_eq, List, [], ◌∷◌, ◌++◌, length, length-append, Option, Some, None, refl, ap, sym, ◌∙◌, arith, subst, eq-eqb}
 use Rattle.std.specs.Prelude.{◌||◌, not, ⊤, All, flat_map, is_some, nat_lt}
 use Rattle.std.proofs.lemmas.Bool.{or_right, ltb-true}
 use Rattle.std.proofs.lemmas.List.Elements.{All-head, All-tail}
@@ -9,11 +9,11 @@ use Rattle.entry_tree.specs.History.{differing_over}
 use Rattle.entry_tree.specs.State.{entry_at, is_identified}
 use Rattle.entry_tree.specs.Touched.{identities}
 use Rattle.sync_model.specs.Message.{SyncMessage}
-use Rattle.sync_model.specs.Message.SyncMessage.{Put, Gone, Present, IdSet, NewCookie, PhaseEnds, Done, Passed}
+use Rattle.sync_model.specs.Message.SyncMessage.{IdSet}
 use Rattle.sync_model.specs.Stream.{Session, Start, Decision, among, content_after, is_covered, is_sent, walk, decided, decide, most_names, whole, left_over, rest_of, gathered}
 use Rattle.sync_model.specs.Stream.Start.{Blank, Covered, Uncovered}
 use Rattle.sync_model.specs.Stream.Decision.{Sends, Names}
-use Rattle.sync_model.proofs.Gather.{Each, EachD, IsPart, EachM, each-append, eachd-append}
+use Rattle.sync_model.proofs.Gather.{Each, EachD, each-append, eachd-append}
 use Rattle.sync_model.proofs.Maps.{among-identities, entry_at-uuid}
 use Rattle.sync_model.proofs.Steps.{differing, among-differing, over_none, among-over_more}
 use Rattle.sync_wire.specs.CanBeSent.{CanBeSent}
@@ -21,7 +21,7 @@ use Rattle.sync_wire.specs.Law.{IsIdentity}
 
 -- ---- what is found can be sent
 
-found_sent : (entries : List Entry) (u : ℕ) (e : Entry) → entry_at entries u ≡ Some e → All CanBeSent entries → CanBeSent e
+pub found_sent : (entries : List Entry) (u : ℕ) (e : Entry) → entry_at entries u ≡ Some e → All CanBeSent entries → CanBeSent e
 found_sent [] u e is all = let never : ⊥ = cc in absurd never
 found_sent (x ∷ entries) u e is all = by (found_sent entries u e) (is_identified u x) is
   where

@@ -1,5 +1,5 @@
--- How many octets a message of a refresh has in its canonical spelling.
-use Rattle.std.proofs.Common.{◌≡◌, ◌≢◌, ℕ, ◌+◌, ◌*◌, ◌≤◌, not, ◌==◌, Bool, true, false, List, [], ◌∷◌, ◌++◌, map, length, length-append, Some, None, ap, refl, arith}
+-- How many octets a message of a search has in its canonical spelling.
+use Rattle.std.proofs.Common.{◌≡◌, ◌≢◌, ℕ, ◌+◌, ◌*◌, ◌≤◌, not, ◌==◌, Bool, true, false, Option, List, [], ◌∷◌, ◌++◌, map, length, length-append, Some, None, ap, refl, ◌∙◌, arith}
 use Rattle.std.specs.Prelude.{All, pos, codes}
 use Rattle.std.specs.List.{list_all, flat_map, AllPass}
 use Rattle.std.specs.Int.{w128, to_be_bytes}
@@ -30,18 +30,18 @@ use Rattle.ldap_parts.specs.Attributes.{attribute_octets}
 use Rattle.ldap_parts.specs.Components.{number_octets, strings_octets}
 use Rattle.ldap_parts.specs.Controls.{control_octets}
 use Rattle.ldap_parts.specs.declared.control.Control.{Control}
-use Rattle.ldap_messages.specs.Operation.{Operation, search_done, intermediate, operation_octets}
+use Rattle.ldap_messages.specs.Operation.{Operation, entry, search_done, intermediate, operation_octets}
 use Rattle.ldap_messages.specs.Whole.{message_octets}
 use Rattle.sync_messages.specs.declared.state.State.{State}
 use Rattle.sync_messages.specs.declared.state.State.TheVariants as state
 use Rattle.sync_messages.specs.Done.{done_octets}
 use Rattle.sync_messages.specs.declared.info.SyncInfo.TheVariants as info
 use Rattle.sync_messages.specs.Info.{info_octets}
-use Rattle.sync_messages.specs.Parts.{uuid_octets}
+use Rattle.sync_messages.specs.Parts.{cookie_octets, uuid_octets}
 use Rattle.sync_messages.specs.State.{kind_number, state_octets}
-use Rattle.sync_model.specs.Message.SyncMessage.{Put, IdSet, Done}
+use Rattle.sync_model.specs.Message.SyncMessage.{Put, Gone, IdSet, PhaseEnds, Done}
 use Rattle.sync_wire.specs.CanBeSent.{CanBeSent}
-use Rattle.sync_wire.specs.Sending.{raw_of, single, uuid_text, marks_of, attributes_of, entry_of, kind_of, result_of, state_name, done_name, info_name, sent}
+use Rattle.sync_wire.specs.Sending.{raw_of, single, uuid_text, marks_of, attributes_of, entry_of, kind_of, result_of, state_name, done_name, info_name, phase_end, sent}
 
 -- ---- attributes
 
@@ -131,7 +131,7 @@ names_size (rdn ∷ rdns) are =
     let rest = All-tail (λ (x : List TypeAndValue). is_rdn x ≡ true) rdn rdns are in
     omega (arith, length-append (rdn_text rdn) (more_rdns_text rdns), rdn_size rdn first, more_rdns_size rdns rest)
 
-name_size : (name : List (List TypeAndValue)) → IsName name → length (name_text name) ≤ 32800
+pub name_size : (name : List (List TypeAndValue)) → IsName name → length (name_text name) ≤ 32800
 name_size name is = omega (arith, names_size name is.rdns, is.few)
 
 -- ---- stamps and cookies
@@ -234,28 +234,54 @@ kind_size state.Add = refl
 kind_size state.Modify = refl
 kind_size state.Delete = refl
 
-state_size : (kind : State) (uuid : ℕ) → length (state_octets (record { state = kind; uuid = uuid; cookie = None })) ≤ 35
+-- the text of a cookie, or none
+abbrev pub IsText : Option (List ℕ) → Type 0
+IsText None = Unit {0}
+IsText (Some text) = (cookie : Cookie) × (text ≡ cookie_text cookie)
+
+text_size : (text : List ℕ) → IsText (Some text) → length text ≡ 97
+text_size text is = ap (λ (x : List ℕ). length x) is.1 ∙ cookie_size is.0
+
+text_octets_size : (cookie : Option (List ℕ)) → IsText cookie → length (cookie_octets cookie) ≤ 103
+text_octets_size None is = omega arith
+text_octets_size (Some text) is = omega (arith, element_size 4 text, text_size text is)
+
+state_size : (kind : State) (uuid : ℕ) (cookie : Option (List ℕ)) → IsText cookie → length (state_octets (record { state = kind; uuid = uuid; cookie = cookie })) ≤ 138
 unfolding state_octets
-state_size kind uuid =
+state_size kind uuid cookie is =
     let number = element 10 (integer_octets (kind_number kind)) in
     let identity = element 4 (to_be_bytes w128 uuid) in
     let long : length (to_be_bytes w128 uuid) ≡ 16 = refl in
     omega (
       arith,
-      element_size 48 (number ++ (identity ++ [])),
-      length-append number (identity ++ []),
+      element_size 48 (number ++ (identity ++ cookie_octets cookie)),
+      length-append number (identity ++ cookie_octets cookie),
       element_size 10 (integer_octets (kind_number kind)),
       kind_size kind,
-      length-append identity [],
+      length-append identity (cookie_octets cookie),
       element_size 4 (to_be_bytes w128 uuid),
+      text_octets_size cookie is,
       long,
     )
 
-pub put_size : (adds : Bool) (e : Entry) → CanBeSent e → length (message_octets (sent 1 (Put adds e None))) ≤ 4194304
-put_size adds e can =
-    let value = state_octets (record { state = kind_of adds; uuid = e.uuid; cookie = None }) in
+pub put_size : (adds : Bool) (e : Entry) (cookie : Option (List ℕ)) → CanBeSent e → IsText cookie → length (message_octets (sent 1 (Put adds e cookie))) ≤ 4194304
+put_size adds e cookie can is =
+    let value = state_octets (record { state = kind_of adds; uuid = e.uuid; cookie = cookie }) in
     let named : length state_name ≡ 24 = refl in
-    omega (arith, message_size (entry_of e) state_name value, named, entry_size e can, state_size (kind_of adds) e.uuid)
+    omega (arith, message_size (entry_of e) state_name value, named, entry_size e can, state_size (kind_of adds) e.uuid cookie is)
+
+-- ---- the name of an entry that is gone
+
+bare_size : (name : List ℕ) → length (operation_octets (entry (name, []))) ≤ length name + 18
+bare_size name =
+    let none : List ℕ = [] in
+    omega (arith, element_size 100 (element 4 name ++ element 48 none), length-append (element 4 name) (element 48 none), element_size 4 name, element_size 48 none)
+
+pub gone_size : (uuid : ℕ) (name : List ℕ) (cookie : Option (List ℕ)) → length name ≤ 32800 → IsText cookie → length (message_octets (sent 1 (Gone uuid name cookie))) ≤ 4194304
+gone_size uuid name cookie short is =
+    let value = state_octets (record { state = state.Delete; uuid = uuid; cookie = cookie }) in
+    let named : length state_name ≡ 24 = refl in
+    omega (arith, message_size (entry (name, [])) state_name value, named, bare_size name, short, state_size state.Delete uuid cookie is)
 
 -- ---- a set of identities
 
@@ -329,3 +355,34 @@ done_size deletes cookie =
     let value = done_octets (record { cookie = Some (cookie_text cookie); refresh_deletes = deletes }) in
     let named : length done_name ≡ 24 = refl in
     omega (arith, message_size (search_done (result_of (pos 0))) done_name value, named, end_size, told_size (cookie_text cookie) deletes, cookie_size cookie)
+
+-- ---- the end of a refresh of a search that goes on
+
+either_size : (usual flag : Bool) → length (flag_octets 1 usual flag) ≤ 7
+either_size false false = omega arith
+either_size true true = omega arith
+either_size false true = omega (arith, element_size 1 (255 ∷ []))
+either_size true false = omega (arith, element_size 1 (0 ∷ []))
+
+phase_value_size : (deletes done : Bool) (cookie : Option (List ℕ)) → IsText cookie → length (info_octets (phase_end deletes done cookie)) ≤ 116
+unfolding info_octets
+phase_value_size true done cookie is =
+    let flag = flag_octets 1 true done in
+    omega (arith, element_size 161 (cookie_octets cookie ++ flag), length-append (cookie_octets cookie) flag, text_octets_size cookie is, either_size true done)
+phase_value_size false done cookie is =
+    let flag = flag_octets 1 true done in
+    omega (arith, element_size 162 (cookie_octets cookie ++ flag), length-append (cookie_octets cookie) flag, text_octets_size cookie is, either_size true done)
+
+pub phase_size : (deletes done : Bool) (cookie : Option (List ℕ)) → IsText cookie → length (message_octets (sent 1 (PhaseEnds deletes done cookie))) ≤ 4194304
+phase_size deletes done cookie is =
+    let value = info_octets (phase_end deletes done cookie) in
+    omega (arith, plain_size (intermediate (Some info_name, Some value)), set_operation_size value, phase_value_size deletes done cookie is)
+
+-- ---- the end with busy
+
+busy_end_size : length (operation_octets (search_done (result_of (pos 51)))) ≡ 9
+unfolding element integer_octets
+busy_end_size = refl
+
+pub busy_size : length (message_octets (sent 1 (Done (pos 51) None))) ≤ 4194304
+busy_size = omega (arith, plain_size (search_done (result_of (pos 51))), busy_end_size)

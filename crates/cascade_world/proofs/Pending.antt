@@ -1,15 +1,15 @@
 -- What a search has pending, which is sent and taken to its end.
-use Rattle.std.proofs.Common.{◌≡◌, ◌<◌, ◌≤◌, ℕ, zero, suc, Bool, true, false, Option, Some, None, List, [], ◌∷◌, length, refl, ap, sym, subst, ◌∙◌, inl, inr, arith}
+use Rattle.std.proofs.Common.{◌≡◌, ◌<◌, ◌≤◌, ℕ, zero, suc, Bool, true, false, Option, Some, None, List, [], ◌∷◌, ◌++◌, length, refl, ap, sym, subst, ◌∙◌, inl, inr, arith}
 use Rattle.std.proofs.lemmas.Bool.{cases_Bool}
 use Rattle.std.specs.Prelude.{Ok, Err}
 use Rattle.ldap_messages.specs.Whole.{Whole, message_octets}
 use Rattle.sync_model.specs.Copy.{Copy}
 use Rattle.sync_model.specs.Message.{SyncMessage}
-use Rattle.sync_provider.specs.HandingOut.{Turn, turn_of_message, turn_of_pending, turn_of_found, search_at, turn_at, after_first, without_first, handed_on, after_turn}
+use Rattle.sync_provider.specs.HandingOut.{Turn, turn_of_message, turn_of_pending, turn_of_found, search_at, turn_at, without_first, handed_on, after_turn}
 use Rattle.sync_provider.specs.HandingOut.Turn.{Hands, Closes, Waits, Unknown}
 use Rattle.sync_provider.specs.Machine.{ProviderState}
-use Rattle.sync_provider.specs.Search.{SearchState}
-use Rattle.sync_provider.proofs.Looking.{put_on-same}
+use Rattle.sync_provider.specs.Search.{SearchState, advanced, busy_end, pending}
+use Rattle.directory_writes.proofs.Keyed.{put_on-same}
 use Rattle.cascade_world.specs.declared.fault.Cause.{Cause}
 use Rattle.cascade_world.specs.declared.fault.Cause.TheVariants.{BadCommand, UnknownNode, NameTaken, BadRecord, LimitReached, OutsideSuffix, LaterCookie, NotYet, NoMemory}
 use Rattle.cascade_world.specs.declared.node.Follower.{Follower}
@@ -24,12 +24,12 @@ use Rattle.cascade_world.specs.Report.{Told, lines_text}
 use Rattle.cascade_world.specs.Report.Told.{Sent}
 use Rattle.cascade_world.proofs.Loops.{begins, goes_on, done}
 
-abbrev Left : Pair → ℕ
+abbrev pub Left : Pair → ℕ
 Left p = left_to_send p p.follower.search
 
 -- ---- a sending leaves less pending
 
-abbrev LeavesLess : ℕ → Sending → Type 0
+abbrev pub LeavesLess : ℕ → Sending → Type 0
 LeavesLess n (Sends after message) = Left after < n
 LeavesLess n Rests = Unit {0}
 LeavesLess n Overflows = 0 < n
@@ -39,36 +39,65 @@ sends_less : (p : Pair) (search : Option ℕ) (message : List ℕ) (n : ℕ) →
 sends_less p search message n some less =
     elim (cases_Bool (fits p.follower message)) [ inl room ↦ rw room less | inr full ↦ rw full some ]
 
+abbrev no_messages : List SyncMessage
+no_messages = []
+
+-- a search that goes on after its first message has one less pending
+abbrev remade : SearchState → Bool → List SyncMessage → List SyncMessage → SearchState
+remade s over rest due = record s { over = over; rest = rest; due = due }
+
+pub one_less : (s : SearchState) (first : SyncMessage) (rest : List SyncMessage) (whole : Whole) → pending s ≡ first ∷ rest → turn_of_message s.id first ≡ Hands whole
+    → length (pending (without_first s)) ≡ length rest
+one_less s first rest whole waits hands = by s.over s.rest s.due waits
+  where
+    busy : busy_end ∷ [] ≡ first ∷ rest → turn_of_message s.id busy_end ≡ Hands whole
+    busy e = let same : busy_end ≡ first = cc in ap (turn_of_message s.id) same ∙ hands
+
+    ends : turn_of_message s.id busy_end ≡ Hands whole → ⊥
+    ends e = cc
+
+    none : no_messages ≡ first ∷ rest → ⊥
+    none e = cc
+
+    behind : (message : SyncMessage) (later : List SyncMessage) → message ∷ later ≡ first ∷ rest → later ≡ rest
+    behind message later e = cc
+
+    by : (over : Bool) (r d : List SyncMessage) → pending (remade s over r d) ≡ first ∷ rest → length (pending (without_first (remade s over r d))) ≡ length rest
+    by true r d e = absurd (ends (busy e))
+    by false [] [] e = absurd (none e)
+    by false [] (message ∷ d) e = ap length (behind message d e)
+    by false (message ∷ r) d e = ap length (behind message (r ++ d) e)
+
 -- the search that was handed a message has one less pending
 left_after : (p : ProviderState) (f : Follower) (search : Option ℕ) (number : ℕ) (s : SearchState) (first : SyncMessage) (rest : List SyncMessage) (whole : Whole) → search ≡ Some number
-    → search_at p.searches number ≡ Some s → s.pending ≡ first ∷ rest → turn_at p.searches number ≡ Hands whole → left_to_send (pair_of (handed p search) f) search ≡ length rest
-left_after p f search number s first rest whole at found pending turn =
+    → search_at p.searches number ≡ Some s → pending s ≡ first ∷ rest → turn_at p.searches number ≡ Hands whole → left_to_send (pair_of (handed p search) f) search ≡ length rest
+left_after p f search number s first rest whole at found waits turn =
     ap (λ q. left_to_send (pair_of (handed p q) f) q) at
     ∙ ap (λ t. pending_count (search_at (after_turn p.searches number t) number)) turn
     ∙ ap (λ x. pending_count (search_at (handed_on p.searches number x) number)) found
     ∙ ap pending_count (put_on-same p.searches number (without_first s) s found)
-    ∙ ap (λ ms. length (after_first s ms).pending) pending
+    ∙ one_less s first rest whole waits (sym (ap (turn_of_pending s.id) waits) ∙ sym (ap turn_of_found found) ∙ turn)
 
 by_turn : (p : Pair) (number : ℕ) (s : SearchState) (first : SyncMessage) (rest : List SyncMessage) (turn : Turn) → p.follower.search ≡ Some number → search_at p.provider.searches number ≡ Some s
-    → s.pending ≡ first ∷ rest → turn_at p.provider.searches number ≡ turn → LeavesLess (suc (length rest)) (sending_by p turn)
-by_turn p number s first rest (Hands whole) at found pending is =
+    → pending s ≡ first ∷ rest → turn_at p.provider.searches number ≡ turn → LeavesLess (suc (length rest)) (sending_by p turn)
+by_turn p number s first rest (Hands whole) at found waits is =
     let message : List ℕ = message_octets whole in
     let left : left_to_send (pair_of (handed p.provider p.follower.search) (linked p.follower p.follower.search message)) p.follower.search ≡ length rest =
-    left_after p.provider (linked p.follower p.follower.search message) p.follower.search number s first rest whole at found pending is in
+    left_after p.provider (linked p.follower p.follower.search message) p.follower.search number s first rest whole at found waits is in
     sends_less p p.follower.search message (suc (length rest)) (omega arith) (omega (arith, left))
-by_turn p number s first rest (Closes code whole) at found pending is = sends_less p None (message_octets whole) (suc (length rest)) (omega arith) (omega arith)
-by_turn p number s first rest Waits at found pending is = tt
-by_turn p number s first rest Unknown at found pending is = tt
+by_turn p number s first rest (Closes code whole) at found waits is = sends_less p None (message_octets whole) (suc (length rest)) (omega arith) (omega arith)
+by_turn p number s first rest Waits at found waits is = tt
+by_turn p number s first rest Unknown at found waits is = tt
 
-by_pending : (p : Pair) (number : ℕ) (s : SearchState) (pending : List SyncMessage) → p.follower.search ≡ Some number → search_at p.provider.searches number ≡ Some s → s.pending ≡ pending
-    → turn_at p.provider.searches number ≡ turn_of_pending s.id pending → LeavesLess (length pending) (sending_by p (turn_of_pending s.id pending))
-by_pending p number s [] at found pending is = tt
-by_pending p number s (first ∷ rest) at found pending is = by_turn p number s first rest (turn_of_message s.id first) at found pending is
+by_pending : (p : Pair) (number : ℕ) (s : SearchState) (waiting : List SyncMessage) → p.follower.search ≡ Some number → search_at p.provider.searches number ≡ Some s → pending s ≡ waiting
+    → turn_at p.provider.searches number ≡ turn_of_pending s.id waiting → LeavesLess (length waiting) (sending_by p (turn_of_pending s.id waiting))
+by_pending p number s [] at found waits is = tt
+by_pending p number s (first ∷ rest) at found waits is = by_turn p number s first rest (turn_of_message s.id first) at found waits is
 
 by_found : (p : Pair) (number : ℕ) (found : Option SearchState) → p.follower.search ≡ Some number → search_at p.provider.searches number ≡ found
     → LeavesLess (pending_count found) (sending_by p (turn_of_found found))
 by_found p number None at is = tt
-by_found p number (Some s) at is = by_pending p number s s.pending at is refl (ap turn_of_found is)
+by_found p number (Some s) at is = by_pending p number s (pending s) at is refl (ap turn_of_found is)
 
 by_search : (p : Pair) (search : Option ℕ) → p.follower.search ≡ search → LeavesLess (left_to_send p search) (sending_by p (turn_of p.provider search))
 by_search p None at = tt

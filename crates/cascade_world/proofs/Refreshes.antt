@@ -1,12 +1,11 @@
 -- Where a refresh stands after some of its messages, and what a copy makes of the next one.
-use Rattle.std.proofs.Common.{◌≡◌, ◌-◌, ℕ, Bool, true, false, List, [], ◌∷◌, ◌++◌, Option, Some, None, refl, ap, sym, ◌∙◌, inl, inr, arith, append-nil, append_assoc, subst}
+use Rattle.std.proofs.Common.{◌≡◌, ◌-◌, ℕ, Bool, true, false, cond, List, [], ◌∷◌, ◌++◌, Option, Some, None, refl, ap, sym, ◌∙◌, inl, inr, arith, append-nil, append_assoc, subst}
 use Rattle.std.specs.Prelude.{◌⊎◌, All, flat_map, is_some}
 use Rattle.std.proofs.lemmas.List.{same_from_push}
 use Rattle.std.proofs.lemmas.List.Elements.{All-filter}
 use Rattle.entry_tree.specs.declared.entry.Entry.{Entry}
-use Rattle.entry_tree.specs.declared.op.Write.{Write}
-use Rattle.entry_tree.specs.History.{state_of, differing_over}
-use Rattle.entry_tree.specs.Selection.{Search, is_selected}
+use Rattle.entry_tree.specs.History.{differing_over}
+use Rattle.entry_tree.specs.Selection.{is_selected}
 use Rattle.entry_tree.specs.State.{entry_at}
 use Rattle.sync_model.specs.Copy.{Copy, Commit, Answer, asked, taken, taken_all, answers, commit_of, ends_phase}
 use Rattle.sync_model.specs.Copy.Answer.{Staged, Stored}
@@ -17,14 +16,13 @@ use Rattle.sync_model.specs.Stream.Decision.{Sends, Names}
 use Rattle.sync_model.specs.Within.{taken_within, taken_all_within, answers_within}
 use Rattle.sync_model.proofs.Fitting.{front_fits}
 use Rattle.sync_model.proofs.Gather.{Each, EachD, IsPart, EachM, each-gathered, each-front}
-use Rattle.sync_model.proofs.Histories.{ascends-state_of}
 use Rattle.sync_model.proofs.Refresh.{Sent, Named, each-pieces, known, refresh_ends}
 use Rattle.sync_model.proofs.Steps.{over_none}
 use Rattle.sync_model.proofs.Taking.{refreshing, running_in, names_after, stage_after, taken-one, taken-part}
-use Rattle.sync_provider.specs.Search.{session_of, whole_walk, refresh_from}
+use Rattle.sync_provider.specs.Search.{whole_walk, refresh_from}
 use Rattle.sync_wire.specs.CanBeSent.{CanBeSent}
 use Rattle.sync_wire.specs.Law.{IsIdentity}
-use Rattle.cascade_world.proofs.Carried.{IsOfRefresh, of_part}
+use Rattle.cascade_world.proofs.Carried.{IsOfSearch, of_part}
 use Rattle.cascade_world.proofs.Identities.{IsFew, walk_range, each_decided, few_gathered}
 
 -- ---- the next message
@@ -100,27 +98,28 @@ answers_within-last (x ∷ messages) m id copy = ap (λ told. (taken_within id c
 
 -- ---- a copy in the refresh
 
--- one with these entries and this cookie, which took these messages
-abbrev pub staging : List Entry → Option Cookie → List SyncMessage → Copy
-staging held cookie taken = refreshing 1 held cookie false false (names_after [] taken) (stage_after [] taken)
+abbrev pub no_messages : List SyncMessage
+no_messages = []
+
+-- one with these entries and this cookie, which took these messages of a search that goes on after its refresh or not
+abbrev pub staging : Bool → List Entry → Option Cookie → List SyncMessage → Copy
+staging persists held cookie taken = refreshing 1 held cookie persists false (names_after [] taken) (stage_after [] taken)
 
 -- a message is staged, and those held stay
-pub record IsStaged (held : List Entry) (cookie : Option Cookie) (taken : List SyncMessage) (outcome : Copy × Answer) : Type 0 where
+pub record IsStaged (persists : Bool) (held : List Entry) (cookie : Option Cookie) (taken : List SyncMessage) (outcome : Copy × Answer) : Type 0 where
   pub answer : outcome.1 ≡ Staged
-  pub copy : outcome.0 ≡ staging held cookie taken
+  pub copy : outcome.0 ≡ staging persists held cookie taken
 
--- and at the end the content is held, with its cookie, and no search runs
-pub record IsStored (content : List Entry) (cookie : Cookie) (outcome : Copy × Answer) : Type 0 where
+-- and at the end the content is held, with its cookie, and the search goes on or is over
+pub record IsStored (persists : Bool) (content : List Entry) (cookie : Cookie) (outcome : Copy × Answer) : Type 0 where
   pub commit : Commit
   pub answer : outcome.1 ≡ Stored commit
-  pub copy : outcome.0 ≡ record { held = content; cookie = Some cookie; running = None }
+  pub ended : Bool
+  pub copy : outcome.0 ≡ settled 1 persists ended content (Some cookie)
 
--- ---- the refresh of a directory
+-- ---- the refresh of a search
 
-module _ (number : ℕ) (search : Search) (writes : List Write) (start : Start) (opened : ℕ) where
-  abbrev pub session : Session
-  session = session_of number number search writes
-
+module _ (session : Session) (start : Start) (opened : ℕ) where
   abbrev pub covered : Bool
   covered = is_covered start
 
@@ -134,7 +133,7 @@ module _ (number : ℕ) (search : Search) (writes : List Write) (start : Start) 
   part = gathered covered decisions
 
   abbrev pub last : SyncMessage
-  last = end_of false covered (session.cookies opened)
+  last = end_of session.persists covered (session.cookies opened)
 
   pub refresh_is : refresh_from session start opened ≡ part ++ last ∷ []
   refresh_is =
@@ -146,16 +145,19 @@ module _ (number : ℕ) (search : Search) (writes : List Write) (start : Start) 
   pub follows : (front rest : List SyncMessage) (m : SyncMessage) → front ++ m ∷ rest ≡ refresh_from session start opened → Next part front last m rest
   follows front rest m whole = next_is front part rest last m (whole ∙ refresh_is)
 
+  -- each message of the part is an entry or a set of names
+  pub part_parts : EachM covered (λ e. Unit {0}) (λ u. Unit {0}) part
+  part_parts = each-gathered covered (λ e. Unit {0}) (λ u. Unit {0}) decisions (any_decision decisions)
+
   pub midst_part : (front rest : List SyncMessage) (m : SyncMessage) → IsMidst part front last m rest → IsPart covered (λ e. Unit {0}) (λ u. Unit {0}) m
   midst_part front rest m is =
-      each_at (IsPart covered (λ e. Unit {0}) (λ u. Unit {0})) front m is.more (subst (EachM covered (λ e. Unit {0}) (λ u. Unit {0})) is.among
-      (each-gathered covered (λ e. Unit {0}) (λ u. Unit {0}) decisions (any_decision decisions)))
+      each_at (IsPart covered (λ e. Unit {0}) (λ u. Unit {0})) front m is.more (subst (EachM covered (λ e. Unit {0}) (λ u. Unit {0})) is.among part_parts)
 
   -- ---- what is said can be sent
 
-  module _ (sent : (count : ℕ) → All CanBeSent (state_of number writes count)) where
+  module _ (sent : (count : ℕ) → All CanBeSent (session.states count)) where
     content_sent : All CanBeSent (content_after session opened)
-    content_sent = All-filter (is_selected search) CanBeSent (state_of number writes opened) (sent opened)
+    content_sent = All-filter (is_selected session.selection) CanBeSent (session.states opened) (sent opened)
 
     decisions_is : flat_map (decide_piece session start) pieces ≡ decide_piece session start (record { uuids = walk session start opened; mark = opened })
     decisions_is = append-nil (decide_piece session start (record { uuids = walk session start opened; mark = opened }))
@@ -168,17 +170,14 @@ module _ (number : ℕ) (search : Search) (writes : List Write) (start : Start) 
         EachDecided : List Decision → Type 0
         EachDecided ds = EachD CanBeSent IsIdentity ds
 
-    pub midst_sent : (front rest : List SyncMessage) (m : SyncMessage) → IsMidst part front last m rest → IsOfRefresh m
+    pub midst_sent : (front rest : List SyncMessage) (m : SyncMessage) → IsMidst part front last m rest → IsOfSearch m
     midst_sent front rest m is =
         of_part covered m (each_at (IsPart covered CanBeSent IsIdentity) front m is.more (subst (EachM covered CanBeSent IsIdentity) is.among part_sent))
         (each_at IsFew front m is.more (subst (Each IsFew) is.among (few_gathered covered decisions)))
 
   -- ---- what a copy makes of it
 
-  module _ (held : List Entry) (begins : Begins session start opened held) (within : (count : ℕ) → IsWithin (state_of number writes count)) where
-    ascending : Ascending session
-    ascending count = ascends-state_of number writes count
-
+  module _ (ascending : Ascending session) (held : List Entry) (begins : Begins session start opened held) (within : (count : ℕ) → IsWithin (session.states count)) where
     cut : IsCut session start opened pieces
     cut = record { cut = append-nil (walk session start opened); rises = (omega arith, tt) }
 
@@ -195,24 +194,29 @@ module _ (number : ℕ) (search : Search) (writes : List Write) (start : Start) 
     are_known = known session ascending start opened opened held begins
 
     abbrev before : Option Cookie → Copy
-    before cookie = asked 1 false (record { held = held; cookie = cookie; running = None })
+    before cookie = asked 1 session.persists (record { held = held; cookie = cookie; running = None })
 
     -- after a front of the part
-    front_taken : (cookie : Option Cookie) (front more : List SyncMessage) → part ≡ front ++ more → taken_all 1 (before cookie) front ≡ staging held cookie front
+    front_taken : (cookie : Option Cookie) (front more : List SyncMessage) → part ≡ front ++ more → taken_all 1 (before cookie) front ≡ staging session.persists held cookie front
     front_taken cookie front more among =
         ap (taken_all 1 (before cookie)) (sym (append-nil front))
-        ∙ taken-part front [] covered P Q 1 held cookie false false [] [] (each-front (IsPart covered P Q) front more (subst (EachM covered P Q) among part_each)) are_known
+        ∙ taken-part front [] covered P Q 1 held cookie session.persists false [] [] (each-front (IsPart covered P Q) front more (subst (EachM covered P Q) among part_each)) are_known
 
     -- no limit is met
     fits : (cookie : Option Cookie) (front rest : List SyncMessage) → front ++ rest ≡ refresh_from session start opened
         → (taken_all_within 1 (before cookie) front ≡ taken_all 1 (before cookie) front) × (answers_within 1 (before cookie) front ≡ answers 1 (before cookie) front)
     fits cookie front rest whole =
-        front_fits session ascending within 1 start opened 0 (record { held = held; cookie = cookie; running = None }) front rest begins (whole ∙ sym (append-nil (refresh_from session start opened)))
+        front_fits session ascending within 1 start opened 0 (record { held = held; cookie = cookie; running = None }) front rest begins
+        (whole ∙ sym (append-nil (refresh_from session start opened)) ∙ ap (λ ms. refresh_from session start opened ++ ms) (sym (no_later session.persists)))
+      where
+        no_later : (persists : Bool) → cond persists [] [] ≡ no_messages
+        no_later true = refl
+        no_later false = refl
 
     -- the next message is taken as without limits
     record IsTaken (cookie : Option Cookie) (front : List SyncMessage) (m : SyncMessage) : Type 0 where
-      copy : (taken_within 1 (staging held cookie front) m).0 ≡ taken_all 1 (before cookie) (front ++ m ∷ [])
-      answer : (taken_within 1 (staging held cookie front) m).1 ≡ (taken 1 (staging held cookie front) m).1
+      copy : (taken_within 1 (staging session.persists held cookie front) m).0 ≡ taken_all 1 (before cookie) (front ++ m ∷ [])
+      answer : (taken_within 1 (staging session.persists held cookie front) m).1 ≡ (taken 1 (staging session.persists held cookie front) m).1
 
     is_taken : (cookie : Option Cookie) (front more rest : List SyncMessage) (m : SyncMessage) → part ≡ front ++ more → front ++ m ∷ rest ≡ refresh_from session start opened → IsTaken cookie front m
     is_taken cookie front more rest m among whole = record {
@@ -228,40 +232,43 @@ module _ (number : ℕ) (search : Search) (writes : List Write) (start : Start) 
           ∙ ap (λ c. (taken 1 c m).1) (front_taken cookie front more among);
     }
       where
-        reached : taken_all_within 1 (before cookie) front ≡ staging held cookie front
+        reached : taken_all_within 1 (before cookie) front ≡ staging session.persists held cookie front
         reached = (fits cookie front (m ∷ rest) whole).0 ∙ front_taken cookie front more among
 
     -- a message of the part is staged
     pub midst_staged : (cookie : Option Cookie) (front rest : List SyncMessage) (m : SyncMessage) → front ++ m ∷ rest ≡ refresh_from session start opened → IsMidst part front last m rest
-        → IsStaged held cookie (front ++ m ∷ []) (taken_within 1 (staging held cookie front) m)
+        → IsStaged session.persists held cookie (front ++ m ∷ []) (taken_within 1 (staging session.persists held cookie front) m)
     midst_staged cookie front rest m whole is = record {
       answer =
           now.answer
           ∙ ap (λ (outcome : Copy × Answer). outcome.1)
-          (taken-one m covered P Q 1 held cookie false false (names_after [] front) (stage_after [] front) (each_at (IsPart covered P Q) front m is.more (subst (EachM covered P Q) is.among part_each)) are_known);
+          (taken-one m covered P Q 1 held cookie session.persists false (names_after [] front) (stage_after [] front) (each_at (IsPart covered P Q) front m is.more (subst (EachM covered P Q) is.among part_each)) are_known);
       copy = now.copy ∙ front_taken cookie (front ++ m ∷ []) is.more (is.among ∙ sym (append_assoc front (m ∷ []) is.more));
     }
       where
         now : IsTaken cookie front m
         now = is_taken cookie front (m ∷ is.more) rest m is.among whole
 
-    end_answer : (deletes : Bool) (cookie : Option Cookie) (front : List SyncMessage) (new : Cookie)
-        → (taken 1 (staging held cookie front) (end_of false deletes new)).1
-        ≡ Stored (commit_of (ends_phase held (running_in 1 false false (names_after [] front) (stage_after [] front)) deletes).stage (Some new))
-    end_answer true cookie front new = refl
-    end_answer false cookie front new = refl
+    end_answer : (persists deletes : Bool) (cookie : Option Cookie) (front : List SyncMessage) (new : Cookie)
+        → (taken 1 (staging persists held cookie front) (end_of persists deletes new)).1
+        ≡ Stored (commit_of (ends_phase held (running_in 1 persists false (names_after [] front) (stage_after [] front)) deletes).stage (Some new))
+    end_answer false true cookie front new = refl
+    end_answer false false cookie front new = refl
+    end_answer true true cookie front new = refl
+    end_answer true false cookie front new = refl
 
     -- the end brings the content into effect, with its cookie
     pub end_stored : (cookie : Option Cookie) (front rest : List SyncMessage) (m : SyncMessage) → front ++ m ∷ rest ≡ refresh_from session start opened → IsEnd part front last m rest
-        → IsStored (content_after session opened) (session.cookies opened) (taken_within 1 (staging held cookie front) m)
+        → IsStored session.persists (content_after session opened) (session.cookies opened) (taken_within 1 (staging session.persists held cookie front) m)
     end_stored cookie front rest m whole is = record {
-      commit = commit_of (ends_phase held (running_in 1 false false (names_after [] front) (stage_after [] front)) covered).stage (Some (session.cookies opened));
-      answer = now.answer ∙ ap (λ x. (taken 1 (staging held cookie front) x).1) is.message ∙ end_answer covered cookie front (session.cookies opened);
+      commit = commit_of (ends_phase held (running_in 1 session.persists false (names_after [] front) (stage_after [] front)) covered).stage (Some (session.cookies opened));
+      answer = now.answer ∙ ap (λ x. (taken 1 (staging session.persists held cookie front) x).1) is.message ∙ end_answer session.persists covered cookie front (session.cookies opened);
+      ended = ends.0;
       copy = now.copy ∙ ap (taken_all 1 (before cookie)) (ap (λ ms. front ++ m ∷ ms) (sym is.none) ∙ whole) ∙ ends.1;
     }
       where
         now : IsTaken cookie front m
         now = is_taken cookie front [] rest m (sym is.told ∙ sym (append-nil front)) whole
 
-        ends : (ended : Bool) × (taken_all 1 (before cookie) (refresh_from session start opened) ≡ settled 1 false ended (content_after session opened) (Some (session.cookies opened)))
+        ends : (ended : Bool) × (taken_all 1 (before cookie) (refresh_from session start opened) ≡ settled 1 session.persists ended (content_after session opened) (Some (session.cookies opened)))
         ends = refresh_ends session ascending 1 start opened pieces (record { held = held; cookie = cookie; running = None }) cut begins

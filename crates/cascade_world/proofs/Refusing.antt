@@ -30,14 +30,18 @@ same_test code number = by (code == number) refl (int_eq (pos code) (pos number)
         let never : false ≡ true = sym miss ∙ eq-eqb code number equal in
         cc
 
-pub refused_over : (copy : Copy) (code : ℕ) → IsOver copy (code == 4096) (refused_copy (asking copy) code)
-refused_over copy code = by (code == 0) refl (same_test code 0) (same_test code 4096)
+-- where the search would have persisted, each end is that of the search
+stay_over : (copy : Copy) (code : ℕ) → IsOver copy (code == 4096) (refused_copy (asking true copy) code)
+stay_over copy code = record { held = refl; running = refl; cookie = ap (λ b. cond b None copy.cookie) (same_test code 4096) }
+
+once_over : (copy : Copy) (code : ℕ) → IsOver copy (code == 4096) (refused_copy (asking false copy) code)
+once_over copy code = by (code == 0) refl (same_test code 0) (same_test code 4096)
   where
     outcome : Bool → Copy × Answer
-    outcome fails = cond fails (over (asking copy) (pos code)) (refused (asking copy) OutOfPlace)
+    outcome fails = cond fails (over (asking false copy) (pos code)) (refused (asking false copy) OutOfPlace)
 
     ends : Bool → Copy
-    ends fails = (refused_by (limit_fault false (outcome fails).0 (outcome fails).1) (asking copy) (outcome fails)).0
+    ends fails = (refused_by (limit_fault false (outcome fails).0 (outcome fails).1) (asking false copy) (outcome fails)).0
 
     is_none : (zero' : Bool) → (code == 0) ≡ zero' → zero' ≡ true → (code == 4096) ≡ false
     is_none zero' is hit = let none : code ≡ 0 = eqb-true code 0 (is ∙ hit) in ap (λ n. n == 4096) none
@@ -52,3 +56,7 @@ refused_over copy code = by (code == 0) refl (same_test code 0) (same_test code 
         → IsOver copy (code == 4096) (ends (not (int_eq (pos code) (pos 0))))
     by true is first last = subst (λ b. IsOver copy (code == 4096) (ends (not b))) (sym (first ∙ is)) (refused_is (code == 4096) (is_none true is refl))
     by false is first last = subst (λ b. IsOver copy (code == 4096) (ends (not b))) (sym (first ∙ is)) (over_is (code == 4096) last)
+
+pub refused_over : (persists : Bool) (copy : Copy) (code : ℕ) → IsOver copy (code == 4096) (refused_copy (asking persists copy) code)
+refused_over true copy code = stay_over copy code
+refused_over false copy code = once_over copy code

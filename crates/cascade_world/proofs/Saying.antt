@@ -1,10 +1,10 @@
 -- The lines of others leave what a consumer's own lines have told.
-use Rattle.std.proofs.Common.{◌≡◌, ℕ, true, false, Option, None, List, [], ◌∷◌, ◌++◌, refl, ap, sym, ◌∙◌, inl, inr}
+use Rattle.std.proofs.Common.{◌≡◌, ℕ, true, false, List, [], ◌∷◌, ◌++◌, refl, ap, sym, ◌∙◌, inl, inr}
 use Rattle.std.proofs.lemmas.Bool.{cases_Bool}
 use Rattle.std.proofs.lemmas.List.Sums.{fold-append}
 use Rattle.std.specs.List.{fold}
 use Rattle.std.specs.Str.{bytes_eq}
-use Rattle.cascade_world.specs.Headline.{Holding, empty_handed, opened_after, held_after, latest_opened, last_held}
+use Rattle.cascade_world.specs.Headline.{Known, nothing_known, known_after, known_of}
 use Rattle.cascade_world.specs.Report.{Told}
 use Rattle.cascade_world.specs.Report.Told.{Wrote, Opened, Refused, Sent, Taken, Stored, Ended, Faulted, Cut, Nothing, Settled, Holds, Shown}
 use Rattle.cascade_world.specs.Trace.{name_in}
@@ -14,54 +14,34 @@ use Rattle.cascade_world.proofs.Traces.{AreOfNodes, same_name}
 
 -- what these lines leave as it was told before
 pub record IsLeft (name : List ℕ) (lines : List Told) : Type 0 where
-  pub opened : (found : Option ℕ) → fold (opened_after name) found lines ≡ found
-  pub stored : (found : Holding) → fold (held_after name) found lines ≡ found
+  pub known : (found : Known) → fold (known_after name) found lines ≡ found
 
-opened_other : (name : List ℕ) (found : Option ℕ) (line : Told) → bytes_eq (name_in line) name ≡ false → opened_after name found line ≡ found
-opened_other name found (Wrote other code writes) h = refl
-opened_other name found (Opened other writes) h = rw h refl
-opened_other name found (Refused other code) h = refl
-opened_other name found (Sent other message) h = refl
-opened_other name found (Taken other) h = refl
-opened_other name found (Stored other number entries root origin) h = refl
-opened_other name found (Ended other code) h = refl
-opened_other name found (Faulted other fault) h = refl
-opened_other name found (Cut other) h = refl
-opened_other name found (Nothing other) h = refl
-opened_other name found (Settled other writes) h = refl
-opened_other name found (Holds other cookie) h = refl
-opened_other name found (Shown other entries) h = refl
-
-stored_other : (name : List ℕ) (found : Holding) (line : Told) → bytes_eq (name_in line) name ≡ false → held_after name found line ≡ found
-stored_other name found (Wrote other code writes) h = refl
-stored_other name found (Opened other writes) h = refl
-stored_other name found (Refused other code) h = rw h refl
-stored_other name found (Sent other message) h = refl
-stored_other name found (Taken other) h = refl
-stored_other name found (Stored other number entries root origin) h = rw h refl
-stored_other name found (Ended other code) h = refl
-stored_other name found (Faulted other fault) h = refl
-stored_other name found (Cut other) h = refl
-stored_other name found (Nothing other) h = refl
-stored_other name found (Settled other writes) h = refl
-stored_other name found (Holds other cookie) h = rw h refl
-stored_other name found (Shown other entries) h = refl
+known_other : (name : List ℕ) (found : Known) (line : Told) → bytes_eq (name_in line) name ≡ false → known_after name found line ≡ found
+known_other name found (Wrote other code writes) h = refl
+known_other name found (Opened other persists writes) h = rw h refl
+known_other name found (Refused other persists code) h = rw h refl
+known_other name found (Sent other message) h = rw h refl
+known_other name found (Taken other) h = refl
+known_other name found (Stored other number entries root origin) h = rw h refl
+known_other name found (Ended other code) h = refl
+known_other name found (Faulted other fault) h = refl
+known_other name found (Cut other) h = refl
+known_other name found (Nothing other) h = refl
+known_other name found (Settled other writes) h = refl
+known_other name found (Holds other cookie) h = rw h refl
+known_other name found (Shown other entries) h = refl
 
 -- no line is of that name
 abbrev HasNone : List ℕ → List Told → Type 0
 HasNone name [] = Unit {0}
 HasNone name (line ∷ lines) = (bytes_eq (name_in line) name ≡ false) × HasNone name lines
 
-opened_others : (name : List ℕ) (found : Option ℕ) (lines : List Told) → HasNone name lines → fold (opened_after name) found lines ≡ found
-opened_others name found [] h = refl
-opened_others name found (line ∷ lines) h = ap (λ o. fold (opened_after name) o lines) (opened_other name found line h.0) ∙ opened_others name found lines h.1
-
-stored_others : (name : List ℕ) (found : Holding) (lines : List Told) → HasNone name lines → fold (held_after name) found lines ≡ found
-stored_others name found [] h = refl
-stored_others name found (line ∷ lines) h = ap (λ s. fold (held_after name) s lines) (stored_other name found line h.0) ∙ stored_others name found lines h.1
+known_others : (name : List ℕ) (found : Known) (lines : List Told) → HasNone name lines → fold (known_after name) found lines ≡ found
+known_others name found [] h = refl
+known_others name found (line ∷ lines) h = ap (λ k. fold (known_after name) k lines) (known_other name found line h.0) ∙ known_others name found lines h.1
 
 left_by_others : (name : List ℕ) (lines : List Told) → HasNone name lines → IsLeft name lines
-left_by_others name lines h = record { opened = λ found. opened_others name found lines h; stored = λ found. stored_others name found lines h }
+left_by_others name lines h = record { known = λ found. known_others name found lines h }
 
 own_has_none : (name other : List ℕ) (lines : List Told) → bytes_eq other name ≡ false → EachOwn other lines → HasNone name lines
 own_has_none name other [] apart own = tt
@@ -72,7 +52,7 @@ pub left_by_other : (name other : List ℕ) (lines : List Told) → bytes_eq oth
 left_by_other name other lines apart own = left_by_others name lines (own_has_none name other lines apart own)
 
 pub left_by_none : (name : List ℕ) → IsLeft name []
-left_by_none name = record { opened = λ found. refl; stored = λ found. refl }
+left_by_none name = record { known = λ found. refl }
 
 -- a name that no node has, among lines of nodes
 new_is_other : (name other : List ℕ) (state : State) → has_node name state ≡ false → has_node other state ≡ true → bytes_eq other name ≡ false
@@ -90,8 +70,5 @@ pub left_for_new : (name : List ℕ) (state : State) (lines : List Told) → has
 left_for_new name state lines new of = left_by_others name lines (new_has_none name state lines new of)
 
 -- what was told before is told still
-pub opened_still : (name : List ℕ) (said lines : List Told) → IsLeft name lines → latest_opened name (said ++ lines) ≡ latest_opened name said
-opened_still name said lines is = fold-append (opened_after name) None said lines ∙ is.opened (latest_opened name said)
-
-pub stored_still : (name : List ℕ) (said lines : List Told) → IsLeft name lines → last_held name (said ++ lines) ≡ last_held name said
-stored_still name said lines is = fold-append (held_after name) empty_handed said lines ∙ is.stored (last_held name said)
+pub known_still : (name : List ℕ) (said lines : List Told) → IsLeft name lines → known_of name (said ++ lines) ≡ known_of name said
+known_still name said lines is = fold-append (known_after name) nothing_known said lines ∙ is.known (known_of name said)

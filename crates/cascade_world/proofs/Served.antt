@@ -1,9 +1,9 @@
 -- What a cookie has to do with the answer to a consumer that asks, and with where its search begins.
 use Rattle.std.proofs.Common.{◌≡◌, ◌≤◌, ℕ, Bool, true, false, cond, Option, Some, None, List, length, take, refl, ap, sym, ◌∙◌, inl, inr, arith, subst, eqb-true, eq-eqb}
-use Rattle.std.specs.Prelude.{◌⊎◌, ◌&&◌, ◌==◌, not, is_some, nat_le, Ok}
+use Rattle.std.specs.Prelude.{◌&&◌, ◌==◌, not, is_some, nat_le, Ok}
 use Rattle.std.proofs.lemmas.Bool.{and_parts}
 use Rattle.std.proofs.lemmas.Bool.Decides.{nat_tests}
-use Rattle.csn_cookie.specs.Cookie.{cookie_of_text, is_blank, IsBlank}
+use Rattle.csn_cookie.specs.Cookie.{cookie_of_text, is_blank}
 use Rattle.csn_cookie.specs.Csn.{Stamp, start, is_upto, is_before, upto}
 use Rattle.csn_cookie.specs.declared.cookie.Cookie.{Cookie}
 use Rattle.csn_cookie.proofs.CookieLemmas.{cookie_of_text-spelled, spelled-cookie_of_text, is_blank-blank, blank-is_blank}
@@ -14,19 +14,21 @@ use Rattle.entry_tree.specs.declared.entry.Entry.{Entry}
 use Rattle.entry_tree.specs.declared.op.Write.{Write}
 use Rattle.session_log.specs.Log.{covers}
 use Rattle.sync_messages.specs.declared.request.SyncRequest.{SyncRequest}
-use Rattle.sync_messages.specs.declared.request.Mode.TheVariants.{RefreshOnly}
+use Rattle.sync_messages.specs.declared.request.Mode.{Mode}
+use Rattle.sync_model.specs.Incremental.{number_of}
 use Rattle.sync_model.specs.Law.{Begins, IsContentWithin}
-use Rattle.sync_model.specs.Stream.{Session, Start}
-use Rattle.sync_model.specs.Stream.Start.{Blank, Covered, Uncovered}
-use Rattle.sync_provider.specs.Accepting.{is_ours, prefix_of, asked_prefix, start_at, has_cookie, request_code, refused_or_opened, numbered, free_number}
-use Rattle.sync_provider.specs.Directory.{DirectoryState, StampsRise, last_stamp, stamp_of, stamps}
+use Rattle.sync_model.specs.Stream.{Session}
+use Rattle.sync_model.specs.Stream.Start.{Covered, Uncovered}
+use Rattle.directory_writes.specs.Starting.{is_ours, prefix_of, asked_prefix, start_at}
+use Rattle.sync_provider.specs.Accepting.{has_cookie, refused_or_opened, numbered, free_number}
+use Rattle.directory_writes.specs.Directory.{DirectoryState, StampsRise, last_stamp, stamp_of, stamps}
 use Rattle.sync_provider.specs.Machine.{ProviderState}
-use Rattle.sync_provider.specs.Search.{SearchState, session_of}
+use Rattle.sync_provider.specs.Search.{session_of}
 use Rattle.sync_provider.specs.declared.searches.Accepted.{Accepted}
 use Rattle.sync_provider.specs.declared.searches.Accepted.TheVariants as accepted
-use Rattle.sync_provider.proofs.Stamps.{upto_stamp}
-use Rattle.cascade_world.specs.Cookies.{held_cookie, is_of_node, is_not_before, goes_beyond, is_later}
-use Rattle.cascade_world.specs.Headline.{IsServable, IsServed, IsUnserved}
+use Rattle.directory_writes.proofs.Stamps.{upto_stamp}
+use Rattle.cascade_world.specs.Cookies.{held_cookie, is_of_node, is_not_before, goes_beyond}
+use Rattle.cascade_world.specs.Headline.{IsServable, IsServed, IsUnserved, BeginsFrom}
 use Rattle.cascade_world.specs.Opening.{answer_to_request}
 use Rattle.cascade_world.proofs.Feeding.{IsContent, IsPromised}
 use Rattle.cascade_world.proofs.Stamped.{not_before_upto, is_upto_then, upto_more}
@@ -35,11 +37,11 @@ not_both : (b : Bool) → not b ≡ true → b ≡ true → ⊥
 not_both true n y = cc
 not_both false n y = cc
 
--- what an opening, or a refusal with e-syncRefreshRequired, says of a cookie
+-- what an opening, or a refusal, says of a cookie: a search is refused with e-syncRefreshRequired alone
 abbrev pub Says : ℕ → List Write → Bool → Accepted → Option (List ℕ) → Type 0
 Says number writes reload (accepted.Opened at count) cookie = IsServed reload number writes cookie
-Says number writes reload (accepted.Refused code) cookie = code ≡ 4096 → IsUnserved reload number writes cookie
-Says number writes reload accepted.NoMemory cookie = Unit {0}
+Says number writes reload (accepted.Refused code) cookie = (code ≡ 4096) × IsUnserved reload number writes cookie
+Says number writes reload accepted.NoMemory cookie = ⊥
 
 -- ---- a cookie that can be served
 
@@ -111,30 +113,56 @@ module _ (d : DirectoryState) (number : ℕ) (sid : d.sid ≡ number) (history :
 
   -- ---- what the answer says of it
 
-  abbrev Request : Option (List ℕ) → Bool → SyncRequest
-  Request cookie reload = record { mode = RefreshOnly; cookie = cookie; reload_hint = reload }
+  abbrev Request : Mode → Option (List ℕ) → Bool → SyncRequest
+  Request mode cookie reload = record { mode = mode; cookie = cookie; reload_hint = reload }
 
-  numbered_says : (found : Option ℕ) (cookie : Option (List ℕ)) (reload : Bool) → Says number d.writes reload (numbered d (Request cookie reload) found) cookie
-  numbered_says None cookie reload = λ same. let never : ⊥ = omega (arith, same) in absurd never
-  numbered_says (Some at) cookie reload = by (is_lost cookie reload) refl
+  numbered_says : (at : ℕ) (mode : Mode) (cookie : Option (List ℕ)) (reload : Bool) → Says number d.writes reload (numbered d (Request mode cookie reload) (Some at)) cookie
+  numbered_says at mode cookie reload = by (is_lost cookie reload) refl
     where
       by : (lost : Bool) → is_lost cookie reload ≡ lost → Says number d.writes reload (refused_or_opened d at (cond lost (Some 4096) None)) cookie
-      by true lost = λ same. lost_unserved cookie reload lost
+      by true lost = (refl, lost_unserved cookie reload lost)
       by false lost = kept_served cookie reload lost
 
-  pub answer_says : (searches : List (ℕ × SearchState)) (search : Search) (cookie : Option (List ℕ)) (reload : Bool)
-      → Says number d.writes reload (answer_to_request (record { directory = d; searches = searches }) search (Ok (Request cookie reload))) cookie
-  answer_says searches search cookie reload = by (is_at_or_below search.base d.suffix)
+  -- where a number is free, and the base is at or below the suffix
+  pub answer_says : (p : ProviderState) (search : Search) (mode : Mode) (cookie : Option (List ℕ)) (reload : Bool) (at : ℕ) → p.directory ≡ d → is_at_or_below search.base d.suffix ≡ true
+      → free_number p.searches ≡ Some at → Says number d.writes reload (answer_to_request p search (Ok (Request mode cookie reload))) cookie
+  answer_says p search mode cookie reload at same below free =
+      subst (λ answer. Says number d.writes reload answer cookie) (sym is) (numbered_says at mode cookie reload)
     where
-      by : (within : Bool) → Says number d.writes reload (cond within (numbered d (Request cookie reload) (free_number searches)) (accepted.Refused 32)) cookie
-      by true = numbered_says (free_number searches) cookie reload
-      by false = λ same. let never : ⊥ = omega (arith, same) in absurd never
+      is : answer_to_request p search (Ok (Request mode cookie reload)) ≡ numbered d (Request mode cookie reload) (Some at)
+      is =
+          ap (λ (x : DirectoryState). cond (is_at_or_below search.base x.suffix) (numbered x (Request mode cookie reload) (free_number p.searches)) (accepted.Refused 32)) same
+          ∙ ap (λ b. cond b (numbered d (Request mode cookie reload) (free_number p.searches)) (accepted.Refused 32)) below
+          ∙ ap (numbered d (Request mode cookie reload)) free
+
+  -- ---- the prefix that it begins from
+
+  by_log : (b : Bool) (n : ℕ) → number_of (cond b (Covered n) (Uncovered n)) ≡ Some n
+  by_log true n = refl
+  by_log false n = refl
+
+  from_cookie : (text : List ℕ) (cookie : Cookie) → cookie_of_text text ≡ Some cookie → (b : Bool) → is_ours d cookie ≡ b
+      → asked_prefix d (Some text) ≡ cond b (Some (upto (stamps d.writes) cookie.csn)) None
+      → BeginsFrom number d.writes (Some text) (number_of (start_at d (cond b (Some (upto (stamps d.writes) cookie.csn)) None)))
+  unfolding ours_servable
+  from_cookie text cookie read true ours is =
+      subst (BeginsFrom number d.writes (Some text)) (sym (by_log (covers (upto (stamps d.writes) cookie.csn) d.log) (upto (stamps d.writes) cookie.csn)))
+      (record { serves = ours_servable text cookie read ours; counted = refl })
+  from_cookie text cookie read false ours is = λ serves. let there = servable_ours text serves in let bad : true ≡ false = sym there ∙ ap is_some is in let never : ⊥ = cc in never
+
+  pub start_from : (cookie : Option (List ℕ)) → BeginsFrom number d.writes cookie (number_of (start_at d (asked_prefix d cookie)))
+  start_from None = tt
+  start_from (Some text) = by (cookie_of_text text) refl
+    where
+      by : (read : Option Cookie) → cookie_of_text text ≡ read → BeginsFrom number d.writes (Some text) (number_of (start_at d (prefix_of d read)))
+      by None read = λ serves. let there = servable_ours text serves in let bad : true ≡ false = sym there ∙ ap (λ r. is_some (prefix_of d r)) read in let never : ⊥ = cc in never
+      by (Some cookie) read = from_cookie text cookie read (is_ours d cookie) refl (ap (prefix_of d) read)
 
   -- ---- where the search begins
 
-  module _ (rises : StampsRise number d.writes) (search : Search) (entries : List Entry) (ascending : ascends entries ≡ true) where
+  module _ (rises : StampsRise number d.writes) (persists : Bool) (search : Search) (entries : List Entry) (ascending : ascends entries ≡ true) where
     abbrev session : Session
-    session = session_of number number search d.writes
+    session = session_of persists number number search d.writes
 
     content_within : (csn : Stamp) → IsContent number search d.writes entries csn → IsContentWithin session (upto (stamps d.writes) csn) (length d.writes) entries
     content_within csn is = record {

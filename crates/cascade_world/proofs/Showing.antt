@@ -2,7 +2,7 @@
 use Rattle.std.proofs.Common.{◌≡◌, ℕ, Some, None, List, [], ◌∷◌, ◌++◌, get_or, refl, ap, sym, subst, ◌∙◌, append-nil}
 use Rattle.std.specs.Prelude.{Ok, Err, position}
 use Rattle.entry_tree.specs.declared.entry.Entry.{Entry}
-use Rattle.sync_provider.specs.Directory.{entries_of}
+use Rattle.directory_writes.specs.Directory.{entries_of}
 use Rattle.cascade_world.specs.declared.fault.Cause.TheVariants.{UnknownNode}
 use Rattle.cascade_world.specs.declared.node.Root.{Root}
 use Rattle.cascade_world.specs.declared.node.Follower.{Follower}

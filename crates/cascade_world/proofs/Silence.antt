@@ -1,139 +1,149 @@
--- Of a consumer's cookie nothing is told but where it is lost or given.
+-- Of a consumer's cookie nothing is told but where it is lost or given, and searches are asked for in one mode.
 use Rattle.std.proofs.Common.{◌≡◌, ℕ, zero, suc, Bool, true, false, cond, Option, Some, None, List, [], ◌∷◌, ◌++◌, length}
 use Rattle.std.specs.Prelude.{Ok, Err}
 use Rattle.sync_model.specs.Copy.{Copy}
+use Rattle.sync_messages.specs.declared.request.Mode.{Mode}
+use Rattle.sync_messages.specs.declared.request.Mode.TheVariants.{RefreshOnly}
+use Rattle.sync_wire.specs.Requesting.{persists}
 use Rattle.sync_provider.specs.declared.searches.Accepted.{Accepted}
 use Rattle.sync_provider.specs.declared.searches.Accepted.TheVariants as accepted
-use Rattle.cascade_world.specs.Exchange.{Pair, Outcome, after_lines, and_then, name_of, copy_of, Sending, sending, sent_before, sent, given_up, taken_as, taken_from, taking, taken_before, taken_some, takes, is_busy, cut, idle, answer_of, is_required, opened_by, opened_idle, opens, asked_again, opens_anew, left_to_send, ran_before, ran_some, runs, drains, settled_told, settles}
+use Rattle.cascade_world.specs.Exchange.{Pair, Outcome, after_lines, and_then, name_of, copy_of, Sending, sending, sent_before, sent, given_up, taken_as, taken_from, taking, taken_before, taken_some, takes, is_busy, cut, idle, answer_of, is_required, opened_by, opened_idle, opens, asked_again, opens_anew, left_to_send, ran_before, ran_some, runs, drains, follows_on, refreshes, catches_up, settled_told, settles}
 use Rattle.cascade_world.specs.Exchange.Sending.{Sends, Rests, Overflows}
 use Rattle.cascade_world.specs.Hearing.{Came, heard}
 use Rattle.cascade_world.specs.Hearing.{Came as came}
 use Rattle.cascade_world.specs.Report.{Told}
 use Rattle.cascade_world.specs.Report.{Told as told}
 
-abbrev pub IsSilent : Told → Type 0
-IsSilent (told.Holds name cookie) = ⊥
-IsSilent _ = Unit {0}
+-- in this mode
+module _ (mode : Bool) where
+  abbrev pub IsSilent : Told → Type 0
+  IsSilent (told.Holds name cookie) = ⊥
+  IsSilent (told.Opened name persists writes) = persists ≡ mode
+  IsSilent (told.Refused name persists code) = persists ≡ mode
+  IsSilent _ = Unit {0}
 
-abbrev pub AreSilent : List Told → Type 0
-AreSilent [] = Unit {0}
-AreSilent (line ∷ lines) = IsSilent line × AreSilent lines
+  abbrev pub AreSilent : List Told → Type 0
+  AreSilent [] = Unit {0}
+  AreSilent (line ∷ lines) = IsSilent line × AreSilent lines
 
-abbrev pub SilentIn : Outcome → Type 0
-SilentIn (Ok next) = AreSilent next.1
-SilentIn (Err cause) = Unit {0}
+  abbrev pub SilentIn : Outcome → Type 0
+  SilentIn (Ok next) = AreSilent next.1
+  SilentIn (Err cause) = Unit {0}
 
-silent-append : (lines more : List Told) → AreSilent lines → AreSilent more → AreSilent (lines ++ more)
-silent-append [] more h k = k
-silent-append (line ∷ lines) more h k = (h.0, silent-append lines more h.1 k)
+  silent-append : (lines more : List Told) → AreSilent lines → AreSilent more → AreSilent (lines ++ more)
+  silent-append [] more h k = k
+  silent-append (line ∷ lines) more h k = (h.0, silent-append lines more h.1 k)
 
-silent_lines : (lines : List Told) (outcome : Outcome) → AreSilent lines → SilentIn outcome → SilentIn (after_lines lines outcome)
-silent_lines lines (Ok next) h k = silent-append lines next.1 h k
-silent_lines lines (Err cause) h k = tt
+  silent_lines : (lines : List Told) (outcome : Outcome) → AreSilent lines → SilentIn outcome → SilentIn (after_lines lines outcome)
+  silent_lines lines (Ok next) h k = silent-append lines next.1 h k
+  silent_lines lines (Err cause) h k = tt
 
-silent_then : (first : Outcome) (next : Pair → Outcome) → SilentIn first → ((pair : Pair) → SilentIn (next pair)) → SilentIn (and_then first next)
-silent_then (Ok after) next h k = silent_lines after.1 (next after.0) h (k after.0)
-silent_then (Err cause) next h k = tt
+  silent_then : (first : Outcome) (next : Pair → Outcome) → SilentIn first → ((pair : Pair) → SilentIn (next pair)) → SilentIn (and_then first next)
+  silent_then (Ok after) next h k = silent_lines after.1 (next after.0) h (k after.0)
+  silent_then (Err cause) next h k = tt
 
-silent_if : (b : Bool) (one other : Outcome) → SilentIn one → SilentIn other → SilentIn (cond b one other)
-silent_if true one other h k = h
-silent_if false one other h k = k
+  silent_if : (b : Bool) (one other : Outcome) → SilentIn one → SilentIn other → SilentIn (cond b one other)
+  silent_if true one other h k = h
+  silent_if false one other h k = k
 
--- ---- sending
+  -- ---- sending
 
-sent_before_silent : (pair : Pair) (next : Pair → Outcome) (found : Sending) → ((after : Pair) → SilentIn (next after)) → SilentIn (sent_before next pair found)
-sent_before_silent pair next (Sends after message) k = silent_lines (told.Sent (name_of pair) message ∷ []) (next after) (tt, tt) (k after)
-sent_before_silent pair next Rests k = (tt, tt)
-sent_before_silent pair next Overflows k = tt
+  sent_before_silent : (pair : Pair) (next : Pair → Outcome) (found : Sending) → ((after : Pair) → SilentIn (next after)) → SilentIn (sent_before next pair found)
+  sent_before_silent pair next (Sends after message) k = silent_lines (told.Sent (name_of pair) message ∷ []) (next after) (tt, tt) (k after)
+  sent_before_silent pair next Rests k = (tt, tt)
+  sent_before_silent pair next Overflows k = tt
 
-pub sent_silent : (count : ℕ) (pair : Pair) → SilentIn (sent count pair)
-sent_silent zero pair = tt
-sent_silent (suc count) pair = sent_before_silent pair (λ after. sent count after) (sending pair) (sent_silent count)
+  pub sent_silent : (count : ℕ) (pair : Pair) → SilentIn (sent count pair)
+  sent_silent zero pair = tt
+  sent_silent (suc count) pair = sent_before_silent pair (λ after. sent count after) (sending pair) (sent_silent count)
 
--- ---- taking
+  -- ---- taking
 
-taken_as_silent : (pair : Pair) (rest : List (List ℕ)) (copy : Copy) (found : Came) → IsSilent (taken_as pair rest copy found).1
-taken_as_silent pair rest copy came.Staged = tt
-taken_as_silent pair rest copy came.Copied = tt
-taken_as_silent pair rest copy came.Stored = tt
-taken_as_silent pair rest copy (came.Over code) = tt
-taken_as_silent pair rest copy (came.Refused fault) = tt
+  taken_as_silent : (pair : Pair) (rest : List (List ℕ)) (copy : Copy) (found : Came) → IsSilent (taken_as pair rest copy found).1
+  taken_as_silent pair rest copy came.Staged = tt
+  taken_as_silent pair rest copy came.Copied = tt
+  taken_as_silent pair rest copy came.Stored = tt
+  taken_as_silent pair rest copy (came.Over code) = tt
+  taken_as_silent pair rest copy (came.Refused fault) = tt
 
-abbrev SilentTaking : Option (Pair × Told) → Type 0
-SilentTaking None = Unit {0}
-SilentTaking (Some first) = IsSilent first.1
+  abbrev SilentTaking : Option (Pair × Told) → Type 0
+  SilentTaking None = Unit {0}
+  SilentTaking (Some first) = IsSilent first.1
 
-taken_from_silent : (pair : Pair) (link : List (List ℕ)) → SilentTaking (taken_from pair link)
-taken_from_silent pair [] = tt
-taken_from_silent pair (message ∷ rest) = taken_as_silent pair rest (heard (copy_of pair.follower) message).0 (heard (copy_of pair.follower) message).1
+  taken_from_silent : (pair : Pair) (link : List (List ℕ)) → SilentTaking (taken_from pair link)
+  taken_from_silent pair [] = tt
+  taken_from_silent pair (message ∷ rest) = taken_as_silent pair rest (heard (copy_of pair.follower) message).0 (heard (copy_of pair.follower) message).1
 
-taken_before_silent : (pair : Pair) (next : Pair → Pair × List Told) (quiet : List Told) (found : Option (Pair × Told)) → SilentTaking found → AreSilent quiet → ((after : Pair) → AreSilent (next after).1)
-    → AreSilent (taken_before next pair quiet found).1
-taken_before_silent pair next quiet None h q k = q
-taken_before_silent pair next quiet (Some first) h q k = (h, k first.0)
+  taken_before_silent : (pair : Pair) (next : Pair → Pair × List Told) (quiet : List Told) (found : Option (Pair × Told)) → SilentTaking found → AreSilent quiet → ((after : Pair) → AreSilent (next after).1)
+      → AreSilent (taken_before next pair quiet found).1
+  taken_before_silent pair next quiet None h q k = q
+  taken_before_silent pair next quiet (Some first) h q k = (h, k first.0)
 
-taken_some_silent : (count : ℕ) (quiet : List Told) (pair : Pair) → AreSilent quiet → AreSilent (taken_some count quiet pair).1
-taken_some_silent zero quiet pair q = tt
-taken_some_silent (suc count) quiet pair q =
-    taken_before_silent pair (λ after. taken_some count quiet after) quiet (taking pair) (taken_from_silent pair pair.follower.link) q (λ after. taken_some_silent count quiet after q)
+  taken_some_silent : (count : ℕ) (quiet : List Told) (pair : Pair) → AreSilent quiet → AreSilent (taken_some count quiet pair).1
+  taken_some_silent zero quiet pair q = tt
+  taken_some_silent (suc count) quiet pair q =
+      taken_before_silent pair (λ after. taken_some count quiet after) quiet (taking pair) (taken_from_silent pair pair.follower.link) q (λ after. taken_some_silent count quiet after q)
 
-pub takes_silent : (count : ℕ) (pair : Pair) → SilentIn (takes count pair)
-takes_silent count pair = taken_some_silent count (told.Nothing (name_of pair) ∷ []) pair (tt, tt)
+  pub takes_silent : (count : ℕ) (pair : Pair) → SilentIn (takes count pair)
+  takes_silent count pair = taken_some_silent count (told.Nothing (name_of pair) ∷ []) pair (tt, tt)
 
--- ---- cutting and opening
+  -- ---- cutting and opening
 
-pub cut_silent : (pair : Pair) → SilentIn (cut pair)
-cut_silent pair =
-    silent_if (is_busy pair.follower) (Ok (given_up pair (copy_of pair.follower), told.Cut (name_of pair) ∷ [])) (Ok (pair, told.Nothing (name_of pair) ∷ [])) (tt, tt) (tt, tt)
+  pub cut_silent : (pair : Pair) → SilentIn (cut pair)
+  cut_silent pair =
+      silent_if (is_busy pair.follower) (Ok (given_up pair (copy_of pair.follower), told.Cut (name_of pair) ∷ [])) (Ok (pair, told.Nothing (name_of pair) ∷ [])) (tt, tt) (tt, tt)
 
-idle_silent : (pair : Pair) → SilentIn (idle pair)
-idle_silent pair = silent_if (is_busy pair.follower) (cut pair) (Ok (pair, [])) (cut_silent pair) tt
+  idle_silent : (pair : Pair) → SilentIn (idle pair)
+  idle_silent pair = silent_if (is_busy pair.follower) (cut pair) (Ok (pair, [])) (cut_silent pair) tt
 
-opened_by_silent : (pair : Pair) (answer : Accepted) → SilentIn (opened_by pair answer)
-opened_by_silent pair (accepted.Opened number writes) = (tt, tt)
-opened_by_silent pair (accepted.Refused code) = (tt, tt)
-opened_by_silent pair accepted.NoMemory = tt
+  opened_by_silent : (asked : Mode) (pair : Pair) (answer : Accepted) → persists asked ≡ mode → SilentIn (opened_by asked pair answer)
+  opened_by_silent asked pair (accepted.Opened number writes) is = (is, tt)
+  opened_by_silent asked pair (accepted.Refused code) is = (is, tt)
+  opened_by_silent asked pair accepted.NoMemory is = tt
 
-idly_silent : (pair : Pair) → SilentIn (opened_idle pair)
-idly_silent pair = opened_by_silent pair (answer_of pair)
+  idly_silent : (asked : Mode) → persists asked ≡ mode → (pair : Pair) → SilentIn (opened_idle asked pair)
+  idly_silent asked is pair = opened_by_silent asked pair (answer_of asked pair) is
 
-pub opens_silent : (pair : Pair) → SilentIn (opens pair)
-opens_silent pair = silent_then (idle pair) opened_idle (idle_silent pair) idly_silent
+  pub opens_silent : (asked : Mode) → persists asked ≡ mode → (pair : Pair) → SilentIn (opens asked pair)
+  opens_silent asked is pair = silent_then (idle pair) (opened_idle asked) (idle_silent pair) (idly_silent asked is)
 
-again_silent : (pair : Pair) → SilentIn (asked_again pair)
-again_silent pair =
-    silent_if (is_required (answer_of pair)) (and_then (opened_idle pair) opened_idle) (opened_idle pair) (silent_then (opened_idle pair) opened_idle (idly_silent pair) idly_silent) (idly_silent pair)
+  again_silent : false ≡ mode → (pair : Pair) → SilentIn (asked_again pair)
+  again_silent is pair =
+      silent_if (is_required (answer_of RefreshOnly pair)) (and_then (opened_idle RefreshOnly pair) (opened_idle RefreshOnly)) (opened_idle RefreshOnly pair)
+      (silent_then (opened_idle RefreshOnly pair) (opened_idle RefreshOnly) (idly_silent RefreshOnly is pair) (idly_silent RefreshOnly is))
+      (idly_silent RefreshOnly is pair)
 
-anew_silent : (pair : Pair) → SilentIn (opens_anew pair)
-anew_silent pair = silent_then (idle pair) asked_again (idle_silent pair) again_silent
+  anew_silent : false ≡ mode → (pair : Pair) → SilentIn (opens_anew pair)
+  anew_silent is pair = silent_then (idle pair) asked_again (idle_silent pair) (again_silent is)
 
--- ---- settling
+  -- ---- settling
 
-ran_before_silent : (pair : Pair) (next : Pair → Outcome) (found : Sending) → ((after : Pair) → SilentIn (next after)) → SilentIn (ran_before next pair found)
-ran_before_silent pair next (Sends after message) k =
-    silent_lines (told.Sent (name_of pair) message ∷ (taken_some 1 [] after).1) (next (taken_some 1 [] after).0) (tt, taken_some_silent 1 [] after tt) (k (taken_some 1 [] after).0)
-ran_before_silent pair next Rests k = tt
-ran_before_silent pair next Overflows k = tt
+  ran_before_silent : (pair : Pair) (next : Pair → Outcome) (found : Sending) → ((after : Pair) → SilentIn (next after)) → SilentIn (ran_before next pair found)
+  ran_before_silent pair next (Sends after message) k =
+      silent_lines (told.Sent (name_of pair) message ∷ (taken_some 1 [] after).1) (next (taken_some 1 [] after).0) (tt, taken_some_silent 1 [] after tt) (k (taken_some 1 [] after).0)
+  ran_before_silent pair next Rests k = tt
+  ran_before_silent pair next Overflows k = tt
 
-ran_some_silent : (count : ℕ) (pair : Pair) → SilentIn (ran_some count pair)
-ran_some_silent zero pair = tt
-ran_some_silent (suc count) pair = ran_before_silent pair (λ after. ran_some count after) (sending pair) (ran_some_silent count)
+  ran_some_silent : (count : ℕ) (pair : Pair) → SilentIn (ran_some count pair)
+  ran_some_silent zero pair = tt
+  ran_some_silent (suc count) pair = ran_before_silent pair (λ after. ran_some count after) (sending pair) (ran_some_silent count)
 
-runs_silent : (pair : Pair) → SilentIn (runs pair)
-runs_silent pair = ran_some_silent (left_to_send pair pair.follower.search) pair
+  runs_silent : (pair : Pair) → SilentIn (runs pair)
+  runs_silent pair = ran_some_silent (left_to_send pair pair.follower.search) pair
 
-drains_silent : (pair : Pair) → SilentIn (drains pair)
-drains_silent pair = taken_some_silent (length pair.follower.link) [] pair tt
+  drains_silent : (pair : Pair) → SilentIn (drains pair)
+  drains_silent pair = taken_some_silent (length pair.follower.link) [] pair tt
 
-told_silent : (pair : Pair) → SilentIn (settled_told pair)
-told_silent pair = (tt, tt)
+  told_silent : (pair : Pair) → SilentIn (settled_told pair)
+  told_silent pair = (tt, tt)
 
-pub settles_silent : (pair : Pair) → SilentIn (settles pair)
-settles_silent pair =
-    silent_then (and_then (and_then (and_then (drains pair) runs) opens_anew) runs) settled_told
-    (silent_then (and_then (and_then (drains pair) runs) opens_anew) runs
-    (silent_then (and_then (drains pair) runs) opens_anew
-    (silent_then (drains pair) runs (drains_silent pair) runs_silent)
-    anew_silent)
-    runs_silent)
-    told_silent
+  catching_silent : false ≡ mode → (pair : Pair) → SilentIn (catches_up pair)
+  catching_silent is pair = silent_if (follows_on pair) (Ok (pair, [])) (refreshes pair) tt (silent_then (opens_anew pair) runs (anew_silent is pair) runs_silent)
+
+  pub settles_silent : false ≡ mode → (pair : Pair) → SilentIn (settles pair)
+  settles_silent is pair =
+      silent_then (and_then (and_then (drains pair) runs) catches_up) settled_told
+      (silent_then (and_then (drains pair) runs) catches_up
+      (silent_then (drains pair) runs (drains_silent pair) runs_silent)
+      (catching_silent is))
+      told_silent

@@ -4,7 +4,7 @@ use Rattle.std.specs.Prelude.{Result, Ok, Err, OnErr, position, slice_get}
 use Rattle.std.proofs.lemmas.Option.{slice_get-get_or}
 use Rattle.std.proofs.lemmas.List.{set-get_or}
 use Rattle.schema_rules.specs.declared.raw.Change.{Change}
-use Rattle.sync_provider.specs.Machine.{ProviderState, log_limited}
+use Rattle.sync_provider.specs.Machine.{ProviderState, log_limited, queue_limited}
 use Rattle.cascade_world.specs.declared.fault.Cause.{Cause}
 use Rattle.cascade_world.specs.declared.fault.Cause.TheVariants.{BadCommand, UnknownNode, NameTaken, BadRecord, LimitReached, OutsideSuffix, LaterCookie, NotYet, NoMemory}
 use Rattle.cascade_world.specs.declared.node.Root.{Root}
@@ -14,7 +14,7 @@ use Rattle.cascade_world.specs.Fault.{RefusedAt}
 use Rattle.cascade_world.specs.Parts.{Performs}
 use Rattle.cascade_world.specs.Places.{ArePlaces, Writes}
 use Rattle.cascade_world.specs.Report.{lines_text}
-use Rattle.cascade_world.specs.World.{State, Step, Does, IsStep, is_root, is_follower, root_named, follower_named, with_provider, with_follower, with_pair, with_outcome, between, exchange_of, exchange, write_to, limit_log}
+use Rattle.cascade_world.specs.World.{State, Step, Does, IsStep, is_root, is_follower, root_named, follower_named, with_provider, with_follower, with_pair, with_outcome, between, exchange_of, exchange, write_to, limited, limit_log, limit_queue}
 use Rattle.cascade_world.proofs.Exchanging.{KeepsIn, Keeps}
 use Rattle.cascade_world.proofs.Places.{position_is, found_at, found_nowhere, changed_at}
 use Rattle.cascade_world.proofs.Traces.{found_name}
@@ -170,25 +170,31 @@ write_same state name now change i r p' (Err cause) is h =
     ap (λ p. set state.roots i (record r { provider = p })) h.1 ∙ ap (set state.roots i) is ∙ set-get_or state.roots i r in
     λ k. record state { roots = roots k }
 
--- ---- limits of a log
+-- ---- limits
 
-pub no_limited : (state new : State) (name : List ℕ) (limit : ℕ) → position (is_root name) state.roots ≡ None → Does (limit_log state name limit (root_named name state)) new (Err UnknownNode)
-no_limited state new name limit e = ap (limit_log state name limit) (found_nowhere (is_root name) state.roots e)
+no_limited : (state new : State) (name : List ℕ) (change : ProviderState → ProviderState) → position (is_root name) state.roots ≡ None → Does (limited state name change (root_named name state)) new (Err UnknownNode)
+no_limited state new name change e = ap (limited state name change) (found_nowhere (is_root name) state.roots e)
 
-limit_ok : (state : State) (name : List ℕ) (limit i : ℕ) (r : Root) (p' : ProviderState) → position (is_root name) state.roots ≡ Some i → r ≡ get_or state.roots i r → p' ≡ log_limited r.provider limit
-    → Does (limit_log state name limit (root_named name state)) (rooted state i r p') (Ok [])
-limit_ok state name limit i r p' e is now =
+pub no_log_limited : (state new : State) (name : List ℕ) (limit : ℕ) → position (is_root name) state.roots ≡ None → Does (limit_log state name limit) new (Err UnknownNode)
+no_log_limited state new name limit e = no_limited state new name (λ p. log_limited p limit) e
+
+pub no_queue_limited : (state new : State) (name : List ℕ) (limit : ℕ) → position (is_root name) state.roots ≡ None → Does (limit_queue state name limit) new (Err UnknownNode)
+no_queue_limited state new name limit e = no_limited state new name (λ p. queue_limited p limit) e
+
+limit_ok : (state : State) (name : List ℕ) (change : ProviderState → ProviderState) (i : ℕ) (r : Root) (p' : ProviderState) → position (is_root name) state.roots ≡ Some i → r ≡ get_or state.roots i r → p' ≡ change r.provider
+    → Does (limited state name change (root_named name state)) (rooted state i r p') (Ok [])
+limit_ok state name change i r p' e is now =
     let found : root_named name state ≡ Some r = found_at (is_root name) state.roots i r e is in
     let roots : set state.roots i (record r { provider = p' }) ≡ with_provider name p' state.roots = changed_at state.roots (is_root name) (λ (root : Root). record root { provider = p' }) i r e is in
-    subst (λ o. IsStep (limit_log state name limit o) (rooted state i r p') []) (sym found)
+    subst (λ o. IsStep (limited state name change o) (rooted state i r p') []) (sym found)
     (ap (λ rs. record state { roots = rs }) roots ∙ ap (λ q. record state { roots = with_provider name q state.roots }) now, refl)
 
 -- the same of the parts of the code, which sees the state
-pub limit_seen : (state view : State) (name : List ℕ) (limit i : ℕ) (r : Root) (p' : ProviderState) → view ≡ state → position (is_root name) state.roots ≡ Some i → r ≡ get_or view.roots i r
-    → p' ≡ log_limited r.provider limit → Does (limit_log state name limit (root_named name state)) (rooted view i r p') (Ok [])
-limit_seen state view name limit i r p' same e is now =
-    subst (λ (s : State). Does (limit_log state name limit (root_named name state)) (rooted s i r p') (Ok [])) (sym same)
-    (limit_ok state name limit i r p' e (subst (λ (s : State). r ≡ get_or s.roots i r) same is) now)
+pub limit_seen : (state view : State) (name : List ℕ) (change : ProviderState → ProviderState) (i : ℕ) (r : Root) (p' : ProviderState) → view ≡ state → position (is_root name) state.roots ≡ Some i → r ≡ get_or view.roots i r
+    → p' ≡ change r.provider → Does (limited state name change (root_named name state)) (rooted view i r p') (Ok [])
+limit_seen state view name change i r p' same e is now =
+    subst (λ (s : State). Does (limited state name change (root_named name state)) (rooted s i r p') (Ok [])) (sym same)
+    (limit_ok state name change i r p' e (subst (λ (s : State). r ≡ get_or s.roots i r) same is) now)
 
 -- ---- refusals
 

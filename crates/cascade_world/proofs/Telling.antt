@@ -1,19 +1,19 @@
 -- What a node's lines tell is right for the orders and the lines before them.
-use Rattle.std.proofs.Common.{◌≡◌, ℕ, Bool, Option, Some, None, List, [], ◌∷◌, ◌++◌, refl, sym, subst, inl, inr}
+use Rattle.std.proofs.Common.{◌≡◌, ℕ, Bool, Option, Some, List, [], ◌∷◌, ◌++◌, refl, sym, subst, inl, inr}
 use Rattle.std.proofs.lemmas.List.Sums.{fold-append}
 use Rattle.std.specs.Prelude.{Ok, Err}
 use Rattle.entry_tree.specs.declared.entry.Entry.{Entry}
 use Rattle.entry_tree.specs.declared.op.Write.{Write}
-use Rattle.sync_provider.specs.Directory.{entries_of}
+use Rattle.directory_writes.specs.Directory.{entries_of}
 use Rattle.sync_provider.specs.Machine.{ProviderState}
 use Rattle.cascade_world.specs.declared.node.Root.{Root}
 use Rattle.cascade_world.specs.declared.node.Follower.{Follower}
 use Rattle.cascade_world.specs.Exchange.{Outcome}
-use Rattle.cascade_world.specs.Headline.{AreAccepted, IsConsumer, empty_handed, opened_after, latest_opened, held_after, last_held, text_of_kept, IsServed, IsUnserved, IsPrefixSelected, OfCookie, IsGiven, IsShown, TellsRight, EachTellsRight}
+use Rattle.cascade_world.specs.Headline.{AreAccepted, IsConsumer, nothing_known, known_after, known_of, text_of_kept, IsUnserved, IsAskedFor, IsOpenedAt, IsPrefixSelected, OfCookie, IsOfStream, IsSettled, IsGiven, IsShown, TellsRight, EachTellsRight}
 use Rattle.cascade_world.specs.Orders.{Order}
 use Rattle.cascade_world.specs.Report.{Told}
 use Rattle.cascade_world.specs.Report.Told.{Wrote, Opened, Refused, Sent, Taken, Stored, Ended, Faulted, Cut, Nothing, Settled, Holds, Shown}
-use Rattle.cascade_world.proofs.Feeding.{IsRight, LineIsRight, LinesAreRight}
+use Rattle.cascade_world.proofs.Feeding.{IsSentOf, IsSettledOf, frame_of, IsRight, LineIsRight, LinesAreRight}
 use Rattle.cascade_world.proofs.Finding.{roots_by, root_name}
 use Rattle.cascade_world.proofs.Silence.{IsSilent, AreSilent, SilentIn}
 use Rattle.cascade_world.proofs.Tracking.{IsRoot, IsFollower}
@@ -34,7 +34,7 @@ consumer_of before said roots f is = record { place = is.place; since = is.since
 -- ---- the lines of a part of an event
 
 stored_right : (before : List Order) (said : List Told) (number : ℕ) (p : ProviderState) (f : Follower) (n : ℕ) (entries : List Entry) (root : List ℕ) (origin : ℕ)
-    → IsConsumer before f.name f.source f.consumer.spec f.consumer.reload → AreAccepted before f.source number p.directory.writes → IsRight number p f (latest_opened f.name said) n entries root origin
+    → IsConsumer before f.name f.source f.consumer.spec f.consumer.reload → AreAccepted before f.source number p.directory.writes → IsRight number p f (known_of f.name said) n entries root origin
     → IsPrefixSelected before said f.name n entries root origin
 stored_right before said number p f n entries root origin follows accepted is = record {
   provider = f.source;
@@ -45,7 +45,7 @@ stored_right before said number p f n entries root origin follows accepted is = 
   writes = p.directory.writes;
   accepted = accepted;
   prefix = is.prefix;
-  opened = is.at;
+  opening = is.opening;
   latest = is.latest;
   no_shorter = is.no_shorter;
   exactly = is.exactly;
@@ -56,7 +56,7 @@ stored_right before said number p f n entries root origin follows accepted is = 
 -- a line of an opening or a refusal, by what is held
 cookie_right : (before : List Order) (said : List Told) (number : ℕ) (p : ProviderState) (f : Follower) (name : List ℕ) (Says : Bool → ℕ → List Write → Option (List ℕ) → Type 0)
     → IsConsumer before f.name f.source f.consumer.spec f.consumer.reload → AreAccepted before f.source number p.directory.writes → name ≡ f.name
-    → Says f.consumer.reload number p.directory.writes (text_of_kept number p.directory.writes (last_held f.name said).kept) → OfCookie before said name Says
+    → Says f.consumer.reload number p.directory.writes (text_of_kept number p.directory.writes (known_of f.name said).kept) → OfCookie before said name Says
 cookie_right before said number p f name Says follows accepted same says =
     subst (λ c. OfCookie before said c Says) (sym same) (record {
       provider = f.source;
@@ -69,9 +69,11 @@ cookie_right before said number p f name Says follows accepted same says =
       says = says;
     })
 
--- what is told of a cookie is what the order gives
+-- what is told of a cookie, and of the mode of a search, is what the order gives
 abbrev pub IsGivenLine : Order → Told → Type 0
 IsGivenLine order (Holds name cookie) = IsGiven order name cookie
+IsGivenLine order (Opened name persists writes) = IsAskedFor order persists
+IsGivenLine order (Refused name persists code) = IsAskedFor order persists
 IsGivenLine order _ = Unit {0}
 
 abbrev pub GivenLines : Order → List Told → Type 0
@@ -82,62 +84,91 @@ abbrev pub GivenIn : Order → Outcome → Type 0
 GivenIn order (Ok next) = GivenLines order next.1
 GivenIn order (Err cause) = Unit {0}
 
-silent_line : (order : Order) (line : Told) → IsSilent line → IsGivenLine order line
-silent_line order (Holds name cookie) silent = absurd silent
-silent_line order (Wrote name code writes) silent = tt
-silent_line order (Opened name writes) silent = tt
-silent_line order (Refused name code) silent = tt
-silent_line order (Sent name message) silent = tt
-silent_line order (Taken name) silent = tt
-silent_line order (Stored name n entries root origin) silent = tt
-silent_line order (Ended name code) silent = tt
-silent_line order (Faulted name fault) silent = tt
-silent_line order (Cut name) silent = tt
-silent_line order (Nothing name) silent = tt
-silent_line order (Settled name writes) silent = tt
-silent_line order (Shown name entries) silent = tt
+silent_line : (order : Order) (mode : Bool) → IsAskedFor order mode → (line : Told) → IsSilent mode line → IsGivenLine order line
+silent_line order mode asked (Holds name cookie) silent = absurd silent
+silent_line order mode asked (Wrote name code writes) silent = tt
+silent_line order mode asked (Opened name persists writes) silent = subst (IsAskedFor order) (sym silent) asked
+silent_line order mode asked (Refused name persists code) silent = subst (IsAskedFor order) (sym silent) asked
+silent_line order mode asked (Sent name message) silent = tt
+silent_line order mode asked (Taken name) silent = tt
+silent_line order mode asked (Stored name n entries root origin) silent = tt
+silent_line order mode asked (Ended name code) silent = tt
+silent_line order mode asked (Faulted name fault) silent = tt
+silent_line order mode asked (Cut name) silent = tt
+silent_line order mode asked (Nothing name) silent = tt
+silent_line order mode asked (Settled name writes) silent = tt
+silent_line order mode asked (Shown name entries) silent = tt
 
-silent_all : (order : Order) (lines : List Told) → AreSilent lines → GivenLines order lines
-silent_all order [] silent = tt
-silent_all order (line ∷ lines) silent = (silent_line order line silent.0, silent_all order lines silent.1)
+silent_all : (order : Order) (mode : Bool) → IsAskedFor order mode → (lines : List Told) → AreSilent mode lines → GivenLines order lines
+silent_all order mode asked [] silent = tt
+silent_all order mode asked (line ∷ lines) silent = (silent_line order mode asked line silent.0, silent_all order mode asked lines silent.1)
 
-pub silent_given : (order : Order) (outcome : Outcome) → SilentIn outcome → GivenIn order outcome
-silent_given order (Ok next) silent = silent_all order next.1 silent
-silent_given order (Err cause) silent = tt
+pub silent_given : (order : Order) (mode : Bool) → IsAskedFor order mode → (outcome : Outcome) → SilentIn mode outcome → GivenIn order outcome
+silent_given order mode asked (Ok next) silent = silent_all order mode asked next.1 silent
+silent_given order mode asked (Err cause) silent = tt
+
+sent_right : (before : List Order) (said : List Told) (number : ℕ) (p : ProviderState) (f : Follower) (name octets : List ℕ)
+    → IsConsumer before f.name f.source f.consumer.spec f.consumer.reload → AreAccepted before f.source number p.directory.writes → name ≡ f.name
+    → IsSentOf number (frame_of p f) (known_of f.name said) octets → IsOfStream before said name octets
+sent_right before said number p f name octets follows accepted same is =
+    subst (λ c. IsOfStream before said c octets) (sym same) (record {
+      provider = f.source;
+      search = f.consumer.spec;
+      reload = f.consumer.reload;
+      follows = follows;
+      history = number;
+      writes = p.directory.writes;
+      accepted = accepted;
+      opening = is.opening;
+      latest = is.latest;
+      next = is.next;
+    })
+
+settled_right : (before : List Order) (said : List Told) (number : ℕ) (p : ProviderState) (f : Follower) (name : List ℕ) (n : ℕ)
+    → IsConsumer before f.name f.source f.consumer.spec f.consumer.reload → AreAccepted before f.source number p.directory.writes → name ≡ f.name
+    → IsSettledOf number (frame_of p f) (known_of f.name said) n → IsSettled before said name n
+settled_right before said number p f name n follows accepted same is =
+    subst (λ c. IsSettled before said c n) (sym same) (record {
+      provider = f.source;
+      search = f.consumer.spec;
+      reload = f.consumer.reload;
+      follows = follows;
+      history = number;
+      writes = p.directory.writes;
+      accepted = accepted;
+      all = is.all;
+      exactly = is.exactly;
+    })
 
 line_right : (before : List Order) (order : Order) (said : List Told) (number : ℕ) (p : ProviderState) (f : Follower) (line : Told) → IsGivenLine order line
     → IsConsumer before f.name f.source f.consumer.spec f.consumer.reload → AreAccepted before f.source number p.directory.writes
-    → LineIsRight number p f (latest_opened f.name said) (last_held f.name said) line → TellsRight before order said line
+    → LineIsRight number p f (known_of f.name said) line → TellsRight before order said line
 line_right before order said number p f (Wrote name code writes) given follows accepted is = tt
-line_right before order said number p f (Opened name writes) given follows accepted is = cookie_right before said number p f name IsServed follows accepted is.0 is.1
-line_right before order said number p f (Refused name code) given follows accepted is = λ required. cookie_right before said number p f name IsUnserved follows accepted is.0 (is.1 required)
-line_right before order said number p f (Sent name message) given follows accepted is = tt
+line_right before order said number p f (Opened name persists writes) given follows accepted is = (given, cookie_right before said number p f name (IsOpenedAt writes) follows accepted is.0 is.1)
+line_right before order said number p f (Refused name persists code) given follows accepted is = (given, is.1, cookie_right before said number p f name IsUnserved follows accepted is.0 is.2)
+line_right before order said number p f (Sent name message) given follows accepted is = sent_right before said number p f name message follows accepted is.0 is.1
 line_right before order said number p f (Taken name) given follows accepted is = tt
 line_right before order said number p f (Stored name n entries root origin) given follows accepted is =
     subst (λ c. IsPrefixSelected before said c n entries root origin) (sym is.0) (stored_right before said number p f n entries root origin follows accepted is.1)
-line_right before order said number p f (Ended name code) given follows accepted is = tt
-line_right before order said number p f (Faulted name fault) given follows accepted is = tt
+line_right before order said number p f (Ended name code) given follows accepted is = is
+line_right before order said number p f (Faulted name fault) given follows accepted is = is
 line_right before order said number p f (Cut name) given follows accepted is = tt
 line_right before order said number p f (Nothing name) given follows accepted is = tt
-line_right before order said number p f (Settled name writes) given follows accepted is = tt
+line_right before order said number p f (Settled name n) given follows accepted is = settled_right before said number p f name n follows accepted is.0 is.1
 line_right before order said number p f (Holds name cookie) given follows accepted is = given
 line_right before order said number p f (Shown name entries) given follows accepted is = absurd is
 
--- the line that comes next, and what is opened and held then
-opened_next : (name : List ℕ) (said : List Told) (line : Told) → latest_opened name (said ++ line ∷ []) ≡ opened_after name (latest_opened name said) line
-opened_next name said line = fold-append (opened_after name) None said (line ∷ [])
-
-held_next : (name : List ℕ) (said : List Told) (line : Told) → last_held name (said ++ line ∷ []) ≡ held_after name (last_held name said) line
-held_next name said line = fold-append (held_after name) empty_handed said (line ∷ [])
+-- the line that comes next, and what is known then
+known_next : (name : List ℕ) (said : List Told) (line : Told) → known_of name (said ++ line ∷ []) ≡ known_after name (known_of name said) line
+known_next name said line = fold-append (known_after name) nothing_known said (line ∷ [])
 
 pub lines_right : (before : List Order) (order : Order) (said : List Told) (number : ℕ) (p : ProviderState) (f : Follower) (lines : List Told) → GivenLines order lines
     → IsConsumer before f.name f.source f.consumer.spec f.consumer.reload → AreAccepted before f.source number p.directory.writes
-    → LinesAreRight number p f (latest_opened f.name said) (last_held f.name said) lines → EachTellsRight before order said lines
+    → LinesAreRight number p f (known_of f.name said) lines → EachTellsRight before order said lines
 lines_right before order said number p f [] given follows accepted is = tt
 lines_right before order said number p f (line ∷ lines) given follows accepted is =
-    let more : LinesAreRight number p f (latest_opened f.name (said ++ line ∷ [])) (last_held f.name (said ++ line ∷ [])) lines =
-    subst (λ o. LinesAreRight number p f o (last_held f.name (said ++ line ∷ [])) lines) (sym (opened_next f.name said line))
-    (subst (λ h. LinesAreRight number p f (opened_after f.name (latest_opened f.name said) line) h lines) (sym (held_next f.name said line)) is.1) in
+    let more : LinesAreRight number p f (known_of f.name (said ++ line ∷ [])) lines =
+    subst (λ k. LinesAreRight number p f k lines) (sym (known_next f.name said line)) is.1 in
     (line_right before order said number p f line given.0 follows accepted is.0, lines_right before order (said ++ line ∷ []) number p f lines given.1 follows accepted more)
 
 -- ---- what is shown

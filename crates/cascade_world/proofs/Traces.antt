@@ -11,12 +11,13 @@ use Rattle.dn_names.specs.Names.{TypeAndValue, is_at_or_below}
 use Rattle.entry_tree.specs.Selection.{Search}
 use Rattle.entry_tree.specs.declared.entry.Entry.{Entry}
 use Rattle.schema_rules.specs.declared.raw.Change.{Change}
-use Rattle.sync_provider.specs.Machine.{ProviderState, log_limited}
+use Rattle.sync_messages.specs.declared.request.Mode.TheVariants.{RefreshOnly, RefreshAndPersist}
+use Rattle.sync_provider.specs.Machine.{ProviderState, log_limited, queue_limited}
 use Rattle.cascade_world.specs.declared.fault.Cause.{Cause}
 use Rattle.cascade_world.specs.declared.node.Root.{Root}
 use Rattle.cascade_world.specs.declared.node.Follower.{Follower}
 use Rattle.cascade_world.specs.Cookies.{most_nodes}
-use Rattle.cascade_world.specs.Directory.{change_code, changed}
+use Rattle.cascade_world.specs.Directory.{change_code, changed, wrote_change}
 use Rattle.cascade_world.specs.Exchange.{Pair, Outcome, sent, takes, cut, opens, settles, lost, given}
 use Rattle.cascade_world.specs.Orders.{Order}
 use Rattle.cascade_world.specs.Orders.{Order as asks}
@@ -25,7 +26,7 @@ use Rattle.cascade_world.specs.Report.{Told}
 use Rattle.cascade_world.specs.Report.Told.{Wrote, Shown}
 use Rattle.cascade_world.specs.Run.{Runs}
 use Rattle.cascade_world.specs.Trace.{Seen, seen_of, unseen, after_own, after_line, name_in, traced, AreTraced, all_lines}
-use Rattle.cascade_world.specs.World.{State, no_nodes, Step, step, count_nodes, is_root, is_follower, has_node, root_named, follower_named, first_changed, with_follower, with_provider, with_pair, with_outcome, between, exchange_of, exchange, where_room, new_root, declare_root, new_follower, follow, declare_follower, write_to, limit_log, shown_of, show_of}
+use Rattle.cascade_world.specs.World.{State, no_nodes, Step, step, count_nodes, is_root, is_follower, has_node, root_named, follower_named, first_changed, with_follower, with_provider, with_pair, with_outcome, between, exchange_of, exchange, where_room, new_root, declare_root, new_follower, follow, declare_follower, write_to, limited, shown_of, show_of}
 use Rattle.cascade_world.proofs.Exchanging.{EachOwn, Keeps, KeepsIn, sent_keeps, takes_keeps, cut_keeps, opens_keeps, settles_keeps, lost_keeps, given_keeps}
 
 -- ---- names
@@ -292,7 +293,7 @@ follower_there name (g ∷ gs) f e =
 write_after : (lines : List Told) (state : State) (name : List ℕ) (change : Change) (root : Option Root) → root_named name state ≡ root → AreTold state lines → ToldAfter lines (write_to state name change root)
 write_after lines state name change None e is = tt
 write_after lines state name change (Some root) e is =
-    let provider : ProviderState = record root.provider { directory = changed root.provider.directory state.clock change } in
+    let provider : ProviderState = wrote_change root.provider state.clock change in
     let after : State = record state { roots = with_provider name provider state.roots } in
     let line' : Told = Wrote name (change_code root.provider.directory state.clock change) (length (changed root.provider.directory state.clock change).writes) in
     let still : (other : List ℕ) → has_node other after ≡ has_node other state =
@@ -306,12 +307,12 @@ write_after lines state name change (Some root) e is =
       told = quiet_traced line' lines state.followers (λ seen. refl) is.told;
     }
 
-limit_after : (lines : List Told) (state : State) (name : List ℕ) (limit : ℕ) (root : Option Root) → root_named name state ≡ root → AreTold state lines → ToldAfter lines (limit_log state name limit root)
-limit_after lines state name limit None e is = tt
-limit_after lines state name limit (Some root) e is =
-    let after : State = record state { roots = with_provider name (log_limited root.provider limit) state.roots } in
+limit_after : (lines : List Told) (state : State) (name : List ℕ) (change : ProviderState → ProviderState) (root : Option Root) → AreTold state lines → ToldAfter lines (limited state name change root)
+limit_after lines state name change None is = tt
+limit_after lines state name change (Some root) is =
+    let after : State = record state { roots = with_provider name (change root.provider) state.roots } in
     let still : (other : List ℕ) → has_node other after ≡ has_node other state =
-    λ other. ap (λ b. b || list_any (is_follower other) state.followers) (changed_roots_any other name (log_limited root.provider limit) state.roots) in
+    λ other. ap (λ b. b || list_any (is_follower other) state.followers) (changed_roots_any other name (change root.provider) state.roots) in
     without_lines after lines (record { apart = is.apart; of_nodes = still_of_nodes state after lines (λ other h. still other ∙ h) is.of_nodes; told = is.told })
 
 exchange_done : (lines : List Told) (state : State) (name : List ℕ) (before : Pair) (outcome : Outcome) → follower_named name state ≡ Some before.follower → AreTold state lines → KeepsIn before outcome
@@ -370,14 +371,16 @@ step_told_after lines state (asks.Provider name suffix) is = provider_after line
 step_told_after lines state (asks.Consumer name source search reload) is = consumer_after lines state name source search reload is
 step_told_after lines state (asks.Clock time) is = without_lines (record state { clock = time }) lines (clock_told lines state time is)
 step_told_after lines state (asks.Write name change) is = write_after lines state name change (root_named name state) refl is
-step_told_after lines state (asks.OpenOnce name) is = exchange_after lines state name opens (follower_named name state) refl opens_keeps is
+step_told_after lines state (asks.OpenOnce name) is = exchange_after lines state name (opens RefreshOnly) (follower_named name state) refl (opens_keeps RefreshOnly) is
+step_told_after lines state (asks.OpenStay name) is = exchange_after lines state name (opens RefreshAndPersist) (follower_named name state) refl (opens_keeps RefreshAndPersist) is
 step_told_after lines state (asks.Send name count) is = exchange_after lines state name (sent count) (follower_named name state) refl (sent_keeps count) is
 step_told_after lines state (asks.Take name count) is = exchange_after lines state name (takes count) (follower_named name state) refl (takes_keeps count) is
 step_told_after lines state (asks.Cut name) is = exchange_after lines state name cut (follower_named name state) refl cut_keeps is
 step_told_after lines state (asks.Settle name) is = exchange_after lines state name settles (follower_named name state) refl settles_keeps is
 step_told_after lines state (asks.Lose name) is = exchange_after lines state name lost (follower_named name state) refl lost_keeps is
 step_told_after lines state (asks.Cookie name text) is = exchange_after lines state name (given text) (follower_named name state) refl (given_keeps text) is
-step_told_after lines state (asks.Log name limit) is = limit_after lines state name limit (root_named name state) refl is
+step_told_after lines state (asks.Log name limit) is = limit_after lines state name (λ p. log_limited p limit) (root_named name state) is
+step_told_after lines state (asks.Queue name limit) is = limit_after lines state name (λ p. queue_limited p limit) (root_named name state) is
 step_told_after lines state (asks.Show name) is = show_after lines state name (shown_of (root_named name state) (follower_named name state)) refl is
 
 -- ---- runs

@@ -1,17 +1,18 @@
 -- What holds of the nodes of a script at every moment of a run, by the orders and the lines so far.
-use Rattle.std.specs.Prelude.{◌≡◌, ℕ, false, Some, List, [], count_by}
+use Rattle.std.specs.Prelude.{◌≡◌, ◌≤◌, ℕ, false, Some, List, [], count_by}
 use Rattle.std.specs.Str.{bytes_eq}
 use Rattle.dn_names.specs.Names.{TypeAndValue}
 use Rattle.sync_provider.specs.Machine.{ProviderState}
 use Rattle.cascade_world.specs.declared.node.Root.{Root}
 use Rattle.cascade_world.specs.declared.node.Follower.{Follower}
-use Rattle.cascade_world.specs.Headline.{time_from, accepted_from, is_declaration, IsDeclared, latest_opened, last_held}
+use Rattle.cascade_world.specs.Headline.{time_from, accepted_from, is_declaration, IsDeclared, known_of}
 use Rattle.cascade_world.specs.Orders.{Order}
 use Rattle.cascade_world.specs.Orders.{Order as asks}
 use Rattle.cascade_world.specs.Report.{Told}
 use Rattle.cascade_world.specs.World.{State, count_nodes}
 use Rattle.cascade_world.proofs.Feeding.{IsSource, IsFed, AreApart}
 use Rattle.cascade_world.proofs.Finding.{roots_by, followers_by}
+use Rattle.cascade_world.proofs.Owning.{AllOwned}
 
 -- the provider was declared as the node of this number, with this suffix; its writes are those that were accepted since
 pub record IsProvider (before : List Order) (name : List ℕ) (number : ℕ) (suffix : List (List TypeAndValue)) (p : ProviderState) : Type 0 where
@@ -30,7 +31,7 @@ pub record IsFollower (before : List Order) (said : List Told) (roots : List Roo
   pub declared : IsDeclared before place (asks.Consumer f.name f.source f.consumer.spec f.consumer.reload) since
   pub root : Root
   pub there : roots_by roots f.source ≡ Some root
-  pub fed : IsFed root.provider.directory.history root.provider f (latest_opened f.name said) (last_held f.name said)
+  pub fed : IsFed root.provider.directory.history root.provider f (known_of f.name said)
 
 abbrev pub AreRoots : List Order → List Root → Type 0
 AreRoots before roots = (name : List ℕ) (root : Root) → roots_by roots name ≡ Some root → IsRoot before root
@@ -50,3 +51,5 @@ pub record Tracks (before : List Order) (said : List Told) (state : State) : Typ
   pub roots : AreRoots before state.roots
   pub followers : AreFollowers before said state.roots state.followers
   pub apart : AllApart state.followers
+  pub few : count_nodes state ≤ 16
+  pub owned : AllOwned state.roots state.followers

@@ -3,7 +3,7 @@ use Rattle.std.proofs.Common.{◌≡◌, ◌+◌, ◌<◌, ◌≤◌, ℕ, Some,
 use Rattle.std.specs.Prelude.{Result, Ok, Err}
 use Rattle.entry_tree.specs.declared.op.Op.{Op}
 use Rattle.entry_tree.specs.declared.op.Write.{Write}
-use Rattle.sync_provider.specs.Directory.{DirectoryState, judged, with_judged, code_of_judged, written, write_code}
+use Rattle.directory_writes.specs.Directory.{DirectoryState, judged, with_judged, code_of_judged, written, write_code}
 
 grown_by : (d : DirectoryState) (outcome : Result Write ℕ) → length d.writes < length (with_judged d outcome).writes
     → (code_of_judged outcome ≡ 0) × (length (with_judged d outcome).writes ≡ length d.writes + 1)

@@ -1,23 +1,25 @@
 -- What goes on between a consumer and its provider: the state of the two after each part of an event, and the lines
 -- that it tells.
-use Rattle.std.specs.Prelude.{ℕ, zero, suc, ◌+◌, Bool, false, ◌||◌, not, ◌==◌, is_some, nat_le, pos, Option, Some, None, Result, Ok, Err, List, [], ◌∷◌, ◌++◌, length, if◌then◌else◌}
+use Rattle.std.specs.Prelude.{ℕ, zero, suc, ◌+◌, Bool, false, ◌&&◌, ◌||◌, not, ◌==◌, is_some, nat_le, pos, Option, Some, None, Result, Ok, Err, List, [], ◌∷◌, ◌++◌, length, if◌then◌else◌}
 use Rattle.csn_cookie.specs.Cookie.{cookie_of_text}
 use Rattle.csn_cookie.specs.Csn.{Stamp, upto}
 use Rattle.csn_cookie.specs.declared.cookie.Cookie.{Cookie}
 use Rattle.ldap_messages.specs.Whole.{Whole, message_octets}
+use Rattle.sync_messages.specs.declared.request.Mode.{Mode}
 use Rattle.sync_messages.specs.declared.request.Mode.TheVariants.{RefreshOnly}
 use Rattle.sync_messages.specs.declared.request.SyncRequest.{SyncRequest}
 use Rattle.sync_model.specs.Copy.{Copy, asked}
 use Rattle.sync_model.specs.Message.SyncMessage.{Done}
 use Rattle.sync_model.specs.Stream.{Start}
-use Rattle.sync_consumer.specs.Taking.{Following, asked_of, without_search}
+use Rattle.sync_consumer.specs.Taking.{Following, asked_of, is_persisting, without_search}
+use Rattle.sync_wire.specs.Requesting.{persists}
 use Rattle.sync_wire.specs.Sending as wire
-use Rattle.sync_provider.specs.Accepting.{start_of_request}
-use Rattle.sync_provider.specs.Directory.{DirectoryState, stamps}
+use Rattle.directory_writes.specs.Starting.{start_at, asked_prefix}
+use Rattle.directory_writes.specs.Directory.{DirectoryState, stamps}
 use Rattle.sync_provider.specs.HandingOut.{Turn, turn_at, search_at}
 use Rattle.sync_provider.specs.HandingOut.Turn.{Hands, Closes, Waits, Unknown}
 use Rattle.sync_provider.specs.Machine.{ProviderState, handed_out, dropped}
-use Rattle.sync_provider.specs.Search.{SearchState}
+use Rattle.sync_provider.specs.Search.{SearchState, pending}
 use Rattle.sync_provider.specs.declared.searches.Accepted.{Accepted}
 use Rattle.sync_provider.specs.declared.searches.Accepted.TheVariants as accepted
 use Rattle.cascade_world.specs.declared.fault.Cause.{Cause}
@@ -189,13 +191,13 @@ idle pair = if is_busy pair.follower then cut pair else Ok (pair, [])
 
 -- ---- opening
 
--- the consumer asks for a refresh
-abbrev pub asking : Copy → Copy
-asking copy = asked message_id false copy
+-- the consumer asks for a search, which goes on after its refresh or ends with it
+abbrev pub asking : (persists : Bool) → Copy → Copy
+asking persists copy = asked message_id persists copy
 
 -- what its control asks for, with the cookie that it holds
-abbrev pub request_from : Pair → SyncRequest
-request_from pair = asked_of pair.follower.consumer RefreshOnly
+abbrev pub request_from : Mode → Pair → SyncRequest
+request_from mode pair = asked_of pair.follower.consumer mode
 
 -- the end of a search that is refused, with its code, is taken at once
 abbrev pub end_with : ℕ → Whole
@@ -206,34 +208,34 @@ refused_copy copy code = (heard_of copy (Some (end_with code))).0
 
 -- where its search begins
 abbrev pub start_of : Pair → Start
-start_of pair = start_of_request pair.provider.directory (request_from pair)
+start_of pair = start_at pair.provider.directory (asked_prefix pair.provider.directory (copy_of pair.follower).cookie)
 
-abbrev pub opened_by : Pair → Accepted → Outcome
-opened_by pair (accepted.Opened number writes) =
+abbrev pub opened_by : Mode → Pair → Accepted → Outcome
+opened_by mode pair (accepted.Opened number writes) =
     Ok (
       record {
-        provider = with_opened pair.provider number pair.follower.consumer.spec (start_of pair);
-        follower = record (with_copy pair.follower (asking (copy_of pair.follower))) { search = Some number };
+        provider = with_opened pair.provider number pair.follower.consumer.spec (start_of pair) (persists mode);
+        follower = record (with_copy pair.follower (asking (persists mode) (copy_of pair.follower))) { search = Some number };
       },
-      told.Opened (name_of pair) writes ∷ [],
+      told.Opened (name_of pair) (persists mode) writes ∷ [],
     )
-opened_by pair (accepted.Refused code) =
+opened_by mode pair (accepted.Refused code) =
     Ok (
-      record pair { follower = with_copy pair.follower (refused_copy (asking (copy_of pair.follower)) code) },
-      told.Refused (name_of pair) code ∷ [],
+      record pair { follower = with_copy pair.follower (refused_copy (asking (persists mode) (copy_of pair.follower)) code) },
+      told.Refused (name_of pair) (persists mode) code ∷ [],
     )
-opened_by pair accepted.NoMemory = Ok (pair, [])
+opened_by mode pair accepted.NoMemory = Ok (pair, [])
 
 -- what the provider answers to a consumer that asks
-abbrev pub answer_of : Pair → Accepted
-answer_of pair = answer_to_request pair.provider pair.follower.consumer.spec (Ok (request_from pair))
+abbrev pub answer_of : Mode → Pair → Accepted
+answer_of mode pair = answer_to_request pair.provider pair.follower.consumer.spec (Ok (request_from mode pair))
 
-abbrev pub opened_idle : Pair → Outcome
-opened_idle pair = opened_by pair (answer_of pair)
+abbrev pub opened_idle : Mode → Pair → Outcome
+opened_idle mode pair = opened_by mode pair (answer_of mode pair)
 
--- a search that ends with its refresh
-abbrev pub opens : Pair → Outcome
-opens pair = and_then (idle pair) opened_idle
+-- a search that ends with its refresh (refreshOnly), or goes on after it (refreshAndPersist)
+abbrev pub opens : Mode → Pair → Outcome
+opens mode pair = and_then (idle pair) (opened_idle mode)
 
 -- e-syncRefreshRequired (RFC 4533, section 2.6): the cookie does not serve
 abbrev pub refresh_required : ℕ
@@ -244,9 +246,11 @@ is_required (accepted.Opened number writes) = false
 is_required (accepted.Refused code) = code == refresh_required
 is_required accepted.NoMemory = false
 
--- a search that is refused for its cookie is asked for a second time
+-- a search that ends with its refresh, which is asked for a second time where it is refused for its cookie
 abbrev pub asked_again : Pair → Outcome
-asked_again pair = if is_required (answer_of pair) then and_then (opened_idle pair) opened_idle else opened_idle pair
+asked_again pair =
+    if is_required (answer_of RefreshOnly pair) then and_then (opened_idle RefreshOnly pair) (opened_idle RefreshOnly)
+    else opened_idle RefreshOnly pair
 
 abbrev pub opens_anew : Pair → Outcome
 opens_anew pair = and_then (idle pair) asked_again
@@ -256,7 +260,7 @@ opens_anew pair = and_then (idle pair) asked_again
 -- how many messages the search of this number has pending
 abbrev pub pending_count : Option SearchState → ℕ
 pending_count None = 0
-pending_count (Some s) = length s.pending
+pending_count (Some s) = length (pending s)
 
 abbrev pub left_to_send : Pair → Option ℕ → ℕ
 left_to_send pair None = 0
@@ -273,7 +277,7 @@ abbrev pub ran_some : ℕ → Pair → Outcome
 ran_some zero pair = Ok (pair, [])
 ran_some (suc count) pair = ran_before (λ after. ran_some count after) pair (sending pair)
 
--- the search that is open runs to its end
+-- what the open search has pending is sent and taken
 abbrev pub runs : Pair → Outcome
 runs pair = ran_some (left_to_send pair pair.follower.search) pair
 
@@ -284,9 +288,22 @@ drains pair = Ok (taken_some (length pair.follower.link) [] pair)
 abbrev pub settled_told : Pair → Outcome
 settled_told pair = Ok (pair, told.Settled (name_of pair) (length pair.provider.directory.writes) ∷ [])
 
--- the consumer takes what its link holds, runs the search that is open to its end, and then a new one
+-- a persistent search of the consumer is open, and its refresh is done
+abbrev pub follows_on : Pair → Bool
+follows_on pair = is_some pair.follower.search && is_persisting (copy_of pair.follower).running
+
+-- a new search is opened, and runs to its end
+abbrev pub refreshes : Pair → Outcome
+refreshes pair = and_then (opens_anew pair) runs
+
+-- a consumer that follows on needs no new search
+abbrev pub catches_up : Pair → Outcome
+catches_up pair = if follows_on pair then Ok (pair, []) else refreshes pair
+
+-- the consumer takes what its link holds, and what the open search has pending; then it is up to its provider, or gets
+-- there by a new search
 abbrev pub settles : Pair → Outcome
-settles pair = and_then (and_then (and_then (and_then (drains pair) runs) opens_anew) runs) settled_told
+settles pair = and_then (and_then (and_then (drains pair) runs) catches_up) settled_told
 
 -- ---- cookies
 
@@ -309,7 +326,7 @@ given text pair =
 -- ---- what goes on
 
 abbrev pub part_of : Exchange → Pair → Outcome
-part_of goes.Open = opens
+part_of (goes.Open mode) = opens mode
 part_of (goes.Send count) = sent count
 part_of (goes.Take count) = takes count
 part_of goes.Cut = cut

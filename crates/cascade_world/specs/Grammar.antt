@@ -5,7 +5,7 @@ use Rattle.entry_tree.specs.Selection.{Search}
 use Rattle.cascade_world.specs.declared.grammar.Heading.{Heading}
 use Rattle.cascade_world.specs.declared.grammar.Heading.TheVariants as heading
 use Rattle.cascade_world.specs.Orders.{Order, order_of}
-use Rattle.cascade_world.specs.Orders.Order.{Provider, Consumer, Clock, OpenOnce, Send, Take, Cut, Settle, Lose, Cookie, Log, Show}
+use Rattle.cascade_world.specs.Orders.Order.{Provider, Consumer, Clock, OpenOnce, OpenStay, Send, Take, Cut, Settle, Lose, Cookie, Log, Queue, Show}
 use Rattle.cascade_world.specs.Words.{◌>>=◌, guarded, otherwise, until, stripped, node_name, named, number, greatest_number, quoted, at_end, name_in, search_in}
 
 -- what a line says: an order, a write whose record follows, or a command that is of the language but is not done yet
@@ -89,10 +89,10 @@ later_name text = do
   _ ← node_name text
   Some Later
 
--- `C once`, or `C stay` for a search that goes on after its refresh, which is not done yet
+-- `C once`, or `C stay` for a search that goes on after its refresh
 abbrev pub opening_of : List ℕ → List ℕ → Option Saying
 opening_of name mode =
-    if bytes_eq mode (codes "stay") then Some Later
+    if bytes_eq mode (codes "stay") then Some (Orders (OpenStay name))
     else (do
       _ ← guarded (bytes_eq mode (codes "once"))
       Some (Orders (OpenOnce name)))
@@ -114,11 +114,10 @@ log_line text = do
   x ← limited text
   Some (Orders (Log x.0 x.1))
 
--- of a command that is not done yet
 unfoldable pub queue_line : List ℕ → Option Saying
 queue_line text = do
   x ← limited text
-  Some Later
+  Some (Orders (Queue x.0 x.1))
 
 -- `C N`, where N is not 0
 abbrev pub name_and_count : List ℕ → Option (List ℕ × ℕ)

@@ -1,21 +1,30 @@
--- What each `stored` line promises, where a search is refused, and what `show` prints, said of the orders and the lines
--- before it alone.
-use Rattle.std.specs.Prelude.{◌≡◌, ◌⊎◌, ℕ, ◌+◌, ◌≤◌, Bool, true, false, ◌&&◌, ◌==◌, Option, Some, None, List, [], ◌∷◌, ◌++◌, length, take, fold, if◌then◌else◌, count_by}
+-- What each line promises, said of the orders and the lines before it alone.
+use Rattle.std.specs.Prelude.{◌≡◌, ◌⊎◌, ℕ, pos, ◌+◌, ◌-◌, ◌<◌, ◌≤◌, Bool, true, false, ◌&&◌, ◌==◌, Option, Some, None, option_map, List, [], ◌∷◌, ◌++◌, length, map, take, fold, if◌then◌else◌, count_by}
 use Rattle.std.specs.Str.{bytes_eq}
 use Rattle.csn_cookie.specs.Cookie.{IsBlank, IsCookie, IsCookieSpelling}
-use Rattle.csn_cookie.specs.Csn.{start, is_upto}
+use Rattle.csn_cookie.specs.Csn.{start, is_upto, upto}
 use Rattle.csn_cookie.specs.declared.cookie.Cookie.{Cookie}
 use Rattle.dn_names.specs.Names.{TypeAndValue}
+use Rattle.entry_tree.specs.History.{touched_over}
 use Rattle.entry_tree.specs.Selection.{Search, select}
+use Rattle.entry_tree.specs.Touched.{touched}
 use Rattle.entry_tree.specs.declared.entry.Entry.{Entry}
 use Rattle.entry_tree.specs.declared.op.Write.{Write}
-use Rattle.sync_provider.specs.Directory.{entries_after, last_stamp}
-use Rattle.sync_provider.specs.Search.{cookie_after}
+use Rattle.ldap_messages.specs.Whole.{message_octets}
+use Rattle.sync_model.specs.Incremental.{number_of, sent_entry, about}
+use Rattle.sync_model.specs.Message.{SyncMessage}
+use Rattle.sync_model.specs.Message.SyncMessage.{Done}
+use Rattle.sync_model.specs.Stream.{Session, Start, content_after, among, group, later, stream}
+use Rattle.sync_wire.specs.Sending.{sent}
+use Rattle.directory_writes.specs.Directory.{entries_after, last_stamp, stamps}
+use Rattle.directory_writes.specs.Touches.{uuids_of}
+use Rattle.sync_provider.specs.Search.{cookie_after, session_of, whole_walk, refresh_from}
 use Rattle.cascade_world.specs.Directory.{directory_of, changed}
+use Rattle.cascade_world.specs.Opening.{message_id}
 use Rattle.cascade_world.specs.Orders.{Order}
 use Rattle.cascade_world.specs.Orders.{Order as asks}
 use Rattle.cascade_world.specs.Report.{Told}
-use Rattle.cascade_world.specs.Report.Told.{Wrote, Opened, Refused, Sent, Taken, Stored, Ended, Faulted, Cut, Nothing, Settled, Holds, Shown}
+use Rattle.cascade_world.specs.Report.Told.{Opened, Refused, Sent, Stored, Ended, Faulted, Settled, Holds, Shown}
 
 -- the time after an order
 abbrev pub time_after : ℕ → Order → ℕ
@@ -64,14 +73,6 @@ pub record IsConsumer (before : List Order) (consumer provider : List ℕ) (sear
 
 -- ---- what was told before
 
--- the number of the latest `opened` line of a consumer
-abbrev pub opened_after : List ℕ → Option ℕ → Told → Option ℕ
-opened_after consumer found (Opened name writes) = if bytes_eq name consumer then Some writes else found
-opened_after consumer found _ = found
-
-abbrev pub latest_opened : List ℕ → List Told → Option ℕ
-latest_opened consumer said = fold (opened_after consumer) None said
-
 -- a consumer's cookie: none, that of a prefix of its provider's writes, or a text that it was given
 pub data Kept : Type 0 where
   NoCookie : Kept
@@ -82,25 +83,43 @@ abbrev pub kept_of : Option (List ℕ) → Kept
 kept_of None = NoCookie
 kept_of (Some text) = Given text
 
--- what a consumer holds: entries, and a cookie
-pub record Holding : Type 0 where
+-- an `opened` line: the number that it tells, whether the search goes on after its refresh, and the cookie that the
+-- consumer held then; and the messages that were sent since, as bytes
+pub record Opening : Type 0 where
+  pub writes : ℕ
+  pub persists : Bool
+  pub kept : Kept
+  pub sent : List (List ℕ)
+
+-- what the lines tell of a consumer: the entries of its last `stored` line, its cookie, and its latest opening
+pub record Known : Type 0 where
   pub entries : List Entry
   pub kept : Kept
+  pub opening : Option Opening
 
-abbrev pub empty_handed : Holding
-empty_handed = record { entries = []; kept = NoCookie }
+abbrev pub nothing_known : Known
+nothing_known = record { entries = []; kept = NoCookie; opening = None }
+
+abbrev pub with_sent : List ℕ → Opening → Opening
+with_sent message opening = record opening { sent = opening.sent ++ message ∷ [] }
 
 -- a `stored` line tells what is held then; the cookie is lost where it is refused, or as the script says
-abbrev pub held_after : List ℕ → Holding → Told → Holding
-held_after consumer found (Stored name number entries root origin) =
-    if bytes_eq name consumer then record { entries = entries; kept = OfPrefix number } else found
-held_after consumer found (Refused name code) =
-    if bytes_eq name consumer && code == 4096 then record found { kept = NoCookie } else found
-held_after consumer found (Holds name cookie) = if bytes_eq name consumer then record found { kept = kept_of cookie } else found
-held_after consumer found _ = found
+abbrev pub known_after : List ℕ → Known → Told → Known
+known_after consumer known (Stored name number entries root origin) =
+    if bytes_eq name consumer then record known { entries = entries; kept = OfPrefix number } else known
+known_after consumer known (Refused name persists code) =
+    if bytes_eq name consumer && code == 4096 then record known { kept = NoCookie } else known
+known_after consumer known (Holds name cookie) = if bytes_eq name consumer then record known { kept = kept_of cookie } else known
+known_after consumer known (Opened name persists writes) =
+    if bytes_eq name consumer
+    then record known { opening = Some (record { writes = writes; persists = persists; kept = known.kept; sent = [] }) }
+    else known
+known_after consumer known (Sent name message) =
+    if bytes_eq name consumer then record known { opening = option_map (with_sent message) known.opening } else known
+known_after consumer known _ = known
 
-abbrev pub last_held : List ℕ → List Told → Holding
-last_held consumer said = fold (held_after consumer) empty_handed said
+abbrev pub known_of : List ℕ → List Told → Known
+known_of consumer said = fold (known_after consumer) nothing_known said
 
 -- ---- cookies
 
@@ -129,6 +148,63 @@ abbrev pub IsUnserved : Bool → ℕ → List Write → Option (List ℕ) → Ty
 IsUnserved reload history writes None = ⊥
 IsUnserved reload history writes (Some text) = (reload ≡ false) × (IsBlank text → ⊥) × (IsServable text history writes → ⊥)
 
+-- ---- the messages of a search
+
+-- the cookie that the text spells can be served, and so many of the writes have stamps that are not greater than its own
+pub record NamesPrefix (text : List ℕ) (history : ℕ) (writes : List Write) (number : ℕ) : Type 0 where
+  pub serves : IsServable text history writes
+  pub counted : number ≡ upto (stamps writes) serves.cookie.csn
+
+-- a search that is accepted after these writes begins from the prefix that the cookie names, or from none where the
+-- cookie can't be served
+abbrev pub BeginsFrom : ℕ → List Write → Option (List ℕ) → Option ℕ → Type 0
+BeginsFrom history writes None None = Unit {0}
+BeginsFrom history writes None (Some number) = ⊥
+BeginsFrom history writes (Some text) None = IsServable text history writes → ⊥
+BeginsFrom history writes (Some text) (Some number) = NamesPrefix text history writes number
+
+-- a search in the mode of an opening, over a provider's writes
+abbrev pub session_over : ℕ → Search → List Write → Opening → Session
+session_over history search writes opening = session_of opening.persists history history search writes
+
+-- its refresh, and all its messages up to so many later writes (RFC 4533, sections 3.3 and 3.4)
+abbrev pub refresh_over : ℕ → Search → List Write → Opening → Start → List SyncMessage
+refresh_over history search writes opening start = refresh_from (session_over history search writes opening) start opening.writes
+
+abbrev pub stream_over : ℕ → Search → List Write → Opening → Start → ℕ → List SyncMessage
+stream_over history search writes opening start count =
+    let session = session_over history search writes opening in
+    stream session start opening.writes (whole_walk session start opening.writes) count
+
+-- the bytes that a message is sent as
+abbrev pub octets_of : SyncMessage → List ℕ
+octets_of message = message_octets (sent message_id message)
+
+-- the end with busy (51), where the provider could not keep what was to be sent
+abbrev pub busy : SyncMessage
+busy = Done (pos 51) None
+
+-- a message follows these in a Stream, or it is the end with busy that follows a front of one
+abbrev pub Follows : (persists : Bool) → List SyncMessage → List SyncMessage → SyncMessage → Type 0
+Follows persists all earlier message =
+    ((rest : List SyncMessage) × (earlier ++ message ∷ rest ≡ all))
+    ⊎ ((rest : List SyncMessage) × (earlier ++ rest ≡ all) × (message ≡ busy) × (persists ≡ true))
+
+-- the message that follows these, which begin with the refresh of a search that was opened after so many writes, is one
+-- of those that the write after `number` writes tells; and it is about one identity, whose entry this write changed in
+-- what is selected
+pub record TellsChange (session : Session) (refresh : List SyncMessage) (opened most : ℕ) (earlier : List SyncMessage) (message : SyncMessage) : Type 0 where
+  pub number : ℕ
+  pub from : opened ≤ number
+  pub upto : number < most
+  pub front : List SyncMessage
+  pub place : earlier ≡ refresh ++ (later session opened (number - opened) ++ front)
+  pub rest : List SyncMessage
+  pub told : front ++ message ∷ rest ≡ group session number
+  pub uuid : ℕ
+  pub named : about message ≡ uuid ∷ []
+  pub changed : among uuid (uuids_of (touched (content_after session number) (content_after session (number + 1)))) ≡ true
+
 -- ---- the lines
 
 -- a `stored` line after these orders and lines: it names a prefix of the accepted writes of the consumer's provider,
@@ -143,9 +219,9 @@ pub record IsPrefixSelected (before : List Order) (said : List Told) (consumer :
   pub writes : List Write
   pub accepted : AreAccepted before provider history writes
   pub prefix : n ≤ length writes
-  pub opened : ℕ
-  pub latest : latest_opened consumer said ≡ Some opened
-  pub no_shorter : opened ≤ n
+  pub opening : Opening
+  pub latest : (known_of consumer said).opening ≡ Some opening
+  pub no_shorter : opening.writes ≤ n
   pub exactly : entries ≡ select search (entries_after history (take n writes))
   pub from_root : root ≡ provider
   pub from_prefix : origin ≡ n
@@ -159,7 +235,53 @@ pub record OfCookie (before : List Order) (said : List Told) (consumer : List �
   pub history : ℕ
   pub writes : List Write
   pub accepted : AreAccepted before provider history writes
-  pub says : Says reload history writes (text_of_kept history writes (last_held consumer said).kept)
+  pub says : Says reload history writes (text_of_kept history writes (known_of consumer said).kept)
+
+-- all that was sent since an opening, this message too, is a front of the messages of a search from the cookie that was
+-- held then over these writes, or such a front and the end with busy. Therefore a refresh from a cookie sends an entry
+-- whole only where the writes after those of the cookie up to the number of the opening touched its identity, and each
+-- later message but the end names what the write that it tells of changed
+pub record IsNextOf (history : ℕ) (search : Search) (writes : List Write) (opening : Opening) (octets : List ℕ) : Type 0 where
+  pub start : Start
+  pub begins : BeginsFrom history (take opening.writes writes) (text_of_kept history (take opening.writes writes) opening.kept) (number_of start)
+  pub count : ℕ
+  pub upto : opening.writes + count ≤ length writes
+  pub earlier : List SyncMessage
+  pub before : opening.sent ≡ map octets_of earlier
+  pub message : SyncMessage
+  pub spelled : octets ≡ octets_of message
+  pub place : Follows opening.persists (stream_over history search writes opening start count) earlier message
+  pub touches : length earlier < length (refresh_over history search writes opening start) → (number : ℕ) (entry : Entry) → number_of start ≡ Some number
+      → sent_entry message ≡ Some entry → among entry.uuid (touched_over history writes number opening.writes) ≡ true
+  pub changes : length (refresh_over history search writes opening start) ≤ length earlier
+      → (message ≡ busy)
+      ⊎ TellsChange (session_over history search writes opening) (refresh_over history search writes opening start) opening.writes (length writes) earlier message
+
+-- a `sent` line
+pub record IsOfStream (before : List Order) (said : List Told) (consumer octets : List ℕ) : Type 0 where
+  pub provider : List ℕ
+  pub search : Search
+  pub reload : Bool
+  pub follows : IsConsumer before consumer provider search reload
+  pub history : ℕ
+  pub writes : List Write
+  pub accepted : AreAccepted before provider history writes
+  pub opening : Opening
+  pub latest : (known_of consumer said).opening ≡ Some opening
+  pub next : IsNextOf history search writes opening octets
+
+-- a `settled` line: it tells the number of the provider's accepted writes, and the entries that the consumer's last
+-- `stored` line told are what it wants of all of them
+pub record IsSettled (before : List Order) (said : List Told) (consumer : List ℕ) (n : ℕ) : Type 0 where
+  pub provider : List ℕ
+  pub search : Search
+  pub reload : Bool
+  pub follows : IsConsumer before consumer provider search reload
+  pub history : ℕ
+  pub writes : List Write
+  pub accepted : AreAccepted before provider history writes
+  pub all : n ≡ length writes
+  pub exactly : (known_of consumer said).entries ≡ select search (entries_after history writes)
 
 -- what is shown of a provider: its entries after all its accepted writes
 pub record IsDirectoryShown (before : List Order) (name : List ℕ) (entries : List Entry) : Type 0 where
@@ -174,7 +296,7 @@ pub record IsCopyShown (before : List Order) (said : List Told) (name : List ℕ
   pub search : Search
   pub reload : Bool
   pub follows : IsConsumer before name provider search reload
-  pub exactly : entries ≡ (last_held name said).entries
+  pub exactly : entries ≡ (known_of name said).entries
 
 abbrev pub IsShown : List Order → List Told → List ℕ → List Entry → Type 0
 IsShown before said name entries = IsDirectoryShown before name entries ⊎ IsCopyShown before said name entries
@@ -185,11 +307,26 @@ IsGiven (asks.Lose name) consumer cookie = (consumer ≡ name) × (cookie ≡ No
 IsGiven (asks.Cookie name text) consumer cookie = (consumer ≡ name) × (cookie ≡ Some text)
 IsGiven _ consumer cookie = ⊥
 
--- a search is refused with e-syncRefreshRequired (4096) exactly where the cookie is in its way
+-- a search is asked for in the mode that the order says, and ends with its refresh where a consumer is brought up
+abbrev pub IsAskedFor : Order → Bool → Type 0
+IsAskedFor (asks.OpenStay name) persists = persists ≡ true
+IsAskedFor _ persists = persists ≡ false
+
+-- an `opened` line tells the number of the provider's accepted writes, and comes where no cookie is in the way
+abbrev pub IsOpenedAt : ℕ → Bool → ℕ → List Write → Option (List ℕ) → Type 0
+IsOpenedAt n reload history writes cookie = (n ≡ length writes) × IsServed reload history writes cookie
+
+-- a search is refused with e-syncRefreshRequired (4096), exactly where the cookie is in its way; a search that is over
+-- before its consumer knows was ended with busy (51); and no message is refused by its consumer
 abbrev pub TellsRight : List Order → Order → List Told → Told → Type 0
 TellsRight before order said (Stored consumer n entries root origin) = IsPrefixSelected before said consumer n entries root origin
-TellsRight before order said (Opened consumer n) = OfCookie before said consumer IsServed
-TellsRight before order said (Refused consumer code) = code ≡ 4096 → OfCookie before said consumer IsUnserved
+TellsRight before order said (Opened consumer persists n) = IsAskedFor order persists × OfCookie before said consumer (IsOpenedAt n)
+TellsRight before order said (Refused consumer persists code) =
+    IsAskedFor order persists × (code ≡ 4096) × OfCookie before said consumer IsUnserved
+TellsRight before order said (Sent consumer message) = IsOfStream before said consumer message
+TellsRight before order said (Ended consumer code) = code ≡ pos 51
+TellsRight before order said (Faulted consumer fault) = ⊥
+TellsRight before order said (Settled consumer n) = IsSettled before said consumer n
 TellsRight before order said (Holds consumer cookie) = IsGiven order consumer cookie
 TellsRight before order said (Shown name entries) = IsShown before said name entries
 TellsRight before order said _ = Unit {0}

@@ -1,5 +1,5 @@
 -- How a search of a script is accepted by its provider.
-use Rattle.std.specs.Prelude.{ℕ, Result, Ok, Err, List, if◌then◌else◌}
+use Rattle.std.specs.Prelude.{ℕ, Bool, Result, Ok, Err, List, if◌then◌else◌}
 use Rattle.std.specs.Ordering.{nat_cmp}
 use Rattle.std.specs.BTreeMap.{insert_entry}
 use Rattle.dn_names.specs.Names.{is_at_or_below}
@@ -8,7 +8,7 @@ use Rattle.sync_messages.specs.Request.{request_of}
 use Rattle.sync_messages.specs.declared.fault.SyncFault.{SyncFault}
 use Rattle.sync_messages.specs.declared.request.SyncRequest.{SyncRequest}
 use Rattle.sync_model.specs.Stream.{Start}
-use Rattle.sync_provider.specs.Accepting.{numbered, free_number, start_of_read}
+use Rattle.sync_provider.specs.Accepting.{numbered, free_number, start_of_read, persists_of_read}
 use Rattle.sync_provider.specs.Machine.{ProviderState}
 use Rattle.sync_provider.specs.Search.{opening}
 use Rattle.sync_provider.specs.declared.searches.Accepted.{Accepted}
@@ -27,16 +27,17 @@ answer_to_request p spec (Ok request) =
 abbrev pub answer_to : ProviderState → Search → List ℕ → Accepted
 answer_to p spec control = answer_to_request p spec (request_of control)
 
--- the provider with a search of that number, which begins there
-abbrev pub with_opened : ProviderState → ℕ → Search → Start → ProviderState
-with_opened p number spec start =
-    record p { searches = insert_entry nat_cmp p.searches number (opening p.directory message_id spec start) }
+-- the provider with a search of that number, which begins there, and goes on after its refresh or ends with it
+abbrev pub with_opened : ProviderState → ℕ → Search → Start → (persists : Bool) → ProviderState
+with_opened p number spec start persists =
+    record p { searches = insert_entry nat_cmp p.searches number (opening p.directory message_id spec start persists) }
 
-abbrev pub after_answer : ProviderState → Search → Start → Accepted → ProviderState
-after_answer p spec start (accepted.Opened number writes) = with_opened p number spec start
-after_answer p spec start (accepted.Refused code) = p
-after_answer p spec start accepted.NoMemory = p
+abbrev pub after_answer : ProviderState → Search → Start → (persists : Bool) → Accepted → ProviderState
+after_answer p spec start persists (accepted.Opened number writes) = with_opened p number spec start persists
+after_answer p spec start persists (accepted.Refused code) = p
+after_answer p spec start persists accepted.NoMemory = p
 
 -- the provider after such a search
 abbrev pub after_accepted : ProviderState → Search → List ℕ → Accepted → ProviderState
-after_accepted p spec control answer = after_answer p spec (start_of_read p.directory (request_of control)) answer
+after_accepted p spec control answer =
+    after_answer p spec (start_of_read p.directory (request_of control)) (persists_of_read (request_of control)) answer

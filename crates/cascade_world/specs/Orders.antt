@@ -12,6 +12,7 @@ pub data Order : Type 0 where
   Clock : ℕ → Order
   Write : List ℕ → Change → Order
   OpenOnce : List ℕ → Order
+  OpenStay : List ℕ → Order
   Send : List ℕ → ℕ → Order
   Take : List ℕ → ℕ → Order
   Cut : List ℕ → Order
@@ -19,6 +20,7 @@ pub data Order : Type 0 where
   Lose : List ℕ → Order
   Cookie : List ℕ → List ℕ → Order
   Log : List ℕ → ℕ → Order
+  Queue : List ℕ → ℕ → Order
   Show : List ℕ → Order
 
 abbrev pub order_of : Command → Order
@@ -27,6 +29,7 @@ order_of (command.Consumer name source spec reload) = Consumer name source (sear
 order_of (command.Clock time) = Clock time
 order_of (command.Write name change) = Write name change
 order_of (command.OpenOnce name) = OpenOnce name
+order_of (command.OpenStay name) = OpenStay name
 order_of (command.Send name count) = Send name count
 order_of (command.Take name count) = Take name count
 order_of (command.Cut name) = Cut name
@@ -34,4 +37,5 @@ order_of (command.Settle name) = Settle name
 order_of (command.Lose name) = Lose name
 order_of (command.Cookie name text) = Cookie name text
 order_of (command.Log name limit) = Log name limit
+order_of (command.Queue name limit) = Queue name limit
 order_of (command.Show name) = Show name

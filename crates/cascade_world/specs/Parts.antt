@@ -1,5 +1,6 @@
 -- What the parts of an event answer, and the lines that they put behind those before them.
 use Rattle.std.specs.Prelude.{◌≡◌, ◌==◌, ℕ, Bool, true, false, Option, Some, None, Result, Ok, Err, List, [], ◌∷◌, ◌++◌}
+use Rattle.sync_messages.specs.declared.request.Mode.{Mode}
 use Rattle.cascade_world.specs.declared.fault.Cause.{Cause}
 use Rattle.cascade_world.specs.declared.fault.Cause.TheVariants.{LaterCookie, LimitReached, NoMemory}
 use Rattle.ldap_messages.specs.Whole.{Whole, whole_of}
@@ -14,8 +15,8 @@ use Rattle.cascade_world.specs.Hearing.{heard_of}
 use Rattle.cascade_world.specs.Exchange.Sending.{Sends, Rests, Overflows}
 use Rattle.cascade_world.specs.Exchange.{name_of}
 use Rattle.cascade_world.specs.Link.{most_link}
-use Rattle.cascade_world.specs.Report.{Told, lines_text}
-use Rattle.cascade_world.specs.Report.Told.{Sent, Refused}
+use Rattle.cascade_world.specs.Report.{Told, lines_text, refused_line}
+use Rattle.cascade_world.specs.Report.Told.{Sent}
 
 -- the text before a part, the pair and the text after it, and what it answered; want of memory says nothing
 abbrev pub Does : Outcome → List ℕ → Pair → List ℕ → Result (Unit {0}) Cause → Type 0
@@ -80,16 +81,17 @@ Heard before found old after new (Ok done) =
 Heard before found old after new (Err NoMemory) = Unit {0}
 Heard before found old after new (Err cause) = ⊥
 
--- the same of a consumer that asks for a search, which answers whether its cookie does not serve
-abbrev pub Opens : Pair → List ℕ → Pair → List ℕ → Result Bool Cause → Type 0
-Opens before old after new (Ok again) = Does (opened_idle before) old after new (Ok tt) × (again ≡ is_required (answer_of before))
-Opens before old after new (Err cause) = Does (opened_idle before) old after new (Err cause)
+-- the same of a consumer that asks for a search in this mode, which answers whether its cookie does not serve
+abbrev pub Opens : Mode → Pair → List ℕ → Pair → List ℕ → Result Bool Cause → Type 0
+Opens mode before old after new (Ok again) =
+    Does (opened_idle mode before) old after new (Ok tt) × (again ≡ is_required (answer_of mode before))
+Opens mode before old after new (Err cause) = Does (opened_idle mode before) old after new (Err cause)
 
 -- the same of a search that is refused, whose consumer takes its end; the answer is whether its cookie does not serve
 abbrev pub Refuses : Follower → ℕ → List ℕ → Follower → List ℕ → Result Bool Cause → Type 0
 Refuses before code old after new (Ok again) =
     (after ≡ with_copy before (refused_copy before.consumer.copy code))
-    × (new ≡ old ++ lines_text (Refused before.name code ∷ []))
+    × (new ≡ old ++ refused_line before.name code)
     × (again ≡ (code == refresh_required))
 Refuses before code old after new (Err NoMemory) = Unit {0}
 Refuses before code old after new (Err cause) = ⊥

@@ -6,7 +6,7 @@ use Rattle.cascade_world.specs.declared.fault.Cause.{Cause}
 use Rattle.cascade_world.specs.declared.fault.Cause.TheVariants.{NoMemory}
 use Rattle.cascade_world.specs.declared.node.Root.{Root}
 use Rattle.cascade_world.specs.declared.node.Follower.{Follower}
-use Rattle.cascade_world.specs.Directory.{change_code, changed}
+use Rattle.cascade_world.specs.Directory.{change_code, changed, wrote_change}
 use Rattle.cascade_world.specs.Report.{lines_text}
 use Rattle.cascade_world.specs.Report.Told.{Wrote}
 use Rattle.cascade_world.specs.World.{State, is_root, is_follower}
@@ -21,6 +21,6 @@ pub record ArePlaces (state : State) (name : List ℕ) (places : ℕ × ℕ) : T
 -- a write to a provider and the line of it; want of memory leaves the provider
 abbrev pub Writes : ProviderState → List ℕ → ℕ → Change → ProviderState → Result (List ℕ) Cause → Type 0
 Writes before name now change after (Ok text) =
-    (after ≡ record before { directory = changed before.directory now change })
+    (after ≡ wrote_change before now change)
     × (text ≡ lines_text (Wrote name (change_code before.directory now change) (length (changed before.directory now change).writes) ∷ []))
 Writes before name now change after (Err cause) = (cause ≡ NoMemory) × (after ≡ before)

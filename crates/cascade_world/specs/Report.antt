@@ -1,5 +1,5 @@
 -- The lines of a report.
-use Rattle.std.specs.Prelude.{ℕ, ℤ, List, [], ◌∷◌, ◌++◌, Option, Some, length, codes}
+use Rattle.std.specs.Prelude.{ℕ, ℤ, Bool, List, [], ◌∷◌, ◌++◌, Option, Some, length, codes}
 use Rattle.std.specs.Fmt.{decimal, signed_decimal}
 use Rattle.std.specs.List.{flat_map}
 use Rattle.hex.specs.Hex.{encode_lower}
@@ -20,9 +20,10 @@ text_of entries = flat_map entry_text entries
 pub data Told : Type 0 where
   -- a write to a provider, with its code and the accepted writes after it
   Wrote : (name : List ℕ) (code writes : ℕ) → Told
-  -- a search that is open, with the provider's accepted writes, or that is refused, with the code
-  Opened : (name : List ℕ) (writes : ℕ) → Told
-  Refused : (name : List ℕ) (code : ℕ) → Told
+  -- a search that is open, with the provider's accepted writes, or that is refused, with the code; it was asked for in
+  -- a mode that persists, or to end with its refresh, of which nothing is printed
+  Opened : (name : List ℕ) (persists : Bool) (writes : ℕ) → Told
+  Refused : (name : List ℕ) (persists : Bool) (code : ℕ) → Told
   -- the bytes of a message that went into the link
   Sent : (name message : List ℕ) → Told
   -- a message that was taken, and changed no entries; entries with the number of the prefix that they are of, and the
@@ -111,8 +112,8 @@ settled_line name writes = numbered_line (codes "settled") name writes
 
 abbrev pub line_of : Told → List ℕ
 line_of (Wrote name code writes) = wrote_line name code writes
-line_of (Opened name writes) = opened_line name writes
-line_of (Refused name code) = refused_line name code
+line_of (Opened name persists writes) = opened_line name writes
+line_of (Refused name persists code) = refused_line name code
 line_of (Sent name message) = sent_line name message
 line_of (Taken name) = taken_line name
 line_of (Stored name number entries root origin) = stored_line name number entries root origin

@@ -38,8 +38,8 @@ after_own seen (Stored name number entries root origin) = took_first seen
 after_own seen (Ended name code) = took_first seen
 after_own seen (Faulted name fault) = dropped (took_first seen)
 after_own seen (Cut name) = dropped seen
-after_own seen (Opened name writes) = record seen { copy = asking seen.copy }
-after_own seen (Refused name code) = record seen { copy = refused_copy (asking seen.copy) code }
+after_own seen (Opened name persists writes) = record seen { copy = asking persists seen.copy }
+after_own seen (Refused name persists code) = record seen { copy = refused_copy (asking persists seen.copy) code }
 after_own seen (Nothing name) = seen
 after_own seen (Settled name writes) = seen
 after_own seen (Holds name cookie) = with_cookie seen cookie
@@ -49,8 +49,8 @@ after_own seen (Shown name entries) = seen
 -- whose line it is
 abbrev pub name_in : Told → List ℕ
 name_in (Wrote name code writes) = name
-name_in (Opened name writes) = name
-name_in (Refused name code) = name
+name_in (Opened name persists writes) = name
+name_in (Refused name persists code) = name
 name_in (Sent name message) = name
 name_in (Taken name) = name
 name_in (Stored name number entries root origin) = name

@@ -7,15 +7,16 @@ use Rattle.entry_tree.specs.Selection.{Search}
 use Rattle.entry_tree.specs.declared.entry.Entry.{Entry}
 use Rattle.schema_rules.specs.declared.raw.Change.{Change}
 use Rattle.sync_consumer.specs.Taking.{nothing}
-use Rattle.sync_provider.specs.Directory.{entries_of}
-use Rattle.sync_provider.specs.Machine.{ProviderState, fresh, log_limited}
+use Rattle.sync_messages.specs.declared.request.Mode.TheVariants.{RefreshOnly, RefreshAndPersist}
+use Rattle.directory_writes.specs.Directory.{entries_of}
+use Rattle.sync_provider.specs.Machine.{ProviderState, fresh, log_limited, queue_limited}
 use Rattle.cascade_world.specs.declared.fault.ScriptFault.{ScriptFault}
 use Rattle.cascade_world.specs.declared.fault.Cause.{Cause}
 use Rattle.cascade_world.specs.declared.fault.Cause.TheVariants.{NameTaken, UnknownNode, OutsideSuffix, LimitReached, NoMemory}
 use Rattle.cascade_world.specs.declared.node.Root.{Root}
 use Rattle.cascade_world.specs.declared.node.Follower.{Follower}
 use Rattle.cascade_world.specs.Cookies.{most_nodes}
-use Rattle.cascade_world.specs.Directory.{change_code, changed}
+use Rattle.cascade_world.specs.Directory.{change_code, changed, wrote_change}
 use Rattle.cascade_world.specs.Exchange.{Pair, Outcome, sent, takes, cut, opens, settles, lost, given}
 use Rattle.cascade_world.specs.Fault.{RefusedAt}
 use Rattle.cascade_world.specs.Orders.{Order}
@@ -106,17 +107,25 @@ declare_follower state name source search reload =
 abbrev pub write_to : State → List ℕ → Change → Option Root → Step
 write_to state name change None = Err UnknownNode
 write_to state name change (Some root) =
-    let after = changed root.provider.directory state.clock change in
     Ok (
-      record state { roots = with_provider name (record root.provider { directory = after }) state.roots },
-      Wrote name (change_code root.provider.directory state.clock change) (length after.writes) ∷ [],
+      record state { roots = with_provider name (wrote_change root.provider state.clock change) state.roots },
+      Wrote name (change_code root.provider.directory state.clock change)
+          (length (changed root.provider.directory state.clock change).writes) ∷ [],
     )
 
--- the session log of a provider keeps so many touches at most from now on
-abbrev pub limit_log : State → List ℕ → ℕ → Option Root → Step
-limit_log state name limit None = Err UnknownNode
-limit_log state name limit (Some root) =
-    Ok (record state { roots = with_provider name (log_limited root.provider limit) state.roots }, [])
+-- a provider gets another limit
+abbrev pub limited : State → List ℕ → (ProviderState → ProviderState) → Option Root → Step
+limited state name change None = Err UnknownNode
+limited state name change (Some root) =
+    Ok (record state { roots = with_provider name (change root.provider) state.roots }, [])
+
+-- its session log keeps so many touches at most from now on
+abbrev pub limit_log : State → List ℕ → ℕ → Step
+limit_log state name limit = limited state name (λ provider. log_limited provider limit) (root_named name state)
+
+-- and the queue of each of its searches so many messages at most, from the next write on
+abbrev pub limit_queue : State → List ℕ → ℕ → Step
+limit_queue state name limit = limited state name (λ provider. queue_limited provider limit) (root_named name state)
 
 -- ---- consumers
 
@@ -163,14 +172,16 @@ step state (asks.Provider name suffix) = declare_root state name suffix
 step state (asks.Consumer name source search reload) = declare_follower state name source search reload
 step state (asks.Clock time) = Ok (record state { clock = time }, [])
 step state (asks.Write name change) = write_to state name change (root_named name state)
-step state (asks.OpenOnce name) = exchange state name opens
+step state (asks.OpenOnce name) = exchange state name (opens RefreshOnly)
+step state (asks.OpenStay name) = exchange state name (opens RefreshAndPersist)
 step state (asks.Send name count) = exchange state name (sent count)
 step state (asks.Take name count) = exchange state name (takes count)
 step state (asks.Cut name) = exchange state name cut
 step state (asks.Settle name) = exchange state name settles
 step state (asks.Lose name) = exchange state name lost
 step state (asks.Cookie name text) = exchange state name (given text)
-step state (asks.Log name limit) = limit_log state name limit (root_named name state)
+step state (asks.Log name limit) = limit_log state name limit
+step state (asks.Queue name limit) = limit_queue state name limit
 step state (asks.Show name) = show_of state name (shown_of (root_named name state) (follower_named name state))
 
 -- ---- what the code answers

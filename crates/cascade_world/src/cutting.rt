@@ -20,6 +20,7 @@ pub fn is_busy(follower: &Follower) -> bool
 pub fn drop_all(provider: &mut Source, follower: &mut Follower)
     ensures does { pair_of provider.new follower.new ≡ spec.given_up (pair_of provider.old follower.old) follower.old.consumer.copy }
     ensures directory { provider.new.directory ≡ provider.old.directory }
+    ensures queue_limit { provider.new.queue_limit ≡ provider.old.queue_limit }
 {
     if let Some(number) = follower.search {
         provider.drop_search(number);
@@ -34,6 +35,7 @@ pub fn cut(provider: &mut Source, follower: &mut Follower, out: &mut Vec<u8>) ->
     ensures does { Does (spec.cut (pair_of provider.old follower.old))
         out.old.items (pair_of provider.new follower.new) out.new.items result }
     ensures directory { provider.new.directory ≡ provider.old.directory }
+    ensures queue_limit { provider.new.queue_limit ≡ provider.old.queue_limit }
 {
     if !is_busy(follower) {
         push_nothing(out, follower.name.as_slice())?;

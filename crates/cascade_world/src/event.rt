@@ -18,6 +18,8 @@ pub enum Command {
     Write(Octets, Change),
     /// Opens a search of a consumer that ends with its refresh.
     OpenOnce(Octets),
+    /// Opens a search of a consumer that goes on after its refresh.
+    OpenStay(Octets),
     /// Hands out so many messages of a consumer's search into its link.
     Send(Octets, u64),
     /// A consumer takes so many messages from its link.
@@ -32,6 +34,8 @@ pub enum Command {
     Cookie(Octets, Octets),
     /// The session log of a provider keeps so many touches at most.
     Log(Octets, u64),
+    /// The queue of each search of a provider holds so many messages at most, from the next write on.
+    Queue(Octets, u64),
     /// Prints the entries of a node.
     Show(Octets),
 }

@@ -7,7 +7,7 @@ ghost use Rattle.cascade_world.specs.Parts.{Does, Performs};
 use crate::cookies::{give, lose};
 use crate::cutting::cut;
 use crate::node::Follower;
-use crate::opening::open_once;
+use crate::opening::open_search;
 use crate::receiving::take;
 use crate::sending::send;
 use crate::settling::settle;
@@ -15,13 +15,14 @@ use crate::source::Source;
 use crate::{Cause, Lines};
 use ldap_ber::{NoMemory, Octets};
 use std::alloc::Global;
+use sync_messages::Mode;
 use sync_provider::OpenSearches;
 
 /// What an event does to a consumer and its provider.
 #[derive(Drop)]
 pub enum Exchange {
-    /// A search that ends with its refresh is opened.
-    Open,
+    /// A search that ends with its refresh, or goes on after it, is opened.
+    Open(Mode),
     /// So many messages of the search go into the link.
     Send(u64),
     /// So many messages are taken from the link.
@@ -71,9 +72,10 @@ impl Exchange {
         ensures does { Does (part_of self (pair_of provider.old follower.old))
             out.old.items (pair_of provider.new follower.new) out.new.items result }
         ensures directory { provider.new.directory ≡ provider.old.directory }
+        ensures queue_limit { provider.new.queue_limit ≡ provider.old.queue_limit }
     {
         match self {
-            Exchange::Open => open_once(alloc, provider, follower, out),
+            Exchange::Open(mode) => open_search(alloc, provider, follower, mode, out),
             Exchange::Send(count) => send(alloc, provider, follower, count, out),
             Exchange::Take(count) => take(alloc, provider, follower, count, out),
             Exchange::Cut => cut(provider, follower, out),

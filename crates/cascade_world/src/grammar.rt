@@ -234,14 +234,14 @@ fn later_name(text: &[u8], line: u64) -> Result<Heading, ScriptFault>
     Ok(Heading::Later)
 }
 
-/// `C once` or `C stay`. A search that goes on after its refresh is not done yet.
+/// `C once`, or `C stay` for a search that goes on after its refresh.
 #[tactic(auto, unfolding(crate::specs::Grammar::open_line))]
 fn open_line(alloc: Global, text: &[u8], line: u64) -> Result<Heading, ScriptFault>
     ensures { Gives line saying_of result (spec.open_line text.now) }
 {
     let (name, mode) = named(alloc, text, line)?;
     if mode == b"stay".as_slice() {
-        return Ok(Heading::Later);
+        return Ok(Heading::Whole(Command::OpenStay(name)));
     }
     only_if(mode == b"once".as_slice(), line)?;
     Ok(Heading::Whole(Command::OpenOnce(name)))
@@ -265,13 +265,12 @@ fn log_line(alloc: Global, text: &[u8], line: u64) -> Result<Heading, ScriptFaul
     Ok(Heading::Whole(Command::Log(name, limit)))
 }
 
-/// Of a command that is not done yet.
 #[tactic(auto, unfolding(crate::specs::Grammar::queue_line))]
 fn queue_line(alloc: Global, text: &[u8], line: u64) -> Result<Heading, ScriptFault>
     ensures { Gives line saying_of result (spec.queue_line text.now) }
 {
-    limited(alloc, text, line)?;
-    Ok(Heading::Later)
+    let (name, limit) = limited(alloc, text, line)?;
+    Ok(Heading::Whole(Command::Queue(name, limit)))
 }
 
 /// `C`, which stands for `C 1`, or `C N`.

@@ -4,7 +4,7 @@ ghost use Rattle.entry_tree.specs.Selection.{search_of};
 ghost use Rattle.ldap_messages.specs.Whole.{whole_of};
 ghost use Rattle.sync_consumer.specs.Taking.{asked_of};
 ghost use Rattle.sync_messages.specs.Request.{request_of};
-ghost use Rattle.sync_messages.specs.declared.request.Mode.TheVariants.{RefreshOnly};
+ghost use Rattle.sync_wire.specs.Requesting.{persists};
 ghost use Rattle.cascade_world.specs.Exchange as spec;
 ghost use Rattle.cascade_world.specs.Hearing as hearing;
 ghost use Rattle.cascade_world.specs.Exchange.{pair_of};
@@ -27,23 +27,26 @@ use sync_provider::{Accepted, done_message};
 /// e-syncRefreshRequired (RFC 4533, section 2.6): the cookie does not serve.
 const REFRESH_REQUIRED: u32 = 4096;
 
-/// Opens a search that ends with its refresh; a busy consumer is cut first.
+/// Opens a search that ends with its refresh, or goes on after it; a busy consumer is cut first.
 #[tactic(auto, using(crate::proofs::Doing::refused_first))]
-pub fn open_once(
+pub fn open_search(
     alloc: Global,
     provider: &mut Source,
     follower: &mut Follower,
+    mode: Mode,
     out: &mut Vec<u8>,
 ) -> Result<(), Cause>
-    ensures does { Does (spec.opens (pair_of provider.old follower.old))
+    ensures does { Does (spec.opens mode (pair_of provider.old follower.old))
         out.old.items (pair_of provider.new follower.new) out.new.items result }
     ensures directory { provider.new.directory ≡ provider.old.directory }
+    ensures queue_limit { provider.new.queue_limit ≡ provider.old.queue_limit }
 {
     cut_if_busy(provider, follower, out)?;
-    ask_once(alloc, provider, follower, out)
+    ask_once(alloc, provider, follower, mode, out)
 }
 
-/// Opens such a search, and asks for it a second time where the cookie does not serve.
+/// Opens a search that ends with its refresh, and asks for it a second time where the cookie does not
+/// serve.
 #[tactic(auto, using(crate::proofs::Doing::refused_first))]
 pub fn open_anew(
     alloc: Global,
@@ -54,6 +57,7 @@ pub fn open_anew(
     ensures does { Does (spec.opens_anew (pair_of provider.old follower.old))
         out.old.items (pair_of provider.new follower.new) out.new.items result }
     ensures directory { provider.new.directory ≡ provider.old.directory }
+    ensures queue_limit { provider.new.queue_limit ≡ provider.old.queue_limit }
 {
     cut_if_busy(provider, follower, out)?;
     ask_again(alloc, provider, follower, out)
@@ -65,13 +69,15 @@ fn ask_once(
     alloc: Global,
     provider: &mut Source,
     follower: &mut Follower,
+    mode: Mode,
     out: &mut Vec<u8>,
 ) -> Result<(), Cause>
-    ensures does { Does (spec.opened_idle (pair_of provider.old follower.old))
+    ensures does { Does (spec.opened_idle mode (pair_of provider.old follower.old))
         out.old.items (pair_of provider.new follower.new) out.new.items result }
     ensures directory { provider.new.directory ≡ provider.old.directory }
+    ensures queue_limit { provider.new.queue_limit ≡ provider.old.queue_limit }
 {
-    open_idle(alloc, provider, follower, out)?;
+    open_idle(alloc, provider, follower, mode, out)?;
     Ok(())
 }
 
@@ -86,9 +92,10 @@ fn ask_again(
     ensures does { Does (spec.asked_again (pair_of provider.old follower.old))
         out.old.items (pair_of provider.new follower.new) out.new.items result }
     ensures directory { provider.new.directory ≡ provider.old.directory }
+    ensures queue_limit { provider.new.queue_limit ≡ provider.old.queue_limit }
 {
-    if open_idle(alloc, provider, follower, out)? {
-        return ask_once(alloc, provider, follower, out);
+    if open_idle(alloc, provider, follower, Mode::RefreshOnly, out)? {
+        return ask_once(alloc, provider, follower, Mode::RefreshOnly, out);
     }
     Ok(())
 }
@@ -103,6 +110,7 @@ fn cut_if_busy(
     ensures does { Does (spec.idle (pair_of provider.old follower.old))
         out.old.items (pair_of provider.new follower.new) out.new.items result }
     ensures directory { provider.new.directory ≡ provider.old.directory }
+    ensures queue_limit { provider.new.queue_limit ≡ provider.old.queue_limit }
 {
     if is_busy(follower) {
         return cut(provider, follower, out);
@@ -116,13 +124,15 @@ fn open_idle(
     alloc: Global,
     provider: &mut Source,
     follower: &mut Follower,
+    mode: Mode,
     out: &mut Vec<u8>,
 ) -> Result<bool, Cause>
-    ensures does { Opens (pair_of provider.old follower.old)
+    ensures does { Opens mode (pair_of provider.old follower.old)
         out.old.items (pair_of provider.new follower.new) out.new.items result }
     ensures directory { provider.new.directory ≡ provider.old.directory }
+    ensures queue_limit { provider.new.queue_limit ≡ provider.old.queue_limit }
 {
-    let control = asked(alloc, follower)?;
+    let control = asked(alloc, follower, mode)?;
     let wanted = copy_of(follower.consumer.spec())?;
     match provider.accept(alloc, wanted, control) {
         Accepted::Opened(number, writes) => {
@@ -135,13 +145,13 @@ fn open_idle(
     }
 }
 
-/// Asks for a refresh, and answers the value of the request's control.
+/// Asks for a search, and answers the value of the request's control.
 #[tactic(auto, using(crate::proofs::Openings::asked_value))]
-fn asked(alloc: Global, follower: &mut Follower) -> Result<Octets, NoMemory>
-    ensures value { IfOk result (λ value. request_of value ≡ Ok (asked_of follower.old.consumer RefreshOnly)) }
-    ensures ok { OnOk result (follower.new ≡ spec.with_copy follower.old (spec.asking follower.old.consumer.copy)) }
+fn asked(alloc: Global, follower: &mut Follower, mode: Mode) -> Result<Octets, NoMemory>
+    ensures value { IfOk result (λ value. request_of value ≡ Ok (asked_of follower.old.consumer mode)) }
+    ensures ok { OnOk result (follower.new ≡ spec.with_copy follower.old (spec.asking (persists mode) follower.old.consumer.copy)) }
 {
-    let request = follower.consumer.request(MESSAGE_ID, Mode::RefreshOnly)?;
+    let request = follower.consumer.request(MESSAGE_ID, mode)?;
     let control = control_of(alloc, &request);
     discard(request);
     control

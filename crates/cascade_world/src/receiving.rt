@@ -31,6 +31,7 @@ pub fn take(
     ensures does { Does (spec.takes count (pair_of provider.old follower.old))
         out.old.items (pair_of provider.new follower.new) out.new.items result }
     ensures directory { provider.new.directory ≡ provider.old.directory }
+    ensures queue_limit { provider.new.queue_limit ≡ provider.old.queue_limit }
 {
     let mut left = count;
     while left > 0 {
@@ -54,6 +55,7 @@ pub fn take_one(
     ensures does { TakesOne (pair_of provider.old follower.old) (spec.taking (pair_of provider.old follower.old))
         out.old.items (pair_of provider.new follower.new) out.new.items result }
     ensures directory { provider.new.directory ≡ provider.old.directory }
+    ensures queue_limit { provider.new.queue_limit ≡ provider.old.queue_limit }
 {
     let Some(bytes) = follower.link.pop() else {
         return Ok(false);
@@ -87,6 +89,7 @@ fn take_found(
     ensures does { Heard (pair_of provider.old follower.old) (option_map whole_of found)
         out.old.items (pair_of provider.new follower.new) out.new.items result }
     ensures directory { provider.new.directory ≡ provider.old.directory }
+    ensures queue_limit { provider.new.queue_limit ≡ provider.old.queue_limit }
 {
     match found {
         Some(message) => {
@@ -113,6 +116,7 @@ fn take_message(
     ensures does { Heard (pair_of provider.old follower.old) (Some (whole_of message.now))
         out.old.items (pair_of provider.new follower.new) out.new.items result }
     ensures directory { provider.new.directory ≡ provider.old.directory }
+    ensures queue_limit { provider.new.queue_limit ≡ provider.old.queue_limit }
 {
     match follower.consumer.take(message) {
         Taken::Staged => {
@@ -163,6 +167,7 @@ fn give_up(
     ensures pair { pair_of provider.new follower.new ≡ spec.given_up (pair_of provider.old follower.old) follower.old.consumer.copy }
     ensures line { OnOk result (out.new.items ≡ out.old.items ++ report.fault_line follower.old.name fault.now) }
     ensures directory { provider.new.directory ≡ provider.old.directory }
+    ensures queue_limit { provider.new.queue_limit ≡ provider.old.queue_limit }
 {
     drop_all(provider, follower);
     push_fault(out, follower.name.as_slice(), fault)

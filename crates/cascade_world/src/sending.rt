@@ -25,6 +25,7 @@ pub fn send(
     ensures does { Does (spec.sent count (pair_of provider.old follower.old))
         out.old.items (pair_of provider.new follower.new) out.new.items result }
     ensures directory { provider.new.directory ≡ provider.old.directory }
+    ensures queue_limit { provider.new.queue_limit ≡ provider.old.queue_limit }
 {
     let mut left = count;
     while left > 0 {
@@ -48,6 +49,7 @@ pub fn send_one(
     ensures does { SendsOne (pair_of provider.old follower.old) (spec.sending (pair_of provider.old follower.old))
         out.old.items (pair_of provider.new follower.new) out.new.items result }
     ensures directory { provider.new.directory ≡ provider.old.directory }
+    ensures queue_limit { provider.new.queue_limit ≡ provider.old.queue_limit }
 {
     let Some(message) = next_message(alloc, provider, follower)? else {
         return Ok(false);
@@ -70,6 +72,7 @@ fn next_message(
         (pair_of provider.new follower.new) result }
     ensures spelled { IfOk result (λ found. IfSome found (λ message. HasSpelling (whole_of message))) }
     ensures directory { provider.new.directory ≡ provider.old.directory }
+    ensures queue_limit { provider.new.queue_limit ≡ provider.old.queue_limit }
 {
     let Some(number) = follower.search else {
         return Ok(None);

@@ -1,5 +1,6 @@
 //! A consumer that is brought up to its provider.
 ghost use Rattle.std.specs.Prelude.{◌≡◌};
+ghost use Rattle.sync_provider.specs.Machine.{ProviderState};
 ghost use Rattle.cascade_world.specs.Exchange as spec;
 ghost use Rattle.cascade_world.specs.Exchange.{pair_of};
 ghost use Rattle.cascade_world.specs.Parts.{Does};
@@ -13,9 +14,10 @@ use crate::sending::send_one;
 use crate::source::Source;
 use std::alloc::Global;
 
-/// Brings the consumer up to its provider: it takes what its link holds, runs the search that is open
-/// to its end, and then a new one, which is asked for a second time where its cookie does not serve.
-#[tactic(auto, using(crate::proofs::Settled::settled, crate::proofs::Settled::drain_refused, crate::proofs::Settled::run_refused, crate::proofs::Settled::opening_refused, crate::proofs::Settled::second_run_refused))]
+/// Brings the consumer up to its provider: it takes what its link holds, and what the search that is
+/// open has pending. A consumer whose persistent search has done its refresh is up then; another one
+/// gets there by a new search.
+#[tactic(auto, using(crate::proofs::Settled::settled, crate::proofs::Settled::drain_refused, crate::proofs::Settled::run_refused, crate::proofs::Settled::catching_refused))]
 pub fn settle(
     alloc: Global,
     provider: &mut Source,
@@ -25,13 +27,56 @@ pub fn settle(
     ensures does { Does (spec.settles (pair_of provider.old follower.old))
         out.old.items (pair_of provider.new follower.new) out.new.items result }
     ensures directory { provider.new.directory ≡ provider.old.directory }
+    ensures queue_limit { provider.new.queue_limit ≡ provider.old.queue_limit }
 {
     take_all(alloc, provider, follower, out)?;
     run_search(alloc, provider, follower, out)?;
-    open_anew(alloc, provider, follower, out)?;
-    run_search(alloc, provider, follower, out)?;
+    catch_up(alloc, provider, follower, out)?;
     push_settled(alloc, out, follower.name.as_slice(), provider.writes())?;
     Ok(())
+}
+
+/// Opens a new search and runs it to its end, unless the consumer follows on.
+#[tactic(auto, using(crate::proofs::Settled::followed, crate::proofs::Settled::not_followed))]
+fn catch_up(
+    alloc: Global,
+    provider: &mut Source,
+    follower: &mut Follower,
+    out: &mut Vec<u8>,
+) -> Result<(), Cause>
+    ensures does { Does (spec.catches_up (pair_of provider.old follower.old))
+        out.old.items (pair_of provider.new follower.new) out.new.items result }
+    ensures directory { provider.new.directory ≡ provider.old.directory }
+    ensures queue_limit { provider.new.queue_limit ≡ provider.old.queue_limit }
+{
+    if follows_on(follower) {
+        return Ok(());
+    }
+    refresh(alloc, provider, follower, out)
+}
+
+/// Opens a new search and runs it to its end.
+#[tactic(auto, using(crate::proofs::Doing::refused_first))]
+fn refresh(
+    alloc: Global,
+    provider: &mut Source,
+    follower: &mut Follower,
+    out: &mut Vec<u8>,
+) -> Result<(), Cause>
+    ensures does { Does (spec.refreshes (pair_of provider.old follower.old))
+        out.old.items (pair_of provider.new follower.new) out.new.items result }
+    ensures directory { provider.new.directory ≡ provider.old.directory }
+    ensures queue_limit { provider.new.queue_limit ≡ provider.old.queue_limit }
+{
+    open_anew(alloc, provider, follower, out)?;
+    run_search(alloc, provider, follower, out)
+}
+
+/// Whether a persistent search of the consumer is open, and its refresh is done.
+fn follows_on(follower: &Follower) -> bool
+    ensures { (provider : ProviderState) → result ≡ spec.follows_on (pair_of provider follower.now) }
+{
+    follower.search.is_some() && follower.consumer.is_persisting()
 }
 
 /// Takes all that the link holds.
@@ -45,6 +90,7 @@ fn take_all(
     ensures does { Does (spec.drains (pair_of provider.old follower.old))
         out.old.items (pair_of provider.new follower.new) out.new.items result }
     ensures directory { provider.new.directory ≡ provider.old.directory }
+    ensures queue_limit { provider.new.queue_limit ≡ provider.old.queue_limit }
 {
     while take_one(alloc, provider, follower, out)? {}
     Ok(())
@@ -61,6 +107,7 @@ fn run_search(
     ensures does { Does (spec.runs (pair_of provider.old follower.old))
         out.old.items (pair_of provider.new follower.new) out.new.items result }
     ensures directory { provider.new.directory ≡ provider.old.directory }
+    ensures queue_limit { provider.new.queue_limit ≡ provider.old.queue_limit }
 {
     while send_one(alloc, provider, follower, out)? {
         take_one(alloc, provider, follower, out)?;

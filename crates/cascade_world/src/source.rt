@@ -4,7 +4,7 @@ ghost use Rattle.csn_cookie.specs.Csn as csns;
 ghost use Rattle.entry_tree.specs.Selection.{search_of};
 ghost use Rattle.entry_tree.specs.Sound.{is_sound_op};
 ghost use Rattle.sync_provider.specs.Accepting as accepting;
-ghost use Rattle.sync_provider.specs.Directory as directory;
+ghost use Rattle.directory_writes.specs.Directory as directory;
 ghost use Rattle.sync_provider.specs.HandingOut as handing;
 ghost use Rattle.sync_provider.specs.Machine as machine;
 ghost use Rattle.cascade_world.specs.Opening.{answer_to, after_accepted};
@@ -82,6 +82,7 @@ impl Source {
     }
 
     /// Applies a write where the clock shows `now`. The code 80 tells want of memory.
+    #[tactic(auto, using(crate::proofs::Asked::wrote_ours))]
     pub fn write(&mut self, alloc: Global, op: Op, now: u64) -> Reply
         requires { is_sound_op op ≡ true }
         ensures code { result.code ≢ 80 → result.code ≡ directory.write_code self.old.directory op now }
@@ -97,6 +98,13 @@ impl Source {
         ensures { self.new ≡ machine.log_limited self.old limit }
     {
         self.provider.set_log_limit(limit);
+    }
+
+    /// The queue of each search holds so many messages at most, from the next write on.
+    pub fn set_queue_limit(&mut self, limit: u64)
+        ensures { self.new ≡ machine.queue_limited self.old limit }
+    {
+        self.provider.set_queue_limit(limit);
     }
 
     /// Opens a search for what is wanted with this value of its control, or tells what is against it.

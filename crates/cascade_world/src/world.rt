@@ -27,6 +27,7 @@ use schema_rules::Change;
 use std::alloc::Global;
 use std::marker::Model;
 use sync_consumer::Consumer;
+use sync_messages::Mode;
 
 /// other (RFC 4511, appendix A.1): the provider's answer where memory ran out.
 const OTHER: u32 = 80;
@@ -102,7 +103,10 @@ impl World {
                 Ok(no_lines(self.alloc))
             }
             Command::Write(name, change) => self.write(name, change),
-            Command::OpenOnce(name) => self.exchange(name, Exchange::Open),
+            Command::OpenOnce(name) => self.exchange(name, Exchange::Open(Mode::RefreshOnly)),
+            Command::OpenStay(name) => {
+                self.exchange(name, Exchange::Open(Mode::RefreshAndPersist))
+            }
             Command::Send(name, count) => self.exchange(name, Exchange::Send(count)),
             Command::Take(name, count) => self.exchange(name, Exchange::Take(count)),
             Command::Cut(name) => self.exchange(name, Exchange::Cut),
@@ -110,6 +114,7 @@ impl World {
             Command::Lose(name) => self.exchange(name, Exchange::Lose),
             Command::Cookie(name, text) => self.exchange(name, Exchange::Give(text)),
             Command::Log(name, limit) => self.limit_log(&name, limit),
+            Command::Queue(name, limit) => self.limit_queue(&name, limit),
             Command::Show(name) => self.show(&name),
         }
     }
@@ -233,7 +238,7 @@ impl World {
         write_root(self.alloc, provider, name.as_slice(), self.clock, &change)
     }
 
-    #[tactic(auto, using(crate::proofs::Steps::no_limited))]
+    #[tactic(auto, using(crate::proofs::Steps::no_log_limited))]
     fn limit_log(&mut self, name: &Octets, limit: u64) -> Result<Lines, Cause>
         ensures steps { Does (spec.step self.old (order.Log name.now limit)) self.new result }
         ensures err { OnErr result (self.new ≡ self.old) }
@@ -242,6 +247,18 @@ impl World {
             return Err(Cause::UnknownNode);
         };
         self.roots[place].provider.set_log_limit(limit);
+        Ok(no_lines(self.alloc))
+    }
+
+    #[tactic(auto, using(crate::proofs::Steps::no_queue_limited))]
+    fn limit_queue(&mut self, name: &Octets, limit: u64) -> Result<Lines, Cause>
+        ensures steps { Does (spec.step self.old (order.Queue name.now limit)) self.new result }
+        ensures err { OnErr result (self.new ≡ self.old) }
+    {
+        let Some(place) = self.root_place(name) else {
+            return Err(Cause::UnknownNode);
+        };
+        self.roots[place].provider.set_queue_limit(limit);
         Ok(no_lines(self.alloc))
     }
 

@@ -174,6 +174,35 @@ fn outcome(
     Ok(outcome)
 }
 
+/// What would come of a write to the directory below the suffix.
+fn previewed(
+    alloc: Global,
+    tree: &Tree,
+    change: &Change,
+    suffix: &Dn,
+    mark: WriteMark,
+) -> Result<Touched, OpFault> {
+    let op = read_op(alloc, change)?;
+    let touches = tree.preview(alloc, &op, suffix, mark.number as u128, mark.csn);
+    discard(op);
+    touches
+}
+
+/// What would come of a write to the directory `o=x`.
+fn preview_outcome(
+    alloc: Global,
+    tree: &Tree,
+    line: &str,
+    number: u32,
+) -> Result<Result<Touched, OpFault>, Fail> {
+    let mark = mark_of(alloc, number)?;
+    let suffix = Dn::parse(alloc, b"o=x")?;
+    let change = change_of(alloc, line)?;
+    let outcome = previewed(alloc, tree, &change, &suffix, mark);
+    discard(change);
+    Ok(outcome)
+}
+
 /// The code of what comes of a write, and 0 where it is accepted.
 fn code_of(outcome: &Result<Touched, OpFault>) -> Result<u32, Fail> {
     match outcome {
@@ -626,6 +655,121 @@ fn effects_on_one_entry(rt: HostRuntime) -> Result<(), Fail> {
     for (line, unit) in &UNITS {
         let wanted = format!(in rt.alloc(); "{UNIT}+3 9 {unit}\n")?;
         assert_effect(&rt, rt.alloc(), line, wanted.as_str())?;
+    }
+    Ok(())
+}
+
+/// Writes with their numbers and codes.
+const PREVIEWS: [(&str, u32, u32); 16] = [
+    ("add ou=c,o=x|objectClass=organizationalUnit|ou=c", 9, 0),
+    // An identity that is there.
+    ("add ou=c,o=x|objectClass=organizationalUnit|ou=c", 5, 0),
+    (
+        "add ou=c,ou=z,o=x|objectClass=organizationalUnit|ou=c",
+        9,
+        32,
+    ),
+    ("add OU=A,O=X|objectClass=top", 9, 68),
+    ("add ou=c,o=x|ou=d", 9, 65),
+    ("delete ou=s,ou=a,o=x", 9, 0),
+    ("delete ou=a,o=x", 9, 66),
+    ("delete ou=z,o=x", 9, 32),
+    ("modify ou=b,o=x|+ou=c|+description=d", 9, 0),
+    // The stamp that is there.
+    ("modify ou=b,o=x", 3, 0),
+    ("modify ou=b,o=x|-l=q", 9, 16),
+    ("modify ou=b,o=x|-ou=b", 9, 67),
+    // The entries below move too.
+    ("rename ou=a,o=x|ou=n|drop|OU=B,o=x", 9, 0),
+    ("rename ou=b,o=x|l=c|keep", 9, 0),
+    ("rename ou=a,o=x|ou=c|keep|ou=s,ou=a,o=x", 9, 53),
+    ("rename ou=b,o=x|ou=A|keep", 9, 68),
+];
+
+/// The code of a write, and what it touches.
+#[derive(Drop)]
+struct Answer {
+    code: u32,
+    touched: Vec<u8>,
+}
+
+fn answer_of(alloc: Global, outcome: &Result<Touched, OpFault>) -> Result<Answer, Fail> {
+    let code = code_of(outcome)?;
+    let touched = match outcome {
+        Ok(touches) => difference(alloc, touches)?,
+        Err(_) => Vec::new(alloc),
+    };
+    Ok(Answer { code, touched })
+}
+
+fn preview_answer(alloc: Global, tree: &Tree, line: &str, number: u32) -> Result<Answer, Fail> {
+    let outcome = preview_outcome(alloc, tree, line, number)?;
+    let answer = answer_of(alloc, &outcome);
+    discard(outcome);
+    answer
+}
+
+fn apply_answer(alloc: Global, tree: &mut Tree, line: &str, number: u32) -> Result<Answer, Fail> {
+    let outcome = outcome(alloc, tree, line, number)?;
+    let answer = answer_of(alloc, &outcome);
+    discard(outcome);
+    answer
+}
+
+/// The entries, each on a line.
+fn entries_of(alloc: Global, tree: &Tree) -> Result<Vec<u8>, NoMemory> {
+    let mut lines = Vec::new(alloc);
+    for entry in tree.entries() {
+        push_entry(&mut lines, "=", entry)?;
+    }
+    Ok(lines)
+}
+
+/// The answer of a preview, which leaves the entries.
+fn preview_alone(
+    rt: &impl Abort,
+    alloc: Global,
+    tree: &Tree,
+    line: &str,
+    number: u32,
+) -> Result<Answer, Fail> {
+    let before = entries_of(alloc, tree)?;
+    let answer = preview_answer(alloc, tree, line, number)?;
+    let after = entries_of(alloc, tree)?;
+    assert_same(rt, line, &after.as_slice(), &before.as_slice());
+    Ok(answer)
+}
+
+fn assert_answer(rt: &impl Abort, line: &str, found: &Answer, wanted: &Answer) {
+    assert_same(rt, line, &found.code, &wanted.code);
+    assert_same(
+        rt,
+        line,
+        &found.touched.as_slice(),
+        &wanted.touched.as_slice(),
+    );
+}
+
+/// The preview of a write to the first directory has this code, and answers as the write then does.
+fn check_preview(
+    rt: &impl Abort,
+    alloc: Global,
+    line: &str,
+    number: u32,
+    code: u32,
+) -> Result<(), Fail> {
+    let mut tree = first_tree(alloc)?;
+    let answer = preview_alone(rt, alloc, &tree, line, number)?;
+    assert_same(rt, line, &answer.code, &code);
+    let wanted = apply_answer(alloc, &mut tree, line, number)?;
+    assert_answer(rt, line, &answer, &wanted);
+    Ok(())
+}
+
+#[test]
+fn previews(rt: HostRuntime) -> Result<(), Fail> {
+    for (line, number, code) in &PREVIEWS {
+        check_preview(&rt, rt.alloc(), line, *number, *code)?;
     }
     Ok(())
 }

@@ -1,11 +1,11 @@
 //! The addition of an entry (RFC 4511, section 4.7).
-ghost use Rattle.std.specs.Prelude.{◌≡◌, ◌+◌, ◌≤◌, ◌<◌, true, None, length, unwrap_or, option_map, IfOk, IfErr, OnOk, OnErr};
+ghost use Rattle.std.specs.Prelude.{◌≡◌, ◌+◌, ◌≤◌, ◌<◌, true, None, Some, [], ◌∷◌, filter, length, unwrap_or, option_map, IfOk, IfErr, OnOk, OnErr};
 ghost use Rattle.std.specs.Option.{option_copied};
 ghost use Rattle.schema_rules.specs.Attributes.{weight_of};
 ghost use Rattle.entry_tree.specs.Codes.{add_code};
 ghost use Rattle.entry_tree.specs.Fault.{Tells};
 ghost use Rattle.entry_tree.specs.State as state;
-ghost use Rattle.entry_tree.specs.Touched.{touched};
+ghost use Rattle.entry_tree.specs.Touched.{is_change, touched};
 
 use crate::checks::check_add;
 use crate::entry::Entry;
@@ -37,14 +37,50 @@ impl Tree {
         ensures refused { IfErr result (Tells (add_code suffix.now self.old dn.now attrs.now)) }
         ensures err { OnErr result (self.new ≡ self.old) }
     {
+        let entry = self.new_entry(alloc, suffix, dn, attrs, uuid, csn)?;
+        Ok(self.put(alloc, entry)?)
+    }
+
+    /// What differs after that addition, or the first code that is against it.
+    pub(crate) fn preview_add(
+        &self,
+        alloc: Global,
+        suffix: &Dn,
+        dn: &Dn,
+        attrs: &Attrs,
+        uuid: u128,
+        csn: Csn,
+    ) -> Result<Touched, OpFault>
+        ensures accepted { OnOk result (add_code suffix.now self.now dn.now attrs.now ≡ None) }
+        ensures touched { IfOk result (λ touches.
+            touches ≡ touched self.now (state.put (record { uuid = uuid; csn = csn; dn = dn.now; attrs = attrs.now }) self.now)) }
+        ensures refused { IfErr result (Tells (add_code suffix.now self.now dn.now attrs.now)) }
+    {
+        let entry = self.new_entry(alloc, suffix, dn, attrs, uuid, csn)?;
+        Ok(self.preview_put(alloc, &entry)?)
+    }
+
+    /// The entry that is to be added, or the first code that is against it.
+    fn new_entry(
+        &self,
+        alloc: Global,
+        suffix: &Dn,
+        dn: &Dn,
+        attrs: &Attrs,
+        uuid: u128,
+        csn: Csn,
+    ) -> Result<Entry, OpFault>
+        ensures accepted { OnOk result (add_code suffix.now self.now dn.now attrs.now ≡ None) }
+        ensures value { IfOk result (λ entry. entry ≡ record { uuid = uuid; csn = csn; dn = dn.now; attrs = attrs.now }) }
+        ensures refused { IfErr result (Tells (add_code suffix.now self.now dn.now attrs.now)) }
+    {
         check_add(alloc, &self.entries, self.weight, suffix, dn, attrs)?;
-        let entry = Entry {
+        Ok(Entry {
             uuid,
             csn,
             dn: dn.copy()?,
             attrs: attrs.copy()?,
-        };
-        Ok(self.put(alloc, entry)?)
+        })
     }
 
     /// Puts the entry in its place, where it replaces one of the same identity. The answer is what
@@ -58,12 +94,28 @@ impl Tree {
     {
         let was = self.get(entry.uuid);
         let weight = weight_without(self.weight, was) + entry.attrs.weight();
-        let mut touches = Touched::new(alloc);
-        touches.push_change(was, &entry)?;
+        let touches = change(alloc, was, &entry)?;
         put_entry(&mut self.entries, entry)?;
         self.weight = weight;
         Ok(touches)
     }
+
+    /// What differs after the entry is put in its place.
+    fn preview_put(&self, alloc: Global, entry: &Entry) -> Result<Touched, NoMemory>
+        ensures { IfOk result (λ touches. touches ≡ touched self.now (state.put entry.now self.now)) }
+    {
+        change(alloc, self.get(entry.uuid), entry)
+    }
+}
+
+/// What an identity had and its entry, where these differ.
+fn change(alloc: Global, was: Option<&Entry>, now: &Entry) -> Result<Touched, NoMemory>
+    ensures { IfOk result (λ touches. touches ≡ filter is_change
+        (record { uuid = now.now.uuid; was = option_copied was.entry; now = Some now.now } ∷ [])) }
+{
+    let mut touches = Touched::new(alloc);
+    touches.push_change(was, now)?;
+    Ok(touches)
 }
 
 /// What is left of a weight without that of the entry, which is part of it.

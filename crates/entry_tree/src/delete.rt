@@ -24,11 +24,20 @@ impl Tree {
         ensures refused { IfErr result (Tells (delete_code self.old dn.now)) }
         ensures err { OnErr result (self.new ≡ self.old) }
     {
-        check_delete(&self.entries, dn)?;
-        let touches = removals(alloc, &self.entries, dn)?;
+        let touches = self.preview_delete(alloc, dn)?;
         self.weight -= named_weight(&self.entries, dn);
         remove_named(&mut self.entries, dn);
         Ok(touches)
+    }
+
+    /// What differs without the entry of that name, or the first code that is against its removal.
+    pub(crate) fn preview_delete(&self, alloc: Global, dn: &Dn) -> Result<Touched, OpFault>
+        ensures accepted { OnOk result (delete_code self.now dn.now ≡ None) }
+        ensures touched { IfOk result (λ touches. touches ≡ touched self.now (filter (λ e. not (state.is_named dn.now e)) self.now)) }
+        ensures refused { IfErr result (Tells (delete_code self.now dn.now)) }
+    {
+        check_delete(&self.entries, dn)?;
+        Ok(removals(alloc, &self.entries, dn)?)
     }
 }
 

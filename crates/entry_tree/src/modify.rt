@@ -1,5 +1,5 @@
 //! The edit of an entry in its place (RFC 4511, section 4.6).
-ghost use Rattle.std.specs.Prelude.{◌≡◌, ◌+◌, ◌≤◌, true, None, Some, [], ◌∷◌, filter, position, IfOk, IfErr, OnOk, OnErr};
+ghost use Rattle.std.specs.Prelude.{◌≡◌, ◌+◌, ◌≤◌, ◌<◌, true, None, Some, [], ◌∷◌, filter, length, position, set, IfOk, IfErr, OnOk, OnErr};
 ghost use Rattle.std.specs.List.{list_all};
 ghost use Rattle.std.specs.Option.{option_or};
 ghost use Rattle.schema_rules.specs.Attributes.{entry_code, weight_of};
@@ -25,6 +25,16 @@ use ldap_ber::NoMemory;
 use schema_rules::{Attrs, check_entry};
 use std::alloc::Global;
 
+/// The entry of a name after its edits, and its place; what the entries weigh with it there, and
+/// what differs.
+#[derive(Drop)]
+struct Modified {
+    place: usize,
+    entry: Entry,
+    weight: u64,
+    touches: Touched,
+}
+
 impl Tree {
     /// Edits the entry of that name, which gets the stamp, or tells the first code that is against
     /// it. The answer is what differs. A refusal leaves the entries.
@@ -42,16 +52,62 @@ impl Tree {
         ensures refused { IfErr result (Tells (codes.modify_code self.old (state.entry_named self.old dn.now) edits.now)) }
         ensures err { OnErr result (self.new ≡ self.old) }
     {
+        let Modified {
+            place,
+            entry,
+            weight,
+            touches,
+        } = self.modified(alloc, dn, edits, csn)?;
+        self.weight = weight;
+        self.entries[place] = entry;
+        Ok(touches)
+    }
+
+    /// What differs after these edits of the entry of that name, or the first code that is against
+    /// them.
+    pub(crate) fn preview_modify(
+        &self,
+        alloc: Global,
+        dn: &Dn,
+        edits: &Edits,
+        csn: Csn,
+    ) -> Result<Touched, OpFault>
+        requires { list_all is_sound_edit edits.now ≡ true }
+        ensures accepted { OnOk result (codes.modify_code self.now (state.entry_named self.now dn.now) edits.now ≡ None) }
+        ensures touched { IfOk result (λ touches.
+            touches ≡ touched self.now (effects.modified self.now (state.entry_named self.now dn.now) edits.now csn)) }
+        ensures refused { IfErr result (Tells (codes.modify_code self.now (state.entry_named self.now dn.now) edits.now)) }
+    {
+        let Modified { touches, .. } = self.modified(alloc, dn, edits, csn)?;
+        Ok(touches)
+    }
+
+    /// The entry of that name after the edits, or the first code that is against them.
+    fn modified(&self, alloc: Global, dn: &Dn, edits: &Edits, csn: Csn) -> Result<Modified, OpFault>
+        requires { list_all is_sound_edit edits.now ≡ true }
+        ensures accepted { OnOk result (codes.modify_code self.now (state.entry_named self.now dn.now) edits.now ≡ None) }
+        ensures place { IfOk result (λ modified. modified.place < length self.now) }
+        ensures effect { IfOk result (λ modified. set self.now modified.place modified.entry
+            ≡ effects.modified self.now (state.entry_named self.now dn.now) edits.now csn) }
+        ensures directory { IfOk result (λ modified. state.IsDirectory (set self.now modified.place modified.entry) modified.weight) }
+        ensures touched { IfOk result (λ modified.
+            modified.touches ≡ touched self.now (effects.modified self.now (state.entry_named self.now dn.now) edits.now csn)) }
+        ensures refused { IfErr result (Tells (codes.modify_code self.now (state.entry_named self.now dn.now) edits.now)) }
+    {
         let Some(place) = place_of(&self.entries, dn) else {
             return Err(OpFault::Code(NO_SUCH_OBJECT));
         };
-        let entry = &self.entries[place];
-        let others = weight_without(self.weight, &entry.attrs);
-        let after = edited_entry(alloc, entry, others, edits, csn)?;
-        let touches = difference(alloc, entry, &after)?;
-        self.weight = others + after.attrs.weight();
-        self.entries[place] = after;
-        Ok(touches)
+        let was = &self.entries[place];
+        let others = weight_without(self.weight, &was.attrs);
+        let entry = edited_entry(alloc, was, others, edits, csn)?;
+        let touches = difference(alloc, was, &entry)?;
+        let weight = others + entry.attrs.weight();
+        Ok(Modified {
+            place,
+            entry,
+            weight,
+            touches,
+        })
     }
 }
 

@@ -37,6 +37,13 @@ struct Moved {
     touches: Touched,
 }
 
+/// The entries after a Rename with what differs, and what they weigh.
+#[derive(Drop)]
+struct Renaming {
+    moved: Moved,
+    weight: u64,
+}
+
 impl Tree {
     /// Gives the entry of that name another RDN, and another superior where one is told, or tells
     /// the first code that is against it. All below it move with it, and each gets the stamp. The
@@ -57,15 +64,62 @@ impl Tree {
         ensures refused { IfErr result (Tells (codes.rename_code suffix.now self.old (state.entry_named self.old dn.now) rdn.now deletes superior.now)) }
         ensures err { OnErr result (self.new ≡ self.old) }
     {
+        let Renaming {
+            moved: Moved { entries, touches },
+            weight,
+        } = self.renaming(alloc, suffix, dn, rdn, deletes, superior, csn)?;
+        self.entries = entries;
+        self.weight = weight;
+        Ok(touches)
+    }
+
+    /// What differs after that rename, or the first code that is against it.
+    pub(crate) fn preview_rename(
+        &self,
+        alloc: Global,
+        suffix: &Dn,
+        dn: &Dn,
+        rdn: &Rdn,
+        deletes: bool,
+        superior: &Option<Dn>,
+        csn: Csn,
+    ) -> Result<Touched, OpFault>
+        ensures accepted { OnOk result (codes.rename_code suffix.now self.now (state.entry_named self.now dn.now) rdn.now deletes superior.now ≡ None) }
+        ensures touched { IfOk result (λ touches.
+            touches ≡ touched self.now (effects.renamed self.now (state.entry_named self.now dn.now) rdn.now deletes superior.now csn)) }
+        ensures refused { IfErr result (Tells (codes.rename_code suffix.now self.now (state.entry_named self.now dn.now) rdn.now deletes superior.now)) }
+    {
+        let Renaming { moved, .. } = self.renaming(alloc, suffix, dn, rdn, deletes, superior, csn)?;
+        Ok(moved.touches)
+    }
+
+    /// The entries after the one of that name has the RDN and the superior, or the first code that
+    /// is against them.
+    fn renaming(
+        &self,
+        alloc: Global,
+        suffix: &Dn,
+        dn: &Dn,
+        rdn: &Rdn,
+        deletes: bool,
+        superior: &Option<Dn>,
+        csn: Csn,
+    ) -> Result<Renaming, OpFault>
+        ensures accepted { OnOk result (codes.rename_code suffix.now self.now (state.entry_named self.now dn.now) rdn.now deletes superior.now ≡ None) }
+        ensures effect { IfOk result (λ renaming.
+            renaming.moved.entries.items ≡ effects.renamed self.now (state.entry_named self.now dn.now) rdn.now deletes superior.now csn) }
+        ensures directory { IfOk result (λ renaming. state.IsDirectory renaming.moved.entries.items renaming.weight) }
+        ensures touched { IfOk result (λ renaming. renaming.moved.touches ≡ touched self.now renaming.moved.entries.items) }
+        ensures refused { IfErr result (Tells (codes.rename_code suffix.now self.now (state.entry_named self.now dn.now) rdn.now deletes superior.now)) }
+    {
+        let entries = &self.entries;
         let Some(top) = self.find(dn) else {
             return Err(OpFault::Code(NO_SUCH_OBJECT));
         };
         let renamed = self.renamed(alloc, suffix, top, rdn, deletes, superior)?;
-        let Moved { entries, touches } = moved_entries(alloc, &self.entries, top, &renamed, csn)?;
+        let moved = moved_entries(alloc, entries, top, &renamed, csn)?;
         let weight = weight_without(self.weight, Some(top)) + renamed.attrs.weight();
-        self.entries = entries;
-        self.weight = weight;
-        Ok(touches)
+        Ok(Renaming { moved, weight })
     }
 
     /// The new name and attributes of an entry of the tree, or the first code against them. That of

@@ -78,7 +78,10 @@ impl Tree {
         ensures value { option_copied result ≡ state.entry_at self.now uuid }
         ensures ascends { state.ascends self.now ≡ true }
     {
-        self.entries.iter().find(|entry| entry.uuid == uuid)
+        match self.entries.binary_search_by_key(&uuid, |entry| entry.uuid) {
+            Ok(place) => Some(&self.entries[place]),
+            Err(_) => None,
+        }
     }
 
     /// The entry of that name; where there are several, the first by identity.
@@ -112,6 +115,30 @@ impl Tree {
             Op::Modify(dn, edits) => self.modify(alloc, dn, edits, csn),
             Op::Rename(dn, rdn, deletes, superior) => {
                 self.rename(alloc, suffix, dn, rdn, *deletes, superior, csn)
+            }
+        }
+    }
+
+    /// What `apply` would answer. The entries stay as they are.
+    pub fn preview(
+        &self,
+        alloc: Global,
+        op: &Op,
+        suffix: &Dn,
+        uuid: u128,
+        csn: Csn,
+    ) -> Result<Touched, OpFault>
+        requires { is_sound_op op.now ≡ true }
+        ensures accepted { OnOk result (code_of suffix.now self.now op.now ≡ None) }
+        ensures touched { IfOk result (λ touches. touches ≡ touched self.now (effect self.now op.now uuid csn)) }
+        ensures refused { IfErr result (Tells (code_of suffix.now self.now op.now)) }
+    {
+        match op {
+            Op::Add(dn, attrs) => self.preview_add(alloc, suffix, dn, attrs, uuid, csn),
+            Op::Delete(dn) => self.preview_delete(alloc, dn),
+            Op::Modify(dn, edits) => self.preview_modify(alloc, dn, edits, csn),
+            Op::Rename(dn, rdn, deletes, superior) => {
+                self.preview_rename(alloc, suffix, dn, rdn, *deletes, superior, csn)
             }
         }
     }

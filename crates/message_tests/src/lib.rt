@@ -3,6 +3,8 @@
 #![tactic(auto)]
 
 #[cfg(test)]
+mod assertions;
+#[cfg(test)]
 mod ldap_messages_tests;
 #[cfg(test)]
 mod ldap_parts_tests;

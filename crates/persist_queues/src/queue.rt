@@ -1,4 +1,4 @@
-ghost use Rattle.std.specs.Prelude.{◌≡◌, ◌+◌, ◌<◌, ◌≤◌, ◌↔◌, ◌⊎◌, [], ◌∷◌, ◌++◌, length, vec_len, sum_by, IsNone, IfSome, IfNone, OnSome, OnOk, OnErr, IfErr};
+ghost use Rattle.std.specs.Prelude.{◌≡◌, ◌+◌, ◌<◌, ◌≤◌, ◌↔◌, ◌⊎◌, [], ◌∷◌, ◌++◌, length, vec_len, slice_get, sum_by, option_copied, IsNone, IfSome, IfNone, OnSome, OnOk, OnErr, IfErr};
 ghost use Rattle.persist_queues.specs.Pending.{IsOver, IsAsBefore};
 
 use crate::fault::QueueFault;
@@ -61,6 +61,13 @@ impl<T: Weighs + Drop> SearchQueue<T> {
         ensures weight { sum_by T.weight self.now.items ≤ MOST_WEIGHT }
     {
         self.items.len()
+    }
+
+    /// The pending item with so many before it, if there are more than that.
+    pub fn get(&self, place: usize) -> Option<&T>
+        ensures { option_copied result ≡ slice_get self.now.items place }
+    {
+        self.items.get(place)
     }
 
     /// The number of further items for which room is made.

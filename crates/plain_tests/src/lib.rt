@@ -3,7 +3,11 @@
 #![tactic(auto)]
 
 #[cfg(test)]
+mod later_tests;
+#[cfg(test)]
 mod plain_copy;
+#[cfg(test)]
+mod plain_later;
 #[cfg(test)]
 mod plain_refresh;
 #[cfg(test)]

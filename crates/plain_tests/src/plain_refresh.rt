@@ -35,7 +35,13 @@ fn added(alloc: Global, entry: &Entry) -> Result<Vec<u8>, NoMemory> {
 /// The end: the control with the cookie after all writes of the directory.
 fn ended(alloc: Global, provider: &Provider) -> Result<Vec<u8>, NoMemory> {
     let mut text = Vec::from_slice(alloc, ENDS)?;
-    text.extend_from_slice(b"rid=000,sid=001,csn=")?;
+    text.extend_from_slice(cookie_text(alloc, provider)?.as_slice())?;
+    Ok(text)
+}
+
+/// The cookie after all writes of the directory.
+pub(crate) fn cookie_text(alloc: Global, provider: &Provider) -> Result<Vec<u8>, NoMemory> {
+    let mut text = Vec::from_slice(alloc, b"rid=000,sid=001,csn=")?;
     push_stamp(&mut text, provider)?;
     push_history(alloc, &mut text, provider.history())?;
     Ok(text)
@@ -55,7 +61,7 @@ fn push_history(alloc: Global, text: &mut Vec<u8>, history: u128) -> Result<(), 
     text.extend_from_slice(history.as_bytes())
 }
 
-fn is_selected(alloc: Global, spec: &Spec, entry: &Entry) -> Result<bool, NoMemory> {
+pub(crate) fn is_selected(alloc: Global, spec: &Spec, entry: &Entry) -> Result<bool, NoMemory> {
     let is_in_scope = match spec.scope {
         Scope::Base => entry.dn.same(&spec.base),
         Scope::One => entry.dn.is_child_of(&spec.base),
@@ -66,7 +72,7 @@ fn is_selected(alloc: Global, spec: &Spec, entry: &Entry) -> Result<bool, NoMemo
 }
 
 /// The entry of the least identity above this one.
-fn entry_above(entries: &[Entry], last: Option<u128>) -> Option<&Entry> {
+pub(crate) fn entry_above(entries: &[Entry], last: Option<u128>) -> Option<&Entry> {
     let mut least: Option<&Entry> = None;
     for entry in entries {
         let is_above = last.is_none_or(|uuid| entry.uuid > uuid);
@@ -83,6 +89,17 @@ pub fn plain_refresh(
     provider: &Provider,
     spec: &Spec,
 ) -> Result<Vec<Vec<u8>>, NoMemory> {
+    let mut messages = sent_whole(alloc, provider, spec)?;
+    messages.push(ended(alloc, provider)?)?;
+    Ok(messages)
+}
+
+/// The messages that add what is selected now.
+pub(crate) fn sent_whole(
+    alloc: Global,
+    provider: &Provider,
+    spec: &Spec,
+) -> Result<Vec<Vec<u8>>, NoMemory> {
     let mut messages = Vec::new(alloc);
     let mut last = None;
     let entries = provider.tree().entries();
@@ -92,7 +109,6 @@ pub fn plain_refresh(
             push_selected(alloc, spec, entry, &mut messages)?;
         }
     }
-    messages.push(ended(alloc, provider)?)?;
     Ok(messages)
 }
 

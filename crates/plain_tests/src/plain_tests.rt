@@ -17,9 +17,9 @@ use sync_messages::Mode;
 use sync_provider::{Accepted, Handed, Kind, Provider, SyncSearch};
 
 /// The ID of the messages of each search.
-const ID: u32 = 7;
+pub(crate) const ID: u32 = 7;
 
-struct Search {
+pub(crate) struct Search {
     base: &'static [u8],
     scope: Scope,
     filter: &'static [u8],
@@ -27,7 +27,7 @@ struct Search {
     counts: [usize; 6],
 }
 
-const SEARCHES: [Search; 3] = [
+pub(crate) const SEARCHES: [Search; 3] = [
     Search {
         base: b"dc=x",
         scope: Scope::Sub,
@@ -48,7 +48,7 @@ const SEARCHES: [Search; 3] = [
     },
 ];
 
-const WRITES: [&[u8]; 6] = [
+pub(crate) const WRITES: [&[u8]; 6] = [
     b"dn: dc=x\nchangetype: add\nobjectClass: organization\nobjectClass: dcObject\no: X\ndc: x\n",
     b"dn: ou=a,dc=x\nchangetype: add\nobjectClass: organizationalUnit\nou: a\n",
     b"dn: cn=k,ou=a,dc=x\nchangetype: add\nobjectClass: person\ncn: k\nsn: s\n",
@@ -109,7 +109,7 @@ const TOLD: [Told; 20] = [
     Told::Reference(8),
 ];
 
-fn discard<T: Drop>(_value: T) {}
+pub(crate) fn discard<T: Drop>(_value: T) {}
 
 fn both<A: Drop, B: Drop>(
     one: Result<A, NoMemory>,
@@ -124,7 +124,7 @@ fn push<T: Drop>(list: &mut Vec<T>, item: T) -> Result<(), NoMemory> {
     Ok(())
 }
 
-fn octets(alloc: Global, text: &[u8]) -> Result<Octets, NoMemory> {
+pub(crate) fn octets(alloc: Global, text: &[u8]) -> Result<Octets, NoMemory> {
     Octets::from_slice(alloc, text)
 }
 
@@ -189,13 +189,13 @@ fn controls(alloc: Global, name: &[u8], value: &[u8]) -> Result<ControlList, NoM
 
 /// A consumer and a plain copy that take the same messages.
 #[derive(Drop)]
-struct Pair {
+pub(crate) struct Pair {
     consumer: Consumer,
-    plain: PlainCopy,
+    pub(crate) plain: PlainCopy,
 }
 
 impl Pair {
-    fn new(alloc: Global, search: &Search) -> Result<Pair, Fail> {
+    pub(crate) fn new(alloc: Global, search: &Search) -> Result<Pair, Fail> {
         let spec = spec(alloc, search)?;
         Ok(Pair {
             consumer: Consumer::new(alloc, spec, false)?,
@@ -209,14 +209,14 @@ impl Pair {
     }
 
     /// Begins a search from both.
-    fn ask(&mut self, mode: Mode) -> Result<(), NoMemory> {
+    pub(crate) fn ask(&mut self, mode: Mode) -> Result<(), NoMemory> {
         discard(self.consumer.request(ID, mode)?);
         self.plain.ask(ID, mode == Mode::RefreshAndPersist);
         Ok(())
     }
 
     /// Whether both make the same of a message.
-    fn take(&mut self, alloc: Global, message: &Message) -> Result<bool, NoMemory> {
+    pub(crate) fn take(&mut self, alloc: Global, message: &Message) -> Result<bool, NoMemory> {
         let answer = self.plain.take(alloc, message)?;
         if answer_of(&mut self.consumer, message) != Some(answer) {
             return Ok(false);
@@ -272,7 +272,7 @@ fn holds_each(alloc: Global, plain: &PlainCopy, entries: &[Entry]) -> Result<boo
     Ok(true)
 }
 
-fn spec(alloc: Global, search: &Search) -> Result<Spec, Fail> {
+pub(crate) fn spec(alloc: Global, search: &Search) -> Result<Spec, Fail> {
     Ok(Spec {
         base: Dn::parse(alloc, search.base)?,
         scope: search.scope,
@@ -280,7 +280,7 @@ fn spec(alloc: Global, search: &Search) -> Result<Spec, Fail> {
     })
 }
 
-fn provider(alloc: Global) -> Result<Provider, Fail> {
+pub(crate) fn provider(alloc: Global) -> Result<Provider, Fail> {
     let suffix = Dn::parse(alloc, b"dc=x")?;
     Ok(Provider::new(alloc, suffix, 1, 0xfe, Kind::Root)?)
 }
@@ -302,7 +302,11 @@ fn is_accepted(alloc: Global, provider: &mut Provider, change: &Change) -> bool 
     }
 }
 
-fn is_written(alloc: Global, provider: &mut Provider, text: &[u8]) -> Result<bool, Fail> {
+pub(crate) fn is_written(
+    alloc: Global,
+    provider: &mut Provider,
+    text: &[u8],
+) -> Result<bool, Fail> {
     let change = change(alloc, text)?;
     let is_accepted = is_accepted(alloc, provider, &change);
     discard(change);
@@ -329,7 +333,7 @@ fn opened(alloc: Global, provider: &mut Provider, search: &Search) -> Result<u64
 }
 
 /// The operation of a message, an entry as LDIF, and behind it the controls.
-fn message_text(alloc: Global, message: &Message) -> Result<Vec<u8>, NoMemory> {
+pub(crate) fn message_text(alloc: Global, message: &Message) -> Result<Vec<u8>, NoMemory> {
     let mut text = Vec::new(alloc);
     push_operation(&mut text, &message.op)?;
     push_controls(&mut text, message.controls.list())?;
@@ -345,6 +349,16 @@ fn push_operation(text: &mut Vec<u8>, operation: &Protocol) -> Result<(), NoMemo
         }
         Protocol::SearchResultDone(outcome) if outcome.code == 0 => {
             text.extend_from_slice(b"success ")
+        }
+        Protocol::SearchResultDone(outcome) if outcome.code == 51 => {
+            text.extend_from_slice(b"busy ")
+        }
+        Protocol::IntermediateResponse {
+            name: Some(name),
+            value: Some(value),
+        } => {
+            text.extend_from_slice(name.as_slice())?;
+            text.extend_from_slice(value.as_slice())
         }
         _ => text.extend_from_slice(b"another operation "),
     }

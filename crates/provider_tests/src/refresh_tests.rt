@@ -1,375 +1,471 @@
-//! Refreshes by where they begin. What is handed out is told in short: `+` and a name for an entry
-//! that is sent whole; `-` or `=` and numbers for identities that are named as deleted or as
-//! present, each by the number of the write that added it; then `deletes` or `presents`, by the
-//! phase that the end tells, and the number of writes that its cookie names.
+//! Refreshes by where they begin, and the numbers of searches. What is expected was computed by another
+//! program, after RFC 4533.
 
-use crate::sync_provider_tests::{
-    accepted, add_unit, control, deleted, discard, octets, one_entry, written,
-};
-use csn_cookie::Cookie;
-use ldap_ber::{NoMemory, Octets};
-use ldap_messages::{Message, Protocol};
-use schema_rules::Change;
-use std::alloc::Global;
+use crate::steps::{Ask, Beginning, Held, Lasting, Row, Step, assert_told};
 use std::test::Fail;
-use sync_messages::{SyncDone, SyncFault, SyncInfo};
-use sync_provider::{Accepted, Handed, Provider};
 
-/// What is told of handed out messages.
-#[derive(Drop)]
-struct Telling {
-    text: Vec<u8>,
-}
+/// The filter that is true of all entries.
+const ALL: &str = "(objectClass=*)";
 
-impl Telling {
-    fn new(alloc: Global) -> Telling {
-        Telling {
-            text: Vec::new(alloc),
-        }
-    }
+/// Six writes: `dc=x`, units below it, of which one is deleted, and one more.
+const SIX_WRITES: Beginning = Beginning {
+    steps: &[
+        Step::Add("ou=a,dc=x", "a"),
+        Step::Add("ou=b,dc=x", "b"),
+        Step::Add("ou=c,dc=x", "c"),
+        Step::Delete("ou=b,dc=x"),
+        Step::Add("ou=d,dc=x", "d"),
+    ],
+    told: "w2 w3 w4 w5 w6",
+};
 
-    /// A word, with a space before it where it is not the first.
-    fn word(&mut self, word: &[u8]) -> Result<(), NoMemory> {
-        if !self.text.is_empty() {
-            self.text.push(b' ')?;
-        }
-        self.text.extend_from_slice(word)
-    }
-
-    /// The number in decimal digits.
-    fn number(&mut self, number: u64) -> Result<(), NoMemory> {
-        for place in [1_000_u64, 100, 10, 1] {
-            if number >= place || place == 1 {
-                self.text.push(b'0' + (number / place % 10) as u8)?;
-            }
-        }
-        Ok(())
-    }
-}
-
-/// The number of the write that gave the identity: its last 62 bits.
-fn number_of(uuid: u128) -> u64 {
-    (uuid % (1 << 62)) as u64
-}
-
-fn tell_names(telling: &mut Telling, deletes: bool, uuids: &[u128]) -> Result<(), NoMemory> {
-    telling.word(if deletes { b"-" } else { b"=" })?;
-    let mut is_first = true;
-    for uuid in uuids {
-        if !is_first {
-            telling.text.push(b',')?;
-        }
-        is_first = false;
-        telling.number(number_of(*uuid))?;
-    }
-    Ok(())
-}
-
-fn tell_info(alloc: Global, telling: &mut Telling, value: &Octets) -> Result<(), Fail> {
-    match SyncInfo::read(alloc, value.as_slice()) {
-        Ok(SyncInfo::IdSet(None, deletes, uuids)) => {
-            Ok(tell_names(telling, deletes, uuids.list())?)
-        }
-        Ok(_) => Err(Fail::from("another Sync Info message")),
-        Err(_) => Err(Fail::from("no Sync Info message")),
-    }
-}
-
-fn tell_message(alloc: Global, telling: &mut Telling, message: &Message) -> Result<(), Fail> {
-    match &message.op {
-        Protocol::SearchResultEntry { name, .. } => {
-            telling.word(b"+")?;
-            Ok(telling.text.extend_from_slice(name.as_slice())?)
-        }
-        Protocol::IntermediateResponse {
-            value: Some(value),
-            ..
-        } => tell_info(alloc, telling, value),
-        _ => Err(Fail::from("another message")),
-    }
-}
-
-/// What the Sync Done control says.
-fn done_of(alloc: Global, message: &Message) -> Result<SyncDone, Fail> {
-    for control in message.controls.list() {
-        if let Some(value) = &control.value {
-            return match SyncDone::read(alloc, value.as_slice()) {
-                Ok(done) => Ok(done),
-                Err(SyncFault::NoMemory) => Err(Fail::from("out of memory")),
-                Err(_) => Err(Fail::from("no Sync Done control")),
-            };
-        }
-    }
-    Err(Fail::from("no control"))
-}
-
-fn tell_end(
-    alloc: Global,
-    provider: &Provider,
-    telling: &mut Telling,
-    message: &Message,
-) -> Result<(), Fail> {
-    let done = done_of(alloc, message)?;
-    let deletes = done.refresh_deletes;
-    let cookie = match &done.cookie {
-        Some(text) => Cookie::parse(text.as_slice()),
-        None => return Err(Fail::from("no cookie")),
-    };
-    telling.word(if deletes { b"deletes " } else { b"presents " })?;
-    Ok(telling.number(provider.upto(cookie?.csn))?)
-}
-
-/// Tells one hand-out. False where the search goes on.
-fn tell(
-    alloc: Global,
-    provider: &Provider,
-    telling: &mut Telling,
-    handed: &Handed,
-) -> Result<bool, Fail> {
-    match handed {
-        Handed::Message(message) => {
-            tell_message(alloc, telling, message)?;
-            Ok(false)
-        }
-        Handed::Ended(_, message) => {
-            tell_end(alloc, provider, telling, message)?;
-            Ok(true)
-        }
-        _ => Err(Fail::from("nothing is handed out")),
-    }
-}
-
-/// What the search hands out up to its end.
-fn told(alloc: Global, provider: &mut Provider, search: u64) -> Result<Vec<u8>, Fail> {
-    let mut telling = Telling::new(alloc);
-    for _ in 0..400_u64 {
-        let handed = provider.hand_out(alloc, search);
-        let ended = tell(alloc, provider, &mut telling, &handed);
-        discard(handed);
-        if ended? {
-            return Ok(telling.text);
-        }
-    }
-    Err(Fail::from("no end"))
-}
-
-/// The text of the cookie of the content after so many writes, of this history.
-fn cookie_text(alloc: Global, number: u8, history: u8) -> Result<Octets, NoMemory> {
-    let mut text = Vec::new(alloc);
-    text.extend_from_slice(b"rid=000,sid=001,csn=19700101000000.000000Z#00000")?;
-    text.push(b'0' + number % 10)?;
-    text.extend_from_slice(b"#001#000000,gen=0000000000000000000000000000000")?;
-    text.push(b'0' + history % 10)?;
-    Ok(Octets::from(text))
-}
-
-/// What a search with this cookie tells, or the code that is against it.
-fn refreshed(
-    alloc: Global,
-    provider: &mut Provider,
-    cookie: &[u8],
-    hint: bool,
-) -> Result<Result<Vec<u8>, u32>, Fail> {
-    let control = control(alloc, 1, cookie, hint)?;
-    match accepted(alloc, provider, b"dc=x", control.as_slice())? {
-        Accepted::Opened(search, _) => Ok(Ok(told(alloc, provider, search)?)),
-        Accepted::Refused(code) => Ok(Err(code)),
-        Accepted::NoMemory => Err(Fail::from("out of memory")),
-    }
-}
-
-fn add(alloc: Global, provider: &mut Provider, name: &[u8], unit: &[u8]) -> Result<(), Fail> {
-    let change = add_unit(alloc, name, unit)?;
-    let (code, _) = written(alloc, provider, &change)?;
-    if code == 0 {
-        Ok(())
-    } else {
-        Err(Fail::from("an add is refused"))
-    }
-}
-
-/// A provider with six writes: `dc=x`, `ou=a`, `ou=b` and `ou=c` below it, `ou=b` is deleted, and
-/// `ou=d` is added. Its log then keeps so many notes.
-fn six_writes(alloc: Global, limit: u64) -> Result<Provider, Fail> {
-    let mut provider = one_entry(alloc)?;
-    add(alloc, &mut provider, b"ou=a,dc=x", b"a")?;
-    add(alloc, &mut provider, b"ou=b,dc=x", b"b")?;
-    add(alloc, &mut provider, b"ou=c,dc=x", b"c")?;
-    if deleted(alloc, &mut provider, b"ou=b,dc=x")? != (0, 5) {
-        return Err(Fail::from("a deletion is refused"));
-    }
-    add(alloc, &mut provider, b"ou=d,dc=x", b"d")?;
-    provider.set_log_limit(limit);
-    Ok(provider)
-}
-
-/// The log limit, the number of writes that the cookie names, and what is told.
-const SERVED: [(u64, u8, &[u8]); 11] = [
-    (
-        1_000,
-        0,
-        b"+dc=x +ou=a,dc=x +ou=c,dc=x +ou=d,dc=x -3 deletes 6",
-    ),
-    (1_000, 4, b"+ou=d,dc=x -3 deletes 6"),
-    (1_000, 5, b"+ou=d,dc=x deletes 6"),
-    (1_000, 6, b"deletes 6"),
-    (2, 3, b"+ou=c,dc=x +ou=d,dc=x =1,2 presents 6"),
-    (2, 4, b"+ou=d,dc=x -3 deletes 6"),
-    (1, 4, b"+ou=d,dc=x =1,2,4 presents 6"),
-    (1, 5, b"+ou=d,dc=x deletes 6"),
-    (0, 0, b"+dc=x +ou=a,dc=x +ou=c,dc=x +ou=d,dc=x presents 6"),
-    (0, 5, b"+ou=d,dc=x =1,2,4 presents 6"),
-    (0, 6, b"deletes 6"),
+/// Cookies inside the session log and below it.
+const SERVED: [Row; 11] = [
+    Row {
+        beginning: &SIX_WRITES,
+        steps: &[
+            Step::Log(1_000),
+            Step::Open(Ask {
+                lasting: Lasting::Once,
+                filter: ALL,
+                held: Held::Of(0, 1),
+                hint: false,
+            }),
+            Step::Hand(1, 9),
+        ],
+        told: "s1@6 +1:dc=x +2:ou=a,dc=x +4:ou=c,dc=x +6:ou=d,dc=x -3 deletes@6",
+    },
+    Row {
+        beginning: &SIX_WRITES,
+        steps: &[
+            Step::Log(1_000),
+            Step::Open(Ask {
+                lasting: Lasting::Once,
+                filter: ALL,
+                held: Held::Of(4, 1),
+                hint: false,
+            }),
+            Step::Hand(1, 9),
+        ],
+        told: "s1@6 +6:ou=d,dc=x -3 deletes@6",
+    },
+    Row {
+        beginning: &SIX_WRITES,
+        steps: &[
+            Step::Log(1_000),
+            Step::Open(Ask {
+                lasting: Lasting::Once,
+                filter: ALL,
+                held: Held::Of(5, 1),
+                hint: false,
+            }),
+            Step::Hand(1, 9),
+        ],
+        told: "s1@6 +6:ou=d,dc=x deletes@6",
+    },
+    Row {
+        beginning: &SIX_WRITES,
+        steps: &[
+            Step::Log(1_000),
+            Step::Open(Ask {
+                lasting: Lasting::Once,
+                filter: ALL,
+                held: Held::Of(6, 1),
+                hint: false,
+            }),
+            Step::Hand(1, 9),
+        ],
+        told: "s1@6 deletes@6",
+    },
+    Row {
+        beginning: &SIX_WRITES,
+        steps: &[
+            Step::Log(2),
+            Step::Open(Ask {
+                lasting: Lasting::Once,
+                filter: ALL,
+                held: Held::Of(3, 1),
+                hint: false,
+            }),
+            Step::Hand(1, 9),
+        ],
+        told: "s1@6 +4:ou=c,dc=x +6:ou=d,dc=x =1,2 presents@6",
+    },
+    Row {
+        beginning: &SIX_WRITES,
+        steps: &[
+            Step::Log(2),
+            Step::Open(Ask {
+                lasting: Lasting::Once,
+                filter: ALL,
+                held: Held::Of(4, 1),
+                hint: false,
+            }),
+            Step::Hand(1, 9),
+        ],
+        told: "s1@6 +6:ou=d,dc=x -3 deletes@6",
+    },
+    Row {
+        beginning: &SIX_WRITES,
+        steps: &[
+            Step::Log(1),
+            Step::Open(Ask {
+                lasting: Lasting::Once,
+                filter: ALL,
+                held: Held::Of(4, 1),
+                hint: false,
+            }),
+            Step::Hand(1, 9),
+        ],
+        told: "s1@6 +6:ou=d,dc=x =1,2,4 presents@6",
+    },
+    Row {
+        beginning: &SIX_WRITES,
+        steps: &[
+            Step::Log(1),
+            Step::Open(Ask {
+                lasting: Lasting::Once,
+                filter: ALL,
+                held: Held::Of(5, 1),
+                hint: false,
+            }),
+            Step::Hand(1, 9),
+        ],
+        told: "s1@6 +6:ou=d,dc=x deletes@6",
+    },
+    Row {
+        beginning: &SIX_WRITES,
+        steps: &[
+            Step::Log(0),
+            Step::Open(Ask {
+                lasting: Lasting::Once,
+                filter: ALL,
+                held: Held::Of(0, 1),
+                hint: false,
+            }),
+            Step::Hand(1, 9),
+        ],
+        told: "s1@6 +1:dc=x +2:ou=a,dc=x +4:ou=c,dc=x +6:ou=d,dc=x presents@6",
+    },
+    Row {
+        beginning: &SIX_WRITES,
+        steps: &[
+            Step::Log(0),
+            Step::Open(Ask {
+                lasting: Lasting::Once,
+                filter: ALL,
+                held: Held::Of(5, 1),
+                hint: false,
+            }),
+            Step::Hand(1, 9),
+        ],
+        told: "s1@6 +6:ou=d,dc=x =1,2,4 presents@6",
+    },
+    Row {
+        beginning: &SIX_WRITES,
+        steps: &[
+            Step::Log(0),
+            Step::Open(Ask {
+                lasting: Lasting::Once,
+                filter: ALL,
+                held: Held::Of(6, 1),
+                hint: false,
+            }),
+            Step::Hand(1, 9),
+        ],
+        told: "s1@6 deletes@6",
+    },
 ];
 
 #[test]
 fn refreshes_inside_the_log_and_below_it(rt: HostRuntime) -> Result<(), Fail> {
-    let alloc = rt.alloc();
-    for (limit, number, expected) in SERVED {
-        let mut provider = six_writes(alloc, limit)?;
-        let cookie = cookie_text(alloc, number, 1)?;
-        let answer = refreshed(alloc, &mut provider, cookie.as_slice(), false)?;
-        assert!(rt; is_told(&answer, expected));
+    for row in &SERVED {
+        assert_told(&rt, rt.alloc(), row)?;
     }
     Ok(())
 }
 
-fn is_told(answer: &Result<Vec<u8>, u32>, expected: &[u8]) -> bool {
-    match answer {
-        Ok(text) => text.as_slice() == expected,
-        Err(_) => false,
-    }
-}
-
-fn is_refused(answer: &Result<Vec<u8>, u32>, expected: u32) -> bool {
-    match answer {
-        Ok(_) => false,
-        Err(code) => *code == expected,
-    }
-}
-
-/// All of the content, as it is told without a cookie.
-const ALL: &[u8] = b"+dc=x +ou=a,dc=x +ou=c,dc=x +ou=d,dc=x presents 6";
-
-/// A cookie by its number and its history that is not servable: of another history, or above the
-/// last write.
-const LOST: [(u8, u8); 3] = [(4, 2), (7, 1), (0, 0)];
+/// Cookies that name no content.
+const OTHER_COOKIES: [Row; 2] = [
+    // A cookie of another history, or above the last write, is refused, and with a hint all is sent.
+    Row {
+        beginning: &SIX_WRITES,
+        steps: &[
+            Step::Open(Ask {
+                lasting: Lasting::Once,
+                filter: ALL,
+                held: Held::Of(4, 2),
+                hint: false,
+            }),
+            Step::Open(Ask {
+                lasting: Lasting::Once,
+                filter: ALL,
+                held: Held::Of(4, 2),
+                hint: true,
+            }),
+            Step::Hand(1, 9),
+            Step::Open(Ask {
+                lasting: Lasting::Once,
+                filter: ALL,
+                held: Held::Of(7, 1),
+                hint: false,
+            }),
+            Step::Open(Ask {
+                lasting: Lasting::Once,
+                filter: ALL,
+                held: Held::Of(7, 1),
+                hint: true,
+            }),
+            Step::Hand(1, 9),
+            Step::Open(Ask {
+                lasting: Lasting::Once,
+                filter: ALL,
+                held: Held::Of(0, 0),
+                hint: false,
+            }),
+            Step::Open(Ask {
+                lasting: Lasting::Once,
+                filter: ALL,
+                held: Held::Of(0, 0),
+                hint: true,
+            }),
+            Step::Hand(1, 9),
+        ],
+        told: "c4096 s1@6 +1:dc=x +2:ou=a,dc=x +4:ou=c,dc=x +6:ou=d,dc=x presents@6 c4096 s1@6 +1:dc=x +2:ou=a,dc=x +4:ou=c,dc=x +6:ou=d,dc=x presents@6 c4096 s1@6 +1:dc=x +2:ou=a,dc=x +4:ou=c,dc=x +6:ou=d,dc=x presents@6",
+    },
+    // A blank cookie counts as none.
+    Row {
+        beginning: &SIX_WRITES,
+        steps: &[
+            Step::Open(Ask {
+                lasting: Lasting::Once,
+                filter: ALL,
+                held: Held::Text(""),
+                hint: false,
+            }),
+            Step::Hand(1, 9),
+            Step::Open(Ask {
+                lasting: Lasting::Once,
+                filter: ALL,
+                held: Held::Text("rid=001"),
+                hint: false,
+            }),
+            Step::Hand(1, 9),
+            Step::Open(Ask {
+                lasting: Lasting::Once,
+                filter: ALL,
+                held: Held::Text("rid=001,sid=00a"),
+                hint: false,
+            }),
+            Step::Hand(1, 9),
+        ],
+        told: "s1@6 +1:dc=x +2:ou=a,dc=x +4:ou=c,dc=x +6:ou=d,dc=x presents@6 s1@6 +1:dc=x +2:ou=a,dc=x +4:ou=c,dc=x +6:ou=d,dc=x presents@6 s1@6 +1:dc=x +2:ou=a,dc=x +4:ou=c,dc=x +6:ou=d,dc=x presents@6",
+    },
+];
 
 #[test]
-fn cookies_that_are_not_servable(rt: HostRuntime) -> Result<(), Fail> {
-    let alloc = rt.alloc();
-    let mut provider = six_writes(alloc, 1_000)?;
-    for (number, history) in LOST {
-        let cookie = cookie_text(alloc, number, history)?;
-        let answer = refreshed(alloc, &mut provider, cookie.as_slice(), false)?;
-        assert!(rt; is_refused(&answer, 4096));
-        let answer = refreshed(alloc, &mut provider, cookie.as_slice(), true)?;
-        assert!(rt; is_told(&answer, ALL));
+fn cookies_that_are_not_servable_or_blank(rt: HostRuntime) -> Result<(), Fail> {
+    for row in &OTHER_COOKIES {
+        assert_told(&rt, rt.alloc(), row)?;
     }
     Ok(())
 }
 
-#[test]
-fn cookies_that_are_blank(rt: HostRuntime) -> Result<(), Fail> {
-    let alloc = rt.alloc();
-    let mut provider = six_writes(alloc, 1_000)?;
-    let cookies: [&[u8]; 3] = [b"", b"rid=001", b"rid=001,sid=00a"];
-    for cookie in cookies {
-        let answer = refreshed(alloc, &mut provider, cookie, false)?;
-        assert!(rt; is_told(&answer, ALL));
-    }
-    Ok(())
-}
+/// Two more: an entry below another, which gets another name, and so the entry below moves too.
+const RENAMED: Beginning = Beginning {
+    steps: &[
+        Step::Add("ou=a,dc=x", "a"),
+        Step::Add("ou=b,dc=x", "b"),
+        Step::Add("ou=c,dc=x", "c"),
+        Step::Delete("ou=b,dc=x"),
+        Step::Add("ou=d,dc=x", "d"),
+        Step::Add("ou=e,ou=a,dc=x", "e"),
+        Step::Rename("ou=a,dc=x", "ou=z", None),
+    ],
+    told: "w2 w3 w4 w5 w6 w7 w8",
+};
 
-/// Three more writes: an entry below `ou=a`, and `ou=a` gets another name, which moves that entry
-/// too; and so does the name that is told.
-fn renamed(alloc: Global, limit: u64) -> Result<Provider, Fail> {
-    let mut provider = six_writes(alloc, 1_000)?;
-    add(alloc, &mut provider, b"ou=e,ou=a,dc=x", b"e")?;
-    let change = Change::Rename(
-        octets(alloc, b"ou=a,dc=x")?,
-        octets(alloc, b"ou=z")?,
-        true,
-        None,
-    );
-    if written(alloc, &mut provider, &change)? != (0, 8) {
-        return Err(Fail::from("a rename is refused"));
-    }
-    provider.set_log_limit(limit);
-    Ok(provider)
-}
-
-/// The log limit, the number of the cookie, and what is told.
-const MOVED: [(u64, u8, &[u8]); 4] = [
-    (1_000, 7, b"+ou=z,dc=x +ou=e,ou=z,dc=x deletes 8"),
-    (2, 7, b"+ou=z,dc=x +ou=e,ou=z,dc=x deletes 8"),
-    (1, 7, b"+ou=z,dc=x +ou=e,ou=z,dc=x =1,4,6 presents 8"),
-    (1, 8, b"deletes 8"),
+/// A subtree that was renamed.
+const MOVED: [Row; 4] = [
+    Row {
+        beginning: &RENAMED,
+        steps: &[
+            Step::Log(1_000),
+            Step::Open(Ask {
+                lasting: Lasting::Once,
+                filter: ALL,
+                held: Held::Of(7, 1),
+                hint: false,
+            }),
+            Step::Hand(1, 9),
+        ],
+        told: "s1@8 +2:ou=z,dc=x +7:ou=e,ou=z,dc=x deletes@8",
+    },
+    Row {
+        beginning: &RENAMED,
+        steps: &[
+            Step::Log(2),
+            Step::Open(Ask {
+                lasting: Lasting::Once,
+                filter: ALL,
+                held: Held::Of(7, 1),
+                hint: false,
+            }),
+            Step::Hand(1, 9),
+        ],
+        told: "s1@8 +2:ou=z,dc=x +7:ou=e,ou=z,dc=x deletes@8",
+    },
+    Row {
+        beginning: &RENAMED,
+        steps: &[
+            Step::Log(1),
+            Step::Open(Ask {
+                lasting: Lasting::Once,
+                filter: ALL,
+                held: Held::Of(7, 1),
+                hint: false,
+            }),
+            Step::Hand(1, 9),
+        ],
+        told: "s1@8 +2:ou=z,dc=x +7:ou=e,ou=z,dc=x =1,4,6 presents@8",
+    },
+    Row {
+        beginning: &RENAMED,
+        steps: &[
+            Step::Log(1),
+            Step::Open(Ask {
+                lasting: Lasting::Once,
+                filter: ALL,
+                held: Held::Of(8, 1),
+                hint: false,
+            }),
+            Step::Hand(1, 9),
+        ],
+        told: "s1@8 deletes@8",
+    },
 ];
 
 #[test]
 fn a_renamed_subtree(rt: HostRuntime) -> Result<(), Fail> {
-    let alloc = rt.alloc();
-    for (limit, number, expected) in MOVED {
-        let mut provider = renamed(alloc, limit)?;
-        let cookie = cookie_text(alloc, number, 1)?;
-        let answer = refreshed(alloc, &mut provider, cookie.as_slice(), false)?;
-        assert!(rt; is_told(&answer, expected));
+    for row in &MOVED {
+        assert_told(&rt, rt.alloc(), row)?;
     }
     Ok(())
 }
 
-/// The name of the unit with this number below 1,000.
-fn unit(alloc: Global, number: u64) -> Result<Octets, NoMemory> {
-    let mut telling = Telling::new(alloc);
-    telling.text.extend_from_slice(b"u")?;
-    telling.number(number)?;
-    Ok(Octets::from(telling.text))
-}
+/// A directory of 300 entries.
+const THREE_HUNDRED: Beginning = Beginning {
+    steps: &[Step::AddUpTo(300)],
+    told: "w300",
+};
 
-/// The entry `dc=x` and 299 below it.
-fn three_hundred(alloc: Global) -> Result<Provider, Fail> {
-    let mut provider = one_entry(alloc)?;
-    for number in 2..301_u64 {
-        let unit = unit(alloc, number)?;
-        let mut name = Vec::new(alloc);
-        name.extend_from_slice(b"ou=")?;
-        name.extend_from_slice(unit.as_slice())?;
-        name.extend_from_slice(b",dc=x")?;
-        add(alloc, &mut provider, name.as_slice(), unit.as_slice())?;
-    }
-    provider.set_log_limit(0);
-    Ok(provider)
-}
-
-/// The numbers from the first to the last, as they are told.
-fn tell_numbers(telling: &mut Telling, first: u64, last: u64) -> Result<(), NoMemory> {
-    telling.word(b"=")?;
-    for number in first..last {
-        telling.number(number)?;
-        telling.text.push(b',')?;
-    }
-    telling.number(last)
-}
-
-/// A cookie of all 300 writes.
-const OF_ALL: &[u8] = b"rid=000,sid=001,csn=19700101000000.000000Z#00012c#001#000000,\
-gen=00000000000000000000000000000001";
+/// Identities in two sets.
+const SETS: [Row; 1] = [
+    // A set that is full goes before the entry, and the rest before the end.
+    Row {
+        beginning: &THREE_HUNDRED,
+        steps: &[
+            Step::Add("ou=last,dc=x", "last"),
+            Step::Log(0),
+            Step::Open(Ask {
+                lasting: Lasting::Once,
+                filter: ALL,
+                held: Held::Of(300, 1),
+                hint: false,
+            }),
+            Step::Hand(1, 9),
+        ],
+        told: "w301 s1@301 =1,2,3,4,5,6,7,8,9,10,11,12,13,14,15,16,17,18,19,20,21,22,23,24,25,26,27,28,29,30,31,32,33,34,35,36,37,38,39,40,41,42,43,44,45,46,47,48,49,50,51,52,53,54,55,56,57,58,59,60,61,62,63,64,65,66,67,68,69,70,71,72,73,74,75,76,77,78,79,80,81,82,83,84,85,86,87,88,89,90,91,92,93,94,95,96,97,98,99,100,101,102,103,104,105,106,107,108,109,110,111,112,113,114,115,116,117,118,119,120,121,122,123,124,125,126,127,128,129,130,131,132,133,134,135,136,137,138,139,140,141,142,143,144,145,146,147,148,149,150,151,152,153,154,155,156,157,158,159,160,161,162,163,164,165,166,167,168,169,170,171,172,173,174,175,176,177,178,179,180,181,182,183,184,185,186,187,188,189,190,191,192,193,194,195,196,197,198,199,200,201,202,203,204,205,206,207,208,209,210,211,212,213,214,215,216,217,218,219,220,221,222,223,224,225,226,227,228,229,230,231,232,233,234,235,236,237,238,239,240,241,242,243,244,245,246,247,248,249,250,251,252,253,254,255,256 +301:ou=last,dc=x =257,258,259,260,261,262,263,264,265,266,267,268,269,270,271,272,273,274,275,276,277,278,279,280,281,282,283,284,285,286,287,288,289,290,291,292,293,294,295,296,297,298,299,300 presents@301",
+    },
+];
 
 #[test]
 fn names_in_two_sets(rt: HostRuntime) -> Result<(), Fail> {
-    let alloc = rt.alloc();
-    let mut provider = three_hundred(alloc)?;
-    add(alloc, &mut provider, b"ou=last,dc=x", b"last")?;
-    provider.set_log_limit(0);
-    let answer = refreshed(alloc, &mut provider, OF_ALL, false)?;
+    for row in &SETS {
+        assert_told(&rt, rt.alloc(), row)?;
+    }
+    Ok(())
+}
 
-    // A set that is full goes before the entry.
-    let mut expected = Telling::new(alloc);
-    tell_numbers(&mut expected, 1, 256)?;
-    expected.word(b"+ou=last,dc=x")?;
-    tell_numbers(&mut expected, 257, 300)?;
-    expected.word(b"presents 301")?;
-    assert!(rt; is_told(&answer, expected.text.as_slice()));
+/// A unit.
+const TWO_ENTRIES: Beginning = Beginning {
+    steps: &[Step::Add("ou=a,dc=x", "a")],
+    told: "w2",
+};
+
+/// Numbers of searches and of writes.
+const NUMBERS: [Row; 2] = [
+    // A number of a search that was dropped is given again, the least first.
+    Row {
+        beginning: &TWO_ENTRIES,
+        steps: &[
+            Step::Open(Ask {
+                lasting: Lasting::Once,
+                filter: ALL,
+                held: Held::Text(""),
+                hint: false,
+            }),
+            Step::Open(Ask {
+                lasting: Lasting::Once,
+                filter: ALL,
+                held: Held::Text(""),
+                hint: false,
+            }),
+            Step::Open(Ask {
+                lasting: Lasting::Once,
+                filter: ALL,
+                held: Held::Text(""),
+                hint: false,
+            }),
+            Step::Open(Ask {
+                lasting: Lasting::Once,
+                filter: ALL,
+                held: Held::Text(""),
+                hint: false,
+            }),
+            Step::Drop(3),
+            Step::Drop(2),
+            Step::Drop(2),
+            Step::Drop(0),
+            Step::Hand(2, 1),
+            Step::Open(Ask {
+                lasting: Lasting::Once,
+                filter: ALL,
+                held: Held::Text(""),
+                hint: false,
+            }),
+            Step::Open(Ask {
+                lasting: Lasting::Once,
+                filter: ALL,
+                held: Held::Text(""),
+                hint: false,
+            }),
+            Step::Open(Ask {
+                lasting: Lasting::Once,
+                filter: ALL,
+                held: Held::Text(""),
+                hint: false,
+            }),
+        ],
+        told: "s1@2 s2@2 s3@2 s4@2 dropped dropped none none none s2@2 s3@2 s5@2",
+    },
+    // A write that is refused has no number.
+    Row {
+        beginning: &TWO_ENTRIES,
+        steps: &[
+            Step::Add("ou=a,dc=x", "a"),
+            Step::Delete("dc=x"),
+            Step::Delete("ou=b,dc=x"),
+            Step::Delete("ou=a,dc=x"),
+        ],
+        told: "c68 c66 c32 w3",
+    },
+];
+
+#[test]
+fn numbers_of_searches_and_writes(rt: HostRuntime) -> Result<(), Fail> {
+    for row in &NUMBERS {
+        assert_told(&rt, rt.alloc(), row)?;
+    }
     Ok(())
 }

@@ -4,6 +4,7 @@ ghost use Rattle.std.specs.Prelude.{IsTrue};
 ghost use Rattle.ldap_messages.specs.Operation.{IsOfGrammar, operation_of};
 ghost use Rattle.ldap_messages.specs.Outcome.{RefersOn};
 
+use crate::steps::assert_same;
 use csn_cookie::Csn;
 use dn_names::Dn;
 use entry_tree::{OpFault, Scope, Spec, read_op};
@@ -12,8 +13,9 @@ use ldap_filter::Filter;
 use ldap_messages::{LdapResult, Message, Protocol};
 use schema_rules::{Change, RawAttribute, RawList};
 use std::alloc::Global;
+use std::process::Abort;
 use std::test::Fail;
-use sync_provider::{Accepted, Handed, Kind, Provider, SyncSearch, done_message};
+use sync_provider::{Accepted, Handed, Kind, Provider, Reply, SyncSearch, done_message};
 
 // What these calls answer is compared when the tests run: the proofs of the tests know nothing of it.
 
@@ -56,7 +58,7 @@ fn attribute(alloc: Global, name: &[u8], values: &[&[u8]]) -> Result<RawAttribut
 }
 
 /// The add of `dc=x`.
-fn first_add(alloc: Global) -> Result<Change, NoMemory> {
+pub(crate) fn first_add(alloc: Global) -> Result<Change, NoMemory> {
     let mut list = RawList::new(alloc);
     list.push(attribute(alloc, b"objectClass", &[b"organization", b"dcObject"])?)?;
     list.push(attribute(alloc, b"o", &[b"X"])?)?;
@@ -77,20 +79,23 @@ fn provider(alloc: Global) -> Result<Provider, Fail> {
     Ok(Provider::new(alloc, suffix, 1, 1, Kind::Root)?)
 }
 
-/// The code of a write, and the number of writes after it.
-pub(crate) fn written(
+/// The reply to a write.
+pub(crate) fn replied(
     alloc: Global,
     provider: &mut Provider,
     change: &Change,
-) -> Result<(u32, u64), Fail> {
+) -> Result<Reply, Fail> {
     match read_op(alloc, change) {
-        Ok(op) => {
-            let reply = provider.write(alloc, op, 0);
-            Ok((reply.code, reply.number))
-        }
+        Ok(op) => Ok(provider.write(alloc, op, 0)),
         Err(OpFault::Code(_)) => Err(Fail::from("refused by its form")),
         Err(OpFault::NoMemory) => Err(Fail::from("out of memory")),
     }
+}
+
+/// The code of a write, and the number of writes after it.
+fn written(alloc: Global, provider: &mut Provider, change: &Change) -> Result<(u32, u64), Fail> {
+    let reply = replied(alloc, provider, change)?;
+    Ok((reply.code, reply.number))
 }
 
 /// A provider with the entry `dc=x`.
@@ -104,27 +109,38 @@ pub(crate) fn one_entry(alloc: Global) -> Result<Provider, Fail> {
     }
 }
 
-fn ask(alloc: Global, base: &[u8], control: &[u8]) -> Result<SyncSearch, Fail> {
+fn ask(alloc: Global, base: &[u8], filter: &[u8], control: &[u8]) -> Result<SyncSearch, Fail> {
     Ok(SyncSearch {
         id: 7,
         spec: Spec {
             base: Dn::parse(alloc, base)?,
             scope: Scope::Sub,
-            filter: Filter::read_text(alloc, b"(objectClass=*)")?,
+            filter: Filter::read_text(alloc, filter)?,
         },
         control: octets(alloc, control)?,
     })
 }
 
-/// What becomes of a search below this base with this control.
+/// What becomes of a search below this base with this filter and this control.
 pub(crate) fn accepted(
+    alloc: Global,
+    provider: &mut Provider,
+    base: &[u8],
+    filter: &[u8],
+    control: &[u8],
+) -> Result<Accepted, Fail> {
+    let ask = ask(alloc, base, filter, control)?;
+    Ok(provider.accept(alloc, ask))
+}
+
+/// The same with a filter that is true of all entries.
+fn accepted_below(
     alloc: Global,
     provider: &mut Provider,
     base: &[u8],
     control: &[u8],
 ) -> Result<Accepted, Fail> {
-    let ask = ask(alloc, base, control)?;
-    Ok(provider.accept(alloc, ask))
+    accepted(alloc, provider, base, b"(objectClass=*)", control)
 }
 
 /// The control's value with this mode, cookie and hint, as far as the lengths take one octet.
@@ -220,113 +236,195 @@ fn is_closed(alloc: Global, provider: &mut Provider, search: u64) -> bool {
     is_closed
 }
 
+/// What a search hands out in turn: the result code of an end, and the bytes.
+type HandedOut = (Option<u32>, &'static [u8]);
+
+/// Asserts that a search hands this out, and is then closed.
+fn assert_handed_out(
+    rt: &impl Abort,
+    alloc: Global,
+    provider: &mut Provider,
+    search: u64,
+    rows: &[HandedOut],
+) -> Result<(), Fail> {
+    for (code, bytes) in rows {
+        let (ended, message) = handed(alloc, provider, search)?;
+        assert_same(rt, &ended, code);
+        assert_same(rt, &message.as_slice(), bytes);
+    }
+    assert_same(rt, &is_closed(alloc, provider, search), &true);
+    assert_same(rt, &provider.drop_search(search), &false);
+    Ok(())
+}
+
+/// Asserts what becomes of a refresh from nothing below `dc=x` with this message ID.
+fn assert_opened(
+    rt: &impl Abort,
+    alloc: Global,
+    provider: &mut Provider,
+    id: u32,
+    answer: &Accepted,
+) -> Result<(), Fail> {
+    let mut search = ask(alloc, b"dc=x", b"(objectClass=*)", REFRESH)?;
+    search.id = id;
+    assert_same(rt, &provider.accept(alloc, search), answer);
+    Ok(())
+}
+
+fn assert_empty_end(rt: &impl Abort, alloc: Global, provider: &mut Provider) -> Result<(), Fail> {
+    assert_opened(rt, alloc, provider, 1, &Accepted::Opened(1, 0))?;
+    assert_handed_out(rt, alloc, provider, 1, &[(Some(0), EMPTY_END)])
+}
+
 #[test]
 fn the_end_of_an_empty_directory(rt: HostRuntime) -> Result<(), Fail> {
-    let alloc = rt.alloc();
-    let mut provider = provider(alloc)?;
-    let mut search = ask(alloc, b"dc=x", REFRESH)?;
-    search.id = 1;
-    assert_eq!(rt; provider.accept(alloc, search), Accepted::Opened(1, 0));
-    let (code, message) = handed(alloc, &mut provider, 1)?;
-    assert_eq!(rt; code, Some(0));
-    assert_eq!(rt; message.as_slice(), EMPTY_END);
-    assert!(rt; is_closed(alloc, &mut provider, 1));
-    assert!(rt; !provider.drop_search(1));
+    let mut provider = provider(rt.alloc())?;
+    let done = assert_empty_end(&rt, rt.alloc(), &mut provider);
+    discard(provider);
+    done
+}
+
+fn assert_entry_and_end(
+    rt: &impl Abort,
+    alloc: Global,
+    provider: &mut Provider,
+) -> Result<(), Fail> {
+    assert_opened(rt, alloc, provider, 7, &Accepted::Opened(1, 1))?;
+
+    // What is written later is no part of it.
+    assert_written_unit(rt, alloc, provider, &(0, 2))?;
+    assert_handed_out(
+        rt,
+        alloc,
+        provider,
+        1,
+        &[(None, ENTRY), (Some(0), ENTRY_END)],
+    )
+}
+
+/// Asserts what becomes of the add of `ou=a`.
+fn assert_written_unit(
+    rt: &impl Abort,
+    alloc: Global,
+    provider: &mut Provider,
+    answer: &(u32, u64),
+) -> Result<(), Fail> {
+    let change = add_unit(alloc, b"ou=a,dc=x", b"a")?;
+    let found = written(alloc, provider, &change);
+    discard(change);
+    assert_same(rt, &found?, answer);
     Ok(())
 }
 
 #[test]
 fn an_entry_and_the_end(rt: HostRuntime) -> Result<(), Fail> {
-    let alloc = rt.alloc();
-    let mut provider = one_entry(alloc)?;
-    let search = ask(alloc, b"dc=x", REFRESH)?;
-    assert_eq!(rt; provider.accept(alloc, search), Accepted::Opened(1, 1));
+    let mut provider = one_entry(rt.alloc())?;
+    let done = assert_entry_and_end(&rt, rt.alloc(), &mut provider);
+    discard(provider);
+    done
+}
 
-    // What is written later is no part of it.
-    let later = add_unit(alloc, b"ou=a,dc=x", b"a")?;
-    assert_eq!(rt; written(alloc, &mut provider, &later)?, (0, 2));
-    let (code, message) = handed(alloc, &mut provider, 1)?;
-    assert_eq!(rt; code, None);
-    assert_eq!(rt; message.as_slice(), ENTRY);
-    let (code, message) = handed(alloc, &mut provider, 1)?;
-    assert_eq!(rt; code, Some(0));
-    assert_eq!(rt; message.as_slice(), ENTRY_END);
-    assert!(rt; is_closed(alloc, &mut provider, 1));
+/// A base, a control's value, and what becomes of the search.
+type Request = (&'static [u8], &'static [u8], Accepted);
+
+/// Asserts what becomes of searches, one after another.
+fn assert_accepted(
+    rt: &impl Abort,
+    alloc: Global,
+    provider: &mut Provider,
+    requests: &[Request],
+) -> Result<(), Fail> {
+    for (base, control, answer) in requests {
+        let found = accepted_below(alloc, provider, base, control)?;
+        assert_same(rt, &found, answer);
+    }
     Ok(())
 }
 
-/// The mode, the cookie and the hint of a request, and what becomes of it.
-const REQUESTS: [(u8, &[u8], bool, Accepted); 9] = [
-    (1, b"", false, Accepted::Opened(1, 1)),
-    (1, b"rid=001", false, Accepted::Opened(2, 1)),
-    (1, b"rid=001,sid=00a", false, Accepted::Opened(3, 1)),
-    (1, b"rid=001,sid=00a,", false, Accepted::Refused(4096)),
-    (1, b"rid=001,sid=00a,", true, Accepted::Opened(4, 1)),
-    (3, b"", false, Accepted::Refused(53)),
-    (3, b"x", false, Accepted::Refused(4096)),
-    (3, b"x", true, Accepted::Refused(53)),
-    (2, b"", false, Accepted::Refused(2)),
+/// Controls by mode, cookie and hint.
+const REQUESTS: [Request; 9] = [
+    (
+        b"dc=x",
+        b"\x30\x05\x0a\x01\x01\x04\x00",
+        Accepted::Opened(1, 1),
+    ),
+    (
+        b"dc=x",
+        b"\x30\x0c\x0a\x01\x01\x04\x07rid=001",
+        Accepted::Opened(2, 1),
+    ),
+    (
+        b"dc=x",
+        b"\x30\x14\x0a\x01\x01\x04\x0frid=001,sid=00a",
+        Accepted::Opened(3, 1),
+    ),
+    (
+        b"dc=x",
+        b"\x30\x15\x0a\x01\x01\x04\x10rid=001,sid=00a,",
+        Accepted::Refused(4096),
+    ),
+    (
+        b"dc=x",
+        b"\x30\x18\x0a\x01\x01\x04\x10rid=001,sid=00a,\x01\x01\xff",
+        Accepted::Opened(4, 1),
+    ),
+    (
+        b"dc=x",
+        b"\x30\x05\x0a\x01\x03\x04\x00",
+        Accepted::Opened(5, 1),
+    ),
+    (b"dc=x", HELD, Accepted::Refused(4096)),
+    (
+        b"dc=x",
+        b"\x30\x09\x0a\x01\x03\x04\x01x\x01\x01\xff",
+        Accepted::Opened(6, 1),
+    ),
+    (
+        b"dc=x",
+        b"\x30\x05\x0a\x01\x02\x04\x00",
+        Accepted::Refused(2),
+    ),
 ];
+
+/// Mode refreshAndPersist, and a cookie that does not serve.
+const HELD: &[u8] = b"\x30\x06\x0a\x01\x03\x04\x01x";
 
 #[test]
 fn requests_by_mode_cookie_and_hint(rt: HostRuntime) -> Result<(), Fail> {
-    let alloc = rt.alloc();
-    let mut provider = one_entry(alloc)?;
-    for (mode, cookie, hint, answer) in REQUESTS {
-        let control = control(alloc, mode, cookie, hint)?;
-        let accepted = accepted(alloc, &mut provider, b"dc=x", control.as_slice())?;
-        assert_eq!(rt; accepted, answer);
+    let mut provider = one_entry(rt.alloc())?;
+    let done = assert_accepted(&rt, rt.alloc(), &mut provider, &REQUESTS);
+    discard(provider);
+    done
+}
+
+/// The grammar, the base, the cookie.
+const CODES: [Request; 3] = [
+    (b"dc=y", b"\x30\x03\x0a\x01\x02", Accepted::Refused(2)),
+    (b"dc=y", HELD, Accepted::Refused(32)),
+    (b"ou=b,ou=a,dc=x", HELD, Accepted::Refused(4096)),
+];
+
+/// The base, and the number of searches before the cookie.
+const FULL_CODES: [Request; 2] = [
+    (b"dc=x", HELD, Accepted::Refused(11)),
+    (b"dc=y", HELD, Accepted::Refused(32)),
+];
+
+fn assert_codes(rt: &impl Abort, alloc: Global, provider: &mut Provider) -> Result<(), Fail> {
+    assert_accepted(rt, alloc, provider, &CODES)?;
+    for number in 1..65_u64 {
+        let found = accepted_below(alloc, provider, b"ou=b,ou=a,dc=x", REFRESH)?;
+        assert_same(rt, &found, &Accepted::Opened(number, 1));
     }
-    Ok(())
+    assert_accepted(rt, alloc, provider, &FULL_CODES)
 }
 
 #[test]
 fn codes_in_their_order(rt: HostRuntime) -> Result<(), Fail> {
-    let alloc = rt.alloc();
-    let mut provider = one_entry(alloc)?;
-    let held = control(alloc, 3, b"x", false)?;
-    let held = held.as_slice();
-
-    // The grammar, the base, the number of searches, the cookie, and then the mode.
-    let outside = accepted(alloc, &mut provider, b"dc=y", b"\x30\x03\x0a\x01\x02")?;
-    assert_eq!(rt; outside, Accepted::Refused(2));
-    let base = accepted(alloc, &mut provider, b"dc=y", held)?;
-    assert_eq!(rt; base, Accepted::Refused(32));
-    let cookie = accepted(alloc, &mut provider, b"ou=b,ou=a,dc=x", held)?;
-    assert_eq!(rt; cookie, Accepted::Refused(4096));
-    for number in 1..65_u64 {
-        let opened = accepted(alloc, &mut provider, b"ou=b,ou=a,dc=x", REFRESH)?;
-        assert_eq!(rt; opened, Accepted::Opened(number, 1));
-    }
-    let full = accepted(alloc, &mut provider, b"dc=x", held)?;
-    assert_eq!(rt; full, Accepted::Refused(11));
-    let base = accepted(alloc, &mut provider, b"dc=y", held)?;
-    assert_eq!(rt; base, Accepted::Refused(32));
-    Ok(())
-}
-
-/// Whether searches get these numbers, one after another.
-fn are_opened(alloc: Global, provider: &mut Provider, numbers: &[u64]) -> Result<bool, Fail> {
-    for number in numbers {
-        let opened = accepted(alloc, provider, b"dc=x", REFRESH)?;
-        if opened != Accepted::Opened(*number, 1) {
-            return Ok(false);
-        }
-    }
-    Ok(true)
-}
-
-#[test]
-fn dropped_searches_leave_their_numbers(rt: HostRuntime) -> Result<(), Fail> {
-    let alloc = rt.alloc();
-    let mut provider = one_entry(alloc)?;
-    assert!(rt; are_opened(alloc, &mut provider, &[1, 2, 3, 4])?);
-    for (number, was_open) in [(3, true), (2, true), (2, false), (0, false)] {
-        assert_eq!(rt; provider.drop_search(number), was_open);
-    }
-    assert!(rt; is_closed(alloc, &mut provider, 2));
-    assert!(rt; are_opened(alloc, &mut provider, &[2, 3, 5])?);
-    Ok(())
+    let mut provider = one_entry(rt.alloc())?;
+    let done = assert_codes(&rt, rt.alloc(), &mut provider);
+    discard(provider);
+    done
 }
 
 /// What searches hand out in turn: the search, the result code of an end, and the bytes.
@@ -336,98 +434,104 @@ const AFTER_THE_MOMENT: [(u64, Option<u32>, &[u8]); 3] = [
     (1, Some(0), ENTRY_END),
 ];
 
-/// Whether this is handed out, one after another.
-fn are_handed_out(
+/// Asserts that this is handed out, one after another.
+fn assert_each_handed_out(
+    rt: &impl Abort,
     alloc: Global,
     provider: &mut Provider,
     rows: &[(u64, Option<u32>, &[u8])],
-) -> Result<bool, Fail> {
+) -> Result<(), Fail> {
     for (search, code, bytes) in rows {
         let (ended, message) = handed(alloc, provider, *search)?;
-        if ended != *code || message.as_slice() != *bytes {
-            return Ok(false);
-        }
+        assert_same(rt, &ended, code);
+        assert_same(rt, &message.as_slice(), bytes);
     }
-    Ok(true)
+    Ok(())
+}
+
+fn assert_each_dropped(rt: &impl Abort, provider: &mut Provider, rows: &[(u64, bool)]) {
+    for (number, was_open) in rows {
+        assert_same(rt, &provider.drop_search(*number), was_open);
+    }
+}
+
+/// Asserts that three searches are opened, and that one of them hands out its first message.
+fn assert_three_opened(
+    rt: &impl Abort,
+    alloc: Global,
+    provider: &mut Provider,
+) -> Result<(), Fail> {
+    for number in 1..4_u64 {
+        assert_opened(rt, alloc, provider, 7, &Accepted::Opened(number, 1))?;
+    }
+    assert_each_handed_out(rt, alloc, provider, &[(2, None, ENTRY)])
+}
+
+/// Two searches come to their end, the third is closed, and one more is opened after a write.
+fn assert_all_over(rt: &impl Abort, alloc: Global, provider: &mut Provider) -> Result<(), Fail> {
+    assert_each_handed_out(rt, alloc, provider, &AFTER_THE_MOMENT)?;
+    assert_each_dropped(rt, provider, &[(3, true)]);
+    assert_written_unit(rt, alloc, provider, &(0, 2))?;
+    assert_opened(rt, alloc, provider, 7, &Accepted::Opened(1, 2))
+}
+
+/// Asserts that the searches are as before, and the writes are not.
+fn assert_returned(rt: &impl Abort, alloc: Global, provider: &mut Provider) -> Result<(), Fail> {
+    assert_each_handed_out(rt, alloc, provider, &AFTER_THE_MOMENT)?;
+    assert_each_dropped(rt, provider, &[(1, false), (2, false), (3, true)]);
+    assert_same(rt, &provider.writes(), &2);
+    Ok(())
+}
+
+fn assert_return(rt: &impl Abort, alloc: Global, provider: &mut Provider) -> Result<(), Fail> {
+    assert_three_opened(rt, alloc, provider)?;
+    let moment = provider.open_searches(alloc)?;
+    let over = assert_all_over(rt, alloc, provider);
+    provider.return_to(moment);
+    over?;
+    assert_returned(rt, alloc, provider)
 }
 
 #[test]
 fn searches_return_to_an_earlier_moment(rt: HostRuntime) -> Result<(), Fail> {
-    let alloc = rt.alloc();
-    let mut provider = one_entry(alloc)?;
-    assert!(rt; are_opened(alloc, &mut provider, &[1, 2, 3])?);
-    assert!(rt; are_handed_out(alloc, &mut provider, &[(2, None, ENTRY)])?);
-    let moment = provider.open_searches(alloc)?;
+    let mut provider = one_entry(rt.alloc())?;
+    let done = assert_return(&rt, rt.alloc(), &mut provider);
+    discard(provider);
+    done
+}
 
-    // Two searches come to their end, the third is closed, and one more is opened after a write.
-    assert!(rt; are_handed_out(alloc, &mut provider, &AFTER_THE_MOMENT)?);
-    assert!(rt; provider.drop_search(3));
-    let later = add_unit(alloc, b"ou=a,dc=x", b"a")?;
-    assert_eq!(rt; written(alloc, &mut provider, &later)?, (0, 2));
-    let opened = accepted(alloc, &mut provider, b"dc=x", REFRESH)?;
-    assert_eq!(rt; opened, Accepted::Opened(1, 2));
+const STAMPS: [(&[u8], u64); 4] = [
+    (b"19700101000000.000000Z#000000#001#000000", 0),
+    (b"19700101000000.000000Z#000001#001#000000", 1),
+    (b"19700101000000.000000Z#000001#fff#000000", 1),
+    (b"19700101000000.000001Z#000000#000#000000", 2),
+];
 
-    provider.return_to(moment);
-    assert!(rt; are_handed_out(alloc, &mut provider, &AFTER_THE_MOMENT)?);
-    for (number, is_open) in [(1, false), (2, false), (3, true)] {
-        assert_eq!(rt; provider.drop_search(number), is_open);
+fn assert_stamps(rt: &impl Abort, provider: &Provider) -> Result<(), Fail> {
+    if provider.writes() >= 2 {
+        let second = Csn::parse(b"19700101000000.000000Z#000002#001#000000")?;
+        assert_same(rt, &provider.write_at(2).csn, &second);
     }
-    assert_eq!(rt; provider.writes(), 2);
+    for (text, number) in &STAMPS {
+        assert_same(rt, &provider.upto(Csn::parse(text)?), number);
+    }
     Ok(())
 }
 
-/// The code of the deletion of this name, and how many writes are accepted after it.
-pub(crate) fn deleted(
-    alloc: Global,
-    provider: &mut Provider,
-    name: &[u8],
-) -> Result<(u32, u64), Fail> {
-    let change = Change::Delete(octets(alloc, name)?);
-    written(alloc, provider, &change)
-}
-
-#[test]
-fn writes_with_their_codes(rt: HostRuntime) -> Result<(), Fail> {
-    let alloc = rt.alloc();
-    let mut provider = one_entry(alloc)?;
-    let unit = add_unit(alloc, b"ou=a,dc=x", b"a")?;
-    for answer in [(0, 2), (68, 2)] {
-        assert_eq!(rt; written(alloc, &mut provider, &unit)?, answer);
-    }
-    let rows: [(&[u8], (u32, u64)); 3] = [
-        (b"dc=x", (66, 2)),
-        (b"ou=b,dc=x", (32, 2)),
-        (b"ou=a,dc=x", (0, 3)),
-    ];
-    for (name, answer) in rows {
-        assert_eq!(rt; deleted(alloc, &mut provider, name)?, answer);
-    }
-    assert_eq!(rt; provider.writes(), 3);
-    assert_eq!(rt; provider.tree().len(), 1);
-    assert_eq!(rt; provider.history(), 1);
-    Ok(())
+fn assert_two_stamps(rt: &impl Abort, alloc: Global, provider: &mut Provider) -> Result<(), Fail> {
+    assert_written_unit(rt, alloc, provider, &(0, 2))?;
+    assert_same(rt, &provider.writes(), &2);
+    assert_same(rt, &provider.tree().len(), &2);
+    assert_same(rt, &provider.history(), &1);
+    assert_stamps(rt, provider)
 }
 
 #[test]
 fn writes_up_to_a_stamp(rt: HostRuntime) -> Result<(), Fail> {
-    let alloc = rt.alloc();
-    let mut provider = one_entry(alloc)?;
-    let unit = add_unit(alloc, b"ou=a,dc=x", b"a")?;
-    assert_eq!(rt; written(alloc, &mut provider, &unit)?, (0, 2));
-    let second = Csn::parse(b"19700101000000.000000Z#000002#001#000000")?;
-    if provider.writes() >= 2 {
-        assert_eq!(rt; provider.write_at(2).csn, second);
-    }
-    let rows: [(&[u8], u64); 4] = [
-        (b"19700101000000.000000Z#000000#001#000000", 0),
-        (b"19700101000000.000000Z#000001#001#000000", 1),
-        (b"19700101000000.000000Z#000001#fff#000000", 1),
-        (b"19700101000000.000001Z#000000#000#000000", 2),
-    ];
-    for (text, number) in rows {
-        assert_eq!(rt; provider.upto(Csn::parse(text)?), number);
-    }
-    Ok(())
+    let mut provider = one_entry(rt.alloc())?;
+    let done = assert_two_stamps(&rt, rt.alloc(), &mut provider);
+    discard(provider);
+    done
 }
 
 /// The bytes of the end of a search with this message ID and code.
@@ -440,9 +544,8 @@ fn end_spelled(alloc: Global, id: u32, code: u32) -> Result<Octets, Fail> {
 
 #[test]
 fn the_end_of_a_search_with_a_code(rt: HostRuntime) -> Result<(), Fail> {
-    let alloc = rt.alloc();
-    let spelling = end_spelled(alloc, 2, 51)?;
+    let spelling = end_spelled(rt.alloc(), 2, 51)?;
     let end = b"0\x0c\x02\x01\x02e\x07\x0a\x013\x04\0\x04\0";
-    assert_eq!(rt; spelling.as_slice(), end.as_slice());
+    assert_same(&rt, &spelling.as_slice(), &end.as_slice());
     Ok(())
 }

@@ -77,6 +77,20 @@ fn goes_through_each_call(rt: HostRuntime) -> Result<(), Fail> {
 }
 
 #[test]
+fn finds_what_is_pending_by_its_place(rt: HostRuntime) -> Result<(), Fail> {
+    let mut queue = SearchQueue::new(rt.alloc(), 3);
+    queue.push_all(items(rt.alloc(), &[1, 2])?)?;
+    queue.pop();
+    queue.push_all(items(rt.alloc(), &[3, 4])?)?;
+    let rows = [Some(2), Some(3), Some(4), None];
+    for (place, wanted) in rows.into_iter().enumerate() {
+        let weight = queue.get(place).map(|item| item.weight);
+        assert_eq!(rt; weight, wanted, "the item at {place}");
+    }
+    Ok(())
+}
+
+#[test]
 fn says_what_is_wrong(rt: HostRuntime) -> Result<(), Fail> {
     let full = format!(in rt.alloc(); "{}", QueueFault::QueueFull(7))?;
     assert_eq!(rt; full.as_str(), "the queue of 7 items is full");

@@ -1,5 +1,7 @@
 //! Messages of searches and what they say. The spellings are put together from RFC 4511, RFC 4533
 //! and ITU-T X.690 element by element, apart from this program.
+ghost use Rattle.std.specs.Prelude.{◌<◌, IfSome};
+
 use csn_cookie::{Cookie, Csn};
 use dn_names::Dn;
 use entry_tree::{Entry, Scope, Spec};
@@ -13,7 +15,8 @@ use std::process::Abort;
 use std::test::Fail;
 use sync_messages::{Mode, SyncDone, SyncRequest};
 use sync_wire::{
-    Heard, HearingFault, done_message, end_message, entry_message, hear, search_request, tag_of,
+    Heard, HearingFault, done_message, end_message, entry_message, gone_message, hear,
+    search_request, tag_of,
 };
 
 // What these calls answer is compared when the tests run: the proofs of the tests know nothing of it.
@@ -31,11 +34,65 @@ const ENTRY: &[u8] =
     1000000.000000Z#000002#001#000000\xa0503\x04\x181.3.6.1.4.1.4203.1.9.1.2\x04\x170\x15\x0a\x01\
     \x01\x04\x10\xf8\x1dO\xae}\xec\x11\xd0\xa7e\0\xa0\xc9\x1ek\xf6";
 
-/// The end of a refresh with its cookie, with the message ID 7.
+/// The entry in the state modify, with the message ID 7.
+const CHANGED: &[u8] =
+    b"0\x81\xf8\x02\x01\x07d\x81\xbb\x04\x04dc=x0\x81\xb20'\x04\x0bobjectClass1\x18\x04\x0corganiza\
+    tion\x04\x08dcObject0\x0f\x04\x01o1\x0a\x04\x05X Ltd\x04\x01Y0\x09\x04\x02dc1\x03\x04\x01x03\
+    \x04\x09entryUUID1&\x04$f81d4fae-7dec-11d0-a765-00a0c91e6bf606\x04\x08entryCSN1*\x04(2026010100\
+    0000.000000Z#000002#001#000000\xa0503\x04\x181.3.6.1.4.1.4203.1.9.1.2\x04\x170\x15\x0a\x01\x02\
+    \x04\x10\xf8\x1dO\xae}\xec\x11\xd0\xa7e\0\xa0\xc9\x1ek\xf6";
+
+/// The entry in the state add with a cookie, with the message ID 7.
+const ADDED_LAST: &[u8] =
+    b"0\x82\x01]\x02\x01\x07d\x81\xbb\x04\x04dc=x0\x81\xb20'\x04\x0bobjectClass1\x18\x04\x0corganiz\
+    ation\x04\x08dcObject0\x0f\x04\x01o1\x0a\x04\x05X Ltd\x04\x01Y0\x09\x04\x02dc1\x03\x04\x01x03\
+    \x04\x09entryUUID1&\x04$f81d4fae-7dec-11d0-a765-00a0c91e6bf606\x04\x08entryCSN1*\x04(2026010100\
+    0000.000000Z#000002#001#000000\xa0\x81\x990\x81\x96\x04\x181.3.6.1.4.1.4203.1.9.1.2\x04z0x\x0a\
+    \x01\x01\x04\x10\xf8\x1dO\xae}\xec\x11\xd0\xa7e\0\xa0\xc9\x1ek\xf6\x04arid=000,sid=001,csn=2026\
+    0101000000.000000Z#000002#001#000000,gen=0123456789abcdef0123456789abcdef";
+
+/// The entry in the state modify with a cookie, with the message ID 7.
+const CHANGED_LAST: &[u8] =
+    b"0\x82\x01]\x02\x01\x07d\x81\xbb\x04\x04dc=x0\x81\xb20'\x04\x0bobjectClass1\x18\x04\x0corganiz\
+    ation\x04\x08dcObject0\x0f\x04\x01o1\x0a\x04\x05X Ltd\x04\x01Y0\x09\x04\x02dc1\x03\x04\x01x03\
+    \x04\x09entryUUID1&\x04$f81d4fae-7dec-11d0-a765-00a0c91e6bf606\x04\x08entryCSN1*\x04(2026010100\
+    0000.000000Z#000002#001#000000\xa0\x81\x990\x81\x96\x04\x181.3.6.1.4.1.4203.1.9.1.2\x04z0x\x0a\
+    \x01\x02\x04\x10\xf8\x1dO\xae}\xec\x11\xd0\xa7e\0\xa0\xc9\x1ek\xf6\x04arid=000,sid=001,csn=2026\
+    0101000000.000000Z#000002#001#000000,gen=0123456789abcdef0123456789abcdef";
+
+/// `ou=s,ou=a,dc=x` in the state delete, with the message ID 7.
+const GONE: &[u8] =
+    b"0N\x02\x01\x07d\x12\x04\x0eou=s,ou=a,dc=x0\0\xa0503\x04\x181.3.6.1.4.1.4203.1.9.1.2\x04\x170\
+    \x15\x0a\x01\x03\x04\x10\xf8\x1dO\xae}\xec\x11\xd0\xa7e\0\xa0\xc9\x1ek\xf6";
+
+/// `ou=s,ou=a,dc=x` in the state delete with a cookie, with the message ID 7.
+const GONE_LAST: &[u8] =
+    b"0\x81\xb3\x02\x01\x07d\x12\x04\x0eou=s,ou=a,dc=x0\0\xa0\x81\x990\x81\x96\x04\x181.3.6.1.4.1.4\
+    203.1.9.1.2\x04z0x\x0a\x01\x03\x04\x10\xf8\x1dO\xae}\xec\x11\xd0\xa7e\0\xa0\xc9\x1ek\xf6\x04ari\
+    d=000,sid=001,csn=20260101000000.000000Z#000002#001#000000,gen=0123456789abcdef0123456789abcdef";
+
+/// The end of a present phase and of its search with its cookie, with the message ID 7.
 const END: &[u8] =
     b"0\x81\x93\x02\x01\x07e\x07\x0a\x01\0\x04\0\x04\0\xa0\x81\x840\x81\x81\x04\x181.3.6.1.4.1.42\
     03.1.9.1.3\x04e0c\x04arid=000,sid=001,csn=20260101000000.000000Z#000002#001#000000,gen=012345\
     6789abcdef0123456789abcdef";
+
+/// The end of a delete phase and of its search with its cookie, with the message ID 7.
+const DELETES_END: &[u8] =
+    b"0\x81\x96\x02\x01\x07e\x07\x0a\x01\0\x04\0\x04\0\xa0\x81\x870\x81\x84\x04\x181.3.6.1.4.1.4203\
+    .1.9.1.3\x04h0f\x04arid=000,sid=001,csn=20260101000000.000000Z#000002#001#000000,gen=0123456789\
+    abcdef0123456789abcdef\x01\x01\xff";
+
+/// refreshPresent with its cookie, with the message ID 7. The refresh is done, which is the default
+/// and not written.
+const PRESENT_PHASE_END: &[u8] =
+    b"0\x81\x87\x02\x01\x07y\x81\x81\x80\x181.3.6.1.4.1.4203.1.9.1.4\x81e\xa2c\x04arid=000,sid=001,\
+    csn=20260101000000.000000Z#000002#001#000000,gen=0123456789abcdef0123456789abcdef";
+
+/// refreshDelete with its cookie, with the message ID 7, likewise.
+const DELETE_PHASE_END: &[u8] =
+    b"0\x81\x87\x02\x01\x07y\x81\x81\x80\x181.3.6.1.4.1.4203.1.9.1.4\x81e\xa1c\x04arid=000,sid=001,\
+    csn=20260101000000.000000Z#000002#001#000000,gen=0123456789abcdef0123456789abcdef";
 
 /// The end of a search that found no room (51), with the message ID 7.
 const BUSY: &[u8] = b"0\x0c\x02\x01\x07e\x07\x0a\x013\x04\0\x04\0";
@@ -105,22 +162,49 @@ fn entry(alloc: Global) -> Result<Entry, Fail> {
     })
 }
 
-fn entry_bytes(alloc: Global, entry: &Entry) -> Result<Octets, NoMemory> {
-    let message = entry_message(alloc, 7, entry)?;
+/// The cookie of this stamp.
+fn cookie(csn: Csn) -> Cookie
+    ensures rid { result.rid < 1000 }
+    ensures sid { result.sid < 4096 }
+{
+    Cookie {
+        rid: 0,
+        sid: 1,
+        csn,
+        history: 0x0123456789abcdef_0123456789abcdef,
+    }
+}
+
+/// The cookie of this stamp, if there is one.
+fn cookie_with(csn: Option<Csn>) -> Option<Cookie>
+    ensures rid { IfSome result (λ c. c.rid < 1000) }
+    ensures sid { IfSome result (λ c. c.sid < 4096) }
+{
+    Some(cookie(csn?))
+}
+
+fn entry_bytes(
+    alloc: Global,
+    adds: bool,
+    entry: &Entry,
+    csn: Option<Csn>,
+) -> Result<Octets, NoMemory> {
+    let message = entry_message(alloc, 7, adds, entry, cookie_with(csn))?;
+    let bytes = message.write(alloc);
+    discard(message);
+    bytes
+}
+
+fn gone_bytes(alloc: Global, name: &Dn, csn: Option<Csn>) -> Result<Octets, NoMemory> {
+    let message = gone_message(alloc, 7, UUID, name, cookie_with(csn))?;
     let bytes = message.write(alloc);
     discard(message);
     bytes
 }
 
 /// The end of a refresh with the cookie of this stamp.
-fn end_bytes(alloc: Global, csn: Csn) -> Result<Octets, NoMemory> {
-    let cookie = Cookie {
-        rid: 0,
-        sid: 1,
-        csn,
-        history: 0x0123456789abcdef_0123456789abcdef,
-    };
-    let message = end_message(alloc, 7, false, &cookie)?;
+fn end_bytes(alloc: Global, persists: bool, deletes: bool, csn: Csn) -> Result<Octets, NoMemory> {
+    let message = end_message(alloc, 7, persists, deletes, &cookie(csn))?;
     let bytes = message.write(alloc);
     discard(message);
     bytes
@@ -137,23 +221,67 @@ fn assert_bytes(rt: &impl Abort, row: &str, found: &Octets, wanted: &[u8]) {
     assert_same(rt, row, &found.as_slice(), &wanted);
 }
 
-fn sent_entry(alloc: Global) -> Result<Octets, Fail> {
+fn sent_entry(alloc: Global, adds: bool, csn: Option<Csn>) -> Result<Octets, Fail> {
     let entry = entry(alloc)?;
-    let bytes = entry_bytes(alloc, &entry);
+    let bytes = entry_bytes(alloc, adds, &entry, csn);
     discard(entry);
     Ok(bytes?)
 }
 
 #[test]
-fn an_entry_is_sent(rt: HostRuntime) -> Result<(), Fail> {
-    assert_bytes(&rt, "entry", &sent_entry(rt.alloc())?, ENTRY);
+fn entries_are_sent(rt: HostRuntime) -> Result<(), Fail> {
+    let csn = Some(Csn::parse(CSN)?);
+    assert_bytes(&rt, "add", &sent_entry(rt.alloc(), true, None)?, ENTRY);
+    assert_bytes(
+        &rt,
+        "modify",
+        &sent_entry(rt.alloc(), false, None)?,
+        CHANGED,
+    );
+    assert_bytes(
+        &rt,
+        "add, cookie",
+        &sent_entry(rt.alloc(), true, csn)?,
+        ADDED_LAST,
+    );
+    assert_bytes(
+        &rt,
+        "modify, cookie",
+        &sent_entry(rt.alloc(), false, csn)?,
+        CHANGED_LAST,
+    );
     Ok(())
 }
 
 #[test]
+fn what_is_gone_is_sent(rt: HostRuntime) -> Result<(), Fail> {
+    let csn = Some(Csn::parse(CSN)?);
+    let name = Dn::parse(rt.alloc(), b"ou=s,ou=a,dc=x")?;
+    assert_bytes(&rt, "delete", &gone_bytes(rt.alloc(), &name, None)?, GONE);
+    assert_bytes(
+        &rt,
+        "delete, cookie",
+        &gone_bytes(rt.alloc(), &name, csn)?,
+        GONE_LAST,
+    );
+    Ok(())
+}
+
+/// Whether the search goes on, whether its refresh told what is deleted, and its end.
+const REFRESH_ENDS: [(bool, bool, &[u8]); 4] = [
+    (false, false, END),
+    (false, true, DELETES_END),
+    (true, false, PRESENT_PHASE_END),
+    (true, true, DELETE_PHASE_END),
+];
+
+#[test]
 fn ends_are_sent(rt: HostRuntime) -> Result<(), Fail> {
     let csn = Csn::parse(CSN)?;
-    assert_bytes(&rt, "end", &end_bytes(rt.alloc(), csn)?, END);
+    for (persists, deletes, wanted) in REFRESH_ENDS {
+        let found = end_bytes(rt.alloc(), persists, deletes, csn)?;
+        assert_bytes(&rt, "end", &found, wanted);
+    }
     assert_bytes(&rt, "busy", &busy_bytes(rt.alloc())?, BUSY);
     Ok(())
 }

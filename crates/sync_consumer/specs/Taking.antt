@@ -1,5 +1,5 @@
 -- A consumer, what it asks for, and what it makes of each message.
-use Rattle.std.specs.Prelude.{◌≡◌, ⊤, ℕ, Bool, ◌==◌, if◌then◌else◌, [], Option, Some, None, Result, Ok, Err}
+use Rattle.std.specs.Prelude.{◌≡◌, ⊤, ℕ, Bool, false, ◌==◌, if◌then◌else◌, [], Option, Some, None, Result, Ok, Err}
 use Rattle.entry_tree.specs.Selection.{Search}
 use Rattle.ldap_messages.specs.declared.message.Message.{Message}
 use Rattle.ldap_messages.specs.Whole.{Whole}
@@ -74,6 +74,11 @@ told_refusal tag (refusal.Fault found) = Fault found
 told_refusal tag refusal.NoMemory = NoMemory
 
 -- ---- each message
+
+-- a search runs whose refresh is done, and which goes on
+abbrev pub is_persisting : Option model.Running → Bool
+is_persisting None = false
+is_persisting (Some running) = running.persisting
 
 abbrev pub without_search : model.Copy → model.Copy
 without_search copy = record copy { running = None }

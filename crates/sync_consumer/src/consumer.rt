@@ -160,6 +160,16 @@ impl Consumer {
         self.running.is_some()
     }
 
+    /// Whether a search runs whose refresh is done, and which goes on (RFC 4533, section 3.4).
+    pub fn is_persisting(&self) -> bool
+        ensures { result ≡ taking.is_persisting self.now.copy.running }
+    {
+        match &self.running {
+            Some(running) => running.persisting,
+            None => false,
+        }
+    }
+
     /// Ends the search, and drops what is staged.
     pub fn cut(&mut self)
         ensures { self.new ≡ record self.old { copy = taking.without_search self.old.copy } }

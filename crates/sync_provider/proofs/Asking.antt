@@ -8,7 +8,7 @@ use Rattle.sync_messages.specs.declared.fault.SyncFault.{SyncFault}
 use Rattle.sync_messages.specs.declared.fault.SyncFault.TheVariants as faults
 use Rattle.sync_messages.specs.declared.request.SyncRequest.{SyncRequest}
 use Rattle.sync_provider.specs.Accepting.{free_number, request_code, refused_or_opened, numbered, answer_to_request, answer_to}
-use Rattle.sync_provider.specs.Directory.{DirectoryState}
+use Rattle.directory_writes.specs.Directory.{DirectoryState}
 use Rattle.sync_provider.specs.Search.{SearchState}
 use Rattle.sync_provider.specs.declared.searches.Accepted.TheVariants.{Opened, Refused}
 use Rattle.sync_provider.specs.declared.searches.SyncSearch.{SyncSearch}

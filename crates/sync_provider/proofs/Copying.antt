@@ -1,5 +1,6 @@
 -- Open searches that are copied in the order of their numbers.
-use Rattle.std.proofs.Common.{◌≡◌, ℕ, List, [], ◌∷◌, ◌++◌, refl, ap, sym, subst, ◌∙◌, append_assoc}
+use Rattle.std.proofs.Common.{◌≡◌, ℕ, ◌+◌, Some, take, List, [], ◌∷◌, ◌++◌, refl, ap, sym, subst, ◌∙◌, append_assoc}
+use Rattle.std.specs.Prelude.{slice_get}
 use Rattle.std.specs.BTreeMap.{insert_entry}
 use Rattle.std.specs.Cmp.{nat_cmp_total}
 use Rattle.std.specs.List.{AllByRecursion}
@@ -7,8 +8,12 @@ use Rattle.std.specs.List.Sorted.{IsStrictlySortedBy}
 use Rattle.std.specs.Map.{keys_of}
 use Rattle.std.specs.Ordering.{nat_cmp, match_ordering, ordering_reverse}
 use Rattle.std.specs.declared.cmp.Ordering.TheVariants.{Less, Greater}
+use Rattle.std.proofs.lemmas.List.{take_more}
+use Rattle.std.proofs.lemmas.Option.{slice_get_within, get_or_from_slice_get}
 use Rattle.std.proofs.lemmas.Map.Keys.{sorted_head, sorted_tail}
 use Rattle.sync_provider.specs.Search.{SearchState}
+use Rattle.sync_provider.specs.Staging.{HeldSearch, searches_of}
+use Rattle.sync_provider.proofs.Held.{held_opened, held_keys}
 
 abbrev Searches : Type 0
 Searches = List (ℕ × SearchState)
@@ -36,3 +41,17 @@ copied_on all front left after copied k s sorted whole first put =
     let parts : front ++ (k, s) ∷ after ≡ all = ap (λ es. front ++ es) (sym first) ∙ whole in
     let above = insert-above front after k s (subst (λ es. IsStrictlySortedBy nat_cmp (keys_of es)) (sym parts) sorted) in
     ap (λ es. es ++ after) (put ∙ above) ∙ append_assoc front ((k, s) ∷ []) after ∙ parts
+
+-- the same for searches as they are kept: a copy has nothing staged
+pub held_copied : (all front left after copied : List (ℕ × HeldSearch)) (k : ℕ) (held copy : HeldSearch) → IsStrictlySortedBy nat_cmp (keys_of all)
+    → searches_of front ++ searches_of left ≡ searches_of all → left ≡ (k, held) ∷ after → copy.search ≡ held.search → copied ≡ insert_entry nat_cmp front k copy
+    → searches_of copied ++ searches_of after ≡ searches_of all
+held_copied all front left after copied k held copy sorted whole first same put =
+    copied_on (searches_of all) (searches_of front) (searches_of left) (searches_of after) (searches_of copied) k held.search
+    (subst (IsStrictlySortedBy nat_cmp) (sym (held_keys all)) sorted) whole (ap searches_of first)
+    (ap searches_of put ∙ held_opened front k copy ∙ ap (insert_entry nat_cmp (searches_of front) k) same)
+
+-- one more item of a list
+pub taken_next : {X : Type 0} (xs : List X) (k : ℕ) (x : X) → slice_get xs k ≡ Some x → take (k + 1) xs ≡ take k xs ++ x ∷ []
+taken_next xs k x at =
+    take_more xs k x (slice_get_within xs k x at) ∙ ap (λ y. take k xs ++ y ∷ []) (get_or_from_slice_get xs k x x at)

@@ -1,7 +1,9 @@
 -- From a servable cookie a search sends only what was touched since.
-use Rattle.std.proofs.Common.{◌≡◌, ℕ, ◌-◌, ◌≤◌, Bool, true, false, cond, List, length, Option, Some, None, refl, sym, ◌∙◌, arith, subst}
-use Rattle.std.specs.Prelude.{All, filter_map, Result, Ok, Err}
+use Rattle.std.proofs.Common.{◌≡◌, ℕ, zero, suc, ◌-◌, ◌≤◌, Bool, true, false, cond, List, [], ◌∷◌, ◌++◌, length, Option, Some, None, refl, sym, ap, ◌∙◌, arith, subst}
+use Rattle.std.specs.Prelude.{All, filter_map, take, Result, Ok, Err}
+use Rattle.std.specs.List.{cons_option}
 use Rattle.std.proofs.lemmas.List.{append-nil}
+use Rattle.std.proofs.lemmas.List.Elements.{All-nil, All-cons, All-head, All-tail}
 use Rattle.csn_cookie.specs.Csn.{upto}
 use Rattle.csn_cookie.specs.Cookie.{cookie_of_text}
 use Rattle.csn_cookie.specs.declared.cookie.Cookie.{Cookie}
@@ -14,19 +16,22 @@ use Rattle.sync_messages.specs.Request.{request_of}
 use Rattle.sync_messages.specs.declared.fault.SyncFault.{SyncFault}
 use Rattle.sync_messages.specs.declared.request.SyncRequest.{SyncRequest}
 use Rattle.sync_model.specs.Incremental.{number_of, sent_entry}
-use Rattle.sync_model.specs.Stream.{Start, among, walk, refresh}
+use Rattle.sync_model.specs.Message.{SyncMessage}
+use Rattle.sync_model.specs.Stream.{Start, among, walk}
 use Rattle.sync_model.specs.Stream.Start.{Covered, Uncovered}
 use Rattle.sync_model.proofs.Histories.{ascends-state_of}
 use Rattle.sync_model.proofs.Incremental.{refresh_sent}
-use Rattle.sync_provider.specs.Accepting.{is_ours, prefix_of, asked_prefix, start_at, start_of_read, start_of_ask, answer_to}
-use Rattle.sync_provider.specs.Directory.{DirectoryState, stamps}
-use Rattle.sync_provider.specs.Law.{SendsWhatWasTouched}
-use Rattle.sync_provider.specs.Machine.{ProviderState, Call}
-use Rattle.sync_provider.specs.Search.{session_of, whole_walk, refresh_from}
+use Rattle.directory_writes.specs.Starting.{is_ours, prefix_of, asked_prefix, start_at}
+use Rattle.sync_provider.specs.Accepting.{start_of_read, start_of_ask, persists_of_ask, answer_to}
+use Rattle.directory_writes.specs.Directory.{DirectoryState, stamps}
+use Rattle.sync_provider.specs.Law.{refresh_of, later_of, Told, told, all_told, Tells, asked, SendsWhatWasTouched}
+use Rattle.sync_provider.specs.Machine.{ProviderState, Call, accepted}
+use Rattle.sync_provider.specs.Search.{SearchState, session_of, whole_walk, refresh_from, busy_end}
 use Rattle.sync_provider.specs.declared.searches.Accepted.TheVariants.{Opened}
 use Rattle.sync_provider.specs.declared.searches.SyncSearch.{SyncSearch}
-use Rattle.sync_provider.proofs.Kept.{opened_free, tells_its_stream}
-use Rattle.sync_provider.proofs.Stamps.{upto_low}
+use Rattle.sync_provider.proofs.Kept.{opened_free}
+use Rattle.sync_provider.proofs.Streams.{tells_its_stream}
+use Rattle.directory_writes.proofs.Stamps.{upto_low}
 
 -- ---- a search begins with no more writes than there are
 
@@ -62,20 +67,73 @@ ask_low d ask = by (request_of ask.control) where
 
 -- ---- its refresh
 
-sent_from : (sid history : ℕ) (spec : Search) (start : Start) (count prefix : ℕ) (writes : List Write) → number_of start ≡ Some prefix → prefix ≤ count
+sent_from : (persists : Bool) (sid history : ℕ) (spec : Search) (start : Start) (count prefix : ℕ) (writes : List Write) → number_of start ≡ Some prefix → prefix ≤ count
     → All (λ (entry : Entry). among entry.uuid (touched_over history writes prefix count) ≡ true)
-    (filter_map sent_entry (refresh_from (session_of sid history spec writes) start count))
-sent_from sid history spec start count prefix writes is low =
-    refresh_sent (session_of sid history spec writes) (λ number. ascends-state_of history writes number) start prefix count
-    (whole_walk (session_of sid history spec writes) start count) is low
-    (record { cut = append-nil (walk (session_of sid history spec writes) start count); rises = (omega arith, tt) })
+    (filter_map sent_entry (refresh_from (session_of persists sid history spec writes) start count))
+sent_from persists sid history spec start count prefix writes is low =
+    refresh_sent (session_of persists sid history spec writes) (λ number. ascends-state_of history writes number) start prefix count
+    (whole_walk (session_of persists sid history spec writes) start count) is low
+    (record { cut = append-nil (walk (session_of persists sid history spec writes) start count); rises = (omega arith, tt) })
+
+-- ---- as much of what is told
+
+-- the entries that some messages send whole
+abbrev Sends : (Entry → Type 0) → List SyncMessage → Type 0
+Sends P ms = All P (filter_map sent_entry ms)
+
+more_sends : (P : Entry → Type 0) (m : SyncMessage) (ms : List SyncMessage) (left : List SyncMessage) → Sends P (m ∷ left) → (Sends P left → Sends P ms) → Sends P (m ∷ ms)
+more_sends P m ms left sends rest = by (sent_entry m) sends where
+  by : (found : Option Entry) → All P (cons_option found (filter_map sent_entry left)) → All P (cons_option found (filter_map sent_entry ms))
+  by None each = rest each
+  by (Some entry) each =
+      All-cons P entry (filter_map sent_entry ms) (All-head P entry (filter_map sent_entry left) each)
+      (rest (All-tail P entry (filter_map sent_entry left) each))
+
+take_all : (xs ys : List SyncMessage) → take (length xs) (xs ++ ys) ≡ xs
+take_all [] ys = refl
+take_all (x ∷ xs) ys = ap (λ l. x ∷ l) (take_all xs ys)
+
+take_none : (n : ℕ) → take {A = SyncMessage} n [] ≡ []
+take_none zero = refl
+take_none (suc n) = refl
+
+heads : (x m : SyncMessage) (xs ms : List SyncMessage) → x ∷ xs ≡ m ∷ ms → x ≡ m
+heads x m xs ms e = cc
+
+tails : (x m : SyncMessage) (xs ms : List SyncMessage) → x ∷ xs ≡ m ∷ ms → xs ≡ ms
+tails x m xs ms e = cc
+
+-- a refresh of which a front is told, and then the end with the code busy
+cut_sends : (P : Entry → Type 0) (refresh front left later : List SyncMessage) → front ++ left ≡ refresh ++ later → Sends P refresh
+    → Sends P (take (length refresh) (front ++ busy_end ∷ []))
+cut_sends P [] front left later split sends = All-nil P
+cut_sends P (m ∷ refresh) [] left later split sends = subst (λ ms. Sends P (busy_end ∷ ms)) (sym (take_none (length refresh))) (All-nil P)
+cut_sends P (m ∷ refresh) (x ∷ front) left later split sends =
+    let first : x ≡ m = heads x m (front ++ left) (refresh ++ later) split in
+    let rest : front ++ left ≡ refresh ++ later = tails x m (front ++ left) (refresh ++ later) split in
+    subst (λ y. Sends P (y ∷ take (length refresh) (front ++ busy_end ∷ []))) (sym first)
+    (more_sends P m (take (length refresh) (front ++ busy_end ∷ [])) refresh sends (cut_sends P refresh front left later rest))
+
+told_sends : (P : Entry → Type 0) (over : Bool) (messages refresh later : List SyncMessage) → Tells over messages (refresh ++ later) → Sends P refresh
+    → Sends P (take (length refresh) messages)
+told_sends P false messages refresh later tells sends = subst (Sends P) (sym (ap (take (length refresh)) tells ∙ take_all refresh later)) sends
+told_sends P true messages refresh later tells sends =
+    subst (λ ms. Sends P (take (length refresh) ms)) (sym tells.is) (cut_sends P refresh tells.front tells.left later tells.split sends)
 
 pub sends_what_was_touched : (p : ProviderState) (ask : SyncSearch) (number count : ℕ) (calls : List Call) → answer_to p.directory p.searches ask ≡ Opened number count
     → SendsWhatWasTouched p ask number count calls
 sends_what_was_touched p ask number count calls answered writes begins prefix is =
-    subst (λ ms. All (λ (entry : Entry). among entry.uuid (touched_over p.directory.history writes prefix count) ≡ true) (filter_map sent_entry ms))
-    (sym (tells_its_stream p ask number count calls answered writes begins.0 begins.1 ∙ append-nil (refresh_from (session_of p.directory.sid p.directory.history (search_of ask.spec) writes) (start_of_ask p.directory ask) count)))
-    (sent_from p.directory.sid p.directory.history (search_of ask.spec) (start_of_ask p.directory ask) count prefix writes is low)
+    told_sends (λ (entry : Entry). among entry.uuid (touched_over p.directory.history writes prefix count) ≡ true) t.over (all_told t)
+    (refresh_of p.directory s writes) (later_of p.directory s t.writes writes)
+    (tells_its_stream p ask number count calls answered writes begins)
+    (subst (λ n. Sends (λ (entry : Entry). among entry.uuid (touched_over p.directory.history writes prefix n) ≡ true) (refresh_of p.directory s writes)) (sym counted)
+    (sent_from (persists_of_ask ask) p.directory.sid p.directory.history (search_of ask.spec) (start_of_ask p.directory ask) (length p.directory.writes) prefix writes is (ask_low p.directory ask prefix is)))
   where
-    low : prefix ≤ count
-    low = omega (arith, ask_low p.directory ask prefix is, (opened_free p.directory p.searches ask number count answered).counted)
+    s : SearchState
+    s = asked p ask
+
+    t : Told
+    t = told number (accepted p ask) calls
+
+    counted : count ≡ length p.directory.writes
+    counted = (opened_free p.directory p.searches ask number count answered).counted

@@ -6,13 +6,13 @@ use Rattle.entry_tree.specs.declared.op.Write.{Write}
 use Rattle.entry_tree.specs.History.{state_of, touched_over}
 use Rattle.session_log.proofs.Covering.{IsLogOf-trimmed}
 use Rattle.sync_model.specs.Stream.{among}
-use Rattle.sync_provider.specs.Directory.{DirectoryState, judged, with_judged}
+use Rattle.directory_writes.specs.Directory.{DirectoryState, judged, with_judged}
 use Rattle.sync_provider.specs.Law.{BeginsWith, LogTells, NumberTells}
 use Rattle.sync_provider.specs.Machine.{ProviderState, Call, called, run}
-use Rattle.sync_provider.specs.Machine.Call.{Writes, Accepts, HandsOut, Drops, SetsLogLimit}
-use Rattle.sync_provider.specs.Touches.{all_notes, IsLogged}
-use Rattle.sync_provider.proofs.Pushed.{logged-push}
-use Rattle.sync_provider.proofs.Told.{agree-longer, over-agree_upto, log-tells, floor-low, last-tells}
+use Rattle.sync_provider.specs.Machine.Call.{Writes, Accepts, HandsOut, Drops, SetsLogLimit, SetsQueueLimit}
+use Rattle.directory_writes.specs.Touches.{all_notes, IsLogged}
+use Rattle.directory_writes.proofs.Pushed.{logged-push}
+use Rattle.directory_writes.proofs.Told.{agree-longer, over-agree_upto, log-tells, floor-low, last-tells}
 
 abbrev HasLogged : DirectoryState → Type 0
 HasLogged d = IsLogged d.history d.writes d.log
@@ -28,6 +28,7 @@ called_logged p (HandsOut number) is = is
 called_logged p (Drops number) is = is
 called_logged p (SetsLogLimit limit) is =
     IsLogOf-trimmed (all_notes (state_of p.directory.history p.directory.writes) (length p.directory.writes)) p.directory.log limit is
+called_logged p (SetsQueueLimit limit) is = is
 
 pub run_logged : (calls : List Call) (p : ProviderState) → HasLogged p.directory → HasLogged (run p calls).directory
 run_logged [] p is = is

@@ -1,5 +1,5 @@
 -- A refresh in one piece, over a directory and over each longer history.
-use Rattle.std.proofs.Common.{◌≡◌, ℕ, ◌-◌, false, List, [], ◌∷◌, ◌++◌, length, refl, sym, ap, ◌∙◌, arith}
+use Rattle.std.proofs.Common.{◌≡◌, ℕ, ◌+◌, ◌-◌, Bool, List, [], ◌∷◌, ◌++◌, length, refl, sym, ap, ◌∙◌, arith}
 use Rattle.std.specs.List.{flat_map}
 use Rattle.std.proofs.lemmas.List.{append-nil, take-append-le}
 use Rattle.entry_tree.specs.declared.entry.Entry.{Entry}
@@ -9,14 +9,14 @@ use Rattle.csn_cookie.specs.Cookie.{cookie_text}
 use Rattle.entry_tree.specs.History.{state_of, differing_over}
 use Rattle.entry_tree.specs.Selection.{Search, select}
 use Rattle.entry_tree.specs.State.{entry_at}
-use Rattle.entry_tree.specs.Touched.{identities}
+use Rattle.entry_tree.specs.Touched.{identities, touched}
 use Rattle.sync_model.specs.Message.{Cookie, SyncMessage}
-use Rattle.sync_model.specs.Stream.{Session, Start, Decision, among, content_after, is_covered, walk, is_sent, decided, decide, gathered, end_of, after_walk, late_uuids}
+use Rattle.sync_model.specs.Stream.{Session, Start, Decision, among, content_after, is_covered, walk, is_sent, decided, decide, gathered, end_of, after_walk, late_uuids, told_all, group}
 use Rattle.sync_model.specs.Stream.Start.{Blank, Covered, Uncovered}
 use Rattle.sync_model.proofs.Steps.{over_none}
-use Rattle.sync_provider.specs.Directory.{cookie_at, last_stamp}
+use Rattle.directory_writes.specs.Directory.{cookie_at, last_stamp}
 use Rattle.sync_provider.specs.Search.{cookie_after, session_of, refresh_from}
-use Rattle.sync_provider.proofs.Told.{Agree, agree-longer, over-agree_upto}
+use Rattle.directory_writes.proofs.Told.{Agree, agree-longer, over-agree_upto}
 
 no_late : (session : Session) (count : ℕ) → late_uuids session count count ≡ []
 no_late session count =
@@ -37,12 +37,12 @@ refresh_from-is session start count =
 
 -- ---- two histories that agree
 
-module _ (spec : Search) (f g : ℕ → List Entry) (c d : ℕ → Cookie) (count : ℕ) (same : Agree f g count) (cookie : c count ≡ d count) where
+module _ (persists : Bool) (spec : Search) (f g : ℕ → List Entry) (c d : ℕ → Cookie) (count : ℕ) (same : Agree f g count) (cookie : c count ≡ d count) where
   abbrev one : Session
-  one = record { persists = false; selection = spec; states = f; cookies = c }
+  one = record { persists = persists; selection = spec; states = f; cookies = c }
 
   abbrev other : Session
-  other = record { persists = false; selection = spec; states = g; cookies = d }
+  other = record { persists = persists; selection = spec; states = g; cookies = d }
 
   now : f count ≡ g count
   now = same count (omega arith)
@@ -63,15 +63,33 @@ module _ (spec : Search) (f g : ℕ → List Entry) (c d : ℕ → Cookie) (coun
   pub refresh-agrees : (start : Start) → refresh_from one start count ≡ refresh_from other start count
   refresh-agrees start =
       refresh_from-is one start count
-      ∙ (λ i. gathered (is_covered start) (decides start i) ++ end_of false (is_covered start) (cookie i) ∷ [])
+      ∙ (λ i. gathered (is_covered start) (decides start i) ++ end_of persists (is_covered start) (cookie i) ∷ [])
       ∙ sym (refresh_from-is other start count)
 
--- a longer history tells the same
-pub refresh-longer : (sid history : ℕ) (spec : Search) (start_at : Start) (writes more whole : List Write) → writes ++ more ≡ whole
-    → refresh_from (session_of sid history spec whole) start_at (length writes) ≡ refresh_from (session_of sid history spec writes) start_at (length writes)
-refresh-longer sid history spec start_at writes more whole is =
-    ap (λ ws. refresh_from (session_of sid history spec ws) start_at (length writes)) (sym is)
-    ∙ refresh-agrees spec (state_of history (writes ++ more)) (state_of history writes) (cookie_after sid history (writes ++ more)) (cookie_after sid history writes) (length writes)
-    (agree-longer history writes more)
-    (ap (λ ws. cookie_text (cookie_at sid history (last_stamp (start sid) ws))) (take-append-le (length writes) writes more (omega arith)))
-    start_at
+  -- what a write before that number sends
+  pub group-agrees : (before : ℕ) → before + 1 ≡ count → group one before ≡ group other before
+  group-agrees before next =
+      let was : f before ≡ g before = same before (omega (arith, next)) in
+      let cookies : c (before + 1) ≡ d (before + 1) = ap c next ∙ cookie ∙ sym (ap d next) in
+      let is : f (before + 1) ≡ g (before + 1) = ap f next ∙ now ∙ sym (ap g next) in
+      λ i. told_all (cookies i) (touched (select spec (was i)) (select spec (is i)))
+
+-- a longer history has the same cookies
+cookie-longer : (sid history : ℕ) (writes more : List Write) → cookie_after sid history (writes ++ more) (length writes) ≡ cookie_after sid history writes (length writes)
+cookie-longer sid history writes more =
+    ap (λ ws. cookie_text (cookie_at sid history (last_stamp (start sid) ws))) (take-append-le (length writes) writes more (omega arith))
+
+-- and tells the same
+pub refresh-longer : (persists : Bool) (sid history : ℕ) (spec : Search) (start_at : Start) (writes more whole : List Write) → writes ++ more ≡ whole
+    → refresh_from (session_of persists sid history spec whole) start_at (length writes) ≡ refresh_from (session_of persists sid history spec writes) start_at (length writes)
+refresh-longer persists sid history spec start_at writes more whole is =
+    ap (λ ws. refresh_from (session_of persists sid history spec ws) start_at (length writes)) (sym is)
+    ∙ refresh-agrees persists spec (state_of history (writes ++ more)) (state_of history writes) (cookie_after sid history (writes ++ more)) (cookie_after sid history writes) (length writes)
+    (agree-longer history writes more) (cookie-longer sid history writes more) start_at
+
+pub group-longer : (persists : Bool) (sid history : ℕ) (spec : Search) (writes more whole : List Write) (before : ℕ) → writes ++ more ≡ whole → before + 1 ≡ length writes
+    → group (session_of persists sid history spec whole) before ≡ group (session_of persists sid history spec writes) before
+group-longer persists sid history spec writes more whole before is next =
+    ap (λ ws. group (session_of persists sid history spec ws) before) (sym is)
+    ∙ group-agrees persists spec (state_of history (writes ++ more)) (state_of history writes) (cookie_after sid history (writes ++ more)) (cookie_after sid history writes) (length writes)
+    (agree-longer history writes more) (cookie-longer sid history writes more) before next

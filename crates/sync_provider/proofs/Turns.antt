@@ -1,32 +1,107 @@
 -- What is pending of a search, and the open searches after a turn.
-use Rattle.std.proofs.Common.{◌≡◌, ◌+◌, ◌≤◌, ℕ, Bool, true, false, cond, List, [], ◌∷◌, length, drop, Option, Some, None, refl, ap, sym, ◌∙◌}
-use Rattle.std.specs.Prelude.{slice_get}
+use Rattle.std.proofs.Common.{◌≡◌, ◌+◌, ◌<◌, ◌≤◌, ℕ, zero, suc, Bool, true, false, cond, nat_le, arith, List, [], ◌∷◌, ◌++◌, length, drop, Option, Some, None, refl, ap, sym, ◌∙◌}
+use Rattle.std.specs.Prelude.{pos, slice_get}
 use Rattle.std.specs.BTreeMap.{is_at}
 use Rattle.std.specs.Ordering.{nat_cmp}
-use Rattle.std.proofs.lemmas.Bool.{false≢true, true≢false}
+use Rattle.std.proofs.lemmas.Bool.{leb-false, false≢true, true≢false}
+use Rattle.std.proofs.lemmas.Bool.Decides.{nat_tests}
 use Rattle.std.proofs.lemmas.List.{drop_more, at_drop_all}
 use Rattle.std.proofs.lemmas.Map.Steps.{set_value_same}
 use Rattle.std.proofs.lemmas.Option.{slice_get_within, get_or_from_slice_get}
-use Rattle.sync_model.specs.Message.{Cookie}
+use Rattle.sync_model.specs.Law.{is_nil}
+use Rattle.sync_model.specs.Message.{Cookie, SyncMessage}
+use Rattle.sync_model.specs.Message.SyncMessage.{Done}
 use Rattle.sync_model.specs.Stream.{end_of}
-use Rattle.sync_provider.specs.HandingOut.{Turn, search_at, is_closing, after_own_turn, closed, handed_on, after_answer}
+use Rattle.sync_wire.specs.Sending.{sent}
+use Rattle.directory_writes.proofs.Keyed.{kept_at, closed_at, put_on}
+use Rattle.sync_provider.specs.HandingOut.{Turn, turn_of_message, turn_of_pending, search_at, is_closing, after_own_turn, without_first, closed, handed_on, after_answer}
 use Rattle.sync_provider.specs.HandingOut.Turn.{Hands, Closes, Waits, Unknown}
-use Rattle.sync_provider.specs.Search.{SearchState, message_of, messages_of}
+use Rattle.sync_provider.specs.Search.{SearchState, busy_end, pending, advanced, is_end, message_of, messages_of, first_of}
+use Rattle.sync_provider.specs.Staging.{HeldSearch, searches_of}
 use Rattle.sync_provider.specs.declared.parts.Part.{Part}
-use Rattle.sync_provider.proofs.Looking.{put_on}
+use Rattle.sync_provider.specs.declared.parts.Part.TheVariants as part
+use Rattle.sync_provider.proofs.Kept.{hands}
+use Rattle.sync_provider.proofs.Held.{search_found, held_closed, held_put}
 
--- ---- what is pending
+-- ---- what is left of a refresh
 
-pub pending_next : (deletes : Bool) (parts : List Part) (handed : ℕ) (p : Part) (cookie : Cookie) → slice_get parts handed ≡ Some p
-    → messages_of deletes (drop handed parts) cookie ≡ message_of deletes p ∷ messages_of deletes (drop (handed + 1) parts) cookie
-pending_next deletes parts handed p cookie at =
-    ap (λ ps. messages_of deletes ps cookie)
+pub first_part : (persists deletes : Bool) (parts : List Part) (handed : ℕ) (p : Part) (cookie : Cookie) → slice_get parts handed ≡ Some p
+    → first_of persists deletes (drop handed parts) cookie ≡ message_of deletes p
+first_part persists deletes parts handed p cookie at =
+    ap (λ ps. first_of persists deletes ps cookie)
     (drop_more parts handed p (slice_get_within parts handed p at)
     ∙ ap (λ first. first ∷ drop (handed + 1) parts) (get_or_from_slice_get parts handed p p at))
 
-pub pending_end : (deletes : Bool) (parts : List Part) (handed : ℕ) (cookie : Cookie) → length parts ≤ handed
-    → messages_of deletes (drop handed parts) cookie ≡ end_of false deletes cookie ∷ []
-pending_end deletes parts handed cookie all = at_drop_all (λ ps. messages_of deletes ps cookie) parts handed all
+pub first_end : (persists deletes : Bool) (parts : List Part) (handed : ℕ) (cookie : Cookie) → length parts ≤ handed
+    → first_of persists deletes (drop handed parts) cookie ≡ end_of persists deletes cookie
+first_end persists deletes parts handed cookie all = at_drop_all (λ ps. first_of persists deletes ps cookie) parts handed all
+
+-- ---- the turn of a search
+
+abbrev turn_now : SearchState → Turn
+turn_now s = turn_of_pending s.id (pending s)
+
+pub over_turn : (s : SearchState) → s.over ≡ true → turn_of_pending s.id (pending s) ≡ Closes (pos 51) (sent s.id (Done (pos 51) None))
+over_turn s on = ap (λ o. turn_of_pending s.id (cond o (busy_end ∷ []) (s.rest ++ s.due))) on
+
+turn_of_rest : (s : SearchState) (rest : List SyncMessage) → s.over ≡ false → s.rest ≡ rest → turn_now s ≡ turn_of_pending s.id (rest ++ s.due)
+turn_of_rest s rest off is = λ i. turn_of_pending s.id (cond (off i) (busy_end ∷ []) (is i ++ s.due))
+
+part_hands : (id : ℕ) (deletes : Bool) (p : Part) → turn_of_message id (message_of deletes p) ≡ Hands (sent id (message_of deletes p))
+part_hands id deletes (part.Whole entry) = refl
+part_hands id deletes (part.Names uuids) = refl
+
+pub part_turn : (s : SearchState) (persists deletes : Bool) (parts : List Part) (cookie : Cookie) → s.over ≡ false → s.rest ≡ messages_of persists deletes parts cookie → is_nil parts ≡ false
+    → turn_of_pending s.id (pending s) ≡ Hands (sent s.id (first_of persists deletes parts cookie))
+part_turn s persists deletes [] cookie off is some = absurd (true≢false some)
+part_turn s persists deletes (p ∷ parts) cookie off is some = turn_of_rest s (messages_of persists deletes (p ∷ parts) cookie) off is ∙ part_hands s.id deletes p
+
+pub part_state : (s : SearchState) (persists deletes : Bool) (parts : List Part) (cookie : Cookie) → s.rest ≡ messages_of persists deletes parts cookie → is_nil parts ≡ false
+    → without_first s ≡ record s { rest = messages_of persists deletes (drop 1 parts) cookie }
+part_state s persists deletes [] cookie is some = absurd (true≢false some)
+part_state s persists deletes (p ∷ parts) cookie is some = ap (λ rest. advanced s rest s.due) is
+
+pub end_turn : (s : SearchState) (deletes : Bool) (parts : List Part) (cookie : Cookie) → s.over ≡ false → s.rest ≡ messages_of true deletes parts cookie → is_nil parts ≡ true
+    → turn_of_pending s.id (pending s) ≡ Hands (sent s.id (first_of true deletes parts cookie))
+end_turn s deletes [] cookie off is none = turn_of_rest s (messages_of true deletes [] cookie) off is
+end_turn s deletes (p ∷ parts) cookie off is none = absurd (false≢true none)
+
+pub end_state : (s : SearchState) (persists deletes : Bool) (parts : List Part) (cookie : Cookie) → s.rest ≡ messages_of persists deletes parts cookie → is_nil parts ≡ true
+    → without_first s ≡ record s { rest = [] }
+end_state s persists deletes [] cookie is none = ap (λ rest. advanced s rest s.due) is
+end_state s persists deletes (p ∷ parts) cookie is none = absurd (false≢true none)
+
+pub last_turn : (s : SearchState) (deletes : Bool) (parts : List Part) (cookie : Cookie) → s.over ≡ false → s.rest ≡ messages_of false deletes parts cookie → is_nil parts ≡ true
+    → turn_of_pending s.id (pending s) ≡ Closes (pos 0) (sent s.id (first_of false deletes parts cookie))
+last_turn s deletes [] cookie off is none = turn_of_rest s (messages_of false deletes [] cookie) off is
+last_turn s deletes (p ∷ parts) cookie off is none = absurd (false≢true none)
+
+-- the first message of later writes, once the refresh is handed out
+pub later_turn : (s : SearchState) (m : SyncMessage) → s.over ≡ false → s.rest ≡ [] → slice_get s.due 0 ≡ Some m → is_end m ≡ false → turn_of_pending s.id (pending s) ≡ Hands (sent s.id m)
+later_turn s m off none first goes = turn_of_rest s [] off none ∙ by s.due refl
+  where
+    same : (x : SyncMessage) → Some x ≡ Some m → x ≡ m
+    same x e = cc
+
+    never : None ≡ Some m → ⊥
+    never e = cc
+
+    by : (due : List SyncMessage) → s.due ≡ due → turn_of_pending s.id due ≡ Hands (sent s.id m)
+    by [] is = absurd (never (sym (ap (λ l. slice_get l 0) is) ∙ first))
+    by (x ∷ due) is = ap (turn_of_message s.id) (same x (sym (ap (λ l. slice_get l 0) is) ∙ first)) ∙ hands s.id m goes
+
+pub later_state : (s : SearchState) (m : SyncMessage) (due : List SyncMessage) → s.rest ≡ [] → s.due ≡ m ∷ due → without_first s ≡ record s { due = due }
+later_state s m due none is = λ i. advanced s (none i) (is i)
+
+pub none_turn : (s : SearchState) → s.over ≡ false → s.rest ≡ [] → slice_get s.due 0 ≡ None → turn_of_pending s.id (pending s) ≡ Waits
+none_turn s off none first = turn_of_rest s [] off none ∙ by s.due refl
+  where
+    never : (x : SyncMessage) → Some x ≡ None → ⊥
+    never x e = cc
+
+    by : (due : List SyncMessage) → s.due ≡ due → turn_of_pending s.id due ≡ Waits
+    by [] is = refl
+    by (x ∷ due) is = absurd (never x (sym (ap (λ l. slice_get l 0) is) ∙ first))
 
 -- ---- the open searches after a turn
 
@@ -39,18 +114,52 @@ closed-put_on (e ∷ es) k s = by (closed-put_on es k s) (is_at (nat_cmp k) e.0)
     by rest true hit = ap (λ b. cond b es ((e.0, s) ∷ closed es k)) hit
     by rest false miss = ap (λ b. cond b (put_on es k s) (e ∷ closed (put_on es k s) k)) miss ∙ ap (λ xs. e ∷ xs) rest
 
-pub closed_after : (es : List (ℕ × SearchState)) (k : ℕ) (s : SearchState) (turn : Option Turn) → is_closing turn ≡ true
+closed_by : (es : List (ℕ × SearchState)) (k : ℕ) (s : SearchState) (turn : Option Turn) → is_closing turn ≡ true
     → closed (put_on es k s) k ≡ after_answer es k turn
-closed_after es k s (Some (Closes code message)) h = closed-put_on es k s
-closed_after es k s None h = absurd (false≢true h)
-closed_after es k s (Some (Hands message)) h = absurd (false≢true h)
-closed_after es k s (Some Waits) h = absurd (false≢true h)
-closed_after es k s (Some Unknown) h = absurd (false≢true h)
+closed_by es k s (Some (Closes code message)) h = closed-put_on es k s
+closed_by es k s None h = absurd (false≢true h)
+closed_by es k s (Some (Hands message)) h = absurd (false≢true h)
+closed_by es k s (Some Waits) h = absurd (false≢true h)
+closed_by es k s (Some Unknown) h = absurd (false≢true h)
 
-pub open_after : (es : List (ℕ × SearchState)) (k : ℕ) (s : SearchState) (turn : Option Turn) → search_at es k ≡ Some s → is_closing turn ≡ false
+open_by : (es : List (ℕ × SearchState)) (k : ℕ) (s : SearchState) (turn : Option Turn) → search_at es k ≡ Some s → is_closing turn ≡ false
     → put_on es k (after_own_turn s turn) ≡ after_answer es k turn
-open_after es k s None found h = set_value_same (is_at (nat_cmp k)) es s found
-open_after es k s (Some (Hands message)) found h = sym (ap (handed_on es k) found)
-open_after es k s (Some (Closes code message)) found h = absurd (true≢false h)
-open_after es k s (Some Waits) found h = set_value_same (is_at (nat_cmp k)) es s found
-open_after es k s (Some Unknown) found h = set_value_same (is_at (nat_cmp k)) es s found
+open_by es k s None found h = set_value_same (is_at (nat_cmp k)) es s found
+open_by es k s (Some (Hands message)) found h = sym (ap (handed_on es k) found)
+open_by es k s (Some (Closes code message)) found h = absurd (true≢false h)
+open_by es k s (Some Waits) found h = set_value_same (is_at (nat_cmp k)) es s found
+open_by es k s (Some Unknown) found h = set_value_same (is_at (nat_cmp k)) es s found
+
+pub closed_after : (es : List (ℕ × HeldSearch)) (k : ℕ) (held : HeldSearch) (turn : Option Turn) → is_closing turn ≡ true
+    → searches_of (closed_at (put_on es k held) k) ≡ after_answer (searches_of es) k turn
+closed_after es k held turn h =
+    held_closed (put_on es k held) k ∙ ap (λ xs. closed xs k) (held_put es k held) ∙ closed_by (searches_of es) k held.search turn h
+
+pub open_after : (es : List (ℕ × HeldSearch)) (k : ℕ) (old new : HeldSearch) (turn : Option Turn) → kept_at es k ≡ Some old → new.search ≡ after_own_turn old.search turn → is_closing turn ≡ false
+    → searches_of (put_on es k new) ≡ after_answer (searches_of es) k turn
+open_after es k old new turn found same h =
+    held_put es k new ∙ ap (put_on (searches_of es) k) same ∙ open_by (searches_of es) k old.search turn (search_found es k old found) h
+
+-- ---- the end of a refresh
+
+pub end_is : {X : Type 0} (xs : List X) (k : ℕ) → nat_le (length xs) k ≡ is_nil (drop k xs)
+end_is [] zero = refl
+end_is [] (suc k) = grind (arith, nat_tests)
+end_is (x ∷ xs) zero = grind (arith, nat_tests)
+end_is (x ∷ xs) (suc k) = grind (arith, nat_tests, end_is xs k)
+
+pub not_end : {X : Type 0} (xs : List X) (k : ℕ) → is_nil (drop k xs) ≡ false → k < length xs
+not_end xs k h = by (nat_le (length xs) k) refl
+  where
+    by : (b : Bool) → nat_le (length xs) k ≡ b → k < length xs
+    by true is = absurd (false≢true (sym h ∙ sym (end_is xs k) ∙ is))
+    by false is = leb-false (length xs) k is
+
+drop_none : {X : Type 0} (k : ℕ) → drop {A = X} k [] ≡ []
+drop_none zero = refl
+drop_none (suc k) = refl
+
+pub drop_one : {X : Type 0} (xs : List X) (k : ℕ) → drop (k + 1) xs ≡ drop 1 (drop k xs)
+drop_one [] k = drop_none (k + 1) ∙ sym (ap (λ l. drop 1 l) (drop_none k))
+drop_one (x ∷ xs) zero = refl
+drop_one (x ∷ xs) (suc k) = let more : suc k + 1 ≡ suc (k + 1) = omega arith in ap (λ n. drop n (x ∷ xs)) more ∙ drop_one xs k

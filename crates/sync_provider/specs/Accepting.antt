@@ -1,21 +1,18 @@
--- How a search is accepted (RFC 4533, section 3.3).
-use Rattle.std.specs.Prelude.{◌≡◌, ℕ, ◌+◌, ◌==◌, zero, suc, Bool, false, not, ◌&&◌, List, [], ◌∷◌, length, find, is_some, Option, Some, None, Result, Ok, Err, if◌then◌else◌}
+-- How a search is accepted (RFC 4533, sections 3.3 and 3.4).
+use Rattle.std.specs.Prelude.{◌≡◌, ℕ, ◌+◌, zero, suc, Bool, false, not, ◌&&◌, List, [], ◌∷◌, length, find, is_some, Option, Some, None, Result, Ok, Err, if◌then◌else◌}
 use Rattle.std.specs.Ordering.{nat_cmp}
 use Rattle.std.specs.BTreeMap.{insert_entry}
-use Rattle.csn_cookie.specs.Csn.{upto, is_upto}
-use Rattle.csn_cookie.specs.Cookie.{is_blank, cookie_of_text}
-use Rattle.csn_cookie.specs.declared.cookie.Cookie.{Cookie}
+use Rattle.csn_cookie.specs.Cookie.{is_blank}
 use Rattle.dn_names.specs.Names.{is_at_or_below}
 use Rattle.entry_tree.specs.Selection.{search_of}
 use Rattle.sync_messages.specs.Request.{request_of}
 use Rattle.sync_messages.specs.declared.fault.SyncFault.{SyncFault}
-use Rattle.sync_messages.specs.declared.request.Mode.{Mode}
-use Rattle.sync_messages.specs.declared.request.Mode.TheVariants.{RefreshOnly, RefreshAndPersist}
 use Rattle.sync_messages.specs.declared.request.SyncRequest.{SyncRequest}
-use Rattle.session_log.specs.Log.{covers}
 use Rattle.sync_model.specs.Stream.{Start}
-use Rattle.sync_model.specs.Stream.Start.{Blank, Covered, Uncovered}
-use Rattle.sync_provider.specs.Directory.{DirectoryState, stamp_of, stamps}
+use Rattle.sync_model.specs.Stream.Start.{Blank}
+use Rattle.sync_wire.specs.Requesting.{persists}
+use Rattle.directory_writes.specs.Directory.{DirectoryState}
+use Rattle.directory_writes.specs.Starting.{asked_prefix, start_at}
 use Rattle.sync_provider.specs.HandingOut.{search_at}
 use Rattle.sync_provider.specs.Search.{SearchState, opening}
 use Rattle.sync_provider.specs.declared.searches.Accepted.{Accepted}
@@ -36,26 +33,7 @@ numbers_from first (suc count) = first ∷ numbers_from (first + 1) count
 abbrev pub free_number : List (ℕ × SearchState) → Option ℕ
 free_number searches = find (is_free searches) (numbers_from 1 64)
 
--- ---- its cookie
-
--- a cookie is servable where it is of the directory's history and its stamp is not above the last one
-abbrev pub is_ours : DirectoryState → Cookie → Bool
-is_ours d cookie = (cookie.history == d.history) && is_upto cookie.csn (stamp_of d)
-
--- the number of writes that it names: those whose stamps are not above its own
-abbrev pub prefix_of : DirectoryState → Option Cookie → Option ℕ
-prefix_of d None = None
-prefix_of d (Some cookie) = if is_ours d cookie then Some (upto (stamps d.writes) cookie.csn) else None
-
--- the same by the text of a request's cookie, which is None where none is given or it is not servable
-abbrev pub asked_prefix : DirectoryState → Option (List ℕ) → Option ℕ
-asked_prefix d None = None
-asked_prefix d (Some text) = prefix_of d (cookie_of_text text)
-
--- where a search begins, by whether the log covers the number of its cookie
-abbrev pub start_at : DirectoryState → Option ℕ → Start
-start_at d None = Blank
-start_at d (Some number) = if covers number d.log then Covered number else Uncovered number
+-- ---- where it begins
 
 abbrev pub start_of_request : DirectoryState → SyncRequest → Start
 start_of_request d request = start_at d (asked_prefix d request.cookie)
@@ -68,6 +46,16 @@ start_of_read d (Ok request) = start_of_request d request
 abbrev pub start_of_ask : DirectoryState → SyncSearch → Start
 start_of_ask d ask = start_of_read d (request_of ask.control)
 
+-- ---- its mode
+
+-- whether a search goes on after its refresh
+abbrev pub persists_of_read : Result SyncRequest SyncFault → Bool
+persists_of_read (Err fault) = false
+persists_of_read (Ok request) = persists request.mode
+
+abbrev pub persists_of_ask : SyncSearch → Bool
+persists_of_ask ask = persists_of_read (request_of ask.control)
+
 -- ---- what is against it
 
 -- a cookie that is not blank
@@ -75,15 +63,9 @@ abbrev pub has_cookie : Option (List ℕ) → Bool
 has_cookie None = false
 has_cookie (Some cookie) = not (is_blank cookie)
 
--- unwillingToPerform (53) for a search that would go on after its refresh
-abbrev pub mode_code : Mode → Option ℕ
-mode_code RefreshOnly = None
-mode_code RefreshAndPersist = Some 53
-
--- e-syncRefreshRequired (4096) where a cookie that is not servable is not to be left aside, then the mode's
+-- e-syncRefreshRequired (4096) where a cookie that is not servable is not to be left aside
 abbrev pub code_by : (servable : Bool) → SyncRequest → Option ℕ
-code_by servable request =
-    if has_cookie request.cookie && (not servable && not request.reload_hint) then Some 4096 else mode_code request.mode
+code_by servable request = if has_cookie request.cookie && (not servable && not request.reload_hint) then Some 4096 else None
 
 abbrev pub request_code : DirectoryState → SyncRequest → Option ℕ
 request_code d request = code_by (is_some (asked_prefix d request.cookie)) request
@@ -116,7 +98,7 @@ Answers (Opened number writes) answer = answer ≡ Opened number writes
 -- ---- the searches after it
 
 abbrev pub opened : DirectoryState → List (ℕ × SearchState) → SyncSearch → ℕ → List (ℕ × SearchState)
-opened d searches ask number = insert_entry nat_cmp searches number (opening d ask.id (search_of ask.spec) (start_of_ask d ask))
+opened d searches ask number = insert_entry nat_cmp searches number (opening d ask.id (search_of ask.spec) (start_of_ask d ask) (persists_of_ask ask))
 
 abbrev pub after_answer : DirectoryState → List (ℕ × SearchState) → SyncSearch → Accepted → List (ℕ × SearchState)
 after_answer d searches ask (Opened number writes) = opened d searches ask number

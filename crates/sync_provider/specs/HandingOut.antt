@@ -7,7 +7,7 @@ use Rattle.ldap_messages.specs.Whole.{Whole, whole_of}
 use Rattle.sync_model.specs.Message.{SyncMessage}
 use Rattle.sync_model.specs.Message.SyncMessage.{Put, Gone, Present, IdSet, NewCookie, PhaseEnds, Done, Passed}
 use Rattle.sync_wire.specs.Sending.{sent}
-use Rattle.sync_provider.specs.Search.{SearchState, advanced}
+use Rattle.sync_provider.specs.Search.{SearchState, pending, advanced}
 use Rattle.sync_provider.specs.declared.handed.Handed.{Handed}
 use Rattle.sync_provider.specs.declared.handed.Handed.TheVariants as handed
 
@@ -39,7 +39,7 @@ turn_of_pending id (message ∷ rest) = turn_of_message id message
 
 abbrev pub turn_of_found : Option SearchState → Turn
 turn_of_found None = Unknown
-turn_of_found (Some s) = turn_of_pending s.id s.pending
+turn_of_found (Some s) = turn_of_pending s.id (pending s)
 
 abbrev pub search_at : List (ℕ × SearchState) → ℕ → Option SearchState
 search_at searches number = lookup (is_at (nat_cmp number)) searches
@@ -66,12 +66,8 @@ is_closing (Some Unknown) = false
 
 -- ---- the searches after it
 
-abbrev pub after_first : SearchState → List SyncMessage → SearchState
-after_first s [] = s
-after_first s (message ∷ rest) = advanced s rest
-
 abbrev pub without_first : SearchState → SearchState
-without_first s = after_first s s.pending
+without_first s = advanced s s.rest s.due
 
 -- the search itself after its turn
 abbrev pub after_own_turn : SearchState → Option Turn → SearchState

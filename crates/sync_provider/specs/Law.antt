@@ -1,24 +1,26 @@
 -- What holds of a provider over every list of calls: its writes, what it knows of what they touched, and what its
--- searches hand out (RFC 4533, section 3.3).
-use Rattle.std.specs.Prelude.{◌≡◌, ◌≤◌, ⊤, ℕ, Bool, true, cond, nat_eq, nat_lt, List, [], ◌∷◌, ◌++◌, length, take, drop, Option, Some, None, All, filter_map}
+-- searches hand out (RFC 4533, sections 3.3 and 3.4).
+use Rattle.std.specs.Prelude.{◌≡◌, ◌≤◌, ◌⊎◌, ⊤, ℕ, ◌+◌, ◌-◌, Bool, true, false, cond, not, ◌&&◌, ◌||◌, nat_eq, nat_lt, List, [], ◌∷◌, ◌++◌, length, take, drop, Option, Some, None, Result, Ok, Err, All, filter_map}
 use Rattle.std.specs.List.{list_all}
 use Rattle.csn_cookie.specs.Csn.{start, upto}
 use Rattle.dn_names.specs.Names.{TypeAndValue}
 use Rattle.entry_tree.specs.declared.op.Write.{Write}
 use Rattle.entry_tree.specs.History.{state_of, touched_over}
-use Rattle.entry_tree.specs.Selection.{Search, search_of}
+use Rattle.entry_tree.specs.Selection.{search_of}
 use Rattle.entry_tree.specs.Sound.{is_sound_op}
 use Rattle.session_log.specs.Log.{covers, since}
 use Rattle.sync_model.specs.Incremental.{number_of, sent_entry}
 use Rattle.sync_model.specs.Message.{SyncMessage}
-use Rattle.sync_model.specs.Stream.{Session, Start, among, stream}
-use Rattle.sync_provider.specs.Accepting.{answer_to, start_of_ask}
-use Rattle.sync_provider.specs.Directory.{DirectoryState, last_stamp, stamps, AreAccepted}
+use Rattle.sync_model.specs.Law.{is_nil}
+use Rattle.sync_model.specs.Stream.{Session, among, later, stream}
+use Rattle.sync_provider.specs.Accepting.{answer_to, start_of_ask, persists_of_ask}
+use Rattle.directory_writes.specs.Directory.{DirectoryState, last_stamp, stamps, judged, with_write, AreAccepted}
 use Rattle.sync_provider.specs.HandingOut.{search_at}
 use Rattle.sync_provider.specs.Machine.{ProviderState, Call, fresh, accepted, called, run}
-use Rattle.sync_provider.specs.Machine.Call.{Writes, Accepts, HandsOut, Drops, SetsLogLimit}
-use Rattle.sync_provider.specs.Search.{SearchState, session_of, whole_walk, is_end}
-use Rattle.sync_provider.specs.Touches.{last_touch}
+use Rattle.sync_provider.specs.Machine.Call.{Writes, Accepts, HandsOut, Drops, SetsLogLimit, SetsQueueLimit}
+use Rattle.sync_provider.specs.Queueing.{is_full, group_of}
+use Rattle.sync_provider.specs.Search.{SearchState, session_of, whole_walk, refresh_from, opening, busy_end, pending, is_end}
+use Rattle.directory_writes.specs.Touches.{last_touch}
 use Rattle.sync_provider.specs.declared.searches.Accepted.TheVariants.{Opened}
 use Rattle.sync_provider.specs.declared.searches.SyncSearch.{SyncSearch}
 
@@ -31,6 +33,7 @@ is_sound_call (Accepts ask) = true
 is_sound_call (HandsOut number) = true
 is_sound_call (Drops number) = true
 is_sound_call (SetsLogLimit limit) = true
+is_sound_call (SetsQueueLimit limit) = true
 
 -- after every list of sound calls, each kept write was accepted on the entries before it
 abbrev pub WritesWereAccepted : Type 0
@@ -78,90 +81,196 @@ NumbersTellWhatWasTouched = (suffix : List (List TypeAndValue)) (sid history : �
 
 -- ---- the Stream of a search
 
--- the messages of a search that is accepted after so many of these writes
-abbrev pub stream_from : Session → Start → ℕ → List SyncMessage
-stream_from session start count = stream session start count (whole_walk session start count) 0
+-- a search as it was opened on a directory with this number and this history, over writes that begin with those then
+abbrev pub session_at : DirectoryState → SearchState → List Write → Session
+session_at d s writes = session_of s.persists d.sid d.history s.spec writes
 
-abbrev pub stream_of : DirectoryState → Search → Start → ℕ → List Write → List SyncMessage
-stream_of d spec start count writes = stream_from (session_of d.sid d.history spec writes) start count
+-- its refresh
+abbrev pub refresh_of : DirectoryState → SearchState → List Write → List SyncMessage
+refresh_of d s writes = refresh_from (session_at d s writes) s.start s.accepted
+
+-- what the writes after its acceptance send to it, up to so many writes
+abbrev pub later_of : DirectoryState → SearchState → (count : ℕ) → List Write → List SyncMessage
+later_of d s count writes = cond s.persists (later (session_at d s writes) s.accepted (count - s.accepted)) []
+
+-- all its messages, up to so many writes
+abbrev pub stream_of : DirectoryState → SearchState → (count : ℕ) → List Write → List SyncMessage
+stream_of d s count writes =
+    stream (session_at d s writes) s.start s.accepted (whole_walk (session_at d s writes) s.start s.accepted) (count - s.accepted)
 
 -- ---- what holds of each open search
 
--- what is pending is the Stream without what was handed out, over
--- each history that begins with these writes
-pub record IsDue (d : DirectoryState) (s : SearchState) : Type 0 where
+-- these messages of its refresh, and these of what the writes up to now send, were handed out, and the rest is pending,
+-- over each history that begins with these writes; and nothing later was handed out before all of the refresh
+pub record IsAtItsPlace (d : DirectoryState) (s : SearchState) (handed handed_later : List SyncMessage) : Type 0 where
   pub within : s.accepted ≤ length d.writes
-  pub is : (writes more : List Write) → d.writes ++ more ≡ writes → s.pending ≡ drop s.handed (stream_of d s.spec s.start s.accepted writes)
+  pub rest : (writes : List Write) → BeginsWith d writes → handed ++ s.rest ≡ refresh_of d s writes
+  pub due : (writes : List Write) → BeginsWith d writes → handed_later ++ s.due ≡ later_of d s (length d.writes) writes
+  pub ordered : (s.rest ≡ []) ⊎ (handed_later ≡ [])
+
+pub record IsPlaced (d : DirectoryState) (s : SearchState) : Type 0 where
+  pub handed : List SyncMessage
+  pub handed_later : List SyncMessage
+  pub place : IsAtItsPlace d s handed handed_later
+
+-- where no write was too much
+abbrev pub KeepsItsPlace : DirectoryState → SearchState → Type 0
+KeepsItsPlace d s = s.over ≡ false → IsPlaced d s
 
 abbrev pub EachSearch : (SearchState → Type 0) → List (ℕ × SearchState) → Type 0
 EachSearch P [] = ⊤
 EachSearch P (search ∷ searches) = P search.1 × EachSearch P searches
 
-abbrev pub EachIsDue : ProviderState → Type 0
-EachIsDue p = EachSearch (IsDue p.directory) p.searches
-
 -- after every list of calls, each open search is at its place in its Stream
 abbrev pub SearchesKeepTheirPlace : Type 0
 SearchesKeepTheirPlace =
-    (suffix : List (List TypeAndValue)) (sid history : ℕ) (calls : List Call) → EachIsDue (run (fresh suffix sid history) calls)
+    (suffix : List (List TypeAndValue)) (sid history : ℕ) (calls : List Call)
+    → EachSearch (KeepsItsPlace (run (fresh suffix sid history) calls).directory) (run (fresh suffix sid history) calls).searches
 
 -- ---- what one search hands out over the calls after its acceptance
 
--- the messages that were handed out, and those that were pending then
-abbrev pub Told : Type 0
-Told = List SyncMessage × List SyncMessage
+-- what was handed out up to a moment; and then, what is pending, whether a write was too much, and the number of writes
+pub record Told : Type 0 where
+  pub handed : List SyncMessage
+  pub pending : List SyncMessage
+  pub over : Bool
+  pub writes : ℕ
 
 abbrev pub pending_of : Option SearchState → List SyncMessage
 pending_of None = []
-pending_of (Some s) = s.pending
+pending_of (Some s) = pending s
 
 abbrev pub pending_at : ProviderState → ℕ → List SyncMessage
 pending_at p number = pending_of (search_at p.searches number)
 
+abbrev pub over_of : Option SearchState → Bool
+over_of None = false
+over_of (Some s) = s.over
+
+-- nothing was handed out, and so much is pending
+abbrev pub told_now : ProviderState → ℕ → (handed pending : List SyncMessage) → Told
+told_now p number handed pending =
+    record { handed = handed; pending = pending; over = over_of (search_at p.searches number); writes = length p.directory.writes }
+
 -- the first message is handed out, then what follows; after an end nothing follows
-abbrev pub first_told : List SyncMessage → Told → Told
-first_told [] later = later
-first_told (message ∷ rest) later = cond (is_end message) (message ∷ [], rest) (message ∷ later.0, later.1)
+abbrev pub first_told : ProviderState → ℕ → List SyncMessage → Told → Told
+first_told p number [] later = later
+first_told p number (message ∷ rest) later =
+    cond (is_end message) (told_now p number (message ∷ []) rest) (record later { handed = message ∷ later.handed })
 
 -- what the search with this number tells over these calls, up to its end or to where it is dropped
 abbrev pub told : ℕ → ProviderState → List Call → Told
-told number p [] = ([], pending_at p number)
+told number p [] = told_now p number [] (pending_at p number)
 told number p (Writes op now ∷ calls) = told number (called p (Writes op now)) calls
 told number p (Accepts ask ∷ calls) = told number (called p (Accepts ask)) calls
 told number p (SetsLogLimit limit ∷ calls) = told number (called p (SetsLogLimit limit)) calls
+told number p (SetsQueueLimit limit ∷ calls) = told number (called p (SetsQueueLimit limit)) calls
 told number p (HandsOut other ∷ calls) =
-    cond (nat_eq other number) (first_told (pending_at p number) (told number (called p (HandsOut other)) calls)) (told number (called p (HandsOut other)) calls)
-told number p (Drops other ∷ calls) = cond (nat_eq other number) ([], pending_at p number) (told number (called p (Drops other)) calls)
+    cond (nat_eq other number) (first_told p number (pending_at p number) (told number (called p (HandsOut other)) calls))
+    (told number (called p (HandsOut other)) calls)
+told number p (Drops other ∷ calls) =
+    cond (nat_eq other number) (told_now p number [] (pending_at p number)) (told number (called p (Drops other)) calls)
 
--- what a search that is accepted here hands out, followed by what is pending, is its Stream
-abbrev pub TellsItsStream : ProviderState → SyncSearch → ℕ → ℕ → List Call → Type 0
-TellsItsStream p ask number count calls =
-    (writes more : List Write) → (run (accepted p ask) calls).directory.writes ++ more ≡ writes
-    → (told number (accepted p ask) calls).0 ++ (told number (accepted p ask) calls).1
-    ≡ stream_of p.directory (search_of ask.spec) (start_of_ask p.directory ask) count writes
+-- all that a search tells, up to its end or to where it is dropped or looked at
+abbrev pub all_told : Told → List SyncMessage
+all_told t = t.handed ++ t.pending
+
+-- a front of these messages, and then the end with the code busy
+pub record IsCutShort (messages stream : List SyncMessage) : Type 0 where
+  pub front : List SyncMessage
+  pub left : List SyncMessage
+  pub split : front ++ left ≡ stream
+  pub is : messages ≡ front ++ busy_end ∷ []
+
+-- all of its Stream up to those writes, unless a write was too much
+abbrev pub Tells : (over : Bool) → (messages stream : List SyncMessage) → Type 0
+Tells false messages stream = messages ≡ stream
+Tells true messages stream = IsCutShort messages stream
+
+-- the search that is opened where this is asked for
+abbrev pub asked : ProviderState → SyncSearch → SearchState
+asked p ask = opening p.directory ask.id (search_of ask.spec) (start_of_ask p.directory ask) (persists_of_ask ask)
+
+-- what a search that is accepted here hands out, followed by what is pending, is its Stream, or is cut short
+abbrev pub TellsItsStream : ProviderState → SyncSearch → ℕ → List Call → Type 0
+TellsItsStream p ask number calls =
+    (writes : List Write) → BeginsWith (run (accepted p ask) calls).directory writes
+    → Tells (told number (accepted p ask) calls).over (all_told (told number (accepted p ask) calls))
+    (stream_of p.directory (asked p ask) (told number (accepted p ask) calls).writes writes)
 
 abbrev pub SearchesTellTheirStreams : Type 0
 SearchesTellTheirStreams =
     (suffix : List (List TypeAndValue)) (sid history : ℕ) (before after : List Call) (ask : SyncSearch) (number count : ℕ)
     → answer_to (run (fresh suffix sid history) before).directory (run (fresh suffix sid history) before).searches ask ≡ Opened number count
-    → TellsItsStream (run (fresh suffix sid history) before) ask number count after
+    → TellsItsStream (run (fresh suffix sid history) before) ask number after
+
+-- ---- when a write is too much, by the writes and a count of what was handed out
+
+-- how many messages were handed out, and whether a write was too much since
+pub record Tally : Type 0 where
+  pub handed : ℕ
+  pub over : Bool
+
+-- the messages of later writes that are not handed out: those of the refresh are handed out first
+abbrev pub items_of : DirectoryState → SearchState → (handed : ℕ) → List SyncMessage
+items_of d s handed = drop (handed - length (refresh_of d s d.writes)) (later_of d s (length d.writes) d.writes)
+
+-- a write that sends something, after which the items are more, or heavier, than they may be
+abbrev pub is_too_much : ℕ → DirectoryState → SearchState → Write → (handed : ℕ) → Bool
+is_too_much limit d s write handed = not (is_nil (group_of d s write)) && is_full limit (items_of (with_write d write) s handed)
+
+abbrev pub after_write : ProviderState → SearchState → Result Write ℕ → Tally → Tally
+after_write p s (Err code) t = t
+after_write p s (Ok write) t =
+    record t { over = t.over || (s.persists && is_too_much p.queue_limit p.directory s write t.handed) }
+
+-- one message more, where one is left
+abbrev pub after_hand_out : ProviderState → SearchState → Tally → Tally
+after_hand_out p s t =
+    cond (not t.over && nat_lt t.handed (length (stream_of p.directory s (length p.directory.writes) p.directory.writes)))
+    (record t { handed = t.handed + 1 }) t
+
+-- whether over these calls a write is too much for the search with this number, before it is dropped. Of the provider
+-- this looks at the writes and the queue limit alone
+abbrev pub is_over_after : ℕ → SearchState → ProviderState → Tally → List Call → Bool
+is_over_after number s p t [] = t.over
+is_over_after number s p t (Writes op now ∷ calls) =
+    is_over_after number s (called p (Writes op now)) (after_write p s (judged p.directory op now) t) calls
+is_over_after number s p t (Accepts ask ∷ calls) = is_over_after number s (called p (Accepts ask)) t calls
+is_over_after number s p t (SetsLogLimit limit ∷ calls) = is_over_after number s (called p (SetsLogLimit limit)) t calls
+is_over_after number s p t (SetsQueueLimit limit ∷ calls) = is_over_after number s (called p (SetsQueueLimit limit)) t calls
+is_over_after number s p t (HandsOut other ∷ calls) =
+    is_over_after number s (called p (HandsOut other)) (cond (nat_eq other number) (after_hand_out p s t) t) calls
+is_over_after number s p t (Drops other ∷ calls) =
+    cond (nat_eq other number) t.over (is_over_after number s (called p (Drops other)) t calls)
+
+-- over every list of calls, a search ends with the code busy exactly where a write is too much for it
+abbrev pub QueuesOverflowExactly : Type 0
+QueuesOverflowExactly =
+    (suffix : List (List TypeAndValue)) (sid history : ℕ) (before after : List Call) (ask : SyncSearch) (number count : ℕ)
+    → answer_to (run (fresh suffix sid history) before).directory (run (fresh suffix sid history) before).searches ask ≡ Opened number count
+    → (told number (accepted (run (fresh suffix sid history) before) ask) after).over
+    ≡ is_over_after number (asked (run (fresh suffix sid history) before) ask) (accepted (run (fresh suffix sid history) before) ask)
+    (record { handed = 0; over = false }) after
 
 -- ---- what is sent from a cookie
 
--- all that a search tells, up to its end or to where it is dropped or looked at
-abbrev pub all_told : ProviderState → SyncSearch → ℕ → List Call → List SyncMessage
-all_told p ask number calls = (told number (accepted p ask) calls).0 ++ (told number (accepted p ask) calls).1
+-- what a search tells of its refresh: as many messages as that has, or all that it tells
+abbrev pub refresh_told : ProviderState → SyncSearch → ℕ → List Call → List Write → List SyncMessage
+refresh_told p ask number calls writes =
+    take (length (refresh_of p.directory (asked p ask) writes)) (all_told (told number (accepted p ask) calls))
 
--- from a servable cookie a search sends an entry whole only where the writes after those of the cookie, up to the
--- number of its acceptance, touched its identity
+-- from a servable cookie a refresh sends an entry whole only where the writes after those of the cookie, up to the
+-- number of the search's acceptance, touched its identity
 abbrev pub SendsWhatWasTouched : ProviderState → SyncSearch → ℕ → ℕ → List Call → Type 0
 SendsWhatWasTouched p ask number count calls =
     (writes : List Write) → BeginsWith (run (accepted p ask) calls).directory writes
     → (prefix : ℕ) → number_of (start_of_ask p.directory ask) ≡ Some prefix
     → All (λ entry. among entry.uuid (touched_over p.directory.history writes prefix count) ≡ true)
-    (filter_map sent_entry (all_told p ask number calls))
+    (filter_map sent_entry (refresh_told p ask number calls writes))
 
--- after every list of calls, and whatever is called later; the end has the cookie of the number of the acceptance
+-- after every list of calls, and whatever is called later; the refresh ends with the cookie of the number of the
+-- acceptance
 abbrev pub RefreshesAreIncremental : Type 0
 RefreshesAreIncremental =
     (suffix : List (List TypeAndValue)) (sid history : ℕ) (before after : List Call) (ask : SyncSearch) (number count : ℕ)

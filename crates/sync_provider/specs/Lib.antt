@@ -1,11 +1,10 @@
--- A directory with its accepted writes, and the searches with content synchronisation that are open on it.
+-- The searches with content synchronisation that are open on a directory.
 pub mod Accepting
-pub mod Directory
 pub mod Gathering
 pub mod HandingOut
 pub mod Law
 pub mod Machine
+pub mod Queueing
 pub mod Refreshing
 pub mod Search
-pub mod Touches
-pub mod Weights
+pub mod Staging

@@ -1,25 +1,44 @@
 -- A provider as a machine: what each call does to its directory and its open searches, where memory suffices.
-use Rattle.std.specs.Prelude.{ℕ, List, [], ◌∷◌}
+use Rattle.std.specs.Prelude.{ℕ, List, [], ◌∷◌, map, Result, Ok, Err}
 use Rattle.dn_names.specs.Names.{TypeAndValue}
 use Rattle.entry_tree.specs.declared.op.Op.{Op}
+use Rattle.entry_tree.specs.declared.op.Write.{Write}
 use Rattle.sync_provider.specs.Accepting as accepting
 use Rattle.sync_provider.specs.Accepting.{answer_to}
-use Rattle.sync_provider.specs.Directory.{DirectoryState, fresh_directory, written, with_log_limit}
+use Rattle.directory_writes.specs.Directory.{DirectoryState, fresh_directory, judged, written, with_log_limit}
 use Rattle.sync_provider.specs.HandingOut as handing
 use Rattle.sync_provider.specs.HandingOut.{turn_at, closed}
+use Rattle.sync_provider.specs.Queueing.{informed}
 use Rattle.sync_provider.specs.Search.{SearchState}
 use Rattle.sync_provider.specs.declared.searches.SyncSearch.{SyncSearch}
 
--- the directory, and the open searches by their numbers, ascending
+-- the directory, the open searches by their numbers, ascending, and how many messages of later writes each may have
+-- pending
 pub record ProviderState : Type 0 where
   pub directory : DirectoryState
   pub searches : List (ℕ × SearchState)
+  pub queue_limit : ℕ
+
+-- the queue limit of a new provider
+abbrev pub first_queue_limit : ℕ
+first_queue_limit = 4096
 
 abbrev pub fresh : List (List TypeAndValue) → ℕ → ℕ → ProviderState
-fresh suffix sid history = record { directory = fresh_directory suffix sid history; searches = [] }
+fresh suffix sid history =
+    record { directory = fresh_directory suffix sid history; searches = []; queue_limit = first_queue_limit }
 
+-- each open search after a write of the directory
+abbrev pub each_informed : ℕ → DirectoryState → Write → List (ℕ × SearchState) → List (ℕ × SearchState)
+each_informed limit d write searches = map (λ search. (search.0, informed limit d write search.1)) searches
+
+-- the open searches after an operation that was judged so
+abbrev pub searches_after : ProviderState → Result Write ℕ → List (ℕ × SearchState)
+searches_after p (Ok write) = each_informed p.queue_limit p.directory write p.searches
+searches_after p (Err code) = p.searches
+
+-- an accepted write is told in the same call to each open search whose content it changes
 abbrev pub wrote : ProviderState → Op → ℕ → ProviderState
-wrote p op now = record p { directory = written p.directory op now }
+wrote p op now = record p { directory = written p.directory op now; searches = searches_after p (judged p.directory op now) }
 
 abbrev pub accepted : ProviderState → SyncSearch → ProviderState
 accepted p ask = record p { searches = accepting.after_answer p.directory p.searches ask (answer_to p.directory p.searches ask) }
@@ -33,12 +52,17 @@ dropped p number = record p { searches = closed p.searches number }
 abbrev pub log_limited : ProviderState → ℕ → ProviderState
 log_limited p limit = record p { directory = with_log_limit p.directory limit }
 
+-- from the next write on a search may have so many messages of later writes pending
+abbrev pub queue_limited : ProviderState → ℕ → ProviderState
+queue_limited p limit = record p { queue_limit = limit }
+
 pub data Call : Type 0 where
   Writes : (op : Op) (now : ℕ) → Call
   Accepts : (ask : SyncSearch) → Call
   HandsOut : (number : ℕ) → Call
   Drops : (number : ℕ) → Call
   SetsLogLimit : (limit : ℕ) → Call
+  SetsQueueLimit : (limit : ℕ) → Call
 
 abbrev pub called : ProviderState → Call → ProviderState
 called p (Writes op now) = wrote p op now
@@ -46,6 +70,7 @@ called p (Accepts ask) = accepted p ask
 called p (HandsOut number) = handed_out p number
 called p (Drops number) = dropped p number
 called p (SetsLogLimit limit) = log_limited p limit
+called p (SetsQueueLimit limit) = queue_limited p limit
 
 abbrev pub run : ProviderState → List Call → ProviderState
 run p [] = p

@@ -1,5 +1,5 @@
 -- The refresh of a search, as its parts are decided.
-use Rattle.std.specs.Prelude.{◌≤◌, ⊤, ℕ, false, List, [], ◌∷◌, length, Option, Some, None}
+use Rattle.std.specs.Prelude.{ℕ, false, List, [], ◌∷◌, length, Option, Some, None}
 use Rattle.std.specs.List.{flat_map}
 use Rattle.entry_tree.specs.declared.entry.Entry.{Entry}
 use Rattle.entry_tree.specs.History.{state_of, touched_over}
@@ -14,15 +14,8 @@ use Rattle.refresh_delete.specs.Delete as deletes
 use Rattle.sync_model.specs.Stream.{Start, Decision}
 use Rattle.sync_model.specs.Stream.Decision.{Sends, Names}
 use Rattle.sync_model.specs.Stream.Start.{Blank, Covered, Uncovered}
-use Rattle.sync_provider.specs.Directory.{DirectoryState, entries_of}
-use Rattle.sync_provider.specs.Touches.{last_touch}
-
--- a search can begin so: its number is not above that of the writes, and where the log is to tell what was touched
--- since, it does
-abbrev pub IsServed : DirectoryState → Start → Type 0
-IsServed d Blank = ⊤
-IsServed d (Covered number) = (d.log.floor ≤ number) × (number ≤ length d.writes)
-IsServed d (Uncovered number) = number ≤ length d.writes
+use Rattle.directory_writes.specs.Directory.{DirectoryState, entries_of}
+use Rattle.directory_writes.specs.Touches.{last_touch}
 
 abbrev pub all_identities : DirectoryState → List ℕ
 all_identities d = identities (entries_of d)

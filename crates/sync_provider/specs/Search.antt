@@ -1,5 +1,5 @@
--- A search that is open (RFC 4533, section 3.3).
-use Rattle.std.specs.Prelude.{ℕ, ◌+◌, ◌<◌, ◌≤◌, Bool, true, false, List, [], ◌∷◌, ◌++◌, length, map, take, None}
+-- A search that is open (RFC 4533, sections 3.3 and 3.4).
+use Rattle.std.specs.Prelude.{ℕ, ◌<◌, ◌≤◌, pos, Bool, true, false, cond, List, [], ◌∷◌, ◌++◌, length, map, take, Option, Some, None}
 use Rattle.csn_cookie.specs.Csn.{start}
 use Rattle.csn_cookie.specs.Cookie.{cookie_text}
 use Rattle.csn_cookie.specs.declared.cookie.Cookie as cookies
@@ -9,12 +9,9 @@ use Rattle.entry_tree.specs.Selection.{Search}
 use Rattle.sync_model.specs.Message.{Cookie, SyncMessage}
 use Rattle.sync_model.specs.Message.SyncMessage.{Put, Gone, Present, IdSet, NewCookie, PhaseEnds, Done, Passed}
 use Rattle.sync_model.specs.Stream.{Session, Start, Piece, walk, refresh, end_of}
-use Rattle.sync_model.specs.Stream.{Start as starts}
-use Rattle.sync_provider.specs.Directory.{DirectoryState, cookie_at, last_stamp}
+use Rattle.directory_writes.specs.Directory.{DirectoryState, cookie_at, last_stamp}
 use Rattle.sync_provider.specs.declared.parts.Part.{Part}
 use Rattle.sync_provider.specs.declared.parts.Part.TheVariants as part
-use Rattle.sync_provider.specs.declared.start.Start as began
-use Rattle.sync_provider.specs.declared.start.Start.TheVariants as begins
 
 -- ---- the messages that it is to send
 
@@ -22,10 +19,10 @@ use Rattle.sync_provider.specs.declared.start.Start.TheVariants as begins
 abbrev pub cookie_after : ℕ → ℕ → List Write → ℕ → Cookie
 cookie_after sid history writes count = cookie_text (cookie_at sid history (last_stamp (start sid) (take count writes)))
 
--- a search in the mode refreshOnly over these writes
-abbrev pub session_of : ℕ → ℕ → Search → List Write → Session
-session_of sid history spec writes =
-    record { persists = false; selection = spec; states = state_of history writes; cookies = cookie_after sid history writes }
+-- a search over these writes, which goes on after its refresh (refreshAndPersist) or ends with it (refreshOnly)
+abbrev pub session_of : (persists : Bool) → ℕ → ℕ → Search → List Write → Session
+session_of persists sid history spec writes =
+    record { persists = persists; selection = spec; states = state_of history writes; cookies = cookie_after sid history writes }
 
 -- its walk in one piece, at its acceptance
 abbrev pub whole_walk : Session → Start → ℕ → List Piece
@@ -38,25 +35,38 @@ refresh_from session start count = refresh session start count (whole_walk sessi
 -- ---- a search
 
 -- the message ID of its messages, its specification, where it begins, how many writes the directory had at its
--- acceptance, how many of its messages were handed out, and those that are pending
+-- acceptance, and whether it goes on after its refresh; what is not handed out yet of its refresh, and of the messages
+-- of later writes; and whether a write did not fit, after which nothing more is sent but the end
 pub record SearchState : Type 0 where
   pub id : ℕ
   pub spec : Search
   pub start : Start
   pub accepted : ℕ
-  pub handed : ℕ
-  pub pending : List SyncMessage
+  pub persists : Bool
+  pub rest : List SyncMessage
+  pub due : List SyncMessage
+  pub over : Bool
 
 -- a search that is accepted: all of its refresh is pending
-abbrev pub opening : DirectoryState → ℕ → Search → Start → SearchState
-opening d id spec start = record {
+abbrev pub opening : DirectoryState → ℕ → Search → Start → (persists : Bool) → SearchState
+opening d id spec start persists = record {
   id = id;
   spec = spec;
   start = start;
   accepted = length d.writes;
-  handed = 0;
-  pending = refresh_from (session_of d.sid d.history spec d.writes) start (length d.writes);
+  persists = persists;
+  rest = refresh_from (session_of persists d.sid d.history spec d.writes) start (length d.writes);
+  due = [];
+  over = false;
 }
+
+-- the end with the code busy (RFC 4511, appendix A.2)
+abbrev pub busy_end : SyncMessage
+busy_end = Done (pos 51) None
+
+-- what is handed out next, in order: the refresh, then the later writes
+abbrev pub pending : SearchState → List SyncMessage
+pending s = cond s.over (busy_end ∷ []) (s.rest ++ s.due)
 
 -- SearchResultDone ends a search
 abbrev pub is_end : SyncMessage → Bool
@@ -69,16 +79,13 @@ is_end (PhaseEnds deletes done cookie) = false
 is_end (Done code control) = true
 is_end Passed = false
 
--- without its first message, which was handed out
-abbrev pub advanced : SearchState → List SyncMessage → SearchState
-advanced s rest = record s { handed = s.handed + 1; pending = rest }
+-- without the first message of these, which was handed out
+abbrev pub advanced : SearchState → (rest due : List SyncMessage) → SearchState
+advanced s (message ∷ rest) due = record s { rest = rest }
+advanced s [] (message ∷ due) = record s { due = due }
+advanced s [] [] = s
 
 -- ---- the parts that it is kept by
-
-abbrev pub start_of : began.Start → Start
-start_of begins.Blank = starts.Blank
-start_of (begins.Covered number) = starts.Covered number
-start_of (begins.Uncovered number) = starts.Uncovered number
 
 -- entries are sent whole, and names go in sets
 abbrev pub message_of : Bool → Part → SyncMessage
@@ -86,10 +93,25 @@ message_of deletes (part.Whole entry) = Put true entry None
 message_of deletes (part.Names uuids) = IdSet deletes uuids None
 
 -- the messages of these parts, and the end
-abbrev pub messages_of : Bool → List Part → Cookie → List SyncMessage
-messages_of deletes parts cookie = map (message_of deletes) parts ++ end_of false deletes cookie ∷ []
+abbrev pub messages_of : (persists deletes : Bool) → List Part → Cookie → List SyncMessage
+messages_of persists deletes parts cookie = map (message_of deletes) parts ++ end_of persists deletes cookie ∷ []
 
--- what holds of them: how many were handed out, and the cookie of the end
+-- the first of them
+abbrev pub first_of : (persists deletes : Bool) → List Part → Cookie → SyncMessage
+first_of persists deletes [] cookie = end_of persists deletes cookie
+first_of persists deletes (part ∷ parts) cookie = message_of deletes part
+
+-- what is left of a refresh: parts, and the cookie of its end
+pub record Remaining : Type 0 where
+  pub parts : List Part
+  pub cookie : Cookie
+
+-- nothing is left after the end
+abbrev pub remaining_messages : (persists deletes : Bool) → Option Remaining → List SyncMessage
+remaining_messages persists deletes None = []
+remaining_messages persists deletes (Some left) = messages_of persists deletes left.parts left.cookie
+
+-- how many of the parts were handed out, and the cookie of the end
 pub record IsOpen (parts : List Part) (handed : ℕ) (cookie : cookies.Cookie) : Type 0 where
   pub within : handed ≤ length parts
   pub rid : cookie.rid < 1000

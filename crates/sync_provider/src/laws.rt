@@ -4,6 +4,7 @@ ghost use Rattle.sync_provider.specs.Law.{
   CookiesNameTheirPrefix,
   LogsTellWhatWasTouched,
   NumbersTellWhatWasTouched,
+  QueuesOverflowExactly,
   RefreshesAreIncremental,
   SearchesKeepTheirPlace,
   SearchesTellTheirStreams,
@@ -35,20 +36,28 @@ pub fn numbers_tell_what_was_touched()
 {}
 
 /// After every list of calls, what is pending of each open search is its Stream over the writes
-/// without the messages that were handed out.
+/// without the messages that were handed out, unless a write was too much for it.
 pub fn searches_keep_their_place()
     ensures { SearchesKeepTheirPlace }
 {}
 
 /// Over every list of calls, what a search handed out, followed by what was pending when it ended,
-/// was dropped or is looked at, is its Stream over the writes.
+/// was dropped or is looked at, is its Stream up to the writes at that moment; or, where a write was
+/// too much for it, a front of that and then the end with the code busy.
 pub fn searches_tell_their_streams()
     ensures { SearchesTellTheirStreams }
 {}
 
-/// Over every list of calls, a search that begins with a servable cookie sends an entry whole only
-/// where the writes after those that the cookie names touched it, up to the number of writes that
-/// the cookie of its end names.
+/// Over every list of calls, a search ends with the code busy exactly where a write sends it
+/// something, and the messages of later writes that are not handed out are then more than the queue
+/// limit, or heavier than 16 MiB.
+pub fn queues_overflow_exactly()
+    ensures { QueuesOverflowExactly }
+{}
+
+/// Over every list of calls, the refresh of a search that begins with a servable cookie sends an
+/// entry whole only where the writes after those that the cookie names touched it, up to the number
+/// of writes that the cookie of the refresh's end names.
 pub fn refreshes_are_incremental()
     ensures { RefreshesAreIncremental }
 {}

@@ -1,33 +1,38 @@
 //! A directory with its accepted writes, and the searches with content synchronisation that are open
 //! on it (RFC 4533, section 3, the server's part).
 //!
-//! Each search is a refresh (mode refreshOnly; mode refreshAndPersist is refused), whose end carries
-//! the cookie of the content. Without a cookie every entry that its specification selects is sent
-//! whole. With a cookie of the directory only what was touched since then is sent. The rest is a
-//! delete phase, where the session log tells what was touched, and else a present phase.
+//! Each search begins with a refresh, whose end carries the cookie of the content. Without a cookie
+//! every entry that its specification selects is sent whole. With a cookie of the directory only
+//! what was touched since then is sent. The rest is a delete phase, where the session log tells what
+//! was touched, and else a present phase.
+//!
+//! In the mode refreshOnly the search is over then. In the mode refreshAndPersist it goes on: each
+//! accepted write puts, in the same call, one message for each identity that it changes in the
+//! content into the search's queue, all of them or none. A search whose queue would hold too many
+//! messages, or too heavy ones, ends with the code busy.
 #![tactic(auto)]
 
-mod directory;
+mod change;
 mod gathering;
 mod handed;
-mod held;
+mod later;
 mod laws;
 mod open_search;
 mod open_searches;
 mod parts;
 mod provider;
 mod refreshing;
+mod rest;
 mod searches;
 mod selecting;
-mod start;
-mod touches;
-mod weights;
+mod staging;
+mod telling;
 
 pub use handed::Handed;
 pub use laws::{
     cookies_name_their_prefix, logs_tell_what_was_touched, numbers_tell_what_was_touched,
-    refreshes_are_incremental, searches_keep_their_place, searches_tell_their_streams,
-    writes_were_accepted,
+    queues_overflow_exactly, refreshes_are_incremental, searches_keep_their_place,
+    searches_tell_their_streams, writes_were_accepted,
 };
 pub use ldap_ber::NoMemory;
 pub use open_search::OpenSearch;

@@ -1,27 +1,34 @@
 //! A search that is open.
-ghost use Rattle.std.specs.Prelude.{◌≡◌, ◌<◌, IfOk, IfSome};
+
+ghost use Rattle.std.specs.Prelude.{◌≡◌, ◌<◌, [], false, is_some, Some, None, IfOk, IfSome};
 ghost use Rattle.csn_cookie.specs.Cookie.{cookie_text};
+ghost use Rattle.directory_writes.specs.Starting.{start_of};
 ghost use Rattle.entry_tree.specs.Selection.{search_of};
-ghost use Rattle.ldap_messages.specs.Whole.{whole_of};
 ghost use Rattle.sync_model.specs.Stream.{is_covered};
-ghost use Rattle.sync_wire.specs.Sending.{sent};
 ghost use Rattle.sync_provider.specs.HandingOut.{turn_of, turn_of_pending, after_own_turn};
-ghost use Rattle.sync_provider.specs.Search.{start_of, messages_of, message_of};
+ghost use Rattle.sync_provider.specs.Queueing.{is_queueing};
+ghost use Rattle.sync_provider.specs.Search.{pending, messages_of};
+ghost use Rattle.sync_provider.specs.Staging.{staged_for, pushed_staged, IsTried};
 
 use crate::handed::Handed;
+use crate::later::Later;
 use crate::parts::Part;
-use crate::start::Start;
+use crate::rest::Rest;
+use crate::telling::messages_for;
 use csn_cookie::Cookie;
-use entry_tree::Spec;
+use directory_writes::Start;
+use entry_tree::{Spec, Touch};
 use ldap_ber::NoMemory;
-use ldap_messages::Message;
-use std::alloc::Global;
+use persist_queues::SearchQueue;
+use std::alloc::{AllocError, Global};
 use std::marker::Model;
-use sync_messages::IdList;
-use sync_wire::{end_message, entry_message, names_message};
+use sync_wire::done_message;
 
-/// A search that is open: the messages of its refresh as they were decided at its acceptance, and
-/// how many of them were handed out.
+/// busy (RFC 4511, appendix A.2): a write did not fit into the queue of its search.
+const BUSY: u32 = 51;
+
+/// A search that is open: the messages of its refresh, as they were decided at its acceptance, and
+/// those of later writes, as far as they were not handed out.
 #[derive(Drop)]
 pub struct OpenSearch {
     /// What its messages are numbered with.
@@ -30,119 +37,244 @@ pub struct OpenSearch {
     start: Start,
     /// How many writes the directory had at acceptance.
     accepted: u64,
-    parts: Vec<Part>,
-    /// How many messages were handed out.
-    handed: usize,
-    /// The cookie of the content at acceptance.
-    cookie: Cookie,
+    /// Whether it goes on after its refresh.
+    persists: bool,
+    /// None after the end of the refresh.
+    rest: Option<Rest>,
+    queue: SearchQueue<Later>,
+    /// The messages of a write that is not accepted yet, where they are made. The queue has room
+    /// for them.
+    staged: Option<Vec<Later>>,
+    /// Whether a write did not fit. Then nothing is kept, and only the end is sent.
+    over: bool,
 }
 
 impl Model for OpenSearch {
-    ghost use Rattle.std.specs.Prelude.{drop};
+    ghost use Rattle.std.specs.Prelude.{option_map};
     ghost use Rattle.std.specs.Coded.{codes};
-    ghost use Rattle.csn_cookie.specs.Cookie.{cookie_text};
+    ghost use Rattle.directory_writes.specs.Starting.{start_of};
     ghost use Rattle.entry_tree.specs.FilterCode.{tree_code};
     ghost use Rattle.entry_tree.specs.Selection.{search_of};
     ghost use Rattle.sync_model.specs.Stream.{is_covered};
-    ghost use Rattle.sync_provider.specs.Search.{SearchState, start_of, messages_of, IsOpen};
+    ghost use Rattle.sync_provider.specs.Search.{remaining_messages};
+    ghost use Rattle.sync_provider.specs.Staging.{HeldSearch, HasRoom};
 
-    ghost Value = { SearchState };
+    ghost Value = { HeldSearch };
 
     ghost coded = { Prim.hlevel (codes, tree_code) };
 
     ghost view = { λ s. record {
-      id = s.id;
-      spec = search_of s.spec;
-      start = start_of s.start;
-      accepted = s.accepted;
-      handed = s.handed;
-      pending = messages_of (is_covered (start_of s.start)) (drop s.handed s.parts.items) (cookie_text s.cookie);
+      search = record {
+        id = s.id;
+        spec = search_of s.spec;
+        start = start_of s.start;
+        accepted = s.accepted;
+        persists = s.persists;
+        rest = remaining_messages s.persists (is_covered (start_of s.start)) s.rest;
+        due = s.queue.items;
+        over = s.over;
+      };
+      staged = option_map (λ messages. messages.items) s.staged;
     } };
 
-    ghost invariant = { λ s. IsOpen s.parts.items s.handed s.cookie };
+    ghost invariant = { λ s. HasRoom s.queue.spare (option_map (λ messages. messages.items) s.staged) };
 }
 
-/// What is known of a search at its acceptance, beside its messages: its message ID and
-/// specification, where it begins, and how many writes the directory has.
+/// What a search asks for: the message ID that numbers its messages, its specification, where it
+/// begins, and whether it goes on after its refresh.
 #[derive(Drop)]
-pub(crate) struct Opening {
+pub(crate) struct Asked {
     pub(crate) id: u32,
     pub(crate) spec: Spec,
     pub(crate) start: Start,
-    pub(crate) accepted: u64,
+    pub(crate) persists: bool,
 }
 
 impl OpenSearch {
-    /// The search with these parts before its end, which has this cookie.
-    pub(crate) fn new(opening: Opening, parts: Vec<Part>, cookie: Cookie) -> OpenSearch
+    /// A search that is accepted after so many writes, with these parts before the end of its
+    /// refresh, which has this cookie.
+    pub(crate) fn new(
+        alloc: Global,
+        asked: Asked,
+        accepted: u64,
+        parts: Vec<Part>,
+        cookie: Cookie,
+    ) -> OpenSearch
         requires rid { cookie.rid < 1000 }
         requires sid { cookie.sid < 4096 }
-        ensures { result ≡ record {
-          id = opening.id;
-          spec = search_of opening.spec;
-          start = start_of opening.start;
-          accepted = opening.accepted;
-          handed = 0;
-          pending = messages_of (is_covered (start_of opening.start)) parts.items (cookie_text cookie);
+        ensures search { result.search ≡ record {
+          id = asked.id;
+          spec = search_of asked.spec;
+          start = start_of asked.start;
+          accepted = accepted;
+          persists = asked.persists;
+          rest = messages_of asked.persists (is_covered (start_of asked.start)) parts.items (cookie_text cookie);
+          due = [];
+          over = false;
         } }
+        ensures staged { result.staged ≡ None }
     {
         OpenSearch {
-            id: opening.id,
-            spec: opening.spec,
-            start: opening.start,
-            accepted: opening.accepted,
-            parts,
-            handed: 0,
-            cookie,
+            id: asked.id,
+            spec: asked.spec,
+            start: asked.start,
+            accepted,
+            persists: asked.persists,
+            rest: Some(Rest::new(parts, cookie)),
+            queue: SearchQueue::new(alloc, 0),
+            staged: None,
+            over: false,
         }
     }
 
     /// A search that goes on as this one does.
     pub(crate) fn copy(&self, alloc: Global) -> Result<OpenSearch, NoMemory>
-        ensures { IfOk result (λ copy. copy ≡ self.now) }
+        ensures search { IfOk result (λ copy. copy.search ≡ self.now.search) }
     {
+        let queue = copy_of_queue(alloc, &self.queue)?;
+        let spec = copy_of(&self.spec)?;
         Ok(OpenSearch {
             id: self.id,
-            spec: copy_of(&self.spec)?,
+            spec,
             start: self.start,
             accepted: self.accepted,
-            parts: copy_of_parts(alloc, self.parts.as_slice())?,
-            handed: self.handed,
-            cookie: self.cookie,
+            persists: self.persists,
+            rest: copy_of_rest(alloc, &self.rest)?,
+            queue,
+            staged: None,
+            over: self.over,
         })
     }
 
+    /// Whether later writes are told to it.
+    pub(crate) fn is_queueing(&self) -> bool
+        ensures { result ≡ is_queueing self.now.search }
+    {
+        self.persists && !self.over
+    }
+
     /// The message that is pending first, which counts as handed out where it is not the last.
-    #[tactic(auto, using(crate::proofs::Turns::pending_next, crate::proofs::Turns::pending_end))]
+    #[tactic(auto, using(crate::proofs::Turns::over_turn, crate::proofs::Turns::part_turn, crate::proofs::Turns::part_state, crate::proofs::Turns::end_turn, crate::proofs::Turns::end_state, crate::proofs::Turns::last_turn))]
     pub(crate) fn hand_out(&mut self, alloc: Global) -> Handed
         ensures turn { IfSome (turn_of result)
-            (λ turn. turn ≡ turn_of_pending self.old.id self.old.pending) }
-        ensures state { self.new ≡ after_own_turn self.old (turn_of result) }
+            (λ turn. turn ≡ turn_of_pending self.old.search.id (pending self.old.search)) }
+        ensures state { self.new.search ≡ after_own_turn self.old.search (turn_of result) }
     {
+        if self.over {
+            return match done_message(alloc, self.id, BUSY) {
+                Ok(message) => Handed::Ended(BUSY, message),
+                Err(_) => Handed::NoMemory,
+            };
+        }
+        let Some(rest) = &mut self.rest else {
+            return self.hand_out_later(alloc);
+        };
         let deletes = self.start.deletes();
-        match self.parts.get(self.handed) {
-            Some(part) => match part_message(alloc, self.id, deletes, part) {
-                Ok(message) => {
-                    self.handed += 1;
-                    Handed::Message(message)
-                }
-                Err(_) => Handed::NoMemory,
-            },
-            None => match end_message(alloc, self.id, deletes, &self.cookie) {
-                Ok(message) => Handed::Ended(0, message),
-                Err(_) => Handed::NoMemory,
-            },
+        let Ok(message) = rest.message(alloc, self.id, self.persists, deletes) else {
+            return Handed::NoMemory;
+        };
+        if !rest.is_end() {
+            rest.advance();
+            return Handed::Message(message);
+        }
+        if self.persists {
+            discard(self.rest.take());
+            return Handed::Message(message);
+        }
+        Handed::Ended(0, message)
+    }
+
+    /// The first message of later writes, once the refresh is handed out.
+    #[tactic(auto, using(crate::proofs::Turns::later_turn, crate::proofs::Turns::later_state, crate::proofs::Turns::none_turn))]
+    fn hand_out_later(&mut self, alloc: Global) -> Handed
+        requires rest { self.old.search.rest ≡ [] }
+        requires over { self.old.search.over ≡ false }
+        ensures turn { IfSome (turn_of result)
+            (λ turn. turn ≡ turn_of_pending self.old.search.id (pending self.old.search)) }
+        ensures state { self.new.search ≡ after_own_turn self.old.search (turn_of result) }
+    {
+        let Some(later) = self.queue.get(0) else {
+            return Handed::Nothing;
+        };
+        let Ok(message) = later.message(alloc, self.id) else {
+            return Handed::NoMemory;
+        };
+        let _ = self.queue.pop();
+        Handed::Message(message)
+    }
+
+    /// Makes the messages that a write sends, and the room for them in the queue. They are not
+    /// pending before the write is accepted.
+    pub(crate) fn stage(
+        &mut self,
+        alloc: Global,
+        touched: &[Touch],
+        cookie: Cookie,
+    ) -> Result<(), NoMemory>
+        requires rid { cookie.rid < 1000 }
+        requires sid { cookie.sid < 4096 }
+        ensures { IsTried touched.now (cookie_text cookie) self.old self.new }
+    {
+        discard(self.staged.take());
+        let messages = self.messages_of(alloc, touched, cookie)?;
+        self.queue.reserve(messages.len())?;
+        discard(self.staged.replace(messages));
+        Ok(())
+    }
+
+    /// The messages that a write sends it.
+    fn messages_of(
+        &self,
+        alloc: Global,
+        touched: &[Touch],
+        cookie: Cookie,
+    ) -> Result<Vec<Later>, NoMemory>
+        requires rid { cookie.rid < 1000 }
+        requires sid { cookie.sid < 4096 }
+        ensures { IfOk result (λ messages.
+            messages.items ≡ staged_for self.now.search touched.now (cookie_text cookie)) }
+    {
+        if self.is_queueing() {
+            messages_for(alloc, &self.spec, touched, cookie)
+        } else {
+            Ok(Vec::new(alloc))
+        }
+    }
+
+    /// Whether the messages of a write are made.
+    pub(crate) fn is_staged(&self) -> bool
+        ensures { result ≡ is_some self.now.staged }
+    {
+        self.staged.is_some()
+    }
+
+    /// Puts what was staged behind what is due, of which there may be so much, or else ends the
+    /// search. It takes no memory.
+    #[tactic(auto, using(crate::proofs::Filling::pushed_none, crate::proofs::Filling::pushed_over, crate::proofs::Filling::pushed_in))]
+    pub(crate) fn push_staged(&mut self, limit: u64)
+        ensures search { self.new.search ≡ pushed_staged limit self.old.staged self.old.search }
+    {
+        let Some(messages) = self.staged.take() else {
+            return;
+        };
+        if messages.is_empty() {
+            return;
+        }
+        self.queue.set_limit(limit);
+        if self.queue.push_all(messages).is_err() {
+            discard(self.rest.take());
+            self.queue.end();
+            self.over = true;
         }
     }
 }
 
-/// The message of a part, in a delete phase or a present phase.
-fn part_message(alloc: Global, id: u32, deletes: bool, part: &Part) -> Result<Message, NoMemory>
-    ensures { IfOk result (λ message. whole_of message ≡ sent id (message_of deletes part.now)) }
+fn copy_of_rest(alloc: Global, rest: &Option<Rest>) -> Result<Option<Rest>, NoMemory>
+    ensures { IfOk result (λ copy. copy ≡ rest.now) }
 {
-    match part {
-        Part::Whole(entry) => entry_message(alloc, id, entry),
-        Part::Names(uuids) => names_message(alloc, id, deletes, uuids.list()),
+    match rest {
+        None => Ok(None),
+        Some(rest) => Ok(Some(rest.copy(alloc)?)),
     }
 }
 
@@ -156,31 +288,22 @@ fn copy_of(spec: &Spec) -> Result<Spec, NoMemory>
     })
 }
 
-fn copy_of_parts(alloc: Global, parts: &[Part]) -> Result<Vec<Part>, NoMemory>
-    ensures { IfOk result (λ copy. copy.items ≡ parts.now) }
-{
-    let mut copy = Vec::new(alloc);
-    for part in parts {
-        copy.push(copy_of_part(alloc, part)?)?;
-    }
-    Ok(copy)
-}
+/// Lets the value go.
+pub(crate) fn discard<T: Drop>(_value: T) {}
 
-fn copy_of_part(alloc: Global, part: &Part) -> Result<Part, NoMemory>
-    ensures { IfOk result (λ copy. copy ≡ part.now) }
+/// The same messages in a queue of their own.
+#[tactic(auto, using(crate::proofs::Copying::taken_next))]
+fn copy_of_queue(alloc: Global, queue: &SearchQueue<Later>) -> Result<SearchQueue<Later>, NoMemory>
+    ensures { IfOk result (λ copy. copy.items ≡ queue.now.items) }
 {
-    match part {
-        Part::Whole(entry) => Ok(Part::Whole(entry.copy()?)),
-        Part::Names(uuids) => Ok(Part::Names(copy_of_names(alloc, uuids)?)),
+    let mut items = Vec::new(alloc);
+    for place in 0..queue.len() {
+        let later = queue.get(place).unwrap();
+        items.push(later.copy()?)?;
     }
-}
-
-fn copy_of_names(alloc: Global, uuids: &IdList) -> Result<IdList, NoMemory>
-    ensures { IfOk result (λ copy. copy ≡ uuids.now) }
-{
-    let mut copy = IdList::new(alloc);
-    for uuid in uuids.list() {
-        copy.push(*uuid)?;
+    let mut copy = SearchQueue::new(alloc, queue.len() as u64);
+    match copy.push_all(items) {
+        Ok(()) => Ok(copy),
+        Err(_) => Err(AllocError),
     }
-    Ok(copy)
 }

@@ -2,7 +2,7 @@
 ghost use Rattle.std.specs.Prelude.{◌≡◌, IfOk};
 
 use crate::NoMemory;
-use crate::open_search::OpenSearch;
+use crate::open_search::{OpenSearch, discard};
 use crate::provider::Provider;
 use std::alloc::Global;
 use std::collections::BTreeMap;
@@ -19,12 +19,13 @@ impl Model for OpenSearches {
     ghost use Rattle.std.specs.Coded.{codes};
     ghost use Rattle.entry_tree.specs.FilterCode.{tree_code};
     ghost use Rattle.sync_provider.specs.Search.{SearchState};
+    ghost use Rattle.sync_provider.specs.Staging.{searches_of};
 
     ghost Value = { List (ℕ × SearchState) };
 
     ghost coded = { Prim.hlevel (codes, tree_code) };
 
-    ghost view = { λ s. s.by_number.entries };
+    ghost view = { λ s. searches_of s.by_number.entries };
 }
 
 impl Provider {
@@ -34,7 +35,8 @@ impl Provider {
     {
         let mut by_number = BTreeMap::new(alloc);
         for (number, search) in &self.searches {
-            by_number.insert(*number, search.copy(alloc)?)?;
+            let copy = search.copy(alloc)?;
+            discard(by_number.insert(*number, copy)?);
         }
         Ok(OpenSearches { by_number })
     }

@@ -1,25 +1,29 @@
 //! A directory with the searches that are open on it.
 
-ghost use Rattle.std.specs.Prelude.{◌≡◌, ◌≢◌, ◌≤◌, ◌-◌, ◌<◌, ◌^◌, true, length, slice_get, is_some, Some, IfOk, IfSome};
+ghost use Rattle.std.specs.Prelude.{◌≡◌, ◌≢◌, ◌≤◌, ◌-◌, ◌<◌, ◌^◌, true, length, slice_get, is_some, Some, IfOk, IfSome, OnOk, OnErr};
 ghost use Rattle.csn_cookie.specs.Csn as csns;
 ghost use Rattle.entry_tree.specs.Sound.{is_sound_op};
-ghost use Rattle.sync_provider.specs.Directory as directory;
+ghost use Rattle.directory_writes.specs.Directory as directory;
 ghost use Rattle.sync_provider.specs.HandingOut as handing;
 ghost use Rattle.sync_provider.specs.Machine as machine;
 
 use crate::NoMemory;
-use crate::directory::Directory;
 use crate::handed::Handed;
-use crate::open_search::OpenSearch;
+use crate::open_search::{OpenSearch, discard};
+use crate::staging::{any_queueing, push_each, stage_write};
 use csn_cookie::Csn;
+use directory_writes::Directory;
 use dn_names::Dn;
-use entry_tree::{Op, Tree, Write};
-use std::alloc::Global;
+use entry_tree::{Op, OpFault, Tree, Write};
+use std::alloc::{AllocError, Global};
 use std::collections::BTreeMap;
 use std::marker::Model;
 
 /// other (RFC 4511, appendix A.1): memory ran out.
 const OTHER: u32 = 80;
+
+/// How many messages of later writes a search of a new provider may have pending.
+const FIRST_QUEUE_LIMIT: u64 = 4_096;
 
 /// Where the writes of a directory come from.
 #[derive(Clone, Copy, Debug, PartialEq, Eq)]
@@ -42,18 +46,25 @@ pub struct Reply {
 pub struct Provider {
     pub(crate) directory: Directory,
     pub(crate) searches: BTreeMap<u64, OpenSearch>,
+    /// How many messages of later writes each search may have pending.
+    pub(crate) queue_limit: u64,
 }
 
 impl Model for Provider {
     ghost use Rattle.std.specs.Coded.{codes};
     ghost use Rattle.entry_tree.specs.FilterCode.{tree_code};
     ghost use Rattle.sync_provider.specs.Machine.{ProviderState};
+    ghost use Rattle.sync_provider.specs.Staging.{searches_of};
 
     ghost Value = { ProviderState };
 
     ghost coded = { Prim.hlevel (codes, tree_code) };
 
-    ghost view = { λ p. record { directory = p.directory; searches = p.searches.entries } };
+    ghost view = { λ p. record {
+      directory = p.directory;
+      searches = searches_of p.searches.entries;
+      queue_limit = p.queue_limit;
+    } };
 }
 
 impl Provider {
@@ -72,12 +83,14 @@ impl Provider {
         Ok(Provider {
             directory: Directory::new(alloc, suffix, sid, history),
             searches: BTreeMap::new(alloc),
+            queue_limit: FIRST_QUEUE_LIMIT,
         })
     }
 
     /// Applies a write where the clock shows `now`, in microseconds from the first moment of 1970
-    /// on. A write that is not accepted leaves the directory as it was.
-    #[tactic(auto, using(crate::proofs::Writes::unwritten))]
+    /// on, and tells it to the searches that go on and whose content it changes. A write that is not
+    /// accepted leaves all as it was.
+    #[tactic(auto, using(crate::proofs::Told::unwritten_all))]
     pub fn write(&mut self, alloc: Global, op: Op, now: u64) -> Reply
         requires { is_sound_op op ≡ true }
         ensures code { result.code ≢ 80 → result.code ≡ directory.write_code self.old.directory op now }
@@ -85,7 +98,7 @@ impl Provider {
         ensures err { result.code ≡ 80 → self.new ≡ self.old }
         ensures number { result.number ≡ length self.new.directory.writes }
     {
-        let code = match self.directory.write(alloc, op, now) {
+        let code = match self.write_and_tell(alloc, op, now) {
             Ok(code) => code,
             Err(_) => OTHER,
         };
@@ -95,9 +108,33 @@ impl Provider {
         }
     }
 
+    /// The code of the write.
+    #[tactic(auto, using(crate::proofs::Told::refused_view, crate::proofs::Told::code_none))]
+    fn write_and_tell(&mut self, alloc: Global, op: Op, now: u64) -> Result<u32, NoMemory>
+        requires { is_sound_op op ≡ true }
+        ensures code { IfOk result (λ code. code ≡ directory.write_code self.old.directory op now) }
+        ensures state { OnOk result (self.new ≡ machine.wrote self.old op now) }
+        ensures err { OnErr result (self.new ≡ self.old) }
+    {
+        if !any_queueing(&self.searches) {
+            return self.directory.write(alloc, op, now);
+        }
+        match stage_write(&mut self.searches, alloc, &self.directory, &op, now) {
+            Ok(()) => {
+                let code = self.directory.write(alloc, op, now)?;
+                push_each(&mut self.searches, self.queue_limit);
+                Ok(code)
+            }
+            Err(fault) => {
+                discard(op);
+                code_of(fault)
+            }
+        }
+    }
+
     /// The next message of the search with this number. Where memory runs out the same message is
     /// still pending.
-    #[tactic(auto, using(crate::proofs::Turns::closed_after, crate::proofs::Turns::open_after))]
+    #[tactic(auto, using(crate::proofs::Turns::closed_after, crate::proofs::Turns::open_after, crate::proofs::Held::turn_found, crate::proofs::Held::search_found, crate::proofs::Held::search_none))]
     pub fn hand_out(&mut self, alloc: Global, number: u64) -> Handed
         ensures turn { IfSome (handing.turn_of result)
             (λ turn. turn ≡ handing.turn_at self.old.searches number) }
@@ -110,17 +147,21 @@ impl Provider {
         };
         let handed = search.hand_out(alloc);
         if handed.is_end() {
-            self.searches.remove(&number);
+            discard(self.searches.remove(&number));
         }
         handed
     }
 
     /// Closes the search with this number. False where none is open.
+    #[tactic(auto, using(crate::proofs::Held::held_closed, crate::proofs::Held::search_some))]
     pub fn drop_search(&mut self, number: u64) -> bool
         ensures open { result ≡ is_some (handing.search_at self.old.searches number) }
         ensures state { self.new ≡ machine.dropped self.old number }
     {
-        self.searches.remove(&number).is_some()
+        let removed = self.searches.remove(&number);
+        let was_open = removed.is_some();
+        discard(removed);
+        was_open
     }
 
     /// The session log keeps so many notes from now on: of each write, one for each entry that it
@@ -129,6 +170,14 @@ impl Provider {
         ensures { self.new ≡ machine.log_limited self.old limit }
     {
         self.directory.set_log_limit(limit);
+    }
+
+    /// From the next write on, each search may have so many messages of later writes pending. What
+    /// is pending stays.
+    pub fn set_queue_limit(&mut self, limit: u64)
+        ensures { self.new ≡ machine.queue_limited self.old limit }
+    {
+        self.queue_limit = limit;
     }
 
     pub fn suffix(&self) -> &Dn
@@ -176,5 +225,15 @@ impl Provider {
         ensures { result ≡ self.now.directory.history }
     {
         self.directory.history()
+    }
+}
+
+/// The code that a fault tells.
+fn code_of(fault: OpFault) -> Result<u32, NoMemory>
+    ensures { IfOk result (λ code. fault ≡ OpFault.Code code) }
+{
+    match fault {
+        OpFault::Code(code) => Ok(code),
+        OpFault::NoMemory => Err(AllocError),
     }
 }

@@ -1,134 +1,140 @@
 //! The refresh of a search, decided at one moment (RFC 4533, section 3.3).
 
-ghost use Rattle.std.specs.Prelude.{◌≡◌, length, map, IfOk, OnOk};
+ghost use Rattle.std.specs.Prelude.{◌≡◌, Bool, length, map, IfOk, OnOk};
 ghost use Rattle.std.specs.List.Sorted.{IsStrictlySortedBy};
 ghost use Rattle.std.specs.Ordering.{nat_cmp};
 ghost use Rattle.entry_tree.specs.Selection.{search_of};
 ghost use Rattle.refresh_present.specs.Item.{identities as item_identities};
 ghost use Rattle.sync_model.specs.Stream.{is_covered};
-ghost use Rattle.sync_provider.specs.Directory as directory;
+ghost use Rattle.directory_writes.specs.Directory.{cookie_of, entries_of};
 ghost use Rattle.sync_provider.specs.Gathering as sets;
 ghost use Rattle.sync_provider.specs.Refreshing as refreshing;
-ghost use Rattle.sync_provider.specs.Search.{start_of, messages_of, session_of, refresh_from};
+ghost use Rattle.directory_writes.specs.Starting.{start_of, IsServed};
+ghost use Rattle.sync_provider.specs.Search.{messages_of, session_of, refresh_from};
 
 use crate::NoMemory;
-use crate::directory::Directory;
 use crate::gathering::Gathering;
 use crate::parts::Part;
 use crate::selecting::selects;
-use crate::start::Start;
+use directory_writes::{Directory, Start};
 use entry_tree::Spec;
 use refresh_present::{Decision, Item};
 use std::alloc::Global;
 
-impl Directory {
-    /// The messages of a refresh of what is wanted, but for its end. In a delete phase only the
-    /// entries are looked at that the log tells.
-    #[tactic(auto, using(crate::proofs::Deciding::items_sorted))]
-    pub(crate) fn refresh(
-        &self,
-        alloc: Global,
-        spec: &Spec,
-        start: Start,
-    ) -> Result<Vec<Part>, NoMemory>
-        requires { refreshing.IsServed self.now (start_of start) }
-        ensures { IfOk result (λ parts.
-            messages_of (is_covered (start_of start)) parts.items (directory.cookie_of self.now)
-            ≡ refresh_from
-            (session_of self.now.sid self.now.history (search_of spec.now) self.now.writes)
-            (start_of start) (length self.now.writes)) }
-    {
-        let uuids = self.walk(alloc, start)?;
-        let items = self.items(alloc, spec, uuids.as_slice())?;
-        let decisions = plan(alloc, start, items.as_slice())?;
-        self.gather(alloc, decisions.as_slice())
-    }
+/// The messages of a refresh of what is wanted, but for its end. In a delete phase only the
+/// entries are looked at that the log tells.
+#[tactic(auto, using(crate::proofs::Deciding::items_sorted))]
+pub(crate) fn refresh(
+    alloc: Global,
+    directory: &Directory,
+    spec: &Spec,
+    start: Start,
+) -> Result<Vec<Part>, NoMemory>
+    requires { IsServed directory.now (start_of start) }
+    ensures { IfOk result (λ parts. (persists : Bool) → messages_of persists (is_covered (start_of start)) parts.items (cookie_of directory.now)
+        ≡ refresh_from
+        (session_of persists directory.now.sid directory.now.history (search_of spec.now) directory.now.writes)
+        (start_of start) (length directory.now.writes)) }
+{
+    let uuids = walk(alloc, directory, start)?;
+    let items = items(alloc, directory, spec, uuids.as_slice())?;
+    let decisions = plan(alloc, start, items.as_slice())?;
+    gather(alloc, directory, decisions.as_slice())
+}
 
-    /// The identities that it goes through: those that were touched since, where these are known,
-    /// else all, in ascending order.
-    #[tactic(auto, using(crate::proofs::Served::walk_since))]
-    fn walk(&self, alloc: Global, start: Start) -> Result<Vec<u128>, NoMemory>
-        requires { refreshing.IsServed self.now (start_of start) }
-        ensures exact { IfOk result (λ uuids. uuids.items ≡ refreshing.walked self.now (start_of start)) }
-        ensures ascends { IfOk result (λ uuids. IsStrictlySortedBy nat_cmp uuids.items) }
-    {
-        match start {
-            Start::Covered(number) => self.touches().since(number),
-            Start::Blank | Start::Uncovered(_) => self.identities(alloc),
-        }
+/// The identities that it goes through: those that were touched since, where these are known,
+/// else all, in ascending order.
+fn walk(alloc: Global, directory: &Directory, start: Start) -> Result<Vec<u128>, NoMemory>
+    requires { IsServed directory.now (start_of start) }
+    ensures exact { IfOk result (λ uuids. uuids.items ≡ refreshing.walked directory.now (start_of start)) }
+    ensures ascends { IfOk result (λ uuids. IsStrictlySortedBy nat_cmp uuids.items) }
+{
+    match start {
+        Start::Covered(number) => directory.touched_since(number),
+        Start::Blank | Start::Uncovered(_) => identities(alloc, directory),
     }
+}
 
-    /// The identities of all entries, in ascending order.
-    fn identities(&self, alloc: Global) -> Result<Vec<u128>, NoMemory>
-        ensures exact { IfOk result (λ uuids. uuids.items ≡ refreshing.all_identities self.now) }
-        ensures ascends { IfOk result (λ uuids. IsStrictlySortedBy nat_cmp uuids.items) }
-    {
-        self.tree()
-            .entries()
-            .iter()
-            .map(|entry| entry.uuid)
-            .collect(alloc)
+/// The identities of all entries, in ascending order.
+fn identities(alloc: Global, directory: &Directory) -> Result<Vec<u128>, NoMemory>
+    ensures exact { IfOk result (λ uuids. uuids.items ≡ refreshing.all_identities directory.now) }
+    ensures ascends { IfOk result (λ uuids. IsStrictlySortedBy nat_cmp uuids.items) }
+{
+    directory
+        .tree()
+        .entries()
+        .iter()
+        .map(|entry| entry.uuid)
+        .collect(alloc)
+}
+
+/// What is known of each of these identities.
+fn items(
+    alloc: Global,
+    directory: &Directory,
+    spec: &Spec,
+    uuids: &[u128],
+) -> Result<Vec<Item>, NoMemory>
+    ensures { IfOk result (λ items.
+        items.items ≡ map (refreshing.item_at directory.now (search_of spec.now)) uuids.now) }
+{
+    let mut items = Vec::new(alloc);
+    for uuid in uuids {
+        items.push(item(alloc, directory, spec, *uuid)?)?;
     }
+    Ok(items)
+}
 
-    /// What is known of each of these identities.
-    fn items(&self, alloc: Global, spec: &Spec, uuids: &[u128]) -> Result<Vec<Item>, NoMemory>
-        ensures { IfOk result (λ items.
-            items.items ≡ map (refreshing.item_at self.now (search_of spec.now)) uuids.now) }
-    {
-        let mut items = Vec::new(alloc);
-        for uuid in uuids {
-            items.push(self.item(alloc, spec, *uuid)?)?;
-        }
-        Ok(items)
+/// What is known of the identity. Where it has no entry any more, the number of the last write
+/// stands for that of its last touch.
+fn item(alloc: Global, directory: &Directory, spec: &Spec, uuid: u128) -> Result<Item, NoMemory>
+    ensures { IfOk result (λ item. item ≡ refreshing.item_at directory.now (search_of spec.now) uuid) }
+{
+    match directory.tree().get(uuid) {
+        None => Ok(Item {
+            uuid,
+            touched: directory.accepted().len() as u64,
+            selected: false,
+        }),
+        Some(entry) => Ok(Item {
+            uuid,
+            touched: directory.number_of(uuid),
+            selected: selects(alloc, spec, entry)?,
+        }),
     }
+}
 
-    /// What is known of the identity. Where it has no entry any more, the number of the last write
-    /// stands for that of its last touch.
-    fn item(&self, alloc: Global, spec: &Spec, uuid: u128) -> Result<Item, NoMemory>
-        ensures { IfOk result (λ item. item ≡ refreshing.item_at self.now (search_of spec.now) uuid) }
-    {
-        match self.tree().get(uuid) {
-            None => Ok(Item {
-                uuid,
-                touched: self.accepted().len() as u64,
-                selected: false,
-            }),
-            Some(entry) => Ok(Item {
-                uuid,
-                touched: self.number_of(uuid),
-                selected: selects(alloc, spec, entry)?,
-            }),
-        }
+/// What was decided, as messages.
+fn gather(
+    alloc: Global,
+    directory: &Directory,
+    decisions: &[Decision],
+) -> Result<Vec<Part>, NoMemory>
+    ensures { IfOk result (λ parts. parts.items ≡ sets.finished
+        (sets.gathered_all (refreshing.said_all (entries_of directory.now) decisions.now))) }
+{
+    let mut gathering = Gathering::new(alloc);
+    for decision in decisions {
+        gather_one(alloc, directory, &mut gathering, *decision)?;
     }
+    gathering.finish()
+}
 
-    /// What was decided, as messages.
-    fn gather(&self, alloc: Global, decisions: &[Decision]) -> Result<Vec<Part>, NoMemory>
-        ensures { IfOk result (λ parts. parts.items ≡ sets.finished
-            (sets.gathered_all (refreshing.said_all (directory.entries_of self.now) decisions.now))) }
-    {
-        let mut gathering = Gathering::new(alloc);
-        for decision in decisions {
-            self.gather_one(alloc, &mut gathering, *decision)?;
-        }
-        gathering.finish()
-    }
-
-    fn gather_one(
-        &self,
-        alloc: Global,
-        gathering: &mut Gathering,
-        decision: Decision,
-    ) -> Result<(), NoMemory>
-        ensures { OnOk result (gathering.new ≡ sets.gathered_more gathering.old
-            (refreshing.said (directory.entries_of self.now) decision)) }
-    {
-        match decision {
-            Decision::Send(uuid) => match self.tree().get(uuid) {
-                None => Ok(()),
-                Some(entry) => gathering.send(entry.copy()?),
-            },
-            Decision::Present(uuid) | Decision::Delete(uuid) => gathering.name(alloc, uuid),
-        }
+fn gather_one(
+    alloc: Global,
+    directory: &Directory,
+    gathering: &mut Gathering,
+    decision: Decision,
+) -> Result<(), NoMemory>
+    ensures { OnOk result (gathering.new ≡ sets.gathered_more gathering.old
+        (refreshing.said (entries_of directory.now) decision)) }
+{
+    match decision {
+        Decision::Send(uuid) => match directory.tree().get(uuid) {
+            None => Ok(()),
+            Some(entry) => gathering.send(entry.copy()?),
+        },
+        Decision::Present(uuid) | Decision::Delete(uuid) => gathering.name(alloc, uuid),
     }
 }
 

@@ -1,19 +1,21 @@
-//! How a search is accepted (RFC 4533, section 3.3).
+//! How a search is accepted (RFC 4533, sections 3.3 and 3.4).
 
 ghost use Rattle.std.specs.Prelude.{◌≡◌, length, Ok, IfOk, OnOk, OnErr};
 ghost use Rattle.entry_tree.specs.Selection.{search_of};
 ghost use Rattle.std.specs.Ordering.{nat_cmp};
 ghost use Rattle.sync_messages.specs.Request.{request_of};
+ghost use Rattle.sync_wire.specs.Requesting.{persists};
 ghost use Rattle.std.specs.BTreeMap.{insert_entry};
 ghost use Rattle.sync_provider.specs.Accepting as accepting;
-ghost use Rattle.sync_provider.specs.Refreshing.{IsServed};
-ghost use Rattle.sync_provider.specs.Search.{opening, start_of};
+ghost use Rattle.directory_writes.specs.Starting.{IsServed};
+ghost use Rattle.directory_writes.specs.Starting.{start_of};
+ghost use Rattle.sync_provider.specs.Search.{opening};
 
-use crate::directory::ADMIN_LIMIT_EXCEEDED;
-use crate::open_search::{OpenSearch, Opening};
+use crate::open_search::{Asked, OpenSearch, discard};
 use crate::provider::Provider;
-use crate::start::Start;
+use crate::refreshing::refresh;
 use csn_cookie::is_blank;
+use directory_writes::{ADMIN_LIMIT_EXCEEDED, Start};
 use entry_tree::Spec;
 use ldap_ber::{NoMemory, Octets};
 use std::alloc::Global;
@@ -24,9 +26,6 @@ const PROTOCOL_ERROR: u32 = 2;
 
 /// noSuchObject: the base is not at or below the suffix.
 const NO_SUCH_OBJECT: u32 = 32;
-
-/// unwillingToPerform: a search that goes on after its refresh.
-const UNWILLING_TO_PERFORM: u32 = 53;
 
 /// e-syncRefreshRequired: the cookie cannot be served.
 const REFRESH_REQUIRED: u32 = 4096;
@@ -58,8 +57,9 @@ impl Provider {
     /// Opens a search, or tells the first code that is against it: 2 where the control's value is
     /// outside its grammar; 32 where the base is not at or below the suffix; 11 where each number
     /// from 1 to 64 is that of an open search; 4096 where a cookie is given that is neither blank
-    /// nor servable, and the client does not ask to reload then; 53 where the search is to go on
-    /// after its refresh. Its number is the least from 1 to 64 that no open search has.
+    /// nor servable, and the client does not ask to reload then. Its number is the least from 1 to
+    /// 64 that no open search has. It goes on after its refresh where its mode is
+    /// refreshAndPersist.
     ///
     /// A cookie is servable where it is of the directory's history and its stamp is not above the
     /// last one. The search then begins with the content after the writes that it names.
@@ -98,40 +98,33 @@ impl Provider {
         if let Some(code) = code_of(request, prefix.is_some()) {
             return Accepted::Refused(code);
         }
-        let start = self.directory.start_at(prefix);
-        match self.open(alloc, number, ask.id, ask.spec, start) {
+        let asked = Asked {
+            id: ask.id,
+            spec: ask.spec,
+            start: self.directory.start_at(prefix),
+            persists: persists(request.mode),
+        };
+        match self.open(alloc, number, asked) {
             Ok(writes) => Accepted::Opened(number, writes),
             Err(_) => Accepted::NoMemory,
         }
     }
 
     /// Opens a search with this number, and answers how many writes the directory has.
-    fn open(
-        &mut self,
-        alloc: Global,
-        number: u64,
-        id: u32,
-        spec: Spec,
-        start: Start,
-    ) -> Result<u64, NoMemory>
-        requires { IsServed self.old.directory (start_of start) }
+    #[tactic(auto, using(crate::proofs::Held::held_opened))]
+    fn open(&mut self, alloc: Global, number: u64, asked: Asked) -> Result<u64, NoMemory>
+        requires { IsServed self.old.directory (start_of asked.start) }
         ensures writes { IfOk result (λ writes. writes ≡ length self.old.directory.writes) }
         ensures ok { OnOk result (self.new ≡ record self.old {
           searches = insert_entry nat_cmp self.old.searches number
-              (opening self.old.directory id (search_of spec) (start_of start));
+              (opening self.old.directory asked.id (search_of asked.spec) (start_of asked.start) asked.persists);
         }) }
         ensures err { OnErr result (self.new ≡ self.old) }
     {
-        let parts = self.directory.refresh(alloc, &spec, start)?;
+        let parts = refresh(alloc, &self.directory, &asked.spec, asked.start)?;
         let accepted = self.writes();
-        let opening = Opening {
-            id,
-            spec,
-            start,
-            accepted,
-        };
-        let search = OpenSearch::new(opening, parts, self.directory.cookie());
-        self.searches.insert(number, search)?;
+        let search = OpenSearch::new(alloc, asked, accepted, parts, self.directory.cookie());
+        discard(self.searches.insert(number, search)?);
         Ok(accepted)
     }
 
@@ -156,9 +149,16 @@ fn code_of(request: &SyncRequest, servable: bool) -> Option<u32>
     if asks_with_cookie(request) && !servable && !request.reload_hint {
         return Some(REFRESH_REQUIRED);
     }
-    match request.mode {
-        Mode::RefreshOnly => None,
-        Mode::RefreshAndPersist => Some(UNWILLING_TO_PERFORM),
+    None
+}
+
+/// Whether a search of this mode goes on after its refresh.
+fn persists(mode: Mode) -> bool
+    ensures { result ≡ persists mode }
+{
+    match mode {
+        Mode::RefreshOnly => false,
+        Mode::RefreshAndPersist => true,
     }
 }
 

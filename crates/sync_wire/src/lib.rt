@@ -18,4 +18,4 @@ pub use kind::tag_of;
 pub use laws::sent_is_heard;
 pub use ldap_ber::NoMemory;
 pub use request::search_request;
-pub use sending::{done_message, end_message, entry_message, names_message};
+pub use sending::{done_message, end_message, entry_message, gone_message, names_message};

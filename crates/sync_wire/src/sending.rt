@@ -1,11 +1,15 @@
-//! The messages of a search (RFC 4511, section 4.5.2; RFC 4533, sections 2.3 and 2.4).
-ghost use Rattle.std.specs.Prelude.{◌≡◌, ◌<◌, ◌∷◌, ◌++◌, [], true, false, pos, Some, None, IfOk, OnOk, codes};
+//! The messages of a search (RFC 4511, section 4.5.2; RFC 4533, sections 2.3 to 2.5).
+ghost use Rattle.std.specs.Prelude.{◌≡◌, ◌<◌, ◌∷◌, ◌++◌, [], true, false, pos, Some, None, option_map, IfOk, IfSome, OnOk, codes};
 ghost use Rattle.csn_cookie.specs.Cookie.{cookie_text};
+ghost use Rattle.dn_names.specs.Writing.{name_text};
+ghost use Rattle.ldap_messages.specs.Operation as operation;
 ghost use Rattle.ldap_messages.specs.Whole.{whole_of};
-ghost use Rattle.sync_model.specs.Message.SyncMessage.{Put, IdSet, Done};
-ghost use Rattle.sync_wire.specs.Sending.{sent, attributes_of, marks_of, single as attribute, result_of, uuid_text};
+ghost use Rattle.sync_model.specs.Message.SyncMessage.{Put, Gone, IdSet, PhaseEnds, Done};
+ghost use Rattle.sync_model.specs.Stream.{end_of};
+ghost use Rattle.sync_wire.specs.Sending.{sent, attributes_of, marks_of, single as attribute, state_control, info_name, result_of, uuid_text};
 
 use csn_cookie::Cookie;
+use dn_names::Dn;
 use entry_tree::Entry;
 use ldap_ber::{NoMemory, Octets, OctetsList};
 use ldap_messages::{Control, ControlList, LdapResult, Message, Protocol};
@@ -37,21 +41,56 @@ pub fn done_message(alloc: Global, id: u32, code: u32) -> Result<Message, NoMemo
 }
 
 /// The end of a refresh that succeeded, with the cookie of its content. It told what is deleted, or
-/// else what is present.
-#[tactic(auto, using(crate::proofs::Operations::done_operation))]
+/// else what is present. A search that persists goes on after a Sync Info message; any other is over
+/// with its SearchResultDone (RFC 4533, sections 3.3.2 and 3.4.1).
 pub fn end_message(
     alloc: Global,
     id: u32,
+    persists: bool,
     deletes: bool,
     cookie: &Cookie,
 ) -> Result<Message, NoMemory>
     requires rid { cookie.now.rid < 1000 }
     requires sid { cookie.now.sid < 4096 }
-    ensures { IfOk result (λ message. whole_of message ≡ sent id
-        (Done (pos 0) (Some (deletes, Some (cookie_text cookie.now))))) }
+    ensures { IfOk result (λ message. whole_of message ≡ sent id (end_of persists deletes (cookie_text cookie.now))) }
+{
+    let text = Octets::from_slice(alloc, &cookie.write())?;
+    if persists {
+        phase_end_message(alloc, id, deletes, text)
+    } else {
+        refresh_end_message(alloc, id, deletes, text)
+    }
+}
+
+/// The Sync Info message refreshDelete or refreshPresent, with which the refresh is done.
+fn phase_end_message(
+    alloc: Global,
+    id: u32,
+    deletes: bool,
+    cookie: Octets,
+) -> Result<Message, NoMemory>
+    ensures { IfOk result (λ message. whole_of message ≡ sent id (PhaseEnds deletes true (Some cookie))) }
+{
+    let value = if deletes {
+        SyncInfo::RefreshDelete(Some(cookie), true).write(alloc)?
+    } else {
+        SyncInfo::RefreshPresent(Some(cookie), true).write(alloc)?
+    };
+    info_message(alloc, id, value)
+}
+
+/// SearchResultDone with a Sync Done control.
+#[tactic(auto, using(crate::proofs::Operations::done_operation))]
+fn refresh_end_message(
+    alloc: Global,
+    id: u32,
+    deletes: bool,
+    cookie: Octets,
+) -> Result<Message, NoMemory>
+    ensures { IfOk result (λ message. whole_of message ≡ sent id (Done (pos 0) (Some (deletes, Some cookie)))) }
 {
     let done = SyncDone {
-        cookie: Some(Octets::from_slice(alloc, &cookie.write())?),
+        cookie: Some(cookie),
         refresh_deletes: deletes,
     };
     let controls = one_control(alloc, SYNC_DONE, done.write(alloc)?)?;
@@ -63,17 +102,22 @@ pub fn end_message(
     })
 }
 
-/// The whole entry in the state add, without a cookie.
+/// The whole entry in the state add, or else in the state modify (RFC 4533, section 2.3), with this
+/// cookie, if any.
 #[tactic(auto, using(crate::proofs::Operations::entry_operation))]
-pub fn entry_message(alloc: Global, id: u32, entry: &Entry) -> Result<Message, NoMemory>
-    ensures { IfOk result (λ message. whole_of message ≡ sent id (Put true entry.now None)) }
+pub fn entry_message(
+    alloc: Global,
+    id: u32,
+    adds: bool,
+    entry: &Entry,
+    cookie: Option<Cookie>,
+) -> Result<Message, NoMemory>
+    requires rid { IfSome cookie (λ c. c.rid < 1000) }
+    requires sid { IfSome cookie (λ c. c.sid < 4096) }
+    ensures { IfOk result (λ message. whole_of message ≡ sent id (Put adds entry.now (option_map cookie_text cookie))) }
 {
-    let state = SyncState {
-        state: State::Add,
-        uuid: entry.uuid,
-        cookie: None,
-    };
-    let controls = one_control(alloc, SYNC_STATE, state.write(alloc)?)?;
+    let state = if adds { State::Add } else { State::Modify };
+    let controls = state_control(alloc, state, entry.uuid, cookie)?;
     let name = entry.dn.write()?;
     let attributes = attributes_of(alloc, entry)?;
     Ok(Message {
@@ -83,9 +127,32 @@ pub fn entry_message(alloc: Global, id: u32, entry: &Entry) -> Result<Message, N
     })
 }
 
+/// The entry of this identity in the state delete (RFC 4533, section 2.3): the name that it had, and
+/// no attributes, with this cookie, if any.
+#[tactic(auto, using(crate::proofs::Operations::entry_operation))]
+pub fn gone_message(
+    alloc: Global,
+    id: u32,
+    uuid: u128,
+    name: &Dn,
+    cookie: Option<Cookie>,
+) -> Result<Message, NoMemory>
+    requires rid { IfSome cookie (λ c. c.rid < 1000) }
+    requires sid { IfSome cookie (λ c. c.sid < 4096) }
+    ensures { IfOk result (λ message. whole_of message ≡ sent id (Gone uuid (name_text name.now) (option_map cookie_text cookie))) }
+{
+    let controls = state_control(alloc, State::Delete, uuid, cookie)?;
+    let name = name.write()?;
+    let attributes = RawList::new(alloc);
+    Ok(Message {
+        id,
+        op: Protocol::SearchResultEntry { name, attributes },
+        controls,
+    })
+}
+
 /// The entries of these identities are deleted, or else present (RFC 4533, section 2.5), without a
 /// cookie.
-#[tactic(auto, using(crate::proofs::Operations::info_operation))]
 pub fn names_message(
     alloc: Global,
     id: u32,
@@ -95,14 +162,54 @@ pub fn names_message(
     ensures { IfOk result (λ message. whole_of message ≡ sent id (IdSet deletes uuids.now None)) }
 {
     let names = SyncInfo::IdSet(None, deletes, list_of(alloc, uuids)?);
+    info_message(alloc, id, names.write(alloc)?)
+}
+
+/// The Sync Info message with this value.
+#[tactic(auto, using(crate::proofs::Operations::info_operation))]
+fn info_message(alloc: Global, id: u32, value: Octets) -> Result<Message, NoMemory>
+    ensures { IfOk result (λ message. whole_of message ≡ (id, (operation.intermediate (Some info_name, Some value), []))) }
+{
     Ok(Message {
         id,
         op: Protocol::IntermediateResponse {
             name: Some(Octets::from_slice(alloc, SYNC_INFO)?),
-            value: Some(names.write(alloc)?),
+            value: Some(value),
         },
         controls: ControlList::new(alloc),
     })
+}
+
+/// A list of a Sync State control alone.
+fn state_control(
+    alloc: Global,
+    state: State,
+    uuid: u128,
+    cookie: Option<Cookie>,
+) -> Result<ControlList, NoMemory>
+    requires rid { IfSome cookie (λ c. c.rid < 1000) }
+    requires sid { IfSome cookie (λ c. c.sid < 4096) }
+    ensures { IfOk result (λ controls. controls ≡ state_control state uuid (option_map cookie_text cookie) ∷ []) }
+{
+    let cookie = text_of(alloc, cookie)?;
+    let state = SyncState {
+        state,
+        uuid,
+        cookie,
+    };
+    one_control(alloc, SYNC_STATE, state.write(alloc)?)
+}
+
+/// The text of the cookie, if there is one.
+fn text_of(alloc: Global, cookie: Option<Cookie>) -> Result<Option<Octets>, NoMemory>
+    requires rid { IfSome cookie (λ c. c.rid < 1000) }
+    requires sid { IfSome cookie (λ c. c.sid < 4096) }
+    ensures { IfOk result (λ text. text ≡ option_map cookie_text cookie) }
+{
+    match cookie {
+        Some(cookie) => Ok(Some(Octets::from_slice(alloc, &cookie.write())?)),
+        None => Ok(None),
+    }
 }
 
 /// The identities as a list of their own.

@@ -5,7 +5,11 @@
 mod cookie_tests;
 #[cfg(test)]
 mod link_tests;
+#[cfg(test)]
+mod persist_tests;
 mod run;
+#[cfg(test)]
+mod short;
 #[cfg(test)]
 mod tests;
 

@@ -2,9 +2,12 @@
 ghost use Rattle.std.specs.Prelude.{◌≡◌, false};
 
 use crate::run::run;
+use crate::short::in_full;
 use cascade_world::World;
-use ldap_ber::Octets;
+use ldap_ber::{NoMemory, Octets};
 use std::alloc::Global;
+use std::fmt::Debug;
+use std::process::Abort;
 use std::sync::Wait;
 use std::test::Fail;
 use std::thread::Threads;
@@ -13,6 +16,9 @@ use sync_io::{FaultySink, FaultySource, MemorySink, MemorySource, Sink, Source, 
 /// A provider, a consumer of it, and the entry of the suffix.
 const START: &[u8] =
     b"provider p \"dc=x\"\nconsumer c from p sub \"dc=x\" \"(objectClass=*)\"\nwrite p\ndn: dc=x\nchangetype: add\nobjectClass: organization\nobjectClass: dcObject\no: X\ndc: x\n\n";
+
+/// What is reported of it.
+const WRITTEN: &[u8] = b"wrote p 0 1\n";
 
 const USAGE: &[u8] =
     b"usage: syncrepl cascade | drill SEED WRITERS CONSUMERS SIZE | serve FILE | search ADDRESS BASE SCOPE FILTER [COUNT]\n";
@@ -46,7 +52,7 @@ fn ran<R: Threads + Wait + Sync, I: Source, O: Sink>(
 }
 
 /// The status of `cascade` on a script, what it wrote and what it said.
-pub fn cascade<R: Threads + Wait + Sync>(
+fn cascade<R: Threads + Wait + Sync>(
     rt: &R,
     alloc: Global,
     script: &[u8],
@@ -57,11 +63,80 @@ pub fn cascade<R: Threads + Wait + Sync>(
     Ok((code, output, errors))
 }
 
+/// Asserts that what was found is what is wanted, or tells both.
+fn assert_same<T: PartialEq + Debug>(rt: &impl Abort, part: &str, found: &T, wanted: &T) {
+    assert!(rt;
+        *found == *wanted,
+        "{part}: {found:?} in place of {wanted:?}"
+    );
+}
+
+/// Asserts that `cascade` on a script ends with this status, writes the report and says the refusal.
+pub(crate) fn assert_run<R: Threads + Wait + Sync + Abort>(
+    rt: &R,
+    alloc: Global,
+    script: &[u8],
+    status: u8,
+    report: &[u8],
+    refusal: &[u8],
+) -> Result<(), Fail> {
+    let (code, output, errors) = cascade(rt, alloc, script)?;
+    assert_same(rt, "errors", &errors.bytes(), &refusal);
+    assert_same(rt, "output", &output.bytes(), &report);
+    assert_same(rt, "status", &code, &status);
+    Ok(())
+}
+
+/// Asserts that `cascade` on a whole script, in short, is done and reported so.
+pub(crate) fn assert_reported<R: Threads + Wait + Sync + Abort>(
+    rt: &R,
+    alloc: Global,
+    script: &str,
+    report: &str,
+) -> Result<(), Fail> {
+    let script = in_full(alloc, script)?;
+    let report = in_full(alloc, report)?;
+    assert_run(rt, alloc, script.as_slice(), 0, report.as_slice(), b"")
+}
+
+/// The same of what follows the start, and what is reported after the first write.
+pub(crate) fn assert_follows<R: Threads + Wait + Sync + Abort>(
+    rt: &R,
+    alloc: Global,
+    script: &str,
+    report: &str,
+) -> Result<(), Fail> {
+    let script = started(alloc, in_full(alloc, script)?.as_slice())?;
+    let report = written(alloc, in_full(alloc, report)?.as_slice())?;
+    assert_run(rt, alloc, script.as_slice(), 0, report.as_slice(), b"")
+}
+
+/// Asserts that what follows the start is refused so, and nothing but the first write is reported.
+fn assert_refused<R: Threads + Wait + Sync + Abort>(
+    rt: &R,
+    alloc: Global,
+    more: &[u8],
+    refusal: &str,
+) -> Result<(), Fail> {
+    let script = started(alloc, more)?;
+    let refusal = format!(in alloc; "syncrepl: line {refusal}\n")?;
+    assert_run(rt, alloc, script.as_slice(), 3, WRITTEN, refusal.as_bytes())
+}
+
 /// The start of a script, and then this.
-pub fn started(alloc: Global, more: &[u8]) -> Result<Vec<u8>, Fail> {
-    let mut script = START.to_vec(alloc)?;
-    script.extend_from_slice(more)?;
-    Ok(script)
+pub(crate) fn started(alloc: Global, more: &[u8]) -> Result<Vec<u8>, NoMemory> {
+    joined(alloc, START, more)
+}
+
+/// The report of the start, and then this.
+fn written(alloc: Global, more: &[u8]) -> Result<Vec<u8>, NoMemory> {
+    joined(alloc, WRITTEN, more)
+}
+
+fn joined(alloc: Global, first: &[u8], second: &[u8]) -> Result<Vec<u8>, NoMemory> {
+    let mut text = first.to_vec(alloc)?;
+    text.extend_from_slice(second)?;
+    Ok(text)
 }
 
 /// What follows the start, and what is reported after the first write.
@@ -71,29 +146,24 @@ const REPORTS: [(&str, &str); 12] = [
         "settle c
 ",
         "opened c 1
-sent c 3081f10201016481b4040464633d783081ab3027040b6f626a656374436c6173733118040c6f7267616e697a6174696f6e040864634f626a656374300804016f3103040158300904026463310304017830330409656e747279555549443126042430303030303030302d303030312d383030302d383030302d30303030303030303030303130360408656e74727943534e312a042831393730303130313030303030302e3030303030305a233030303030312330303123303030303030a03530330418312e332e362e312e342e312e343230332e312e392e312e32041730150a0101041000000000000180008000000000000001
+dc 1
 taken c
-sent c 30819302010165070a010004000400a081843081810418312e332e362e312e342e312e343230332e312e392e312e330465306304617269643d3030302c7369643d3030312c63736e3d31393730303130313030303030302e3030303030305a2330303030303123303031233030303030302c67656e3d3030303030303030303030303030303030303030303030303030303030303031
+end 1
 stored c 1 entries 1 sha256 8f8bbfc32f02a834239e30b6652655f8b425d92fe020ac9bd789cbeb3244bf78 origin p 1
 settled c 1
 ",
     ),
     (
-        "write p
-dn: ou=a,dc=x
-changetype: add
-objectClass: organizationalUnit
-ou: a
-
+        "add a
 settle c
 ",
         "wrote p 0 2
 opened c 2
-sent c 3081f10201016481b4040464633d783081ab3027040b6f626a656374436c6173733118040c6f7267616e697a6174696f6e040864634f626a656374300804016f3103040158300904026463310304017830330409656e747279555549443126042430303030303030302d303030312d383030302d383030302d30303030303030303030303130360408656e74727943534e312a042831393730303130313030303030302e3030303030305a233030303030312330303123303030303030a03530330418312e332e362e312e342e312e343230332e312e392e312e32041730150a0101041000000000000180008000000000000001
+dc 1
 taken c
-sent c 3081e80201016481ab04096f753d612c64633d7830819d3023040b6f626a656374436c617373311404126f7267616e697a6174696f6e616c556e6974300904026f75310304016130330409656e747279555549443126042430303030303030302d303030312d383030302d383030302d30303030303030303030303230360408656e74727943534e312a042831393730303130313030303030302e3030303030305a233030303030322330303123303030303030a03530330418312e332e362e312e342e312e343230332e312e392e312e32041730150a0101041000000000000180008000000000000002
+unit a2
 taken c
-sent c 30819302010165070a010004000400a081843081810418312e332e362e312e342e312e343230332e312e392e312e330465306304617269643d3030302c7369643d3030312c63736e3d31393730303130313030303030302e3030303030305a2330303030303223303031233030303030302c67656e3d3030303030303030303030303030303030303030303030303030303030303031
+end 2
 stored c 2 entries 2 sha256 3aa6e4e23a52c4438ed29fa3d3d295976654c425e8abfa4fd967014eff964bd6 origin p 2
 settled c 2
 ",
@@ -107,9 +177,9 @@ write p\r
 dn: dc=x\r
 changetype: delete",
         "opened c 1
-sent c 3081f10201016481b4040464633d783081ab3027040b6f626a656374436c6173733118040c6f7267616e697a6174696f6e040864634f626a656374300804016f3103040158300904026463310304017830330409656e747279555549443126042430303030303030302d303030312d383030302d383030302d30303030303030303030303130360408656e74727943534e312a042831393730303130313030303030302e3030303030305a233030303030312330303123303030303030a03530330418312e332e362e312e342e312e343230332e312e392e312e32041730150a0101041000000000000180008000000000000001
+dc 1
 taken c
-sent c 30819302010165070a010004000400a081843081810418312e332e362e312e342e312e343230332e312e392e312e330465306304617269643d3030302c7369643d3030312c63736e3d31393730303130313030303030302e3030303030305a2330303030303123303031233030303030302c67656e3d3030303030303030303030303030303030303030303030303030303030303031
+end 1
 stored c 1 entries 1 sha256 8f8bbfc32f02a834239e30b6652655f8b425d92fe020ac9bd789cbeb3244bf78 origin p 1
 settled c 1
 wrote p 0 2
@@ -120,12 +190,7 @@ wrote p 0 2
 dn: dc=y
 changetype: delete
 
-write p
-dn: ou=a,dc=x
-changetype: add
-objectClass: organizationalUnit
-ou: a
-
+add a
 write p
 dn: dc=x
 changetype: delete
@@ -146,16 +211,16 @@ settle c
 show c
 ",
         "opened c 1
-sent c 3081f10201016481b4040464633d783081ab3027040b6f626a656374436c6173733118040c6f7267616e697a6174696f6e040864634f626a656374300804016f3103040158300904026463310304017830330409656e747279555549443126042430303030303030302d303030312d383030302d383030302d30303030303030303030303130360408656e74727943534e312a042831393730303130313030303030302e3030303030305a233030303030312330303123303030303030a03530330418312e332e362e312e342e312e343230332e312e392e312e32041730150a0101041000000000000180008000000000000001
+dc 1
 taken c
-sent c 30819302010165070a010004000400a081843081810418312e332e362e312e342e312e343230332e312e392e312e330465306304617269643d3030302c7369643d3030312c63736e3d31393730303130313030303030302e3030303030305a2330303030303123303031233030303030302c67656e3d3030303030303030303030303030303030303030303030303030303030303031
+end 1
 stored c 1 entries 1 sha256 8f8bbfc32f02a834239e30b6652655f8b425d92fe020ac9bd789cbeb3244bf78 origin p 1
 settled c 1
 wrote p 0 2
 opened c 2
 sent c 303a02010179358018312e332e362e312e342e312e343230332e312e392e312e348119a3170101ff3112041000000000000180008000000000000001
 taken c
-sent c 30819602010165070a010004000400a081873081840418312e332e362e312e342e312e343230332e312e392e312e330468306604617269643d3030302c7369643d3030312c63736e3d31393730303130313030303030302e3030303030305a2330303030303223303031233030303030302c67656e3d30303030303030303030303030303030303030303030303030303030303030310101ff
+deletes 2
 stored c 2 entries 0 sha256 e3b0c44298fc1c149afbf4c8996fb92427ae41e4649b934ca495991b7852b855 origin p 2
 settled c 2
 ",
@@ -168,12 +233,7 @@ changetype: add
 objectClass: organizationalUnit
 ou: a
 
-write p
-dn: ou=a,dc=x
-changetype: add
-objectClass: organizationalUnit
-ou: a
-
+add a
 ",
         "wrote p 0 2
 wrote p 68 2
@@ -222,19 +282,9 @@ wrote p 65 1
     // A clock that goes back repeats no stamp.
     (
         "clock 1000000
-write p
-dn: ou=a,dc=x
-changetype: add
-objectClass: organizationalUnit
-ou: a
-
+add a
 clock 500000
-write p
-dn: ou=b,dc=x
-changetype: add
-objectClass: organizationalUnit
-ou: b
-
+add b
 consumer d from p one \"dc=x\" \"(!(ou=a))\"
 settle d
 show d
@@ -332,13 +382,13 @@ show d
         "wrote p 0 2
 wrote p 0 3
 opened c 3
-sent c 3081f10201016481b4040464633d783081ab3027040b6f626a656374436c6173733118040c6f7267616e697a6174696f6e040864634f626a656374300804016f3103040158300904026463310304017830330409656e747279555549443126042430303030303030302d303030312d383030302d383030302d30303030303030303030303130360408656e74727943534e312a042831393730303130313030303030302e3030303030305a233030303030312330303123303030303030a03530330418312e332e362e312e342e312e343230332e312e392e312e32041730150a0101041000000000000180008000000000000001
+dc 1
 taken c
-sent c 3081e80201016481ab04096f753d612c64633d7830819d3023040b6f626a656374436c617373311404126f7267616e697a6174696f6e616c556e6974300904026f75310304016130330409656e747279555549443126042430303030303030302d303030312d383030302d383030302d30303030303030303030303230360408656e74727943534e312a042831393730303130313030303030302e3030303030305a233030303030322330303123303030303030a03530330418312e332e362e312e342e312e343230332e312e392e312e32041730150a0101041000000000000180008000000000000002
+unit a2
 taken c
 sent c 3081ed0201016481b0040e6f753d622c6f753d612c64633d7830819d3023040b6f626a656374436c617373311404126f7267616e697a6174696f6e616c556e6974300904026f75310304016230330409656e747279555549443126042430303030303030302d303030312d383030302d383030302d30303030303030303030303330360408656e74727943534e312a042831393730303130313030303030302e3030303030305a233030303030332330303123303030303030a03530330418312e332e362e312e342e312e343230332e312e392e312e32041730150a0101041000000000000180008000000000000003
 taken c
-sent c 30819302010165070a010004000400a081843081810418312e332e362e312e342e312e343230332e312e392e312e330465306304617269643d3030302c7369643d3030312c63736e3d31393730303130313030303030302e3030303030305a2330303030303323303031233030303030302c67656e3d3030303030303030303030303030303030303030303030303030303030303031
+end 3
 stored c 3 entries 3 sha256 f768f0ec3c7ead80431558d5d100a60eb9530e476befc818aded298a88a4ba39 origin p 3
 settled c 3
 wrote p 0 4
@@ -397,14 +447,8 @@ entryCSN: 19700101000000.000000Z#000002#001#000000
 
 #[test]
 fn scripts_are_reported(rt: HostRuntime) -> Result<(), Fail> {
-    for (more, report) in REPORTS {
-        let script = started(rt.alloc(), more.as_bytes())?;
-        let (code, output, errors) = cascade(&rt, rt.alloc(), script.as_slice())?;
-        let mut told = b"wrote p 0 1\n".to_vec(rt.alloc())?;
-        told.extend_from_slice(report.as_bytes())?;
-        assert_eq!(rt; errors.bytes(), b"".as_slice());
-        assert_eq!(rt; output.bytes(), told.as_slice());
-        assert_eq!(rt; code, 0);
+    for (script, report) in &REPORTS {
+        assert_follows(&rt, rt.alloc(), script, report)?;
     }
     Ok(())
 }
@@ -419,7 +463,7 @@ consumer c from p sub \"dc=x\" \"(objectClass=*)\"
 settle c
 ",
         "opened c 0
-sent c 30819302010165070a010004000400a081843081810418312e332e362e312e342e312e343230332e312e392e312e330465306304617269643d3030302c7369643d3030312c63736e3d31393730303130313030303030302e3030303030305a2330303030303023303031233030303030302c67656e3d3030303030303030303030303030303030303030303030303030303030303031
+end 0
 stored c 0 entries 0 sha256 e3b0c44298fc1c149afbf4c8996fb92427ae41e4649b934ca495991b7852b855 origin p 0
 settled c 0
 ",
@@ -428,11 +472,8 @@ settled c 0
 
 #[test]
 fn whole_scripts_are_reported(rt: HostRuntime) -> Result<(), Fail> {
-    for (script, report) in WHOLE_REPORTS {
-        let (code, output, errors) = cascade(&rt, rt.alloc(), script.as_bytes())?;
-        assert_eq!(rt; code, 0);
-        assert_eq!(rt; output.bytes(), report.as_bytes());
-        assert_eq!(rt; errors.bytes(), b"".as_slice());
+    for (script, report) in &WHOLE_REPORTS {
+        assert_reported(&rt, rt.alloc(), script, report)?;
     }
     Ok(())
 }
@@ -488,8 +529,9 @@ take c 1 1 => BadCommand
 cut => BadCommand
 cut c d => BadCommand
 open c once more => BadCommand
-open c stay => NotYet
-open nobody stay => NotYet
+open c stay forever => BadCommand
+open nobody stay => UnknownNode
+open p stay => UnknownNode
 open nobody once => UnknownNode
 open p once => UnknownNode
 send p => UnknownNode
@@ -511,7 +553,11 @@ log c 0 => UnknownNode
 log nobody 0 => UnknownNode
 log p 1000001 => BadCommand
 log p => BadCommand
-queue p 1000000 => NotYet
+queue p -1 => BadCommand
+queue p => BadCommand
+queue p 1 1 => BadCommand
+queue c 0 => UnknownNode
+queue nobody 1000000 => UnknownNode
 settle q => UnknownNode
 settle p => UnknownNode
 show q => UnknownNode
@@ -527,15 +573,19 @@ consumer d from p sub \"\" \"(objectClass=*)\" => OutsideSuffix";
 #[test]
 fn lines_are_refused(rt: HostRuntime) -> Result<(), Fail> {
     for case in REFUSED_LINES.lines() {
-        let (line, cause) = case.split_once(" => ").unwrap_or((case, ""));
-        let script = started(rt.alloc(), line.as_bytes())?;
-        let (code, output, errors) = cascade(&rt, rt.alloc(), script.as_slice())?;
-        let refusal = format!(in rt.alloc(); "syncrepl: line 11: {cause}\n")?;
-        assert_eq!(rt; errors.bytes(), refusal.as_bytes());
-        assert_eq!(rt; output.bytes(), b"wrote p 0 1\n".as_slice());
-        assert_eq!(rt; code, 3);
+        assert_line_refused(&rt, rt.alloc(), case)?;
     }
     Ok(())
+}
+
+fn assert_line_refused<R: Threads + Wait + Sync + Abort>(
+    rt: &R,
+    alloc: Global,
+    case: &str,
+) -> Result<(), Fail> {
+    let (line, cause) = case.split_once(" => ").unwrap_or((case, ""));
+    let refusal = format!(in alloc; "11: {cause}")?;
+    assert_refused(rt, alloc, line.as_bytes(), refusal.as_str())
 }
 
 /// What follows the start, and the refusal.
@@ -588,35 +638,25 @@ const REFUSED_RECORDS: [(&str, &str); 23] = [
 
 #[test]
 fn records_are_refused(rt: HostRuntime) -> Result<(), Fail> {
-    for (more, refusal) in REFUSED_RECORDS {
-        let script = started(rt.alloc(), more.as_bytes())?;
-        let (code, output, errors) = cascade(&rt, rt.alloc(), script.as_slice())?;
-        let said = format!(in rt.alloc(); "syncrepl: line {refusal}\n")?;
-        assert_eq!(rt; errors.bytes(), said.as_bytes());
-        assert_eq!(rt; output.bytes(), b"wrote p 0 1\n".as_slice());
-        assert_eq!(rt; code, 3);
+    for (more, refusal) in &REFUSED_RECORDS {
+        assert_refused(&rt, rt.alloc(), more.as_bytes(), refusal)?;
     }
     Ok(())
 }
 
-/// Bytes that are not UTF-8 are refused at the command, wherever they stand.
+/// What follows the start, with bytes that are not UTF-8.
+const OTHER_BYTES: [&[u8]; 4] = [
+    b"\xff\n",
+    b"# \xff\n",
+    b"write p\ndn: dc=y\nno colon\ndescription: \xc3\n\nsettle c\n",
+    b"write q\n# \xff",
+];
+
+/// They are refused at the command, wherever they stand.
 #[test]
 fn other_bytes_are_refused(rt: HostRuntime) -> Result<(), Fail> {
-    let cases: [&[u8]; 4] = [
-        b"\xff\n",
-        b"# \xff\n",
-        b"write p\ndn: dc=y\nno colon\ndescription: \xc3\n\nsettle c\n",
-        b"write q\n# \xff",
-    ];
-    for more in cases {
-        let script = started(rt.alloc(), more)?;
-        let (code, output, errors) = cascade(&rt, rt.alloc(), script.as_slice())?;
-        assert_eq!(rt; code, 3);
-        assert_eq!(rt; output.bytes(), b"wrote p 0 1\n".as_slice());
-        assert_eq!(rt;
-            errors.bytes(),
-            b"syncrepl: line 11: BadCommand\n".as_slice()
-        );
+    for more in &OTHER_BYTES {
+        assert_refused(&rt, rt.alloc(), more, "11: BadCommand")?;
     }
     Ok(())
 }
@@ -633,32 +673,31 @@ fn sixteen_nodes(alloc: Global, more: &[u8]) -> Result<Vec<u8>, Fail> {
     Ok(script)
 }
 
+/// What follows sixteen nodes, the status, and the refusal.
+const NODES: [(&[u8], u8, &[u8]); 4] = [
+    (b"show p\n", 0, b""),
+    (
+        b"provider q \"dc=x\"\n",
+        8,
+        b"syncrepl: line 17: LimitReached 16\n",
+    ),
+    (
+        b"consumer q from a sub \"dc=x\" \"(objectClass=*)\"\n",
+        8,
+        b"syncrepl: line 17: LimitReached 16\n",
+    ),
+    (
+        b"provider a \"dc=x\"\n",
+        3,
+        b"syncrepl: line 17: NameTaken\n",
+    ),
+];
+
 #[test]
 fn a_script_has_16_nodes_at_most(rt: HostRuntime) -> Result<(), Fail> {
-    let cases: [(&[u8], u8, &[u8]); 4] = [
-        (b"show p\n", 0, b""),
-        (
-            b"provider q \"dc=x\"\n",
-            8,
-            b"syncrepl: line 17: LimitReached 16\n",
-        ),
-        (
-            b"consumer q from a sub \"dc=x\" \"(objectClass=*)\"\n",
-            8,
-            b"syncrepl: line 17: LimitReached 16\n",
-        ),
-        (
-            b"provider a \"dc=x\"\n",
-            3,
-            b"syncrepl: line 17: NameTaken\n",
-        ),
-    ];
-    for (more, status, refusal) in cases {
+    for (more, status, refusal) in &NODES {
         let script = sixteen_nodes(rt.alloc(), more)?;
-        let (code, output, errors) = cascade(&rt, rt.alloc(), script.as_slice())?;
-        assert_eq!(rt; errors.bytes(), refusal);
-        assert_eq!(rt; output.bytes(), b"".as_slice());
-        assert_eq!(rt; code, status);
+        assert_run(&rt, rt.alloc(), script.as_slice(), *status, b"", refusal)?;
     }
     Ok(())
 }
@@ -673,41 +712,72 @@ fn long_script(alloc: Global, lines: usize, more: &[u8]) -> Result<Vec<u8>, Fail
     Ok(script)
 }
 
+/// The number of lines, what follows them, the status, and the refusal.
+const LENGTHS: [(usize, &[u8], u8, &[u8]); 3] = [
+    (1_000_000, b"", 0, b""),
+    (
+        1_000_000,
+        b"# one more",
+        8,
+        b"syncrepl: line 1000001: LimitReached 1000000\n",
+    ),
+    (
+        999_999,
+        b"write p\ndn: dc=x\n",
+        8,
+        b"syncrepl: line 1000001: LimitReached 1000000\n",
+    ),
+];
+
+/// What is reported of the start and a settling.
+const SETTLED: &str = "wrote p 0 1
+opened c 1
+dc 1
+taken c
+end 1
+stored c 1 entries 1 sha256 8f8bbfc32f02a834239e30b6652655f8b425d92fe020ac9bd789cbeb3244bf78 origin p 1
+settled c 1
+";
+
 /// A script of the most lines is done; one more is refused, and so is a record that runs into it.
 #[test]
 fn a_script_has_1000000_lines_at_most(rt: HostRuntime) -> Result<(), Fail> {
-    let report =
-        b"wrote p 0 1\nopened c 1\nsent c 3081f10201016481b4040464633d783081ab3027040b6f626a656374436c6173733118040c6f7267616e697a6174696f6e040864634f626a656374300804016f3103040158300904026463310304017830330409656e747279555549443126042430303030303030302d303030312d383030302d383030302d30303030303030303030303130360408656e74727943534e312a042831393730303130313030303030302e3030303030305a233030303030312330303123303030303030a03530330418312e332e362e312e342e312e343230332e312e392e312e32041730150a0101041000000000000180008000000000000001\ntaken c\nsent c 30819302010165070a010004000400a081843081810418312e332e362e312e342e312e343230332e312e392e312e330465306304617269643d3030302c7369643d3030312c63736e3d31393730303130313030303030302e3030303030305a2330303030303123303031233030303030302c67656e3d3030303030303030303030303030303030303030303030303030303030303031\nstored c 1 entries 1 sha256 8f8bbfc32f02a834239e30b6652655f8b425d92fe020ac9bd789cbeb3244bf78 origin p 1\nsettled c 1\n";
-    let cases: [(usize, &[u8], u8); 3] = [
-        (1_000_000, b"", 0),
-        (1_000_000, b"# one more", 8),
-        (999_999, b"write p\ndn: dc=x\n", 8),
-    ];
-    for (lines, more, status) in cases {
-        let script = long_script(rt.alloc(), lines, more)?;
-        let (code, output, errors) = cascade(&rt, rt.alloc(), script.as_slice())?;
-        let refusal: &[u8] = match status {
-            0 => b"",
-            _ => b"syncrepl: line 1000001: LimitReached 1000000\n",
-        };
-        assert_eq!(rt; errors.bytes(), refusal);
-        assert_eq!(rt; output.bytes(), report.as_slice());
-        assert_eq!(rt; code, status);
+    let report = in_full(rt.alloc(), SETTLED)?;
+    for (lines, more, status, refusal) in &LENGTHS {
+        let script = long_script(rt.alloc(), *lines, more)?;
+        assert_run(
+            &rt,
+            rt.alloc(),
+            script.as_slice(),
+            *status,
+            report.as_slice(),
+            refusal,
+        )?;
     }
     Ok(())
 }
 
+const OTHER_WORDS: [&[&str]; 3] = [&[], &["cascade", "extra"], &["Cascade"]];
+
 #[test]
 fn other_words_are_refused(rt: HostRuntime) -> Result<(), Fail> {
-    let cases: [&[&str]; 3] = [&[], &["cascade", "extra"], &["Cascade"]];
-    for words in cases {
-        let mut input = MemorySource::new(Octets::from_slice(rt.alloc(), START)?);
-        let mut output = MemorySink::new(rt.alloc());
-        let (code, errors) = ran(&rt, rt.alloc(), words, &mut input, &mut output)?;
-        assert_eq!(rt; code, 2);
-        assert_eq!(rt; output.bytes(), b"".as_slice());
-        assert_eq!(rt; errors.bytes(), USAGE);
+    for words in &OTHER_WORDS {
+        assert_usage(&rt, rt.alloc(), words)?;
     }
+    Ok(())
+}
+
+fn assert_usage<R: Threads + Wait + Sync + Abort>(
+    rt: &R,
+    alloc: Global,
+    words: &[&str],
+) -> Result<(), Fail> {
+    let mut input = MemorySource::new(Octets::from_slice(alloc, START)?);
+    let mut output = MemorySink::new(alloc);
+    let (code, errors) = ran(rt, alloc, words, &mut input, &mut output)?;
+    assert_same(rt, "errors", &errors.bytes(), &USAGE);
+    assert_same(rt, "output", &output.bytes(), &b"".as_slice());
+    assert_same(rt, "status", &code, &2);
     Ok(())
 }
 
@@ -719,22 +789,36 @@ fn a_second_read_that_fails_is_told(rt: HostRuntime) -> Result<(), Fail> {
     let mut input = FaultySource::new(steps);
     let mut output = MemorySink::new(rt.alloc());
     let (code, errors) = ran(&rt, rt.alloc(), &["cascade"], &mut input, &mut output)?;
-    assert_eq!(rt; code, 4);
-    assert_eq!(rt; output.bytes(), b"".as_slice());
-    assert_eq!(rt; errors.bytes(), b"syncrepl: read fault\n".as_slice());
+    assert_same(
+        &rt,
+        "errors",
+        &errors.bytes(),
+        &b"syncrepl: read fault\n".as_slice(),
+    );
+    assert_same(&rt, "output", &output.bytes(), &b"".as_slice());
+    assert_same(&rt, "status", &code, &4);
     Ok(())
+}
+
+/// An output that fails at the second call.
+fn failing_output(alloc: Global) -> Result<FaultySink, NoMemory> {
+    let failing = Vec::from_slice(alloc, &[2])?;
+    Ok(FaultySink::new(alloc, failing))
 }
 
 #[test]
 fn a_second_write_that_fails_is_told(rt: HostRuntime) -> Result<(), Fail> {
     let script = started(rt.alloc(), b"settle c\nsettle c\n")?;
-    let mut failing = Vec::new(rt.alloc());
-    failing.push(2)?;
-    let mut input = MemorySource::new(Octets::from_slice(rt.alloc(), script.as_slice())?);
-    let mut output = FaultySink::new(rt.alloc(), failing);
+    let mut input = MemorySource::new(Octets::from(script));
+    let mut output = failing_output(rt.alloc())?;
     let (code, errors) = ran(&rt, rt.alloc(), &["cascade"], &mut input, &mut output)?;
-    assert_eq!(rt; code, 5);
-    assert_eq!(rt; output.bytes(), b"wrote p 0 1\n".as_slice());
-    assert_eq!(rt; errors.bytes(), b"syncrepl: write fault\n".as_slice());
+    assert_same(
+        &rt,
+        "errors",
+        &errors.bytes(),
+        &b"syncrepl: write fault\n".as_slice(),
+    );
+    assert_same(&rt, "output", &output.bytes(), &WRITTEN);
+    assert_same(&rt, "status", &code, &5);
     Ok(())
 }

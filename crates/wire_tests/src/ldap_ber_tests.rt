@@ -1,8 +1,10 @@
 //! Elements both ways, and those that are refused. Spellings marked LG are from "A Layman's Guide
 //! to a Subset of ASN.1, BER, and DER" (RSA Laboratories, 1993), with its section, and those
 //! marked X.690 from that standard.
+use crate::assertions::{assert_same, assert_same_of};
 use ldap_ber::{BerFault, BerKind, NoMemory, Octets, Reader, Tlv, Writer, boolean, integer};
 use std::alloc::Global;
+use std::process::Abort;
 use std::test::Fail;
 
 // What these calls answer is compared when the tests run: the proofs of the tests know nothing of it.
@@ -29,100 +31,136 @@ fn with_boolean(alloc: Global, value: bool) -> Result<Octets, NoMemory> {
     Ok(writer.finish())
 }
 
+/// Integers, and how they are written.
+const INTEGERS: [(&[u8], i64); 8] = [
+    // LG 5.7
+    (b"\x02\x01\x00", 0),
+    (b"\x02\x01\x7f", 127),
+    (b"\x02\x02\x00\x80", 128),
+    (b"\x02\x02\x01\x00", 256),
+    (b"\x02\x01\x80", -128),
+    (b"\x02\x02\xff\x7f", -129),
+    // The ends of the range.
+    (b"\x02\x08\x7f\xff\xff\xff\xff\xff\xff\xff", i64::MAX),
+    (b"\x02\x08\x80\0\0\0\0\0\0\0", i64::MIN),
+];
+
 #[test]
 fn integers_both_ways(rt: HostRuntime) -> Result<(), Fail> {
-    let rows: [(&[u8], i64); 8] = [
-        // LG 5.7
-        (b"\x02\x01\x00", 0),
-        (b"\x02\x01\x7f", 127),
-        (b"\x02\x02\x00\x80", 128),
-        (b"\x02\x02\x01\x00", 256),
-        (b"\x02\x01\x80", -128),
-        (b"\x02\x02\xff\x7f", -129),
-        // The ends of the range.
-        (b"\x02\x08\x7f\xff\xff\xff\xff\xff\xff\xff", i64::MAX),
-        (b"\x02\x08\x80\0\0\0\0\0\0\0", i64::MIN),
-    ];
-    for (spelling, value) in rows {
-        assert_eq!(rt; reader_of(spelling).integer(2), Ok(value));
-        assert_eq!(rt; with_integer(rt.alloc(), value)?.as_slice(), spelling);
+    for (spelling, value) in &INTEGERS {
+        assert_same_of(&rt, spelling, &reader_of(spelling).integer(2), &Ok(*value));
+        let written = with_integer(rt.alloc(), *value)?;
+        assert_same_of(&rt, spelling, &written.as_slice(), spelling);
     }
     Ok(())
 }
 
-/// Spellings that are read and never written.
-#[test]
-fn other_spellings(rt: HostRuntime) -> Result<(), Fail> {
-    // LG 5.10: the long form of a length
-    let octets = b"\x04\x81\x08\x01\x23\x45\x67\x89\xab\xcd\xef";
-    assert_eq!(rt; reader_of(octets).octets(4), Ok(&octets[3..]));
-
+/// Spellings of integers that are read and never written.
+const OTHER_INTEGERS: [(&[u8], i64); 3] = [
     // Four length octets, as in each length that some clients write.
-    assert_eq!(rt; reader_of(b"\x02\x84\0\0\0\x01\x02").integer(2), Ok(2));
-
+    (b"\x02\x84\0\0\0\x01\x02", 2),
     // Needless octets in front of an integer.
-    assert_eq!(rt; reader_of(b"\x02\x03\0\0\x7f").integer(2), Ok(127));
-    assert_eq!(rt;
-        reader_of(b"\x02\x08\xff\xff\xff\xff\xff\xff\xff\x80").integer(2),
-        Ok(-128)
-    );
+    (b"\x02\x03\0\0\x7f", 127),
+    (b"\x02\x08\xff\xff\xff\xff\xff\xff\xff\x80", -128),
+];
 
-    // Any octet but 0 is true.
-    for octet in [1, 0x7f, 0x80, 0xfe] {
-        assert_eq!(rt; reader_of(&[1, 1, octet]).boolean(1), Ok(true), "{octet}");
+#[test]
+fn other_spellings_of_integers(rt: HostRuntime) {
+    for (spelling, value) in &OTHER_INTEGERS {
+        assert_same_of(&rt, spelling, &reader_of(spelling).integer(2), &Ok(*value));
+    }
+}
+
+/// LG 5.10: the long form of a length, and the body.
+const LONG_FORM: (&[u8], &[u8]) = (
+    b"\x04\x81\x08\x01\x23\x45\x67\x89\xab\xcd\xef",
+    b"\x01\x23\x45\x67\x89\xab\xcd\xef",
+);
+
+#[test]
+fn another_spelling_of_octets(rt: HostRuntime) {
+    let (spelling, body) = LONG_FORM;
+    assert_same_of(&rt, spelling, &reader_of(spelling).octets(4), &Ok(body));
+}
+
+/// Any octet but 0 is true.
+const TRUE: [&[u8]; 4] = [
+    b"\x01\x01\x01",
+    b"\x01\x01\x7f",
+    b"\x01\x01\x80",
+    b"\x01\x01\xfe",
+];
+
+#[test]
+fn other_spellings_of_truth(rt: HostRuntime) {
+    for spelling in &TRUE {
+        assert_same_of(&rt, spelling, &reader_of(spelling).boolean(1), &Ok(true));
+    }
+}
+
+/// Octet strings, their tags and their bodies.
+const OCTETS: [(&[u8], u8, &[u8]); 4] = [
+    // LG 5.10
+    (
+        b"\x04\x08\x01\x23\x45\x67\x89\xab\xcd\xef",
+        4,
+        b"\x01\x23\x45\x67\x89\xab\xcd\xef",
+    ),
+    // X.690, 8.14: a VisibleString, the same under an application tag, and this under a tag [2]
+    (b"\x1a\x05Jones", 0x1A, b"Jones"),
+    (b"\x43\x05Jones", 0x43, b"Jones"),
+    (b"\xa2\x07\x43\x05Jones", 0xA2, b"\x43\x05Jones"),
+];
+
+#[test]
+fn octets_both_ways(rt: HostRuntime) -> Result<(), Fail> {
+    for (spelling, tag, body) in &OCTETS {
+        assert_same_of(&rt, spelling, &reader_of(spelling).octets(*tag), &Ok(*body));
+        let written = with_octets(rt.alloc(), *tag, body)?;
+        assert_same_of(&rt, spelling, &written.as_slice(), spelling);
     }
     Ok(())
 }
 
+/// X.690, 8.2.2 and 11.1
+const TRUTHS: [(&[u8], bool); 2] = [(b"\x01\x01\xff", true), (b"\x01\x01\0", false)];
+
 #[test]
-fn octets_and_truth_values_both_ways(rt: HostRuntime) -> Result<(), Fail> {
-    let rows: [(&[u8], u8, &[u8]); 4] = [
-        // LG 5.10
-        (
-            b"\x04\x08\x01\x23\x45\x67\x89\xab\xcd\xef",
-            4,
-            b"\x01\x23\x45\x67\x89\xab\xcd\xef",
-        ),
-        // X.690, 8.14: a VisibleString, the same under an application tag, and this under a tag [2]
-        (b"\x1a\x05Jones", 0x1A, b"Jones"),
-        (b"\x43\x05Jones", 0x43, b"Jones"),
-        (b"\xa2\x07\x43\x05Jones", 0xA2, b"\x43\x05Jones"),
-    ];
-    for (spelling, tag, body) in rows {
-        assert_eq!(rt; reader_of(spelling).octets(tag), Ok(body));
-        assert_eq!(rt; with_octets(rt.alloc(), tag, body)?.as_slice(), spelling);
-    }
-    // X.690, 8.2.2 and 11.1
-    let truths: [(&[u8], bool); 2] = [(b"\x01\x01\xff", true), (b"\x01\x01\0", false)];
-    for (spelling, value) in truths {
-        assert_eq!(rt; reader_of(spelling).boolean(1), Ok(value));
-        assert_eq!(rt; with_boolean(rt.alloc(), value)?.as_slice(), spelling);
+fn truth_values_both_ways(rt: HostRuntime) -> Result<(), Fail> {
+    for (spelling, value) in &TRUTHS {
+        assert_same_of(&rt, spelling, &reader_of(spelling).boolean(1), &Ok(*value));
+        let written = with_boolean(rt.alloc(), *value)?;
+        assert_same_of(&rt, spelling, &written.as_slice(), spelling);
     }
     Ok(())
+}
+
+/// Lengths of octet strings, and how these begin.
+const LENGTHS: [(usize, &[u8]); 8] = [
+    (0, b"\x04\0"),
+    (127, b"\x04\x7f"),
+    (128, b"\x04\x81\x80"),
+    // X.690, 8.1.3.5: the length 201
+    (201, b"\x04\x81\xc9"),
+    (255, b"\x04\x81\xff"),
+    (256, b"\x04\x82\x01\0"),
+    (65_535, b"\x04\x82\xff\xff"),
+    (65_536, b"\x04\x83\x01\0\0"),
+];
+
+/// The header and the body of these bytes, whose header is this.
+fn check_length(rt: &impl Abort, bytes: &[u8], header: &[u8], body: &[u8]) {
+    assert!(rt; bytes.starts_with(header));
+    assert_same_of(rt, header, &bytes.len(), &(header.len() + body.len()));
+    assert_same_of(rt, header, &reader_of(bytes).octets(4), &Ok(body));
 }
 
 #[test]
 fn lengths_both_ways(rt: HostRuntime) -> Result<(), Fail> {
-    let rows: [(usize, &[u8]); 8] = [
-        (0, b"\x04\0"),
-        (127, b"\x04\x7f"),
-        (128, b"\x04\x81\x80"),
-        // X.690, 8.1.3.5: the length 201
-        (201, b"\x04\x81\xc9"),
-        (255, b"\x04\x81\xff"),
-        (256, b"\x04\x82\x01\0"),
-        (65_535, b"\x04\x82\xff\xff"),
-        (65_536, b"\x04\x83\x01\0\0"),
-    ];
-    for (count, header) in rows {
-        let body = vec![in rt.alloc(); 7_u8; count]?;
+    for (count, header) in &LENGTHS {
+        let body = vec![in rt.alloc(); 7_u8; *count]?;
         let written = with_octets(rt.alloc(), 4, &body)?;
-        assert!(rt; written.as_slice().starts_with(header), "{count}");
-        assert_eq!(rt; written.as_slice().len(), header.len() + count);
-        assert_eq!(rt;
-            reader_of(written.as_slice()).octets(4),
-            Ok(body.as_slice())
-        );
+        check_length(&rt, written.as_slice(), header, &body);
     }
     Ok(())
 }
@@ -142,28 +180,43 @@ fn nested(alloc: Global) -> Result<Octets, NoMemory> {
     Ok(writer.finish())
 }
 
-#[test]
-fn elements_in_elements(rt: HostRuntime) -> Result<(), Fail> {
-    let spelling = b"\x30\x1c\x0a\x01\x0a\xa3\x14\x04\x08ldap://a\x04\x08ldap://b\x02\x01\xff";
-    let written = nested(rt.alloc())?;
-    assert_eq!(rt; written.as_slice(), &spelling[..]);
+/// How it is written.
+const NESTED: &[u8] = b"\x30\x1c\x0a\x01\x0a\xa3\x14\x04\x08ldap://a\x04\x08ldap://b\x02\x01\xff";
 
-    let whole = reader_of(spelling).expect(0x30)?;
-    assert_eq!(rt; (whole.at, whole.stop), (0, 30));
-    let mut inner = Reader::inside(&whole);
-    assert_eq!(rt; inner.peek_tag(), Some(10));
-    assert_eq!(rt; integer(&inner.next()?), Ok(10));
-    let list = inner.next()?;
-    assert_eq!(rt; (list.tag, list.at, list.stop), (0xA3, 5, 27));
-    let mut list = Reader::inside(&list);
-    list.next()?;
-    assert_eq!(rt; list.place(), 17);
-    assert_eq!(rt; list.octets(4)?, b"ldap://b".as_slice());
-    assert_eq!(rt; list.end(), Ok(()));
-    assert_eq!(rt; inner.boolean_or(1, true), Ok(true));
-    assert_eq!(rt; inner.skip(), Ok(()));
-    assert_eq!(rt; inner.peek_tag(), None);
+#[test]
+fn elements_in_elements_are_written(rt: HostRuntime) -> Result<(), Fail> {
+    assert_same_of(&rt, NESTED, &nested(rt.alloc())?.as_slice(), &NESTED);
     Ok(())
+}
+
+/// The list begins at 5 and ends at 27, and its second element is this.
+fn check_list(rt: &impl Abort, element: &Tlv) -> Result<(), BerFault> {
+    let found = (element.tag, element.at, element.stop);
+    assert_same(rt, "list", &found, &(0xA3, 5, 27));
+    let mut list = Reader::inside(element);
+    list.next()?;
+    assert_same(rt, "second", &list.place(), &17);
+    assert_same(rt, "URI", &list.octets(4)?, &b"ldap://b".as_slice());
+    assert_same(rt, "end of the list", &list.end(), &Ok(()));
+    Ok(())
+}
+
+/// A number, the list, no truth value, and an element that is passed.
+fn check_inside(rt: &impl Abort, inner: &mut Reader) -> Result<(), BerFault> {
+    assert_same(rt, "first tag", &inner.peek_tag(), &Some(10));
+    assert_same(rt, "number", &integer(&inner.next()?), &Ok(10));
+    check_list(rt, &inner.next()?)?;
+    assert_same(rt, "truth", &inner.boolean_or(1, true), &Ok(true));
+    assert_same(rt, "passed", &inner.skip(), &Ok(()));
+    assert_same(rt, "last tag", &inner.peek_tag(), &None);
+    Ok(())
+}
+
+#[test]
+fn elements_in_elements_are_read(rt: HostRuntime) -> Result<(), Fail> {
+    let whole = reader_of(NESTED).expect(0x30)?;
+    assert_same(&rt, "whole", &(whole.at, whole.stop), &(0, 30));
+    Ok(check_inside(&rt, &mut Reader::inside(&whole))?)
 }
 
 /// What a caller asks of the element behind the first one in a sequence.
@@ -177,136 +230,144 @@ enum Call {
     End,
 }
 
-/// The refusal of this call, or none.
-fn refusal(bytes: &[u8], call: Call) -> Result<Option<BerFault>, BerFault> {
-    let mut outer = Reader::new(bytes);
-    let whole = outer.expect(0x30)?;
-    let mut inner = Reader::inside(&whole);
-    inner.next()?;
-    let fault = match call {
+fn refusal_of(inner: &mut Reader, call: Call) -> Option<BerFault> {
+    match call {
         Call::Next => inner.next().err(),
         Call::Octets => inner.octets(4).err(),
         Call::Integer => inner.integer(2).err(),
         Call::Boolean => inner.boolean(1).err(),
         Call::Skip => inner.skip().err(),
         Call::End => inner.end().err(),
-    };
-    Ok(fault)
+    }
 }
 
+/// The refusal of this call, or none.
+fn refusal(bytes: &[u8], call: Call) -> Result<Option<BerFault>, BerFault> {
+    let mut outer = Reader::new(bytes);
+    let whole = outer.expect(0x30)?;
+    let mut inner = Reader::inside(&whole);
+    inner.next()?;
+    Ok(refusal_of(&mut inner, call))
+}
+
+/// Sequences, what is asked of the element behind the first one, and what refuses it.
+const REFUSED: [(&[u8], Call, BerKind, usize); 19] = [
+    // no element, a tag alone, a length cut, a body cut
+    (b"\x30\x03\x02\x01\x05", Call::Next, BerKind::Short, 5),
+    (b"\x30\x04\x02\x01\x05\x04", Call::Next, BerKind::Short, 5),
+    (
+        b"\x30\x06\x02\x01\x05\x04\x82\x01",
+        Call::Next,
+        BerKind::Short,
+        5,
+    ),
+    (
+        b"\x30\x06\x02\x01\x05\x04\x02a",
+        Call::Next,
+        BerKind::Short,
+        5,
+    ),
+    // the place counts from the outermost octet, whatever the lengths are written like
+    (
+        b"\x30\x84\0\0\0\x0c\x02\x84\0\0\0\x01\x05\x04\x84\0\0\0",
+        Call::Next,
+        BerKind::Short,
+        13,
+    ),
+    // an indefinite length, five length octets, the reserved first length octet
+    (
+        b"\x30\x07\x02\x01\x05\x24\x80\0\0",
+        Call::Next,
+        BerKind::Indefinite,
+        5,
+    ),
+    (
+        b"\x30\x0a\x02\x01\x05\x04\x85\0\0\0\0\0",
+        Call::Next,
+        BerKind::LongLength,
+        5,
+    ),
+    (
+        b"\x30\x05\x02\x01\x05\x04\xff",
+        Call::Next,
+        BerKind::LongLength,
+        5,
+    ),
+    // the tag number 31, which is told before what is wrong with the length
+    (
+        b"\x30\x06\x02\x01\x05\x1f\x1f\0",
+        Call::Next,
+        BerKind::WrongTag,
+        5,
+    ),
+    (
+        b"\x30\x05\x02\x01\x05\x3f\x80",
+        Call::Next,
+        BerKind::WrongTag,
+        5,
+    ),
+    // another tag, and LG 5.10: the constructed form of an octet string
+    (
+        b"\x30\x06\x02\x01\x05\x0a\x01\x05",
+        Call::Octets,
+        BerKind::WrongTag,
+        5,
+    ),
+    (
+        b"\x30\x11\x02\x01\x05\x24\x0c\x04\x04\x01\x23\x45\x67\x04\x04\x89\xab\xcd\xef",
+        Call::Octets,
+        BerKind::WrongTag,
+        5,
+    ),
+    // integers of no octet and of nine, truth values of no octet and of two
+    (
+        b"\x30\x05\x02\x01\x05\x02\0",
+        Call::Integer,
+        BerKind::BadInteger,
+        5,
+    ),
+    (
+        b"\x30\x0e\x02\x01\x05\x02\x09\0\0\0\0\0\0\0\0\x01",
+        Call::Integer,
+        BerKind::BadInteger,
+        5,
+    ),
+    (
+        b"\x30\x05\x02\x01\x05\x01\0",
+        Call::Boolean,
+        BerKind::BadBoolean,
+        5,
+    ),
+    (
+        b"\x30\x07\x02\x01\x05\x01\x02\0\0",
+        Call::Boolean,
+        BerKind::BadBoolean,
+        5,
+    ),
+    // the second of two unknown elements
+    (
+        b"\x30\x08\x02\x01\x05\x80\x01a\x81\x01",
+        Call::Skip,
+        BerKind::Short,
+        8,
+    ),
+    // bytes behind the last element
+    (b"\x30\x05\x02\x01\x05\0\0", Call::End, BerKind::Trailing, 5),
+    (
+        b"\x30\x81\x04\x02\x01\x05\0",
+        Call::End,
+        BerKind::Trailing,
+        6,
+    ),
+];
+
 #[test]
-fn refusals(rt: HostRuntime) -> Result<(), Fail> {
-    let rows: [(&[u8], Call, BerKind, usize); 19] = [
-        // no element, a tag alone, a length cut, a body cut
-        (b"\x30\x03\x02\x01\x05", Call::Next, BerKind::Short, 5),
-        (b"\x30\x04\x02\x01\x05\x04", Call::Next, BerKind::Short, 5),
-        (
-            b"\x30\x06\x02\x01\x05\x04\x82\x01",
-            Call::Next,
-            BerKind::Short,
-            5,
-        ),
-        (
-            b"\x30\x06\x02\x01\x05\x04\x02a",
-            Call::Next,
-            BerKind::Short,
-            5,
-        ),
-        // the place counts from the outermost octet, whatever the lengths are written like
-        (
-            b"\x30\x84\0\0\0\x0c\x02\x84\0\0\0\x01\x05\x04\x84\0\0\0",
-            Call::Next,
-            BerKind::Short,
-            13,
-        ),
-        // an indefinite length, five length octets, the reserved first length octet
-        (
-            b"\x30\x07\x02\x01\x05\x24\x80\0\0",
-            Call::Next,
-            BerKind::Indefinite,
-            5,
-        ),
-        (
-            b"\x30\x0a\x02\x01\x05\x04\x85\0\0\0\0\0",
-            Call::Next,
-            BerKind::LongLength,
-            5,
-        ),
-        (
-            b"\x30\x05\x02\x01\x05\x04\xff",
-            Call::Next,
-            BerKind::LongLength,
-            5,
-        ),
-        // the tag number 31, which is told before what is wrong with the length
-        (
-            b"\x30\x06\x02\x01\x05\x1f\x1f\0",
-            Call::Next,
-            BerKind::WrongTag,
-            5,
-        ),
-        (
-            b"\x30\x05\x02\x01\x05\x3f\x80",
-            Call::Next,
-            BerKind::WrongTag,
-            5,
-        ),
-        // another tag, and LG 5.10: the constructed form of an octet string
-        (
-            b"\x30\x06\x02\x01\x05\x0a\x01\x05",
-            Call::Octets,
-            BerKind::WrongTag,
-            5,
-        ),
-        (
-            b"\x30\x11\x02\x01\x05\x24\x0c\x04\x04\x01\x23\x45\x67\x04\x04\x89\xab\xcd\xef",
-            Call::Octets,
-            BerKind::WrongTag,
-            5,
-        ),
-        // integers of no octet and of nine, truth values of no octet and of two
-        (
-            b"\x30\x05\x02\x01\x05\x02\0",
-            Call::Integer,
-            BerKind::BadInteger,
-            5,
-        ),
-        (
-            b"\x30\x0e\x02\x01\x05\x02\x09\0\0\0\0\0\0\0\0\x01",
-            Call::Integer,
-            BerKind::BadInteger,
-            5,
-        ),
-        (
-            b"\x30\x05\x02\x01\x05\x01\0",
-            Call::Boolean,
-            BerKind::BadBoolean,
-            5,
-        ),
-        (
-            b"\x30\x07\x02\x01\x05\x01\x02\0\0",
-            Call::Boolean,
-            BerKind::BadBoolean,
-            5,
-        ),
-        // the second of two unknown elements
-        (
-            b"\x30\x08\x02\x01\x05\x80\x01a\x81\x01",
-            Call::Skip,
-            BerKind::Short,
-            8,
-        ),
-        // bytes behind the last element
-        (b"\x30\x05\x02\x01\x05\0\0", Call::End, BerKind::Trailing, 5),
-        (
-            b"\x30\x81\x04\x02\x01\x05\0",
-            Call::End,
-            BerKind::Trailing,
-            6,
-        ),
-    ];
-    for (bytes, call, kind, at) in rows {
-        assert_eq!(rt; refusal(bytes, call), Ok(Some(BerFault { kind, at })));
+fn refusals(rt: HostRuntime) {
+    for (bytes, call, kind, at) in &REFUSED {
+        let fault = BerFault {
+            kind: *kind,
+            at: *at,
+        };
+        assert_same_of(&rt, bytes, &refusal(bytes, *call), &Ok(Some(fault)));
     }
-    Ok(())
 }

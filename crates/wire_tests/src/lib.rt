@@ -3,6 +3,8 @@
 #![tactic(auto)]
 
 #[cfg(test)]
+mod assertions;
+#[cfg(test)]
 mod ldap_ber_tests;
 #[cfg(test)]
 mod sync_io_tests;

@@ -1,6 +1,7 @@
 //! What sources give and sinks hold, over small pieces.
 ghost use Rattle.std.specs.Prelude.{Some};
 
+use crate::assertions::assert_same;
 use ldap_ber::Octets;
 use std::alloc::{AllocError, Global};
 use std::io::{BufWriter, Cursor};
@@ -10,17 +11,22 @@ use sync_io::{
     Writing, write_whole,
 };
 
+/// Reads into two bytes, and appends the answer in words.
+fn push_answer<S: Source>(text: &mut String, source: &mut S) -> Result<(), AllocError> {
+    let mut buffer = [0u8; 2];
+    match source.read(&mut buffer) {
+        Piece::Got(count) => push_bytes(text, &buffer[..count]),
+        Piece::Quiet => text.push_str("quiet"),
+        Piece::End => text.push_str("end"),
+        Piece::Failed => text.push_str("failed"),
+    }
+}
+
 /// Reads so many times into two bytes, and gives the answers in words.
 fn answers<S: Source>(alloc: Global, source: &mut S, reads: u32) -> Result<String, AllocError> {
     let mut text = String::new(alloc);
     for _ in 0..reads {
-        let mut buffer = [0u8; 2];
-        match source.read(&mut buffer) {
-            Piece::Got(count) => push_bytes(&mut text, &buffer[..count])?,
-            Piece::Quiet => text.push_str("quiet")?,
-            Piece::End => text.push_str("end")?,
-            Piece::Failed => text.push_str("failed")?,
-        }
+        push_answer(&mut text, source)?;
         text.push(' ')?;
     }
     Ok(text)
@@ -33,37 +39,53 @@ fn push_bytes(text: &mut String, bytes: &[u8]) -> Result<(), AllocError> {
     Ok(())
 }
 
-#[test]
-fn sources_give_their_bytes_in_pieces(rt: HostRuntime) -> Result<(), Fail> {
-    let alloc = rt.alloc();
-    let mut memory = MemorySource::new(Octets::from_slice(alloc, b"abcde")?);
-    let text = answers(alloc, &mut memory, 5)?;
-    assert_eq!(rt; text.as_str(), "ab cd e end end ");
+const PIECES: &str = "ab cd e end end ";
 
-    let mut reading = Reading::new(Cursor::new(b"abcde".as_slice()));
-    let text = answers(alloc, &mut reading, 5)?;
-    assert_eq!(rt; text.as_str(), "ab cd e end end ");
+#[test]
+fn a_source_in_memory_gives_its_bytes_in_pieces(rt: HostRuntime) -> Result<(), Fail> {
+    let mut memory = MemorySource::new(Octets::from_slice(rt.alloc(), b"abcde")?);
+    let text = answers(rt.alloc(), &mut memory, 5)?;
+    assert_same(&rt, "memory", &text.as_str(), &PIECES);
     Ok(())
 }
 
+#[test]
+fn a_reader_gives_its_bytes_in_pieces(rt: HostRuntime) -> Result<(), Fail> {
+    let mut reading = Reading::new(Cursor::new(b"abcde".as_slice()));
+    let text = answers(rt.alloc(), &mut reading, 5)?;
+    assert_same(&rt, "reading", &text.as_str(), &PIECES);
+    Ok(())
+}
+
+fn give(alloc: Global, bytes: &[u8]) -> Result<Step, AllocError> {
+    Ok(Step::Give(Octets::from_slice(alloc, bytes)?))
+}
+
+/// The step that a word names, or one that gives the bytes of the word.
+fn step(alloc: Global, word: &str) -> Result<Step, AllocError> {
+    match word {
+        "fail" => Ok(Step::Fail),
+        "quiet" => Ok(Step::Quiet),
+        _ => give(alloc, word.as_bytes()),
+    }
+}
+
+const STEPS: [&str; 6] = ["abc", "fail", "", "de", "quiet", "f"];
+
 fn steps(alloc: Global) -> Result<Vec<Step>, AllocError> {
     let mut steps = Vec::new(alloc);
-    steps.push(Step::Give(Octets::from_slice(alloc, b"abc")?))?;
-    steps.push(Step::Fail)?;
-    steps.push(Step::Give(Octets::from_slice(alloc, b"")?))?;
-    steps.push(Step::Give(Octets::from_slice(alloc, b"de")?))?;
-    steps.push(Step::Quiet)?;
-    steps.push(Step::Give(Octets::from_slice(alloc, b"f")?))?;
+    for word in &STEPS {
+        steps.push(step(alloc, word)?)?;
+    }
     Ok(steps)
 }
 
 #[test]
 fn a_faulty_source_plays_its_steps(rt: HostRuntime) -> Result<(), Fail> {
-    let alloc = rt.alloc();
-    let mut source = FaultySource::new(steps(alloc)?);
-    let text = answers(alloc, &mut source, 7)?;
-    assert_eq!(rt; text.as_str(), "ab c failed de quiet f end ");
-    assert_eq!(rt; source.read_faults(), 1);
+    let mut source = FaultySource::new(steps(rt.alloc())?);
+    let text = answers(rt.alloc(), &mut source, 7)?;
+    assert_same(&rt, "steps", &text.as_str(), &"ab c failed de quiet f end ");
+    assert_same(&rt, "faults", &source.read_faults(), &1);
     Ok(())
 }
 
@@ -100,19 +122,22 @@ fn a_narrow_sink_takes_all_the_bytes(rt: HostRuntime) {
     assert!(rt; write_whole(&mut narrow, b"abcde"));
     assert!(rt; write_whole(&mut narrow, b""));
     assert!(rt; narrow.flush());
-    assert!(rt; narrow.sink.bytes() == b"abcde".as_slice());
+    assert_same(&rt, "held", &narrow.sink.bytes(), &b"abcde".as_slice());
 }
+
+/// What is written, and whether it is taken.
+const WRITES: [(&[u8], bool); 3] = [(b"ab", true), (b"cd", false), (b"ef", true)];
 
 #[test]
 fn a_faulty_sink_fails_at_its_calls(rt: HostRuntime) -> Result<(), Fail> {
-    let alloc = rt.alloc();
-    let mut faulty = FaultySink::new(alloc, Vec::from_slice(alloc, &[2, 4])?);
-    assert!(rt; write_whole(&mut faulty, b"ab"));
-    assert!(rt; !write_whole(&mut faulty, b"cd"));
-    assert!(rt; write_whole(&mut faulty, b"ef"));
+    let calls = Vec::from_slice(rt.alloc(), &[2, 4])?;
+    let mut faulty = FaultySink::new(rt.alloc(), calls);
+    for (bytes, is_taken) in &WRITES {
+        assert_same(&rt, "taken", &write_whole(&mut faulty, bytes), is_taken);
+    }
     assert!(rt; !faulty.flush());
-    assert!(rt; faulty.bytes() == b"abef".as_slice());
-    assert_eq!(rt; faulty.write_faults(), 2);
+    assert_same(&rt, "held", &faulty.bytes(), &b"abef".as_slice());
+    assert_same(&rt, "faults", &faulty.write_faults(), &2);
     Ok(())
 }
 
@@ -122,7 +147,7 @@ fn a_writer_without_room_is_a_fault(rt: HostRuntime) {
     assert!(rt; !write_whole(&mut writing, b"abcde"));
     assert!(rt; writing.flush());
     assert!(rt; writing.writer.into_inner() == *b"abc");
-    assert_eq!(rt; writing.faults, 1);
+    assert_same(&rt, "faults", &writing.faults, &1);
 }
 
 #[test]

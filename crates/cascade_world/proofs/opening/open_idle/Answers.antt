@@ -5,10 +5,10 @@ use Rattle.cascade_world.proofs.opening.open_idle.Goals as goal
 
 pub returns-in_ok-push_opened-in-Opened-clause-does : goal.returns-in_ok-push_opened-in-Opened-clause-does
 returns-in_ok-push_opened-in-Opened-clause-does c =
-    opens_idle c.args.provider.now c.accept.new.self c.args.follower.now c.asked.new.follower (search_of c.in_ok-wanted.wanted) c.in_ok-control.control c.in-Opened.number c.in-Opened.writes _ _ c.in_ok-control.ensures.ok
+    opens_idle c.args.mode c.args.provider.now c.accept.new.self c.args.follower.now c.asked.new.follower (search_of c.in_ok-wanted.wanted) c.in_ok-control.control c.in-Opened.number c.in-Opened.writes _ _ c.in_ok-control.ensures.ok
     (c.in_ok-wanted.ensures ∙ c.spec.ensures) c.in_ok-control.ensures.value c.in-Opened.ensures.answer c.in-Opened.ensures.state (rw c.as_slice.ensures at c.in_ok-push_opened-in-Opened.ensures)
 
 pub returns-in-Refused-clause-does : goal.returns-in-Refused-clause-does
 returns-in-Refused-clause-does c =
-    refused_as c.args.provider.now c.accept.new.self c.args.follower.now c.asked.new.follower c.refuse.new.follower (search_of c.in_ok-wanted.wanted) c.in_ok-control.control c.in-Refused.code _ _ c.refuse.result
+    refused_as c.args.mode c.args.provider.now c.accept.new.self c.args.follower.now c.asked.new.follower c.refuse.new.follower (search_of c.in_ok-wanted.wanted) c.in_ok-control.control c.in-Refused.code _ _ c.refuse.result
     c.in_ok-control.ensures.ok (c.in_ok-wanted.ensures ∙ c.spec.ensures) c.in_ok-control.ensures.value c.in-Refused.ensures.answer c.in-Refused.ensures.state c.refuse.ensures

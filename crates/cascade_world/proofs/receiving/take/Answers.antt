@@ -14,4 +14,5 @@ loop-left-preserved c = record {
       took_one (takes c.args.count (pair_of c.args.provider.now c.args.follower.now)) c.loop-left.left (pair_of c.loop-left.provider c.loop-left.follower) (pair_of c.take_one.new.provider c.take_one.new.follower)
       _ _ _ c.in_ok-take_one.field-0 c.loop-left-test.true c.loop-left.invariant.left c.in_ok-take_one.ensures.does c.if-not-branch.false;
   directory = c.in_ok-take_one.ensures.directory ∙ c.loop-left.invariant.directory;
+  queue_limit = c.in_ok-take_one.ensures.queue_limit ∙ c.loop-left.invariant.queue_limit;
 }

@@ -14,4 +14,5 @@ loop-left-preserved c = record {
       sent_one (sent c.args.count (pair_of c.args.provider.now c.args.follower.now)) c.loop-left.left (pair_of c.loop-left.provider c.loop-left.follower) (pair_of c.send_one.new.provider c.send_one.new.follower)
       _ _ _ c.loop-left-test.true c.loop-left.invariant.goes (rw c.if-not-branch.false at c.in_ok-send_one.ensures.does);
   directory = c.in_ok-send_one.ensures.directory ∙ c.loop-left.invariant.directory;
+  queue_limit = c.in_ok-send_one.ensures.queue_limit ∙ c.loop-left.invariant.queue_limit;
 }

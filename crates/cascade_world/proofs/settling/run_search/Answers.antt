@@ -18,6 +18,7 @@ loop-provider-preserved c = record {
       (pair_of c.take_one.new.provider c.take_one.new.follower) _ _ _ _ c.in_ok-send_one.field-0 c.in_ok-take_one.field-0 c.loop-provider.invariant.left c.in_ok-send_one.ensures.does c.if-branch.true
       c.in_ok-take_one.ensures.does;
   directory = c.in_ok-take_one.ensures.directory ∙ (c.in_ok-send_one.ensures.directory ∙ c.loop-provider.invariant.directory);
+  queue_limit = c.in_ok-take_one.ensures.queue_limit ∙ (c.in_ok-send_one.ensures.queue_limit ∙ c.loop-provider.invariant.queue_limit);
 }
 
 pub loop-provider-smaller : goal.loop-provider-smaller

@@ -6,5 +6,4 @@ pub returns-clause-does : goal.returns-clause-does
 returns-clause-does c =
     let line = rw (c.as_slice.ensures, c.writes.ensures.value) at c.in_ok-push_settled.ensures in
     settled (pair_of c.args.provider.now c.args.follower.now) (pair_of c.take_all.new.provider c.take_all.new.follower) (pair_of c.run_search.new.provider c.run_search.new.follower)
-    (pair_of c.open_anew.new.provider c.open_anew.new.follower) (pair_of c.run_search-2.new.provider c.run_search-2.new.follower) _ _ _ _ _ _ c.in_ok-take_all.ensures.does c.in_ok-run_search.ensures.does
-    c.in_ok-open_anew.ensures.does c.in_ok-run_search-2.ensures.does line
+    (pair_of c.catch_up.new.provider c.catch_up.new.follower) _ _ _ _ _ c.in_ok-take_all.ensures.does c.in_ok-run_search.ensures.does c.in_ok-catch_up.ensures.does line

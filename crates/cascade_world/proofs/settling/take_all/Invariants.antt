@@ -8,6 +8,7 @@ abbrev pub invariant-loop : goal.invariant-loop
 invariant-loop l = record {
   left : Drains (drains (pair_of l.fn.provider l.fn.follower)) (pair_of l.provider l.follower) l.fn.out.items l.out.items;
   directory : l.provider.directory ≡ l.fn.provider.directory;
+  queue_limit : l.provider.queue_limit ≡ l.fn.provider.queue_limit;
 }
 
 abbrev pub decreases-loop : goal.decreases-loop

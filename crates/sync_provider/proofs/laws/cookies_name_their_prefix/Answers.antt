@@ -1,8 +1,8 @@
 use Rattle.std.proofs.Common.{subst}
-use Rattle.sync_provider.specs.Directory.{StampsRise}
+use Rattle.directory_writes.specs.Directory.{StampsRise}
 use Rattle.sync_provider.specs.Machine.{fresh, run}
 use Rattle.sync_provider.proofs.Judged.{run_rises, run_same}
-use Rattle.sync_provider.proofs.Stamps.{rises-none, upto_stamp}
+use Rattle.directory_writes.proofs.Stamps.{rises-none, upto_stamp}
 use Rattle.sync_provider.proofs.laws.cookies_name_their_prefix.Goals as goal
 
 pub returns : goal.returns

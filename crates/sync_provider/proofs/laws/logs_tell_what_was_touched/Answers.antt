@@ -1,5 +1,5 @@
 use Rattle.session_log.proofs.Covering.{IsLogOf-fresh}
-use Rattle.sync_provider.specs.Directory.{first_log_limit}
+use Rattle.directory_writes.specs.Directory.{first_log_limit}
 use Rattle.sync_provider.specs.Machine.{fresh, run}
 use Rattle.sync_provider.proofs.Known.{run_logged, tells_of_log}
 use Rattle.sync_provider.proofs.laws.logs_tell_what_was_touched.Goals as goal

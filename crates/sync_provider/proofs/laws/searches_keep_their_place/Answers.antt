@@ -1,6 +1,6 @@
 use Rattle.sync_provider.specs.Machine.{fresh}
-use Rattle.sync_provider.proofs.Kept.{run_due}
+use Rattle.sync_provider.proofs.Places.{run_places}
 use Rattle.sync_provider.proofs.laws.searches_keep_their_place.Goals as goal
 
 pub returns : goal.returns
-returns c = λ suffix sid history calls. run_due calls (fresh suffix sid history) tt
+returns c = λ suffix sid history calls. run_places calls (fresh suffix sid history) tt

@@ -1,5 +1,5 @@
 use Rattle.sync_provider.specs.Machine.{fresh, run}
-use Rattle.sync_provider.proofs.Kept.{tells_its_stream}
+use Rattle.sync_provider.proofs.Streams.{tells_its_stream}
 use Rattle.sync_provider.proofs.laws.searches_tell_their_streams.Goals as goal
 
 pub returns : goal.returns

@@ -1,5 +1,5 @@
 use Rattle.std.proofs.Common.{subst}
-use Rattle.sync_provider.specs.Directory.{AreAccepted}
+use Rattle.directory_writes.specs.Directory.{AreAccepted}
 use Rattle.sync_provider.specs.Machine.{fresh, run}
 use Rattle.sync_provider.proofs.Judged.{run_accepted, run_same}
 use Rattle.sync_provider.proofs.laws.writes_were_accepted.Goals as goal

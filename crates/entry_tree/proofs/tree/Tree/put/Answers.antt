@@ -28,5 +28,5 @@ pub returns-clause-touched : goal.returns-clause-touched
 returns-clause-touched c =
     let held = c.self.inside.entries.items in
     let found : option_copied c.get-was.result ≡ entry_at held c.args.entry.uuid = c.get-was.ensures.value ∙ ap (λ es. entry_at es c.args.entry.uuid) (sym c.self.view_is) in
-    rw (c.in_ok-push_change.ensures, c.new-touches.ensures, c.in_ok-put_entry.ensures.ok, ← c.self.view_is)
+    rw (c.in_ok-touches.ensures, c.in_ok-put_entry.ensures.ok, ← c.self.view_is)
     (ap (λ was. filter is_change (put_touch was c.args.entry ∷ [])) found ∙ sym (touched_put c.args.entry held c.self.invariant.ascends))

@@ -1,0 +1,240 @@
+-- The log and the numbers of the last touches after one more write.
+use Rattle.std.proofs.Common.{◌≡◌, ◌≢◌, ◌⊎◌, ℕ, suc, ◌+◌, ◌-◌, ◌<◌, Bool, true, false, cond, List, [], ◌∷◌, ◌++◌, length, take, refl, sym, ap, ◌∙◌, arith, subst, Some, None, Option, inl, inr, length-append}
+use Rattle.std.specs.Prelude.{not, ◌||◌, is_some, filter, map}
+use Rattle.std.specs.BTreeMap.{insert_entry}
+use Rattle.std.specs.Ordering.{nat_cmp}
+use Rattle.std.proofs.Math.Seq.{take-append_seam}
+use Rattle.std.proofs.lemmas.Bool.{cases_Bool, cases_eq, eq-eqb, ne_eqb, ltb-true, false≢true}
+use Rattle.std.proofs.lemmas.List.{append-nil}
+use Rattle.entry_tree.specs.declared.entry.Entry.{Entry}
+use Rattle.entry_tree.specs.declared.op.Write.{Write}
+use Rattle.entry_tree.specs.declared.touched.Touch.{Touch}
+use Rattle.entry_tree.specs.Bytes.{is_one_found}
+use Rattle.entry_tree.specs.Effects.{effect}
+use Rattle.entry_tree.specs.History.{state_from, state_of, differing_over}
+use Rattle.entry_tree.specs.State.{ascends, entry_at}
+use Rattle.entry_tree.specs.Touched.{identities, joined, touch_at, is_change, touched}
+use Rattle.session_log.specs.Calls.{IsLogOf}
+use Rattle.session_log.specs.Log.{Log}
+use Rattle.sync_model.specs.Stream.{among}
+use Rattle.sync_model.proofs.Gather.{Each}
+use Rattle.sync_model.proofs.Histories.{ascends-state_of}
+use Rattle.sync_model.proofs.Steps.{among-differing, steady_within}
+use Rattle.directory_writes.specs.Directory.{entries_after}
+use Rattle.directory_writes.specs.Touches.{Numbers, uuids_of, last_touch, logged, notes_of, all_notes, IsLogged, number_at, renewed_at, renewed, KeepsNumbers, IsRenewed, AreNumbered}
+use Rattle.directory_writes.proofs.Effects.{IsThere, found_before}
+use Rattle.directory_writes.proofs.Keyed.{opened-same, opened-other, closed-other, put_on, put_on-same, put_on-other, closed_at}
+use Rattle.directory_writes.proofs.Told.{Agree, agree-longer, notes-agree, last-agree, last-tells, noted_each-is}
+
+-- ---- the states around the last write
+
+module _ (history : ℕ) (writes : List Write) (w : Write) where
+  abbrev all : List Write
+  all = writes ++ w ∷ []
+
+  before : ℕ → List Entry
+  before = state_of history writes
+
+  after : ℕ → List Entry
+  after = state_of history (writes ++ w ∷ [])
+
+  agree : Agree (state_of history (writes ++ w ∷ [])) (state_of history writes) (length writes)
+  agree = agree-longer history writes (w ∷ [])
+
+  pub old_state : state_of history (writes ++ w ∷ []) (length writes) ≡ entries_after history writes
+  old_state = ap (entries_after history) (take-append_seam writes (w ∷ []))
+
+  long : length (writes ++ w ∷ []) ≡ suc (length writes)
+  long = omega (arith, length-append writes (w ∷ []))
+
+  pub new_state : state_of history (writes ++ w ∷ []) (length writes + 1) ≡ entries_after history (writes ++ w ∷ [])
+  new_state =
+      let end : length writes + 1 ≡ length (writes ++ w ∷ []) = omega (arith, long) in
+      ap (state_of history (writes ++ w ∷ [])) end
+      ∙ ap (λ ws. entries_after history (take (length (writes ++ w ∷ [])) ws)) (sym (append-nil (writes ++ w ∷ [])))
+      ∙ ap (entries_after history) (take-append_seam (writes ++ w ∷ []) [])
+
+  pub logged-push : (log : Log) → IsLogged history writes log
+      → IsLogged history (writes ++ w ∷ []) (logged (length writes + 1) (entries_after history writes) (entries_after history (writes ++ w ∷ [])) log)
+  logged-push log is =
+      subst (λ notes. IsLogOf notes (logged (length writes + 1) (entries_after history writes) (entries_after history (writes ++ w ∷ [])) log))
+      (ap (λ rest. rest ++ notes_of (length writes + 1) us) (sym (notes-agree (length writes) (state_of history (writes ++ w ∷ [])) (state_of history writes) agree))
+      ∙ (λ i. all_notes (state_of history (writes ++ w ∷ [])) (length writes) ++ notes_of (length writes + 1) (uuids_of (touched (sym old_state i) (sym new_state i))))
+      ∙ ap (all_notes (state_of history (writes ++ w ∷ []))) (sym long))
+      (noted_each-is us (length writes + 1) (all_notes (state_of history writes) (length writes)) log is)
+    where
+      us : List ℕ
+      us = uuids_of (touched (entries_after history writes) (entries_after history (writes ++ w ∷ [])))
+
+-- the state after all writes
+whole : (history : ℕ) (writes : List Write) → state_of history writes (length writes) ≡ entries_after history writes
+whole history writes =
+    ap (λ ws. entries_after history (take (length writes) ws)) (sym (append-nil writes)) ∙ ap (entries_after history) (take-append_seam writes [])
+
+-- ---- the number of an entry is that of a write
+
+no_state : (history : ℕ) (writes : List Write) → state_of history writes 0 ≡ []
+unfolding state_from
+no_state history writes = refl
+
+pub last-some : (history : ℕ) (writes : List Write) (u : ℕ) (e : Entry) → entry_at (state_of history writes (length writes)) u ≡ Some e
+    → 0 < last_touch (state_of history writes) (length writes) u
+last-some history writes u e found = elim (cases_Bool (among u (differing_over (state_of history writes) 0 (length writes - 0)))) [
+  | inl here ↦ ltb-true 0 (last_touch (state_of history writes) (length writes) u) (last-tells (length writes) (state_of history writes) 0 u (omega arith) ∙ here)
+  | inr off ↦ absurd (never (sym found ∙ steady_within (state_of history writes) 0 (length writes) (length writes) u (omega arith) (omega arith) off ∙ ap (λ es. entry_at es u) (no_state history writes)))
+]
+  where
+    never : Some e ≡ None → ⊥
+    never q = cc
+
+-- ---- a place for an identity
+
+-- it is made where there was none
+pub place_made : (numbers : Numbers) (u : ℕ) → is_some (number_at numbers u) ≡ false → KeepsNumbers numbers (insert_entry nat_cmp numbers u 0)
+place_made numbers u none v number low found = opened-other numbers u v 0 far ∙ found
+  where
+    far : v ≢ u
+    far same = false≢true (sym none ∙ ap (λ w. is_some (number_at numbers w)) (sym same) ∙ ap is_some found)
+
+pub place_is : (numbers : Numbers) (u : ℕ) → is_some (number_at (insert_entry nat_cmp numbers u 0) u) ≡ true
+place_is numbers u = ap is_some (opened-same numbers u 0)
+
+-- it is taken back where it has no number
+pub place_left : (numbers : Numbers) (u : ℕ) → number_at numbers u ≡ Some 0 → KeepsNumbers numbers (closed_at numbers u)
+place_left numbers u none v number low found = closed-other numbers u v far ∙ found
+  where
+    zero_is : Some 0 ≡ Some number → 0 ≡ number
+    zero_is q = cc
+
+    far : v ≢ u
+    far same = never (zero_is (sym none ∙ ap (number_at numbers) (sym same) ∙ found))
+      where
+        never : 0 ≡ number → ⊥
+        never q = omega (arith, q, low)
+
+-- ---- what is kept for an identity after a renewal
+
+set-same : (numbers : Numbers) (u number : ℕ) → is_some (number_at numbers u) ≡ true → number_at (put_on numbers u number) u ≡ Some number
+set-same numbers u number here = by (number_at numbers u) refl here
+  where
+    by : (was : Option ℕ) → number_at numbers u ≡ was → is_some was ≡ true → number_at (put_on numbers u number) u ≡ Some number
+    by None found h = absurd (false≢true h)
+    by (Some was) found h = put_on-same numbers u number was found
+
+renewed-other : (number : ℕ) (numbers : Numbers) (v u : ℕ) (now : Option Entry) → u ≢ v → number_at (renewed_at number numbers v now) u ≡ number_at numbers u
+renewed-other number numbers v u None far = closed-other numbers v u far
+renewed-other number numbers v u (Some e) far = put_on-other numbers v u number far
+
+-- a change that tells what the identity has in these entries
+abbrev IsNow : List Entry → Touch → Type 0
+IsNow new touch = touch.now ≡ entry_at new touch.uuid
+
+-- what is kept for an identity that has an entry: the number of the write, where it touched it
+at_renewed : (touches : List Touch) (number : ℕ) (numbers : Numbers) (new : List Entry) (u : ℕ) (e : Entry) → Each (IsNow new) touches → entry_at new u ≡ Some e
+    → is_some (number_at numbers u) ≡ true → number_at (renewed number numbers touches) u ≡ cond (among u (uuids_of touches)) (Some number) (number_at numbers u)
+at_renewed [] number numbers new u e each found place = refl
+at_renewed (t ∷ ts) number numbers new u e each found place =
+    at_renewed ts number next new u e each.1 found (step (cases_eq u t.uuid)) ∙ both (cases_eq u t.uuid)
+  where
+    next : Numbers
+    next = renewed_at number numbers t.uuid t.now
+
+    set : u ≡ t.uuid → number_at next u ≡ Some number
+    set here =
+        let now : t.now ≡ Some e = each.0 ∙ ap (entry_at new) (sym here) ∙ found in
+        ap (λ found_now. number_at (renewed_at number numbers t.uuid found_now) u) now
+        ∙ ap (λ v. number_at (put_on numbers v number) u) (sym here)
+        ∙ set-same numbers u number place
+
+    step : (u ≡ t.uuid) ⊎ (u ≢ t.uuid) → is_some (number_at next u) ≡ true
+    step (inl here) = ap is_some (set here)
+    step (inr far) = ap is_some (renewed-other number numbers t.uuid u t.now far) ∙ place
+
+    choose : (b : Bool) → cond b (Some number) (Some number) ≡ Some number
+    choose true = refl
+    choose false = refl
+
+    both : (u ≡ t.uuid) ⊎ (u ≢ t.uuid) → cond (among u (uuids_of ts)) (Some number) (number_at next u) ≡ cond (among u (uuids_of (t ∷ ts))) (Some number) (number_at numbers u)
+    both (inl here) =
+        ap (cond (among u (uuids_of ts)) (Some number)) (set here) ∙ choose (among u (uuids_of ts))
+        ∙ sym (ap (λ b. cond (b || among u (uuids_of ts)) (Some number) (number_at numbers u)) (eq-eqb u t.uuid here))
+    both (inr far) =
+        ap (cond (among u (uuids_of ts)) (Some number)) (renewed-other number numbers t.uuid u t.now far)
+        ∙ sym (ap (λ b. cond (b || among u (uuids_of ts)) (Some number) (number_at numbers u)) (ne_eqb u t.uuid far))
+
+each-now : (old new : List Entry) (us : List ℕ) → Each (IsNow new) (filter is_change (map (touch_at old new) us))
+each-now old new [] = tt
+each-now old new (u ∷ us) = step (is_change (touch_at old new u)) (each-now old new us) where
+  step : (b : Bool) → Each (IsNow new) (filter is_change (map (touch_at old new) us))
+      → Each (IsNow new) (cond b (touch_at old new u ∷ filter is_change (map (touch_at old new) us)) (filter is_change (map (touch_at old new) us)))
+  step true rest = (refl, rest)
+  step false rest = rest
+
+-- ---- each entry has its number after one more write
+
+pub numbered-kept : (history : ℕ) (writes : List Write) (entries : List Entry) (old new : Numbers) → entries ≡ entries_after history writes
+    → KeepsNumbers old new → AreNumbered history writes entries old → AreNumbered history writes entries new
+numbered-kept history writes entries old new made keeps each u e found =
+    keeps u (last_touch (state_of history writes) (length writes) u)
+    (last-some history writes u e (ap (λ es. entry_at es u) (whole history writes ∙ sym made) ∙ found)) (each u e found)
+
+pub numbered-push : (history : ℕ) (writes : List Write) (w : Write) (uuid : ℕ) (old new : List Entry) (numbers later : Numbers)
+    → old ≡ entries_after history writes → new ≡ entries_after history (writes ++ w ∷ []) → new ≡ effect old w.op uuid w.csn
+    → IsRenewed (length writes + 1) uuid (touched old new) numbers later → AreNumbered history writes old numbers → AreNumbered history (writes ++ w ∷ []) new later
+numbered-push history writes w uuid old new numbers later is_old is_new made renews each u e found =
+    renews.left u last positive (at_renewed (touched old new) (length writes + 1) renews.made new u e (each-now old new (joined (identities old) (identities new))) found place ∙ chosen)
+  where
+    f : ℕ → List Entry
+    f = state_of history writes
+
+    g : ℕ → List Entry
+    g = state_of history (writes ++ w ∷ [])
+
+    last : ℕ
+    last = last_touch (state_of history (writes ++ w ∷ [])) (length (writes ++ w ∷ [])) u
+
+    positive : 0 < last_touch (state_of history (writes ++ w ∷ [])) (length (writes ++ w ∷ [])) u
+    positive = last-some history (writes ++ w ∷ []) u e (ap (λ es. entry_at es u) (whole history (writes ++ w ∷ []) ∙ sym is_new) ∙ found)
+
+    asc : ascends old ≡ true
+    asc = ap ascends (is_old ∙ sym (whole history writes)) ∙ ascends-state_of history writes (length writes)
+
+    -- what was kept before the write for an entry that there was
+    was : (before : Entry) → entry_at old u ≡ Some before → number_at renews.made u ≡ Some (last_touch (state_of history writes) (length writes) u)
+    was before at =
+        renews.kept u (last_touch (state_of history writes) (length writes) u)
+        (last-some history writes u before (ap (λ es. entry_at es u) (whole history writes ∙ sym is_old) ∙ at)) (each u before at)
+
+    there : (o : Option Entry) → entry_at old u ≡ o → is_some o ≡ true → is_some (number_at renews.made u) ≡ true
+    there None at h = absurd (false≢true h)
+    there (Some before) at h = ap is_some (was before at)
+
+    placed : IsThere old uuid u → is_some (number_at renews.made u) ≡ true
+    placed (inl here) = there (entry_at old u) refl here
+    placed (inr same) = ap (λ v. is_some (number_at renews.made v)) same ∙ renews.place
+
+    place : is_some (number_at renews.made u) ≡ true
+    place = placed (found_before w.op old uuid w.csn u asc (ap (λ es. is_some (entry_at es u)) (sym made) ∙ ap is_some found))
+
+    -- it is unchanged only where it was there
+    step : (o : Option Entry) → entry_at old u ≡ o → (b : Bool) → is_one_found o (Some e) ≡ b
+        → cond (not b) (Some (length writes + 1)) (number_at renews.made u) ≡ Some (cond b (last_touch (state_of history writes) (length writes) u) (length writes + 1))
+    step o at false same = refl
+    step None at true same = absurd (false≢true same)
+    step (Some before) at true same = was before at
+
+    number : cond (is_one_found (entry_at old u) (entry_at new u)) (last_touch (state_of history writes) (length writes) u) (length writes + 1)
+        ≡ last_touch (state_of history (writes ++ w ∷ [])) (length (writes ++ w ∷ [])) u
+    number =
+        (λ i. cond (is_one_found (entry_at ((is_old ∙ sym (old_state history writes w)) i) u) (entry_at ((is_new ∙ sym (new_state history writes w)) i) u))
+        (sym (last-agree (length writes) (state_of history (writes ++ w ∷ [])) (state_of history writes) u (agree-longer history writes (w ∷ []))) i) (length writes + 1))
+        ∙ ap (λ k. last_touch (state_of history (writes ++ w ∷ [])) k u) (sym (long history writes w))
+
+    chosen : cond (among u (uuids_of (touched old new))) (Some (length writes + 1)) (number_at renews.made u)
+        ≡ Some (last_touch (state_of history (writes ++ w ∷ [])) (length (writes ++ w ∷ [])) u)
+    chosen =
+        ap (λ b. cond b (Some (length writes + 1)) (number_at renews.made u)) (among-differing old new u)
+        ∙ ap (λ o. cond (not (is_one_found (entry_at old u) o)) (Some (length writes + 1)) (number_at renews.made u)) found
+        ∙ step (entry_at old u) refl (is_one_found (entry_at old u) (Some e)) refl
+        ∙ ap (λ o. Some (cond (is_one_found (entry_at old u) o) (last_touch (state_of history writes) (length writes) u) (length writes + 1))) (sym found)
+        ∙ ap Some number

@@ -1,0 +1,242 @@
+-- What one more write makes of the parts that are kept beside the writes, and what later writes leave of an earlier state.
+use Rattle.std.proofs.Common.{◌≡◌, ◌<◌, ◌+◌, ◌-◌, ◌^◌, min, ℕ, List, [], ◌∷◌, ◌++◌, length, take, refl, ap, sym, ◌∙◌, arith, subst}
+use Rattle.std.specs.Prelude.{◌≤◌, ◌&&◌, nat_lt, nat_le, true, false, cond, Option, Some, None, Result, Ok, Err}
+use Rattle.std.proofs.Math.Seq.{take-append_seam}
+use Rattle.std.proofs.lemmas.List.{append-nil}
+use Rattle.std.proofs.lemmas.List.Sums.{sum_by-append}
+use Rattle.std.proofs.lemmas.Bool.{and_parts, leb-true}
+use Rattle.std.proofs.lemmas.Bool.Decides.{nat_tests}
+use Rattle.csn_cookie.specs.Csn.{Stamp, start, is_before}
+use Rattle.csn_cookie.specs.CsnMaker.{next_csn}
+use Rattle.dn_names.specs.Names.{TypeAndValue}
+use Rattle.entry_tree.specs.Codes.{code_of}
+use Rattle.entry_tree.specs.Effects.{effect}
+use Rattle.entry_tree.specs.History.{identity, state_from, state_of}
+use Rattle.entry_tree.specs.State.{ascends, entry_at}
+use Rattle.entry_tree.specs.Touched.{touched}
+use Rattle.entry_tree.specs.declared.entry.Entry.{Entry}
+use Rattle.entry_tree.specs.declared.op.Op.{Op}
+use Rattle.entry_tree.specs.declared.op.Write.{Write}
+use Rattle.entry_tree.specs.declared.touched.Touch.{Touch}
+use Rattle.directory_writes.specs.Directory.{DirectoryState, entries_after, entries_of, last_stamp, stamp_of, next_stamp, most_writes, most_writes_weight, has_room, judged_code, judged_at, judged, with_write, with_judged, written, code_of_judged, write_code, IsAccepted, IsKept}
+use Rattle.directory_writes.specs.Touches.{Numbers, logged, all_notes, IsLogged, KeepsNumbers, IsRenewed, AreNumbered}
+use Rattle.directory_writes.specs.Weights.{op_weight, kept_weight}
+use Rattle.session_log.specs.Log.{Log, fresh, trimmed}
+use Rattle.session_log.proofs.Covering.{IsLogOf-fresh, IsLogOf-trimmed}
+use Rattle.sync_model.proofs.Histories.{ascends-state_of}
+use Rattle.directory_writes.proofs.Judged.{accepted-push}
+use Rattle.directory_writes.proofs.Pushed.{logged-push, numbered-kept, numbered-push}
+use Rattle.directory_writes.proofs.Stamps.{rises-none, rises-push}
+
+state_from-push : (history : ℕ) (entries : List Entry) (before : ℕ) (writes : List Write) (write : Write)
+    → state_from history entries before (writes ++ write ∷ [])
+    ≡ effect (state_from history entries before writes) write.op (identity history (before + length writes + 1)) write.csn
+unfolding state_from
+state_from-push history entries before [] write =
+    let number : before + 1 ≡ before + 0 + 1 = omega arith in
+    ap (λ n. effect entries write.op (identity history n) write.csn) number
+state_from-push history entries before (first ∷ writes) write =
+    let number : before + 1 + length writes + 1 ≡ before + length (first ∷ writes) + 1 = omega arith in
+    let next = effect entries first.op (identity history (before + 1)) first.csn in
+    state_from-push history next (before + 1) writes write
+    ∙ ap (λ n. effect (state_from history next (before + 1) writes) write.op (identity history n) write.csn) number
+
+pub entries_after-push : (history : ℕ) (writes : List Write) (write : Write)
+    → entries_after history (writes ++ write ∷ []) ≡ effect (entries_after history writes) write.op (identity history (length writes + 1)) write.csn
+entries_after-push history writes write =
+    let number : 0 + length writes + 1 ≡ length writes + 1 = omega arith in
+    state_from-push history [] 0 writes write ∙ ap (λ n. effect (entries_after history writes) write.op (identity history n) write.csn) number
+
+pub last_stamp-push : (first : Stamp) (writes : List Write) (write : Write) → last_stamp first (writes ++ write ∷ []) ≡ write.csn
+last_stamp-push first [] write = refl
+last_stamp-push first (next ∷ writes) write = last_stamp-push next.csn writes write
+
+pub kept_weight-push : (writes : List Write) (write : Write) → kept_weight (writes ++ write ∷ []) ≡ kept_weight writes + op_weight write.op
+kept_weight-push writes write = omega (arith, sum_by-append (λ (w : Write). op_weight w.op) writes (write ∷ []))
+
+-- ---- a directory without writes
+
+no_numbers : (history : ℕ) (entries : List Entry) (numbers : Numbers) → entries ≡ [] → AreNumbered history [] entries numbers
+no_numbers history entries numbers empty u e found = absurd (never (ap (λ es. entry_at es u) (sym empty) ∙ found)) where
+  never : None ≡ Some e → ⊥
+  never q = cc
+
+pub kept_none : (suffix : List (List TypeAndValue)) (sid history : ℕ) (writes : List Write) (entries : List Entry) (last : Stamp) (log : Log) (limit : ℕ) (numbers : Numbers)
+    → writes ≡ [] → entries ≡ [] → last ≡ start sid → sid < 4096 → log ≡ fresh limit
+    → IsKept (record { suffix = suffix; sid = sid; history = history; writes = writes; log = log }) entries last 0 numbers
+unfolding state_from
+kept_none suffix sid history writes entries last log limit numbers none empty first small new =
+    subst (λ all. IsKept (record { suffix = suffix; sid = sid; history = history; writes = all; log = log }) entries last 0 numbers) (sym none)
+    (record {
+      made = empty;
+      stamped = first;
+      weighed = refl;
+      light = omega arith;
+      numbered = small;
+      accepted = tt;
+      rises = rises-none sid;
+      logged = subst (IsLogged history []) (sym new) (IsLogOf-fresh limit);
+      touched = no_numbers history entries numbers empty;
+    })
+
+-- ---- over each history that begins with the writes of a directory
+
+pub state_now : (d : DirectoryState) (whole more : List Write) → d.writes ++ more ≡ whole → state_of d.history whole (length d.writes) ≡ entries_of d
+state_now d whole more is =
+    ap (λ writes. entries_after d.history (take (length d.writes) writes)) (sym is) ∙ ap (entries_after d.history) (take-append_seam d.writes more)
+
+pub stamp_now : (d : DirectoryState) (whole more : List Write) → d.writes ++ more ≡ whole → last_stamp (start d.sid) (take (length d.writes) whole) ≡ stamp_of d
+stamp_now d whole more is =
+    ap (λ writes. last_stamp (start d.sid) (take (length d.writes) writes)) (sym is) ∙ ap (last_stamp (start d.sid)) (take-append_seam d.writes more)
+
+-- ---- what is kept within the limits
+
+-- a weight that is capped at the greatest number has room where the weight has
+capped_room : (kept weight : ℕ) → nat_le (kept + min weight (2 ^ 64 - 1)) most_writes_weight ≡ nat_le (kept + weight) most_writes_weight
+capped_room kept weight = grind (arith, nat_tests)
+
+pub room_is : (writes : List Write) (op : Op) (weight : ℕ) → weight ≡ min (op_weight op) (2 ^ 64 - 1)
+    → (nat_lt (length writes) most_writes && nat_le (kept_weight writes + weight) most_writes_weight) ≡ has_room writes op
+room_is writes op weight capped =
+    ap (λ b. nat_lt (length writes) most_writes && b)
+    (ap (λ w. nat_le (kept_weight writes + w) most_writes_weight) capped ∙ capped_room (kept_weight writes) (op_weight op))
+
+-- what has room weighs what it weighs uncapped, and keeps within the limit
+pub record IsWeighed (kept weight : ℕ) (writes : List Write) (op : Op) : Type 0 where
+  pub weighed : kept + weight ≡ kept_weight writes + op_weight op
+  pub light : kept + weight ≤ most_writes_weight
+
+pub room_weighs : (writes : List Write) (op : Op) (kept weight : ℕ) → kept ≡ kept_weight writes → weight ≡ min (op_weight op) (2 ^ 64 - 1) → has_room writes op ≡ true
+    → IsWeighed kept weight writes op
+room_weighs writes op kept weight is capped room =
+    let parts = and_parts (nat_lt (length writes) most_writes) (nat_le (kept_weight writes + op_weight op) most_writes_weight) room in
+    let light : kept_weight writes + op_weight op ≤ most_writes_weight = leb-true (kept_weight writes + op_weight op) most_writes_weight parts.1 in
+    record { weighed = omega (arith, is, capped, light); light = omega (arith, is, capped, light) }
+
+-- ---- what is judged of an operation
+
+pub judged_full : (d : DirectoryState) (op : Op) (now : ℕ) → has_room d.writes op ≡ false → judged d op now ≡ Err 11
+judged_full d op now full = ap (λ b. cond b (judged_at d op (next_stamp d now)) (Err 11)) full
+
+pub judged_next : (d : DirectoryState) (op : Op) (now : ℕ) (next : Option Stamp) → has_room d.writes op ≡ true → next_stamp d now ≡ next → judged d op now ≡ judged_at d op next
+judged_next d op now next room is = ap (λ b. cond b (judged_at d op (next_stamp d now)) (Err 11)) room ∙ ap (judged_at d op) is
+
+pub judged_good : (d : DirectoryState) (op : Op) (now : ℕ) (csn : Stamp) (code : Option ℕ) → has_room d.writes op ≡ true → next_stamp d now ≡ Some csn
+    → code_of d.suffix (entries_of d) op ≡ code → judged d op now ≡ judged_code op csn code
+judged_good d op now csn code room next is = judged_next d op now (Some csn) room next ∙ ap (judged_code op csn) is
+
+-- ---- what is kept after a write that is judged good
+
+-- what a write makes of the parts that are kept
+pub record IsPushed (d : DirectoryState) (entries after : List Entry) (numbers later : Numbers) (log : Log) (uuid : ℕ) (w : Write) : Type 0 where
+  pub made : after ≡ effect entries w.op uuid w.csn
+  pub good : IsAccepted d.suffix entries w.op
+  pub same : uuid ≡ identity d.history (length d.writes + 1)
+  pub notes : log ≡ logged (length d.writes + 1) entries after d.log
+  pub renews : IsRenewed (length d.writes + 1) uuid (touched entries after) numbers later
+
+after_is : (d : DirectoryState) (entries after : List Entry) (uuid : ℕ) (w : Write) → entries ≡ entries_of d → after ≡ effect entries w.op uuid w.csn
+    → uuid ≡ identity d.history (length d.writes + 1) → after ≡ entries_after d.history (d.writes ++ w ∷ [])
+after_is d entries after uuid w was made same =
+    made
+    ∙ ap (λ u. effect entries w.op u w.csn) same
+    ∙ ap (λ es. effect es w.op (identity d.history (length d.writes + 1)) w.csn) was
+    ∙ sym (entries_after-push d.history d.writes w)
+
+-- what it would change is what differs before and after it
+pub touches_are : (d : DirectoryState) (op : Op) (csn : Stamp) (entries : List Entry) (uuid : ℕ) (touches : List Touch) → entries ≡ entries_of d
+    → uuid ≡ identity d.history (length d.writes + 1) → touches ≡ touched entries (effect entries op uuid csn)
+    → touches ≡ touched (entries_of d) (entries_after d.history (d.writes ++ (record { csn = csn; op = op }) ∷ []))
+touches_are d op csn entries uuid touches made same is =
+    is ∙ (λ i. touched (made i) (after_is d entries (effect entries op uuid csn) uuid (record { csn = csn; op = op }) made refl same i))
+
+-- the log of the directory after the write is the one that is kept
+pub log_is : (d : DirectoryState) (entries after : List Entry) (last : Stamp) (kept : ℕ) (numbers later : Numbers) (log : Log) (uuid : ℕ) (w : Write) → IsKept d entries last kept numbers
+    → IsPushed d entries after numbers later log uuid w → log ≡ (with_write d w).log
+log_is d entries after last kept numbers later log uuid w was push =
+    push.notes
+    ∙ (λ i. logged (length d.writes + 1) (was.made i) (after_is d entries after uuid w was.made push.made push.same i) d.log)
+
+kept_push : (d : DirectoryState) (entries after : List Entry) (last : Stamp) (kept weight : ℕ) (numbers later : Numbers) (log : Log) (uuid : ℕ) (w : Write) → IsKept d entries last kept numbers
+    → IsWeighed kept weight d.writes w.op → is_before last w.csn ≡ true → IsPushed d entries after numbers later log uuid w
+    → IsKept (record d { writes = d.writes ++ w ∷ []; log = log }) after w.csn (kept + weight) later
+kept_push d entries after last kept weight numbers later log uuid w was weighs before push = record {
+  made = after_is d entries after uuid w was.made push.made push.same;
+  stamped = sym (last_stamp-push (start d.sid) d.writes w);
+  weighed = weighs.weighed ∙ sym (kept_weight-push d.writes w);
+  light = weighs.light;
+  numbered = was.numbered;
+  accepted = accepted-push d.suffix d.history d.writes w (subst (λ es. IsAccepted d.suffix es w.op) was.made push.good) was.accepted;
+  rises = rises-push d.sid d.writes w (ap (λ s. is_before s w.csn) (sym was.stamped) ∙ before) was.rises;
+  logged = subst (IsLogged d.history (d.writes ++ w ∷ [])) (sym (log_is d entries after last kept numbers later log uuid w was push)) (logged-push d.history d.writes w d.log was.logged);
+  touched = numbered-push d.history d.writes w uuid entries after numbers later was.made (after_is d entries after uuid w was.made push.made push.same) push.made push.renews was.touched;
+}
+
+pub kept_after : (d : DirectoryState) (entries after : List Entry) (last drawn : Stamp) (kept weight : ℕ) (numbers later : Numbers) (log : Log) (uuid : ℕ) (w : Write) (writes : List Write)
+    → writes ≡ d.writes ++ w ∷ [] → drawn ≡ w.csn → IsKept d entries last kept numbers
+    → IsWeighed kept weight d.writes w.op → is_before last w.csn ≡ true → IsPushed d entries after numbers later log uuid w
+    → IsKept (record d { writes = writes; log = log }) after drawn (kept + weight) later
+kept_after d entries after last drawn kept weight numbers later log uuid w writes all is was weighs before push =
+    subst (λ ws. IsKept (record d { writes = ws; log = log }) after drawn (kept + weight) later) (sym all)
+    (subst (λ s. IsKept (record d { writes = d.writes ++ w ∷ []; log = log }) after s (kept + weight) later) (sym is)
+    (kept_push d entries after last kept weight numbers later log uuid w was weighs before push))
+
+-- the entries are in ascending order of identity
+pub kept_ascends : (d : DirectoryState) (entries : List Entry) (last : Stamp) (kept : ℕ) (numbers : Numbers) → IsKept d entries last kept numbers → ascends entries ≡ true
+kept_ascends d entries last kept numbers was =
+    ap ascends (was.made ∙ sym (state_now d d.writes [] (append-nil d.writes))) ∙ ascends-state_of d.history d.writes (length d.writes)
+
+-- a write that is refused leaves what is kept, but for places that are made and taken back
+pub kept_refused : (d : DirectoryState) (entries after : List Entry) (last : Stamp) (kept : ℕ) (numbers later : Numbers) (log : Log) (writes : List Write) → IsKept d entries last kept numbers
+    → after ≡ entries → log ≡ d.log → KeepsNumbers numbers later → writes ≡ d.writes → IsKept (record d { writes = writes; log = log }) after last kept later
+kept_refused d entries after last kept numbers later log writes was same is keeps all =
+    subst (λ ws. IsKept (record d { writes = ws; log = log }) after last kept later) (sym all)
+    (subst (λ es. IsKept (record d { log = log }) es last kept later) (sym same)
+    (record {
+      made = was.made;
+      stamped = was.stamped;
+      weighed = was.weighed;
+      light = was.light;
+      numbered = was.numbered;
+      accepted = was.accepted;
+      rises = was.rises;
+      logged = subst (IsLogged d.history d.writes) (sym is) was.logged;
+      touched = numbered-kept d.history d.writes entries numbers later was.made keeps was.touched;
+    }))
+
+-- a log that is trimmed keeps what it is the rest of
+pub kept_trimmed : (d : DirectoryState) (entries after : List Entry) (last : Stamp) (kept : ℕ) (numbers later : Numbers) (log : Log) (limit : ℕ) → IsKept d entries last kept numbers
+    → after ≡ entries → log ≡ trimmed limit d.log → later ≡ numbers → IsKept (record d { log = log }) after last kept later
+kept_trimmed d entries after last kept numbers later log limit was left is same =
+    subst (λ es. IsKept (record d { log = log }) es last kept later) (sym left)
+    (record {
+      made = was.made;
+      stamped = was.stamped;
+      weighed = was.weighed;
+      light = was.light;
+      numbered = was.numbered;
+      accepted = was.accepted;
+      rises = was.rises;
+      logged = subst (IsLogged d.history d.writes) (sym is) (IsLogOf-trimmed (all_notes (state_of d.history d.writes) (length d.writes)) d.log limit was.logged);
+      touched = subst (AreNumbered d.history d.writes entries) (sym same) was.touched;
+    })
+
+-- the directory that is kept after a write is the one that the write makes
+pub written_is : (d : DirectoryState) (entries after : List Entry) (last : Stamp) (kept : ℕ) (numbers later : Numbers) (log : Log) (uuid : ℕ) (op : Op) (csn : Stamp) (now : ℕ) (writes : List Write)
+    → IsKept d entries last kept numbers → has_room d.writes op ≡ true → next_csn now last ≡ Some csn → code_of d.suffix entries op ≡ None
+    → writes ≡ d.writes ++ (record { csn = csn; op = op }) ∷ [] → IsPushed d entries after numbers later log uuid (record { csn = csn; op = op })
+    → record d { writes = writes; log = log } ≡ written d op now
+written_is d entries after last kept numbers later log uuid op csn now writes was room next free all push =
+    (λ i. record d { writes = all i; log = log_is d entries after last kept numbers later log uuid (record { csn = csn; op = op }) was push i })
+    ∙ ap (with_judged d) (sym (judged_good d op now csn None room (ap (next_csn now) (sym was.stamped) ∙ next) (ap (λ es. code_of d.suffix es op) (sym was.made) ∙ free)))
+
+-- want of memory (80) is no code of a write, so what has it leaves the directory
+pub unwritten : (d : DirectoryState) (op : Op) (now : ℕ) → write_code d op now ≡ 80 → written d op now ≡ d
+unwritten d op now = by (judged d op now)
+  where
+    by : (outcome : Result Write ℕ) → code_of_judged outcome ≡ 80 → with_judged d outcome ≡ d
+    by (Ok write) h = absurd (far h)
+      where
+        far : ◌≡◌ {A = ℕ} 0 80 → ⊥
+        far e = omega (arith, e)
+    by (Err code) h = refl

@@ -1,0 +1,312 @@
+//! A directory by its accepted writes.
+
+ghost use Rattle.std.specs.Prelude.{◌≡◌, ◌+◌, ◌<◌, ◌≤◌, ◌&&◌, nat_lt, nat_le, true, [], ◌∷◌, ◌++◌, length, is_some, Some, Ok, IfOk, IfErr, OnOk, OnErr, IfSome};
+ghost use Rattle.std.specs.List.Sorted.{IsStrictlySortedBy};
+ghost use Rattle.std.specs.Ordering.{nat_cmp};
+ghost use Rattle.csn_cookie.specs.Csn as csns;
+ghost use Rattle.entry_tree.specs.History.{identity as identity_of, state_of, touched_over};
+ghost use Rattle.entry_tree.specs.State.{entry_at};
+ghost use Rattle.entry_tree.specs.Sound.{is_sound_op};
+ghost use Rattle.entry_tree.specs.Touched.{touched};
+ghost use Rattle.directory_writes.specs.Starting as starting;
+ghost use Rattle.directory_writes.specs.Directory as directory;
+ghost use Rattle.directory_writes.specs.Starting.{start_of, IsServed};
+ghost use Rattle.directory_writes.specs.Touches.{last_touch};
+ghost use Rattle.directory_writes.specs.Weights.{kept_weight};
+
+use crate::NoMemory;
+use crate::held::{Held, Mark};
+use crate::preview::Preview;
+use crate::start::Start;
+use crate::touches::Touches;
+use crate::weights::op_weight;
+use csn_cookie::{Cookie, Csn, CsnMaker};
+use dn_names::Dn;
+use entry_tree::{Op, OpFault, Tree, Write};
+use ldap_ber::Octets;
+use std::alloc::{AllocError, Global};
+use std::marker::Model;
+
+/// adminLimitExceeded (RFC 4511, appendix A.1): no write more is kept.
+pub const ADMIN_LIMIT_EXCEEDED: u32 = 11;
+
+/// The most writes that are kept.
+const MOST_WRITES: usize = 1_000_000;
+
+/// The most that the kept writes weigh, 512 MiB.
+const MOST_WRITES_WEIGHT: u64 = 536_870_912;
+
+/// How many notes the session log of a new directory keeps.
+const FIRST_LOG_LIMIT: u64 = 1_000;
+
+/// The entries of a directory, with the writes that led to them and what these touched.
+#[derive(Drop)]
+pub struct Directory {
+    suffix: Dn,
+    sid: u16,
+    history: u128,
+    accepted: Vec<Write>,
+    /// What the accepted writes weigh.
+    weight: u64,
+    stamps: CsnMaker,
+    held: Held,
+}
+
+impl Model for Directory {
+    ghost use Rattle.directory_writes.specs.Directory.{DirectoryState, IsKept};
+
+    ghost Value = { DirectoryState };
+
+    ghost view = { λ d. record {
+      suffix = d.suffix;
+      sid = d.sid;
+      history = d.history;
+      writes = d.accepted.items;
+      log = d.held.touches.log;
+    } };
+
+    ghost invariant = { λ d. IsKept
+        (record {
+          suffix = d.suffix;
+          sid = d.sid;
+          history = d.history;
+          writes = d.accepted.items;
+          log = d.held.touches.log;
+        })
+        d.held.entries d.stamps d.weight d.held.touches.numbers };
+}
+
+impl Directory {
+    /// A directory without writes. Its number, which its stamps carry, is below 4096.
+    #[tactic(auto, using(crate::proofs::Writes::kept_none))]
+    pub fn new(alloc: Global, suffix: Dn, sid: u16, history: u128) -> Directory
+        requires { sid < 4096 }
+        ensures { result ≡ directory.fresh_directory suffix sid history }
+    {
+        Directory {
+            suffix,
+            sid,
+            history,
+            accepted: Vec::new(alloc),
+            weight: 0,
+            stamps: CsnMaker::new(sid),
+            held: Held::new(alloc, FIRST_LOG_LIMIT),
+        }
+    }
+
+    pub fn suffix(&self) -> &Dn
+        ensures { result.now ≡ self.now.suffix }
+    {
+        &self.suffix
+    }
+
+    pub fn history(&self) -> u128
+        ensures { result ≡ self.now.history }
+    {
+        self.history
+    }
+
+    pub fn tree(&self) -> &Tree
+        ensures { result.now ≡ directory.entries_of self.now }
+    {
+        &self.held.tree
+    }
+
+    /// The accepted writes, the first of which has the number 1.
+    pub fn accepted(&self) -> &[Write]
+        ensures value { result.now ≡ self.now.writes }
+        ensures accepted { directory.AreAccepted self.now.suffix self.now.history self.now.writes }
+        ensures rises { directory.StampsRise self.now.sid self.now.writes }
+    {
+        self.accepted.as_slice()
+    }
+
+    /// How many accepted writes have a stamp that is not greater than this one.
+    pub fn upto(&self, csn: Csn) -> u64
+        ensures { result ≡ csns.upto (directory.stamps self.now.writes) csn }
+    {
+        self.accepted
+            .iter()
+            .filter(|write| write.csn <= csn)
+            .count() as u64
+    }
+
+    /// The cookie of the content after all writes.
+    pub fn cookie(&self) -> Cookie
+        ensures value { result ≡ directory.cookie_at self.now.sid self.now.history (directory.stamp_of self.now) }
+        ensures number { result.sid < 4096 }
+    {
+        Cookie {
+            rid: 0,
+            sid: self.sid,
+            csn: self.stamps.last(),
+            history: self.history,
+        }
+    }
+
+    /// The identities of the entries that the writes after write `number` touched, ascending. The
+    /// session log tells them from its floor on.
+    #[tactic(auto, using(crate::proofs::Served::walk_since))]
+    pub fn touched_since(&self, number: u64) -> Result<Vec<u128>, NoMemory>
+        requires { self.now.log.floor ≤ number }
+        ensures exact { IfOk result (λ uuids. uuids.items
+            ≡ touched_over self.now.history self.now.writes number (length self.now.writes)) }
+        ensures ascends { IfOk result (λ uuids. IsStrictlySortedBy nat_cmp uuids.items) }
+    {
+        self.held.touches.since(number)
+    }
+
+    /// The number of the last write that touched the entry of this identity.
+    #[tactic(auto, using(crate::proofs::Served::number_is))]
+    pub fn number_of(&self, uuid: u128) -> u64
+        requires { is_some (entry_at (directory.entries_of self.now) uuid) ≡ true }
+        ensures { result ≡ last_touch (state_of self.now.history self.now.writes) (length self.now.writes) uuid }
+    {
+        self.held.touches.number_of(uuid).unwrap_or(0)
+    }
+
+    /// The number of writes that a request's cookie names, where one is given and is servable: it
+    /// is of this directory's history, and its stamp is not above the last one.
+    pub fn asked_prefix(&self, cookie: &Option<Octets>) -> Option<u64>
+        ensures value { result ≡ starting.asked_prefix self.now cookie.now }
+        ensures low { IfSome result (λ number. number ≤ length self.now.writes) }
+    {
+        match cookie {
+            None => None,
+            Some(text) => match Cookie::parse(text.as_slice()) {
+                Ok(cookie) => self.prefix_of(&cookie),
+                Err(_) => None,
+            },
+        }
+    }
+
+    #[tactic(auto, using(crate::proofs::Stamps::upto_low))]
+    fn prefix_of(&self, cookie: &Cookie) -> Option<u64>
+        ensures value { result ≡ starting.prefix_of self.now (Some cookie.now) }
+        ensures low { IfSome result (λ number. number ≤ length self.now.writes) }
+    {
+        if cookie.history == self.history && cookie.csn <= self.stamps.last() {
+            Some(self.upto(cookie.csn))
+        } else {
+            None
+        }
+    }
+
+    /// Where a search begins that has the content after so many writes, or none.
+    #[tactic(auto, using(crate::proofs::Served::covered, crate::proofs::Served::uncovered))]
+    pub fn start_at(&self, prefix: Option<u64>) -> Start
+        requires { IfSome prefix (λ number. number ≤ length self.now.writes) }
+        ensures value { start_of result ≡ starting.start_at self.now prefix }
+        ensures served { IsServed self.now (start_of result) }
+    {
+        match prefix {
+            None => Start::Blank,
+            Some(number) => {
+                if self.held.touches.covers(number) {
+                    Start::Covered(number)
+                } else {
+                    Start::Uncovered(number)
+                }
+            }
+        }
+    }
+
+    /// The session log keeps so many notes from now on.
+    pub fn set_log_limit(&mut self, limit: u64)
+        ensures { self.new ≡ directory.with_log_limit self.old limit }
+    {
+        self.held.set_log_limit(limit);
+    }
+
+    /// Applies a write where the clock shows `now`, in microseconds from the first moment of 1970
+    /// on, and answers its code. A write with another code than 0 leaves the directory as it was.
+    pub fn write(&mut self, alloc: Global, op: Op, now: u64) -> Result<u32, NoMemory>
+        requires { is_sound_op op ≡ true }
+        ensures code { IfOk result (λ code. code ≡ directory.write_code self.old op now) }
+        ensures ok { OnOk result (self.new ≡ directory.written self.old op now) }
+        ensures err { OnErr result (self.new ≡ self.old) }
+    {
+        let weight = op_weight(&op)?;
+        if !self.has_room(weight) {
+            return Ok(ADMIN_LIMIT_EXCEEDED);
+        }
+        let mut stamps = self.stamps.copy();
+        let Ok(csn) = stamps.next(now) else {
+            return Ok(ADMIN_LIMIT_EXCEEDED);
+        };
+        let number = self.accepted.len() as u64 + 1;
+        let uuid = identity(self.history, number);
+        self.accepted.reserve(1)?;
+        let mark = Mark { number, uuid, csn };
+        if let Err(fault) = self.held.apply(alloc, &op, &self.suffix, mark) {
+            return code_of(fault);
+        }
+        self.accepted.push_reserved(Write { csn, op });
+        self.weight += weight;
+        self.stamps = stamps;
+        Ok(0)
+    }
+
+    /// What `write` would do where the clock shows `now`, or the code that it would answer. The
+    /// directory is left as it is.
+    pub fn preview(&self, alloc: Global, op: &Op, now: u64) -> Result<Preview, OpFault>
+        requires { is_sound_op op.now ≡ true }
+        ensures accepted { IfOk result (λ preview. directory.judged self.now op.now now
+            ≡ Ok (record { csn = preview.csn; op = op.now })) }
+        ensures touched { IfOk result (λ preview. preview.touched
+            ≡ touched (directory.entries_of self.now)
+            (directory.entries_after self.now.history
+            (self.now.writes ++ record { csn = preview.csn; op = op.now } ∷ []))) }
+        ensures refused { IfErr result (directory.Refuses (directory.judged self.now op.now now)) }
+    {
+        let csn = self.next_csn(op, now)?;
+        let number = self.accepted.len() as u64 + 1;
+        let uuid = identity(self.history, number);
+        let touched = self.held.tree.preview(alloc, op, &self.suffix, uuid, csn)?;
+        Ok(Preview { csn, touched })
+    }
+
+    /// The change number that this operation would get, or 11 where it cannot be kept.
+    fn next_csn(&self, op: &Op, now: u64) -> Result<Csn, OpFault>
+        ensures room { OnOk result (directory.has_room self.now.writes op.now ≡ true) }
+        ensures value { IfOk result (λ csn. directory.next_stamp self.now now ≡ Some csn) }
+        ensures refused { IfErr result (directory.Refuses (directory.judged self.now op.now now)) }
+    {
+        if !self.has_room(op_weight(op)?) {
+            return Err(OpFault::Code(ADMIN_LIMIT_EXCEEDED));
+        }
+        let mut stamps = self.stamps.copy();
+        match stamps.next(now) {
+            Ok(csn) => Ok(csn),
+            Err(_) => Err(OpFault::Code(ADMIN_LIMIT_EXCEEDED)),
+        }
+    }
+
+    /// Whether a write of this weight may be kept.
+    fn has_room(&self, weight: u64) -> bool
+        ensures { result ≡ (nat_lt (length self.now.writes) directory.most_writes
+            && nat_le (kept_weight self.now.writes + weight) directory.most_writes_weight) }
+    {
+        self.accepted.len() < MOST_WRITES && weight <= MOST_WRITES_WEIGHT - self.weight
+    }
+}
+
+/// The code that a fault tells.
+fn code_of(fault: OpFault) -> Result<u32, NoMemory>
+    ensures { IfOk result (λ code. fault ≡ OpFault.Code code) }
+{
+    match fault {
+        OpFault::Code(code) => Ok(code),
+        OpFault::NoMemory => Err(AllocError),
+    }
+}
+
+/// The identity of the entry that write `number` adds (RFC 9562, section 5.8): a UUID of version 8
+/// of the low 48 bits of the history's number and 62 bits of the write's.
+fn identity(history: u128, number: u64) -> u128
+    ensures { result ≡ identity_of history number }
+{
+    let history = history % (1 << 48);
+    let number = u128::from(number % (1 << 62));
+    (history << 80) + (8 << 76) + (2 << 62) + number
+}

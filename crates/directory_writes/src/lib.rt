@@ -1,0 +1,16 @@
+//! A directory by its accepted writes: its entries, the change number of each write, what each write
+//! touched (the session log, and for each entry the number of its last touch), and where a search
+//! with content synchronisation begins on it (RFC 4533, section 3.3).
+#![tactic(auto)]
+
+mod directory;
+mod held;
+mod preview;
+mod start;
+mod touches;
+mod weights;
+
+pub use directory::{ADMIN_LIMIT_EXCEEDED, Directory};
+pub use ldap_ber::NoMemory;
+pub use preview::Preview;
+pub use start::Start;

@@ -1,0 +1,145 @@
+//! What is known of which write touched which entry.
+
+ghost use Rattle.std.specs.Prelude.{◌≡◌, ◌≤◌, [], length, is_some, true, OnOk, IfOk};
+ghost use Rattle.std.specs.List.Sorted.{IsStrictlySortedBy};
+ghost use Rattle.std.specs.Ordering.{nat_cmp};
+ghost use Rattle.session_log.specs.Log as log;
+ghost use Rattle.directory_writes.specs.Touches as spec;
+ghost use Rattle.directory_writes.specs.Touches.{number_at};
+
+use crate::NoMemory;
+use entry_tree::Touch;
+use session_log::SessionLog;
+use std::alloc::Global;
+use std::collections::BTreeMap;
+use std::marker::Model;
+
+/// The session log, and for each entry the number of the write that touched it last.
+#[derive(Drop)]
+pub(crate) struct Touches {
+    log: SessionLog,
+    /// By identity. A place that is made for an entry to come has the number 0.
+    numbers: BTreeMap<u128, u64>,
+}
+
+impl Model for Touches {
+    ghost use Rattle.directory_writes.specs.Touches.{TouchState};
+
+    ghost Value = { TouchState };
+
+    ghost view = { λ t. record { log = t.log.log; spare = t.log.spare; numbers = t.numbers.entries } };
+}
+
+impl Touches {
+    /// Nothing is touched yet. The log keeps so many notes.
+    pub(crate) fn new(alloc: Global, limit: u64) -> Touches
+        ensures log { result.log ≡ log.fresh limit }
+        ensures numbers { result.numbers ≡ [] }
+    {
+        Touches {
+            log: SessionLog::new(alloc, limit),
+            numbers: BTreeMap::new(alloc),
+        }
+    }
+
+    /// Makes room for so many notes, and a place for an entry of this identity.
+    #[tactic(auto, using(crate::proofs::Pushed::place_made, crate::proofs::Pushed::place_is, crate::proofs::Served::keeps_itself))]
+    pub(crate) fn make_room(&mut self, uuid: u128, notes: usize) -> Result<(), NoMemory>
+        ensures log { self.new.log ≡ self.old.log }
+        ensures room { OnOk result (notes ≤ self.new.spare) }
+        ensures place { OnOk result (is_some (number_at self.new.numbers uuid) ≡ true) }
+        ensures numbers { spec.KeepsNumbers self.old.numbers self.new.numbers }
+    {
+        self.log.reserve(notes)?;
+        if !self.numbers.contains_key(&uuid) {
+            self.numbers.insert(uuid, 0)?;
+        }
+        Ok(())
+    }
+
+    /// Takes back the place of this identity, where it has no number yet.
+    #[tactic(auto, using(crate::proofs::Pushed::place_left, crate::proofs::Served::keeps_itself))]
+    pub(crate) fn leave_room(&mut self, uuid: u128)
+        ensures log { self.new.log ≡ self.old.log }
+        ensures numbers { spec.KeepsNumbers self.old.numbers self.new.numbers }
+    {
+        if matches!(self.numbers.get(&uuid), Some(0)) {
+            self.numbers.remove(&uuid);
+        }
+    }
+
+    /// Notes what a write changed. It takes no memory.
+    pub(crate) fn note(&mut self, number: u64, touched: &[Touch])
+        requires { length touched.now ≤ self.old.spare }
+        ensures log { self.new.log ≡ spec.noted_each number (spec.uuids_of touched.now) self.old.log }
+        ensures numbers { self.new.numbers ≡ spec.renewed number self.old.numbers touched.now }
+    {
+        note_each(&mut self.log, number, touched);
+        renew_each(&mut self.numbers, number, touched);
+    }
+
+    /// The number of the write that touched the entry of this identity last.
+    pub(crate) fn number_of(&self, uuid: u128) -> Option<u64>
+        ensures { result ≡ number_at self.now.numbers uuid }
+    {
+        self.numbers.get(&uuid).copied()
+    }
+
+    /// Whether the log tells all that was touched after write `number`.
+    pub(crate) fn covers(&self, number: u64) -> bool
+        ensures { result ≡ log.covers number self.now.log }
+    {
+        self.log.covers(number)
+    }
+
+    /// The identities that were touched after write `number`, ascending.
+    pub(crate) fn since(&self, number: u64) -> Result<Vec<u128>, NoMemory>
+        requires { self.now.log.floor ≤ number }
+        ensures exact { IfOk result (λ uuids. uuids.items ≡ log.since number self.now.log) }
+        ensures ascends { IfOk result (λ uuids. IsStrictlySortedBy nat_cmp uuids.items) }
+    {
+        self.log.since(number)
+    }
+
+    /// The log keeps so many notes from now on.
+    pub(crate) fn set_limit(&mut self, limit: u64)
+        ensures log { self.new.log ≡ log.trimmed limit self.old.log }
+        ensures numbers { self.new.numbers ≡ self.old.numbers }
+    {
+        self.log.trim(limit);
+    }
+}
+
+/// One note for each identity.
+fn note_each(log: &mut SessionLog, number: u64, touched: &[Touch])
+    requires { length touched.now ≤ log.old.spare }
+    ensures { log.new.log ≡ spec.noted_each number (spec.uuids_of touched.now) log.old.log }
+{
+    for touch in touched {
+        log.note(number, touch.uuid);
+    }
+}
+
+/// The entries that are there now get the number, where they have a place; the others lose theirs.
+fn renew_each(numbers: &mut BTreeMap<u128, u64>, number: u64, touched: &[Touch])
+    ensures { numbers.new.entries ≡ spec.renewed number numbers.old.entries touched.now }
+{
+    for touch in touched {
+        renew(numbers, number, touch);
+    }
+}
+
+fn renew(numbers: &mut BTreeMap<u128, u64>, number: u64, touch: &Touch)
+    ensures { numbers.new.entries ≡ spec.renewed_by number numbers.old.entries touch.entry.now }
+{
+    match &touch.now {
+        None => {
+            numbers.remove(&touch.uuid);
+        }
+        Some(_) => {
+            if let Some(kept) = numbers.get_mut(&touch.uuid) {
+                *kept = number;
+            }
+        }
+    }
+}

@@ -1,0 +1,309 @@
+-- What a write's touches say to a search is what its Stream sends for the write.
+use Rattle.std.proofs.Common.{◌≡◌, ℕ, ◌+◌, Bool, true, false, cond, List, [], ◌∷◌, ◌++◌, length, map, refl, sym, ap, ◌∙◌, arith, subst, Some, None, Option, ◌⊎◌, inl, inr, length-append, nat_eq, nat_lt, eqb-true, eq-eqb}
+use Rattle.std.specs.Prelude.{not, ◌||◌, ◌&&◌, filter, flat_map, fold, is_some, take}
+use Rattle.std.specs.BTreeSet.{insert_key}
+use Rattle.std.specs.Cmp.{nat_cmp_total}
+use Rattle.std.specs.Ordering.{nat_cmp, is_eq}
+use Rattle.std.specs.declared.cmp.Ordering.TheVariants.{Less, Equal}
+use Rattle.std.proofs.lemmas.Bool.{and_parts, false≢true, ltb-true, or_right}
+use Rattle.std.proofs.lemmas.List.{append-nil}
+use Rattle.std.proofs.lemmas.Map.Entries.{option_filter}
+use Rattle.csn_cookie.specs.Csn.{start}
+use Rattle.csn_cookie.specs.Cookie.{cookie_text}
+use Rattle.dn_names.proofs.SortedLists.{In, Below, Sorted, sorted-insert, same_members}
+use Rattle.dn_names.specs.Writing.{name_text}
+use Rattle.entry_tree.specs.declared.entry.Entry.{Entry}
+use Rattle.entry_tree.specs.declared.op.Write.{Write}
+use Rattle.entry_tree.specs.declared.touched.Touch.{Touch}
+use Rattle.entry_tree.specs.Bytes.{is_one_entry, is_one_found}
+use Rattle.entry_tree.specs.History.{state_of}
+use Rattle.entry_tree.specs.Selection.{Search, select, is_selected}
+use Rattle.entry_tree.specs.State.{ascends, entry_at}
+use Rattle.entry_tree.specs.Touched.{identities, joined, touch_at, is_change, touched}
+use Rattle.entry_tree.proofs.Directory.{ascends_filter}
+use Rattle.entry_tree.proofs.Identities.{above}
+use Rattle.sync_model.specs.Message.{Cookie, SyncMessage}
+use Rattle.sync_model.specs.Message.SyncMessage.{Put, Gone}
+use Rattle.sync_model.specs.Stream.{among, told, told_all}
+use Rattle.sync_model.proofs.Gather.{Each}
+use Rattle.sync_model.proofs.Histories.{ascends-state_of}
+use Rattle.sync_model.proofs.Later.{IsStep, each-touched}
+use Rattle.sync_model.proofs.Maps.{among-joined, among-filter, among-identities}
+use Rattle.sync_model.proofs.Order.{entry_at-filter}
+use Rattle.sync_model.proofs.Same.{one_entry-true, one_found-same}
+use Rattle.sync_model.proofs.Steps.{differs}
+use Rattle.directory_writes.specs.Directory.{DirectoryState, cookie_at, entries_of, entries_after, last_stamp, with_write}
+use Rattle.directory_writes.proofs.Keyed.{less_cmp, at-is}
+use Rattle.directory_writes.proofs.Writes.{state_now, stamp_now, last_stamp-push}
+use Rattle.sync_provider.specs.Queueing.{group_of}
+use Rattle.sync_provider.specs.Search.{SearchState}
+use Rattle.sync_provider.specs.Staging.{chosen, told_of_touch, told_of_touches, with_cookie, last_with_cookie, messages_for}
+
+-- ---- lists of identities in ascending order
+
+below-filter : (test : ℕ → Bool) (x : ℕ) (ys : List ℕ) → Below nat_cmp x ys → Below nat_cmp x (filter test ys)
+below-filter test x [] below = tt
+below-filter test x (y ∷ ys) below = by (test y) (below-filter test x ys below.1) where
+  by : (b : Bool) → Below nat_cmp x (filter test ys) → Below nat_cmp x (cond b (y ∷ filter test ys) (filter test ys))
+  by true rest = (below.0, rest)
+  by false rest = rest
+
+sorted-filter : (test : ℕ → Bool) (xs : List ℕ) → Sorted nat_cmp xs → Sorted nat_cmp (filter test xs)
+sorted-filter test [] sorted = tt
+sorted-filter test (x ∷ xs) sorted = by (test x) (sorted-filter test xs sorted.1) where
+  by : (b : Bool) → Sorted nat_cmp (filter test xs) → Sorted nat_cmp (cond b (x ∷ filter test xs) (filter test xs))
+  by true rest = (below-filter test x xs sorted.0, rest)
+  by false rest = rest
+
+exact : (x y : ℕ) → nat_cmp x y ≡ Equal → x ≡ y
+exact x y is = at-is x y (ap is_eq is)
+
+sorted-joined : (ys xs : List ℕ) → Sorted nat_cmp xs → Sorted nat_cmp (joined xs ys)
+sorted-joined [] xs sorted = sorted
+sorted-joined (y ∷ ys) xs sorted = sorted-joined ys (insert_key nat_cmp xs y) (sorted-insert nat_cmp_total exact xs y sorted)
+
+below-identities : (u : ℕ) (es : List Entry) → above u es ≡ true → Below nat_cmp u (identities es)
+below-identities u [] h = tt
+below-identities u (e ∷ es) h =
+    let p = and_parts (nat_lt u e.uuid) (above u es) h in
+    (less_cmp u e.uuid (ltb-true u e.uuid p.0), below-identities u es p.1)
+
+sorted-identities : (es : List Entry) → ascends es ≡ true → Sorted nat_cmp (identities es)
+sorted-identities [] asc = tt
+sorted-identities (e ∷ es) asc =
+    let p = and_parts (above e.uuid es) (ascends es) asc in
+    (below-identities e.uuid es p.0, sorted-identities es p.1)
+
+in-among : (u : ℕ) (xs : List ℕ) → In u xs → among u xs ≡ true
+in-among u [] is = absurd is
+in-among u (x ∷ xs) (inl here) = ap (λ b. b || among u xs) (eq-eqb u x here)
+in-among u (x ∷ xs) (inr later) = or_right (nat_eq u x) (among u xs) (in-among u xs later)
+
+among-in : (u : ℕ) (xs : List ℕ) → among u xs ≡ true → In u xs
+among-in u [] h = absurd (false≢true h)
+among-in u (x ∷ xs) h = by (among-in u xs) (nat_eq u x) refl h where
+  by : (among u xs ≡ true → In u xs) → (b : Bool) → nat_eq u x ≡ b → (b || among u xs) ≡ true → In u (x ∷ xs)
+  by rest true here q = inl (eqb-true u x here)
+  by rest false off q = inr (rest q)
+
+same_list : (xs ys : List ℕ) → Sorted nat_cmp xs → Sorted nat_cmp ys → ((u : ℕ) → among u xs ≡ among u ys) → xs ≡ ys
+same_list xs ys one other same =
+    same_members nat_cmp_total exact xs ys one other
+    (λ u is. among-in u ys (sym (same u) ∙ in-among u xs is))
+    (λ u is. among-in u xs (same u ∙ in-among u ys is))
+
+-- ---- one identity
+
+split_one : (f : Touch → List SyncMessage) (b : Bool) (t : Touch) (ts : List Touch) → flat_map f (cond b (t ∷ ts) ts) ≡ cond b (f t) [] ++ flat_map f ts
+split_one f true t ts = refl
+split_one f false t ts = refl
+
+-- what is said of a change between two states is what is said of the change between what is selected from them
+one_said : (spec : Search) (u : ℕ) (was now : Option Entry)
+    → cond (not (is_one_found was now)) (told None u (chosen spec was) (chosen spec now)) []
+    ≡ cond (not (is_one_found (chosen spec was) (chosen spec now))) (told None u (chosen spec was) (chosen spec now)) []
+one_said spec u None None = refl
+one_said spec u (Some a) None = step (is_selected spec a) where
+  step : (b : Bool) → told None u (cond b (Some a) None) None
+      ≡ cond (not (is_one_found (cond b (Some a) None) None)) (told None u (cond b (Some a) None) None) []
+  step true = refl
+  step false = refl
+one_said spec u None (Some b) = step (is_selected spec b) where
+  step : (c : Bool) → told None u None (cond c (Some b) None)
+      ≡ cond (not (is_one_found None (cond c (Some b) None))) (told None u None (cond c (Some b) None)) []
+  step true = refl
+  step false = refl
+one_said spec u (Some a) (Some b) = by (is_one_entry a b) refl where
+  said : Bool → Bool → List SyncMessage
+  said p q = told None u (cond p (Some a) None) (cond q (Some b) None)
+
+  differ : (p q : Bool) → is_one_entry a b ≡ false → said p q ≡ cond (not (is_one_found (cond p (Some a) None) (cond q (Some b) None))) (said p q) []
+  differ true true off = ap (λ c. cond (not c) (said true true) []) (sym off)
+  differ true false off = refl
+  differ false true off = refl
+  differ false false off = refl
+
+  alike : a ≡ b → is_one_found (chosen spec (Some a)) (chosen spec (Some b)) ≡ true
+  alike same = ap (λ c. is_one_found (chosen spec (Some a)) (chosen spec (Some c))) (sym same) ∙ one_found-same (chosen spec (Some a))
+
+  by : (c : Bool) → is_one_entry a b ≡ c
+      → cond (not c) (told None u (chosen spec (Some a)) (chosen spec (Some b))) []
+      ≡ cond (not (is_one_found (chosen spec (Some a)) (chosen spec (Some b)))) (told None u (chosen spec (Some a)) (chosen spec (Some b))) []
+  by true here = sym (ap (λ c. cond (not c) (told None u (chosen spec (Some a)) (chosen spec (Some b))) []) (alike (one_entry-true a b here)))
+  by false off = differ (is_selected spec a) (is_selected spec b) off
+
+-- ---- all identities
+
+-- what a touch says by itself
+abbrev plain : Touch → List SyncMessage
+plain touch = told None touch.uuid touch.was touch.now
+
+chosen-filter : (spec : Search) (found : Option Entry) → option_filter (is_selected spec) found ≡ chosen spec found
+chosen-filter spec None = refl
+chosen-filter spec (Some e) = refl
+
+module _ (spec : Search) (old new : List Entry) (asc_old : ascends old ≡ true) (asc_new : ascends new ≡ true) where
+  abbrev kept_old : List Entry
+  kept_old = select spec old
+
+  abbrev kept_new : List Entry
+  kept_new = select spec new
+
+  chosen_old : (u : ℕ) → chosen spec (entry_at old u) ≡ entry_at kept_old u
+  chosen_old u = sym (entry_at-filter (is_selected spec) old u asc_old ∙ chosen-filter spec (entry_at old u))
+
+  chosen_new : (u : ℕ) → chosen spec (entry_at new u) ≡ entry_at kept_new u
+  chosen_new u = sym (entry_at-filter (is_selected spec) new u asc_new ∙ chosen-filter spec (entry_at new u))
+
+  said_alike : (us : List ℕ) → flat_map (told_of_touch spec) (filter is_change (map (touch_at old new) us)) ≡ flat_map plain (filter is_change (map (touch_at kept_old kept_new) us))
+  said_alike [] = refl
+  said_alike (u ∷ us) =
+      split_one (told_of_touch spec) (is_change (touch_at old new u)) (touch_at old new u) (filter is_change (map (touch_at old new) us))
+      ∙ ap (λ ms. ms ++ flat_map (told_of_touch spec) (filter is_change (map (touch_at old new) us))) (one_said spec u (entry_at old u) (entry_at new u))
+      ∙ (λ i. cond (not (is_one_found (chosen_old u i) (chosen_new u i))) (told None u (chosen_old u i) (chosen_new u i)) [] ++ said_alike us i)
+      ∙ sym (split_one plain (is_change (touch_at kept_old kept_new u)) (touch_at kept_old kept_new u) (filter is_change (map (touch_at kept_old kept_new) us)))
+
+  -- the identities of the states, and those of what is selected from them
+  abbrev all_uuids : List ℕ
+  all_uuids = joined (identities old) (identities new)
+
+  abbrev kept_uuids : List ℕ
+  kept_uuids = joined (identities kept_old) (identities kept_new)
+
+  -- what differs has an entry before or after
+  differs_there : (was now : Option Entry) → ((is_some was || is_some now) && not (is_one_found (chosen spec was) (chosen spec now))) ≡ not (is_one_found (chosen spec was) (chosen spec now))
+  differs_there None None = refl
+  differs_there None (Some b) = refl
+  differs_there (Some a) None = refl
+  differs_there (Some a) (Some b) = refl
+
+  found_there : (was now : Option Entry) → ((is_some was || is_some now) && not (is_one_found was now)) ≡ not (is_one_found was now)
+  found_there None None = refl
+  found_there None (Some b) = refl
+  found_there (Some a) None = refl
+  found_there (Some a) (Some b) = refl
+
+  among-two : (one other : List Entry) (u : ℕ) → among u (joined (identities one) (identities other)) ≡ (is_some (entry_at one u) || is_some (entry_at other u))
+  among-two one other u =
+      among-joined (identities other) (identities one) u
+      ∙ (λ i. among-identities one u i || among-identities other u i)
+
+  among_all : (u : ℕ) → among u (filter (differs kept_old kept_new) all_uuids) ≡ differs kept_old kept_new u
+  among_all u =
+      among-filter (differs kept_old kept_new) all_uuids u
+      ∙ (λ i. among-two old new u i && not (is_one_found (sym (chosen_old u) i) (sym (chosen_new u) i)))
+      ∙ differs_there (entry_at old u) (entry_at new u)
+      ∙ (λ i. not (is_one_found (chosen_old u i) (chosen_new u i)))
+
+  among_kept : (u : ℕ) → among u (filter (differs kept_old kept_new) kept_uuids) ≡ differs kept_old kept_new u
+  among_kept u =
+      among-filter (differs kept_old kept_new) kept_uuids u
+      ∙ (λ i. among-two kept_old kept_new u i && differs kept_old kept_new u)
+      ∙ found_there (entry_at kept_old u) (entry_at kept_new u)
+
+  same_uuids : ascends kept_old ≡ true → filter (differs kept_old kept_new) all_uuids ≡ filter (differs kept_old kept_new) kept_uuids
+  same_uuids asc_kept =
+      same_list (filter (differs kept_old kept_new) all_uuids) (filter (differs kept_old kept_new) kept_uuids)
+      (sorted-filter (differs kept_old kept_new) all_uuids (sorted-joined (identities new) (identities old) (sorted-identities old asc_old)))
+      (sorted-filter (differs kept_old kept_new) kept_uuids (sorted-joined (identities kept_new) (identities kept_old) (sorted-identities kept_old asc_kept)))
+      (λ u. among_all u ∙ sym (among_kept u))
+
+  changes-filter : (us : List ℕ) → filter is_change (map (touch_at kept_old kept_new) us) ≡ map (touch_at kept_old kept_new) (filter (differs kept_old kept_new) us)
+  changes-filter [] = refl
+  changes-filter (u ∷ us) = step (differs kept_old kept_new u) (changes-filter us) where
+    step : (b : Bool) → filter is_change (map (touch_at kept_old kept_new) us) ≡ map (touch_at kept_old kept_new) (filter (differs kept_old kept_new) us)
+        → cond b (touch_at kept_old kept_new u ∷ filter is_change (map (touch_at kept_old kept_new) us)) (filter is_change (map (touch_at kept_old kept_new) us))
+        ≡ map (touch_at kept_old kept_new) (cond b (u ∷ filter (differs kept_old kept_new) us) (filter (differs kept_old kept_new) us))
+    step true ih = ap (λ ts. touch_at kept_old kept_new u ∷ ts) ih
+    step false ih = ih
+
+  touches_are : ascends kept_old ≡ true → filter is_change (map (touch_at kept_old kept_new) all_uuids) ≡ touched kept_old kept_new
+  touches_are asc_kept =
+      changes-filter all_uuids ∙ ap (map (touch_at kept_old kept_new)) (same_uuids asc_kept) ∙ sym (changes-filter kept_uuids)
+
+  pub said_of_kept : ascends kept_old ≡ true → told_of_touches spec (touched old new) ≡ flat_map plain (touched kept_old kept_new)
+  said_of_kept asc_kept = said_alike all_uuids ∙ ap (flat_map plain) (touches_are asc_kept)
+
+-- ---- the cookie
+
+-- a change is told by one message, with a cookie and without
+record ToldAs (cookie : Cookie) (touch : Touch) : Type 0 where
+  message : SyncMessage
+  plainly : plain touch ≡ message ∷ []
+  marked : told (Some cookie) touch.uuid touch.was touch.now ≡ with_cookie cookie message ∷ []
+
+told_as : (cookie : Cookie) (touch : Touch) → is_change touch ≡ true → ToldAs cookie touch
+told_as cookie touch change = step touch.was touch.now refl refl change where
+  step : (was now : Option Entry) → touch.was ≡ was → touch.now ≡ now → not (is_one_found was now) ≡ true → ToldAs cookie touch
+  step None None before after is = absurd (false≢true is)
+  step (Some was) None before after is = record {
+    message = Gone touch.uuid (name_text was.dn) None;
+    plainly = λ i. told None touch.uuid (before i) (after i);
+    marked = λ i. told (Some cookie) touch.uuid (before i) (after i);
+  }
+  step None (Some now) before after is = record {
+    message = Put true now None;
+    plainly = λ i. told None touch.uuid (before i) (after i);
+    marked = λ i. told (Some cookie) touch.uuid (before i) (after i);
+  }
+  step (Some was) (Some now) before after is = record {
+    message = Put false now None;
+    plainly = λ i. told None touch.uuid (before i) (after i);
+    marked = λ i. told (Some cookie) touch.uuid (before i) (after i);
+  }
+
+last_more : (cookie : Cookie) (m n : SyncMessage) (xs ns : List SyncMessage) → xs ≡ n ∷ ns → last_with_cookie cookie (m ∷ xs) ≡ m ∷ last_with_cookie cookie xs
+last_more cookie m n xs ns is = ap (λ l. last_with_cookie cookie (m ∷ l)) is ∙ ap (λ l. m ∷ last_with_cookie cookie l) (sym is)
+
+last_told : (touches : List Touch) (cookie : Cookie) → Each IsStep touches → last_with_cookie cookie (flat_map plain touches) ≡ told_all cookie touches
+last_told [] cookie steps = refl
+last_told (t ∷ []) cookie steps =
+    let one : ToldAs cookie t = told_as cookie t steps.0.change in
+    ap (λ ms. last_with_cookie cookie (ms ++ [])) one.plainly ∙ sym one.marked
+last_told (t ∷ u ∷ touches) cookie steps =
+    let one : ToldAs cookie t = told_as cookie t steps.0.change in
+    let two : ToldAs cookie u = told_as cookie u steps.1.0.change in
+    ap (λ ms. last_with_cookie cookie (ms ++ flat_map plain (u ∷ touches))) one.plainly
+    ∙ last_more cookie one.message two.message (flat_map plain (u ∷ touches)) (flat_map plain touches) (ap (λ ms. ms ++ flat_map plain touches) two.plainly)
+    ∙ ap (λ ms. one.message ∷ ms) (last_told (u ∷ touches) cookie steps.1)
+    ∙ ap (λ ms. ms ++ told_all cookie (u ∷ touches)) (sym one.plainly)
+
+-- ---- a write of a directory
+
+ascends_now : (d : DirectoryState) → ascends (entries_of d) ≡ true
+ascends_now d = ap ascends (sym (state_now d d.writes [] (append-nil d.writes))) ∙ ascends-state_of d.history d.writes (length d.writes)
+
+pub group_is : (d : DirectoryState) (s : SearchState) (w : Write)
+    → messages_for s.spec (touched (entries_of d) (entries_after d.history (d.writes ++ w ∷ []))) (cookie_text (cookie_at d.sid d.history w.csn)) ≡ group_of d s w
+group_is d s w =
+    ap (last_with_cookie cookie) (said_of_kept s.spec old new (ascends_now d) (ascends_now after) (ascends_filter (is_selected s.spec) old (ascends_now d)))
+    ∙ last_told (touched (select s.spec old) (select s.spec new)) cookie (each-touched (select s.spec old) (select s.spec new))
+    ∙ (λ i. told_all (cookie_is i) (touched (select s.spec (old_is i)) (select s.spec (new_is i))))
+  where
+    after : DirectoryState
+    after = with_write d w
+
+    old : List Entry
+    old = entries_of d
+
+    new : List Entry
+    new = entries_after d.history (d.writes ++ w ∷ [])
+
+    cookie : Cookie
+    cookie = cookie_text (cookie_at d.sid d.history w.csn)
+
+    long : length (d.writes ++ w ∷ []) ≡ length d.writes + 1
+    long = omega (arith, length-append d.writes (w ∷ []))
+
+    old_is : old ≡ state_of d.history (d.writes ++ w ∷ []) (length d.writes)
+    old_is = sym (state_now d (d.writes ++ w ∷ []) (w ∷ []) refl)
+
+    new_is : new ≡ state_of d.history (d.writes ++ w ∷ []) (length d.writes + 1)
+    new_is = sym (state_now after (d.writes ++ w ∷ []) [] (append-nil (d.writes ++ w ∷ []))) ∙ ap (state_of d.history (d.writes ++ w ∷ [])) long
+
+    cookie_is : cookie ≡ cookie_text (cookie_at d.sid d.history (last_stamp (start d.sid) (take (length d.writes + 1) (d.writes ++ w ∷ []))))
+    cookie_is =
+        ap (λ csn. cookie_text (cookie_at d.sid d.history csn))
+        (sym (last_stamp-push (start d.sid) d.writes w)
+        ∙ sym (stamp_now after (d.writes ++ w ∷ []) [] (append-nil (d.writes ++ w ∷ [])))
+        ∙ ap (λ n. last_stamp (start d.sid) (take n (d.writes ++ w ∷ []))) long)

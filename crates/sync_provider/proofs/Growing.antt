@@ -1,0 +1,159 @@
+-- What a search is to send, over a history that grows.
+use Rattle.std.proofs.Common.{◌≡◌, ℕ, zero, suc, ◌+◌, ◌-◌, ◌≤◌, Bool, true, false, cond, List, [], ◌∷◌, ◌++◌, length, refl, sym, ap, ◌∙◌, arith, subst, append_assoc, length-append}
+use Rattle.std.specs.Prelude.{Option, Some, None, option_map, Result, Ok, Err}
+use Rattle.std.specs.BTreeMap.{is_at}
+use Rattle.std.specs.Ordering.{nat_cmp}
+use Rattle.std.proofs.lemmas.Map.Made.{lookup-map_values}
+use Rattle.entry_tree.specs.declared.op.Write.{Write}
+use Rattle.entry_tree.specs.declared.entry.Entry.{Entry}
+use Rattle.sync_model.specs.Message.{Cookie, SyncMessage}
+use Rattle.sync_model.specs.Message.SyncMessage.{Put, Gone, Present, IdSet, NewCookie, PhaseEnds, Done, Passed}
+use Rattle.sync_model.specs.Stream.{Session, Start, Decision, group, later, told, told_all, gathered, end_of, is_covered, content_after}
+use Rattle.sync_model.specs.Stream.Decision.{Sends, Names}
+use Rattle.sync_model.proofs.Gather.{Each, EachD, IsPart, each-append, each-gathered}
+use Rattle.entry_tree.specs.declared.touched.Touch.{Touch}
+use Rattle.entry_tree.specs.Touched.{touched}
+use Rattle.directory_writes.specs.Directory.{DirectoryState, judged, with_write, with_judged}
+use Rattle.sync_provider.specs.HandingOut.{search_at}
+use Rattle.sync_provider.specs.Law.{BeginsWith, session_at, refresh_of, later_of}
+use Rattle.sync_provider.specs.Machine.{ProviderState, Call, each_informed, called, run}
+use Rattle.sync_provider.specs.Machine.Call.{Writes, Accepts, HandsOut, Drops, SetsLogLimit, SetsQueueLimit}
+use Rattle.sync_provider.specs.Queueing.{group_of, informed}
+use Rattle.sync_provider.specs.Search.{SearchState, is_end}
+use Rattle.sync_provider.proofs.Refreshes.{decided_all, refresh_from-is, group-longer}
+
+-- ---- histories that begin with a directory's writes
+
+pub begins_before : (d : DirectoryState) (w : Write) (writes : List Write) → BeginsWith (with_write d w) writes → BeginsWith d writes
+begins_before d w writes begins = (w ∷ begins.0, sym (append_assoc d.writes (w ∷ []) begins.0) ∙ begins.1)
+
+judged_begins : (d : DirectoryState) (outcome : Result Write ℕ) (writes : List Write) → BeginsWith (with_judged d outcome) writes → BeginsWith d writes
+judged_begins d (Ok w) writes begins = begins_before d w writes begins
+judged_begins d (Err code) writes begins = begins
+
+called_begins : (p : ProviderState) (call : Call) (writes : List Write) → BeginsWith (called p call).directory writes → BeginsWith p.directory writes
+called_begins p (Writes op now) writes begins = judged_begins p.directory (judged p.directory op now) writes begins
+called_begins p (Accepts ask) writes begins = begins
+called_begins p (HandsOut number) writes begins = begins
+called_begins p (Drops number) writes begins = begins
+called_begins p (SetsLogLimit limit) writes begins = begins
+called_begins p (SetsQueueLimit limit) writes begins = begins
+
+pub run_begins : (calls : List Call) (p : ProviderState) (writes : List Write) → BeginsWith (run p calls).directory writes → BeginsWith p.directory writes
+run_begins [] p writes begins = begins
+run_begins (call ∷ calls) p writes begins = called_begins p call writes (run_begins calls (called p call) writes begins)
+
+-- ---- what later writes send
+
+later_goes : (d : DirectoryState) (s : SearchState) (count : ℕ) (writes : List Write) → s.persists ≡ true
+    → later_of d s count writes ≡ later (session_at d s writes) s.accepted (count - s.accepted)
+later_goes d s count writes goes = ap (λ b. cond {A = List SyncMessage} b (later (session_at d s writes) s.accepted (count - s.accepted)) []) goes
+
+pub later_stays : (d : DirectoryState) (s : SearchState) (count : ℕ) (writes : List Write) → s.persists ≡ false → later_of d s count writes ≡ []
+later_stays d s count writes stays = ap (λ b. cond {A = List SyncMessage} b (later (session_at d s writes) s.accepted (count - s.accepted)) []) stays
+
+-- none does at first
+pub later_none : (d : DirectoryState) (s : SearchState) (writes : List Write) → later_of d s s.accepted writes ≡ []
+later_none d s writes =
+    let none : s.accepted - s.accepted ≡ 0 = omega arith in
+    ap (λ n. cond {A = List SyncMessage} s.persists (later (session_at d s writes) s.accepted n) []) none ∙ both s.persists
+  where
+    both : (b : Bool) → cond {A = List SyncMessage} b [] [] ≡ []
+    both true = refl
+    both false = refl
+
+pub later_more : (d : DirectoryState) (s : SearchState) (count : ℕ) (writes : List Write) → s.accepted ≤ count → s.persists ≡ true
+    → later_of d s (count + 1) writes ≡ later_of d s count writes ++ group (session_at d s writes) count
+later_more d s count writes low goes =
+    let more : count + 1 - s.accepted ≡ suc (count - s.accepted) = omega (arith, low) in
+    let here : s.accepted + (count - s.accepted) ≡ count = omega (arith, low) in
+    later_goes d s (count + 1) writes goes
+    ∙ ap (later (session_at d s writes) s.accepted) more
+    ∙ ap (λ n. later (session_at d s writes) s.accepted (count - s.accepted) ++ group (session_at d s writes) n) here
+    ∙ ap (λ ms. ms ++ group (session_at d s writes) count) (sym (later_goes d s count writes goes))
+
+-- over each longer history a write sends the same
+pub group_in : (d : DirectoryState) (s : SearchState) (w : Write) (writes : List Write) → BeginsWith (with_write d w) writes
+    → group (session_at d s writes) (length d.writes) ≡ group_of d s w
+group_in d s w writes begins =
+    group-longer s.persists d.sid d.history s.spec (d.writes ++ w ∷ []) begins.0 writes (length d.writes) begins.1 (omega (arith, length-append d.writes (w ∷ [])))
+
+pub later_grows : (d : DirectoryState) (s : SearchState) (w : Write) (writes : List Write) → s.accepted ≤ length d.writes → s.persists ≡ true → BeginsWith (with_write d w) writes
+    → later_of d s (length (d.writes ++ w ∷ [])) writes ≡ later_of d s (length d.writes) writes ++ group_of d s w
+later_grows d s w writes low goes begins =
+    let long : length (d.writes ++ w ∷ []) ≡ length d.writes + 1 = omega (arith, length-append d.writes (w ∷ [])) in
+    ap (λ n. later_of d s n writes) long
+    ∙ later_more d s (length d.writes) writes low goes
+    ∙ ap (λ ms. later_of d s (length d.writes) writes ++ ms) (group_in d s w writes begins)
+
+-- ---- a search among the open ones after a write
+
+pub informed_at : (limit : ℕ) (d : DirectoryState) (w : Write) (es : List (ℕ × SearchState)) (number : ℕ) (s : SearchState) → search_at es number ≡ Some s
+    → search_at (each_informed limit d w es) number ≡ Some (informed limit d w s)
+informed_at limit d w es number s found =
+    lookup-map_values (informed limit d w) (is_at (nat_cmp number)) es ∙ ap (option_map (informed limit d w)) found
+
+-- ---- a search that goes on is sent no SearchResultDone
+
+abbrev pub GoesOn : SyncMessage → Type 0
+GoesOn m = is_end m ≡ false
+
+each-weaker : {X : Type 0} (P Q : X → Type 0) (xs : List X) → ((x : X) → P x → Q x) → Each P xs → Each Q xs
+each-weaker P Q [] h each = tt
+each-weaker P Q (x ∷ xs) h each = (h x each.0, each-weaker P Q xs h each.1)
+
+any_decisions : (ds : List Decision) → EachD (λ entry. Unit {0}) (λ uuid. Unit {0}) ds
+any_decisions [] = tt
+any_decisions (Sends entry ∷ ds) = (tt, any_decisions ds)
+any_decisions (Names uuid ∷ ds) = (tt, any_decisions ds)
+
+part_goes : (deletes : Bool) (m : SyncMessage) → IsPart deletes (λ entry. Unit {0}) (λ uuid. Unit {0}) m → GoesOn m
+part_goes deletes (Put adds entry cookie) is = refl
+part_goes deletes (IdSet d uuids cookie) is = refl
+part_goes deletes (Gone uuid name cookie) is = absurd is
+part_goes deletes (Present uuid cookie) is = absurd is
+part_goes deletes (NewCookie cookie) is = absurd is
+part_goes deletes (PhaseEnds d done cookie) is = absurd is
+part_goes deletes (Done code control) is = absurd is
+part_goes deletes Passed is = absurd is
+
+pub refresh_goes : (d : DirectoryState) (s : SearchState) (writes : List Write) → s.persists ≡ true → Each GoesOn (refresh_of d s writes)
+refresh_goes d s writes goes =
+    subst (Each GoesOn) (sym (refresh_from-is (session_at d s writes) s.start s.accepted))
+    (each-append GoesOn (gathered deletes decisions) (end_with s.persists ∷ [])
+    (each-weaker (IsPart deletes (λ entry. Unit {0}) (λ uuid. Unit {0})) GoesOn (gathered deletes decisions) (part_goes deletes)
+    (each-gathered deletes (λ entry. Unit {0}) (λ uuid. Unit {0}) decisions (any_decisions decisions)))
+    (ap (λ b. is_end (end_with b)) goes, tt))
+  where
+    deletes : Bool
+    deletes = is_covered s.start
+
+    decisions : List Decision
+    decisions = decided_all (session_at d s writes) s.start s.accepted
+
+    end_with : Bool → SyncMessage
+    end_with b = end_of b deletes ((session_at d s writes).cookies s.accepted)
+
+told_goes : (cookie : Option Cookie) (uuid : ℕ) (was now : Option Entry) → Each GoesOn (told cookie uuid was now)
+told_goes cookie uuid None None = tt
+told_goes cookie uuid (Some was) None = (refl, tt)
+told_goes cookie uuid None (Some now) = (refl, tt)
+told_goes cookie uuid (Some was) (Some now) = (refl, tt)
+
+told_all_goes : (touches : List Touch) (cookie : Cookie) → Each GoesOn (told_all cookie touches)
+told_all_goes [] cookie = tt
+told_all_goes (t ∷ []) cookie = told_goes (Some cookie) t.uuid t.was t.now
+told_all_goes (t ∷ u ∷ touches) cookie =
+    each-append GoesOn (told None t.uuid t.was t.now) (told_all cookie (u ∷ touches)) (told_goes None t.uuid t.was t.now) (told_all_goes (u ∷ touches) cookie)
+
+later_all_go : (count : ℕ) (session : Session) (from : ℕ) → Each GoesOn (later session from count)
+later_all_go zero session from = tt
+later_all_go (suc count) session from =
+    each-append GoesOn (later session from count) (group session (from + count)) (later_all_go count session from)
+    (told_all_goes (touched (content_after session (from + count)) (content_after session (from + count + 1))) (session.cookies (from + count + 1)))
+
+pub laters_go : (d : DirectoryState) (s : SearchState) (count : ℕ) (writes : List Write) → Each GoesOn (later_of d s count writes)
+laters_go d s count writes = by s.persists where
+  by : (b : Bool) → Each GoesOn (cond {A = List SyncMessage} b (later (session_at d s writes) s.accepted (count - s.accepted)) [])
+  by true = later_all_go (count - s.accepted) (session_at d s writes) s.accepted
+  by false = tt

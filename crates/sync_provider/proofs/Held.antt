@@ -1,0 +1,149 @@
+-- The open searches as they are kept, by their numbers.
+use Rattle.std.proofs.Common.{◌≡◌, ℕ, Bool, true, false, cond, List, [], ◌∷◌, ◌++◌, Option, Some, None, refl, ap, sym, subst, ◌∙◌, ◌⊎◌, inl, inr}
+use Rattle.std.specs.Prelude.{is_some, option_map}
+use Rattle.std.specs.List.{list_all, list_any}
+use Rattle.std.specs.BTreeMap.{insert_entry, is_at}
+use Rattle.std.specs.Map.{keys_of, values_of}
+use Rattle.std.specs.Map.Calls.{RetainsPairs}
+use Rattle.std.specs.Ordering.{nat_cmp, match_ordering}
+use Rattle.std.specs.declared.cmp.Ordering.{Ordering}
+use Rattle.std.specs.declared.cmp.Ordering.TheVariants.{Less, Equal, Greater}
+use Rattle.std.proofs.lemmas.Bool.{and_parts, or_parts}
+use Rattle.std.proofs.lemmas.Map.Made.{lookup-map_values, keys_of-map_values}
+use Rattle.entry_tree.specs.declared.op.Write.{Write}
+use Rattle.entry_tree.specs.declared.touched.Touch.{Touch}
+use Rattle.sync_model.specs.Message.{Cookie, SyncMessage}
+use Rattle.directory_writes.specs.Directory.{DirectoryState}
+use Rattle.directory_writes.proofs.Keyed.{kept_at, closed_at, put_on}
+use Rattle.sync_provider.specs.HandingOut.{search_at, turn_of_pending, turn_of_found, turn_at}
+use Rattle.sync_provider.specs.Machine.{each_informed}
+use Rattle.sync_provider.specs.Queueing.{is_queueing, group_of, pushed, informed}
+use Rattle.sync_provider.specs.Search.{SearchState, pending}
+use Rattle.sync_provider.specs.Staging.{HeldSearch, searches_of, messages_for, staged_for, IsTried, AreStaged, pushed_staged, each_pushed}
+
+abbrev Held : Type 0
+Held = List (ℕ × HeldSearch)
+
+-- ---- one of them
+
+pub search_held : (es : Held) (k : ℕ) → search_at (searches_of es) k ≡ option_map (λ held. held.search) (kept_at es k)
+search_held es k = lookup-map_values (λ held. held.search) (is_at (nat_cmp k)) es
+
+pub search_found : (es : Held) (k : ℕ) (held : HeldSearch) → kept_at es k ≡ Some held → search_at (searches_of es) k ≡ Some held.search
+search_found es k held found = search_held es k ∙ ap (option_map (λ held. held.search)) found
+
+pub turn_found : (es : Held) (k : ℕ) (held : HeldSearch) → kept_at es k ≡ Some held → turn_at (searches_of es) k ≡ turn_of_pending held.search.id (pending held.search)
+turn_found es k held found = ap turn_of_found (search_found es k held found)
+
+pub search_none : (es : Held) (k : ℕ) → kept_at es k ≡ None → search_at (searches_of es) k ≡ None
+search_none es k found = search_held es k ∙ ap (option_map (λ held. held.search)) found
+
+pub search_some : (es : Held) (k : ℕ) → is_some (search_at (searches_of es) k) ≡ is_some (kept_at es k)
+search_some es k = ap is_some (search_held es k) ∙ by (kept_at es k) where
+  by : (found : Option HeldSearch) → is_some (option_map (λ held. held.search) found) ≡ is_some found
+  by None = refl
+  by (Some held) = refl
+
+-- ---- after a change of one
+
+pub held_closed : (es : Held) (k : ℕ) → searches_of (closed_at es k) ≡ closed_at (searches_of es) k
+held_closed [] k = refl
+held_closed (e ∷ es) k = by (is_at (nat_cmp k) e.0) (held_closed es k) where
+  by : (b : Bool) → searches_of (closed_at es k) ≡ closed_at (searches_of es) k
+      → searches_of (cond b es (e ∷ closed_at es k)) ≡ cond b (searches_of es) ((e.0, e.1.search) ∷ closed_at (searches_of es) k)
+  by true rest = refl
+  by false rest = ap (λ xs. (e.0, e.1.search) ∷ xs) rest
+
+pub held_put : (es : Held) (k : ℕ) (held : HeldSearch) → searches_of (put_on es k held) ≡ put_on (searches_of es) k held.search
+held_put [] k held = refl
+held_put (e ∷ es) k held = by (is_at (nat_cmp k) e.0) (held_put es k held) where
+  by : (b : Bool) → searches_of (put_on es k held) ≡ put_on (searches_of es) k held.search
+      → searches_of (cond b ((e.0, held) ∷ es) (e ∷ put_on es k held)) ≡ cond b ((e.0, held.search) ∷ searches_of es) ((e.0, e.1.search) ∷ put_on (searches_of es) k held.search)
+  by true rest = refl
+  by false rest = ap (λ xs. (e.0, e.1.search) ∷ xs) rest
+
+pub held_opened : (es : Held) (k : ℕ) (held : HeldSearch) → searches_of (insert_entry nat_cmp es k held) ≡ insert_entry nat_cmp (searches_of es) k held.search
+held_opened [] k held = refl
+held_opened (e ∷ es) k held = by (nat_cmp k e.0) (held_opened es k held) where
+  by : (o : Ordering) → searches_of (insert_entry nat_cmp es k held) ≡ insert_entry nat_cmp (searches_of es) k held.search
+      → searches_of (match_ordering o ((k, held) ∷ e ∷ es) ((e.0, held) ∷ es) (e ∷ insert_entry nat_cmp es k held))
+      ≡ match_ordering o ((k, held.search) ∷ (e.0, e.1.search) ∷ searches_of es) ((e.0, held.search) ∷ searches_of es) ((e.0, e.1.search) ∷ insert_entry nat_cmp (searches_of es) k held.search)
+  by Less rest = refl
+  by Equal rest = refl
+  by Greater rest = ap (λ xs. (e.0, e.1.search) ∷ xs) rest
+
+pub held_keys : (es : Held) → keys_of (searches_of es) ≡ keys_of es
+held_keys es = keys_of-map_values (λ held. held.search) es
+
+-- ---- after a change of each
+
+pub record AreTried (touches : List Touch) (cookie : Cookie) (old new : Held) : Type 0 where
+  pub searches : searches_of new ≡ searches_of old
+  pub staged : list_all (λ held. is_some held.staged) (values_of new) ≡ true → AreStaged touches cookie new
+
+tried_one : (touches : List Touch) (cookie : Cookie) (k : ℕ) (old new : HeldSearch) (olds news : Held) → IsTried touches cookie old new → AreTried touches cookie olds news
+    → AreTried touches cookie ((k, old) ∷ olds) ((k, new) ∷ news)
+tried_one touches cookie k old new olds news one rest = record {
+  searches = (λ i. (k, one.search i) ∷ rest.searches i);
+  staged = λ each.
+      let parts = and_parts (is_some new.staged) (list_all (λ held. is_some held.staged) (values_of news)) each in
+      (made one.staged parts.0, rest.staged parts.1);
+}
+  where
+    never : (found : Option (List SyncMessage)) → found ≡ None → is_some found ≡ true → ⊥
+    never found none some = let far : is_some found ≡ false = ap is_some none in cc
+
+    made : (new.staged ≡ Some (staged_for old.search touches cookie)) ⊎ (new.staged ≡ None) → is_some new.staged ≡ true → new.staged ≡ Some (staged_for new.search touches cookie)
+    made (inl is) some = is ∙ ap (λ s. Some (staged_for s touches cookie)) (sym one.search)
+    made (inr none) some = absurd (never new.staged none some)
+
+pub all_tried : {F : Type 0} (T : F → ℕ → HeldSearch → Bool → HeldSearch → F → Type 0) (f : F) (touches : List Touch) (cookie : Cookie)
+    → ((k : ℕ) (old : HeldSearch) (b : Bool) (new : HeldSearch) (g : F) → T f k old b new g → (b ≡ true) × (IsTried touches cookie old new) × (g ≡ f))
+    → (es kept : Held) → RetainsPairs T f es kept → AreTried touches cookie es kept
+all_tried T f touches cookie each [] kept is = subst (AreTried touches cookie []) (sym is) (record { searches = refl; staged = λ none. tt })
+all_tried T f touches cookie each (e ∷ es) kept (b, new, g, rest, call, later, is) =
+    let one = each e.0 e.1 b new g call in
+    let all : kept ≡ (e.0, new) ∷ rest = is ∙ ap (λ c. cond c ((e.0, new) ∷ rest) rest) one.0 in
+    subst (AreTried touches cookie (e ∷ es)) (sym all)
+    (tried_one touches cookie e.0 e.1 new es rest one.1 (all_tried T f touches cookie each es rest (subst (λ h. RetainsPairs T h es rest) one.2 later)))
+
+pub all_pushed : {F : Type 0} (T : F → ℕ → HeldSearch → Bool → HeldSearch → F → Type 0) (f : F) (limit : ℕ)
+    → ((k : ℕ) (old : HeldSearch) (b : Bool) (new : HeldSearch) (g : F) → T f k old b new g → (b ≡ true) × (new.search ≡ pushed_staged limit old.staged old.search) × (g ≡ f))
+    → (es kept : Held) → RetainsPairs T f es kept → searches_of kept ≡ each_pushed limit es
+all_pushed T f limit each [] kept is = ap searches_of is
+all_pushed T f limit each (e ∷ es) kept (b, new, g, rest, call, later, is) =
+    let one = each e.0 e.1 b new g call in
+    let more : searches_of rest ≡ each_pushed limit es = all_pushed T f limit each es rest (subst (λ h. RetainsPairs T h es rest) one.2 later) in
+    ap searches_of (is ∙ ap (λ c. cond c ((e.0, new) ∷ rest) rest) one.0)
+    ∙ (λ i. (e.0, one.1 i) ∷ more i)
+
+-- ---- tests of all
+
+-- a write is told to none
+pub none_informed : (es : Held) (limit : ℕ) (d : DirectoryState) (w : Write) → list_any (λ held. is_queueing held.search) (values_of es) ≡ false
+    → each_informed limit d w (searches_of es) ≡ searches_of es
+none_informed [] limit d w none = refl
+none_informed (e ∷ es) limit d w none =
+    let parts : (is_queueing e.1.search ≡ false) × (list_any (λ held. is_queueing held.search) (values_of es) ≡ false) =
+    or_parts (is_queueing e.1.search) (list_any (λ held. is_queueing held.search) (values_of es)) none in
+    let here : informed limit d w e.1.search ≡ e.1.search = ap (λ b. cond b (pushed limit (group_of d e.1.search w) e.1.search) e.1.search) parts.0 in
+    let rest : each_informed limit d w (searches_of es) ≡ searches_of es = none_informed es limit d w parts.1 in
+    λ i. (e.0, here i) ∷ rest i
+
+-- what was staged for a write is what the write is told by
+pub pushed_informed : (limit : ℕ) (d : DirectoryState) (w : Write) (s : SearchState) (touches : List Touch) (cookie : Cookie) → messages_for s.spec touches cookie ≡ group_of d s w
+    → pushed_staged limit (Some (staged_for s touches cookie)) s ≡ informed limit d w s
+pushed_informed limit d w s touches cookie is = by (is_queueing s) where
+  by : (b : Bool) → pushed limit (cond b (messages_for s.spec touches cookie) []) s ≡ cond b (pushed limit (group_of d s w) s) s
+  by true = ap (λ ms. pushed limit ms s) is
+  by false = refl
+
+pub all_informed : (es : Held) (limit : ℕ) (d : DirectoryState) (w : Write) (touches : List Touch) (cookie : Cookie)
+    → ((s : SearchState) → messages_for s.spec touches cookie ≡ group_of d s w) → AreStaged touches cookie es
+    → each_pushed limit es ≡ each_informed limit d w (searches_of es)
+all_informed [] limit d w touches cookie is each = refl
+all_informed (e ∷ es) limit d w touches cookie is each =
+    let here : pushed_staged limit e.1.staged e.1.search ≡ informed limit d w e.1.search =
+    ap (λ staged. pushed_staged limit staged e.1.search) each.0 ∙ pushed_informed limit d w e.1.search touches cookie (is e.1.search) in
+    let rest : each_pushed limit es ≡ each_informed limit d w (searches_of es) = all_informed es limit d w touches cookie is each.1 in
+    λ i. (e.0, here i) ∷ rest i

@@ -1,0 +1,201 @@
+-- Each call leaves every open search at its place in its Stream.
+use Rattle.std.proofs.Common.{◌≡◌, ℕ, ◌+◌, ◌≤◌, Bool, true, false, cond, List, [], ◌∷◌, ◌++◌, length, Option, Some, None, refl, ap, sym, ◌∙◌, arith, inl, inr, ◌⊎◌, subst, append_assoc, length-append}
+use Rattle.std.specs.Prelude.{Result, Ok, Err, not, ◌&&◌}
+use Rattle.std.proofs.lemmas.Bool.{false≢true, true≢false}
+use Rattle.std.proofs.lemmas.List.{append-nil}
+use Rattle.entry_tree.specs.declared.op.Write.{Write}
+use Rattle.entry_tree.specs.Selection.{Search, search_of}
+use Rattle.sync_model.specs.Message.{SyncMessage}
+use Rattle.sync_model.specs.Stream.{Start}
+use Rattle.directory_writes.specs.Directory.{DirectoryState, judged, with_write, with_judged, with_log_limit}
+use Rattle.sync_provider.specs.Accepting as accepting
+use Rattle.sync_provider.specs.Accepting.{answer_to, start_of_ask, persists_of_ask}
+use Rattle.sync_provider.specs.HandingOut.{Turn, turn_at, search_at, without_first, handed_on, after_turn}
+use Rattle.sync_provider.specs.HandingOut.Turn.{Hands, Closes, Waits, Unknown}
+use Rattle.sync_provider.specs.Law.{BeginsWith, later_of, IsAtItsPlace, IsPlaced, KeepsItsPlace, EachSearch}
+use Rattle.sync_provider.specs.Machine.{ProviderState, Call, each_informed, searches_after, called, run}
+use Rattle.sync_provider.specs.Machine.Call.{Writes, Accepts, HandsOut, Drops, SetsLogLimit, SetsQueueLimit}
+use Rattle.sync_provider.specs.Queueing.{is_full, group_of, overflowed, pushed, informed}
+use Rattle.sync_provider.specs.Search.{SearchState, opening, advanced}
+use Rattle.sync_provider.specs.declared.searches.Accepted.{Accepted}
+use Rattle.sync_provider.specs.declared.searches.Accepted.TheVariants.{Opened, Refused, NoMemory}
+use Rattle.sync_provider.specs.declared.searches.SyncSearch.{SyncSearch}
+use Rattle.sync_provider.proofs.Growing.{begins_before, later_stays, later_none, later_grows}
+use Rattle.sync_provider.proofs.Looking.{each-opened, each-closed, each-put_on, each-at, each-weaker}
+use Rattle.sync_provider.proofs.Refreshes.{refresh-longer}
+
+abbrev Searches : Type 0
+Searches = List (ℕ × SearchState)
+
+-- ---- a write
+
+module _ (d : DirectoryState) (w : Write) (s : SearchState) (handed handed_later : List SyncMessage) (place : IsAtItsPlace d s handed handed_later) where
+  within_now : s.accepted ≤ length (d.writes ++ w ∷ [])
+  within_now = omega (arith, place.within, length-append d.writes (w ∷ []))
+
+  -- a search that ends with its refresh
+  pub stays_place : s.persists ≡ false → IsAtItsPlace (with_write d w) s handed handed_later
+  stays_place stays = record {
+    within = within_now;
+    rest = λ writes begins. place.rest writes (begins_before d w writes begins);
+    due = λ writes begins.
+        place.due writes (begins_before d w writes begins)
+        ∙ later_stays d s (length d.writes) writes stays
+        ∙ sym (later_stays d s (length (d.writes ++ w ∷ [])) writes stays);
+    ordered = place.ordered;
+  }
+
+  due_grows : s.persists ≡ true → (writes : List Write) → BeginsWith (with_write d w) writes
+      → handed_later ++ (s.due ++ group_of d s w) ≡ later_of d s (length (d.writes ++ w ∷ [])) writes
+  due_grows goes writes begins =
+      sym (append_assoc handed_later s.due (group_of d s w))
+      ∙ ap (λ ms. ms ++ group_of d s w) (place.due writes (begins_before d w writes begins))
+      ∙ sym (later_grows d s w writes place.within goes begins)
+
+  -- one that goes on
+  pub pushed_place : (limit : ℕ) (messages : List SyncMessage) → group_of d s w ≡ messages → s.persists ≡ true
+      → (pushed limit messages s).over ≡ false → IsAtItsPlace (with_write d w) (pushed limit messages s) handed handed_later
+  pushed_place limit [] none goes still = record {
+    within = within_now;
+    rest = λ writes begins. place.rest writes (begins_before d w writes begins);
+    due = λ writes begins. ap (λ ms. handed_later ++ ms) (sym (ap (λ ms. s.due ++ ms) none ∙ append-nil s.due)) ∙ due_grows goes writes begins;
+    ordered = place.ordered;
+  }
+  pushed_place limit (m ∷ ms) is goes still = fits (is_full limit (s.due ++ m ∷ ms)) still
+    where
+      fits : (b : Bool) → (cond b (overflowed s) (record s { due = s.due ++ m ∷ ms })).over ≡ false
+          → IsAtItsPlace (with_write d w) (cond b (overflowed s) (record s { due = s.due ++ m ∷ ms })) handed handed_later
+      fits true off = absurd (true≢false off)
+      fits false off = record {
+        within = within_now;
+        rest = λ writes begins. place.rest writes (begins_before d w writes begins);
+        due = λ writes begins. ap (λ group. handed_later ++ (s.due ++ group)) (sym is) ∙ due_grows goes writes begins;
+        ordered = place.ordered;
+      }
+
+informed_place : (limit : ℕ) (d : DirectoryState) (w : Write) (s : SearchState) → KeepsItsPlace d s → KeepsItsPlace (with_write d w) (informed limit d w s)
+informed_place limit d w s keeps = by s.persists s.over refl refl
+  where
+    by : (p o : Bool) → s.persists ≡ p → s.over ≡ o → KeepsItsPlace (with_write d w) (cond (p && not o) (pushed limit (group_of d s w) s) s)
+    by false o stays is = λ off. record {
+      handed = (keeps off).handed;
+      handed_later = (keeps off).handed_later;
+      place = stays_place d w s (keeps off).handed (keeps off).handed_later (keeps off).place stays;
+    }
+    by true true goes is = λ off. absurd (true≢false (sym is ∙ off))
+    by true false goes is = λ still. record {
+      handed = (keeps is).handed;
+      handed_later = (keeps is).handed_later;
+      place = pushed_place d w s (keeps is).handed (keeps is).handed_later (keeps is).place limit (group_of d s w) refl goes still;
+    }
+
+each_place : (es : Searches) (limit : ℕ) (d : DirectoryState) (w : Write) → EachSearch (KeepsItsPlace d) es → EachSearch (KeepsItsPlace (with_write d w)) (each_informed limit d w es)
+each_place [] limit d w each = tt
+each_place (e ∷ es) limit d w each = (informed_place limit d w e.1 each.0, each_place es limit d w each.1)
+
+judged_places : (p : ProviderState) (outcome : Result Write ℕ) → EachSearch (KeepsItsPlace p.directory) p.searches
+    → EachSearch (KeepsItsPlace (with_judged p.directory outcome)) (searches_after p outcome)
+judged_places p (Ok w) each = each_place p.searches p.queue_limit p.directory w each
+judged_places p (Err code) each = each
+
+-- ---- a search that is accepted
+
+pub opening_place : (d : DirectoryState) (id : ℕ) (spec : Search) (start : Start) (persists : Bool) → IsAtItsPlace d (opening d id spec start persists) [] []
+opening_place d id spec start persists = record {
+  within = omega arith;
+  rest = λ writes begins. sym (refresh-longer persists d.sid d.history spec start d.writes begins.0 writes begins.1);
+  due = λ writes begins. sym (later_none d (opening d id spec start persists) writes);
+  ordered = inr refl;
+}
+
+answered_places : (d : DirectoryState) (es : Searches) (ask : SyncSearch) (answer : Accepted) → EachSearch (KeepsItsPlace d) es
+    → EachSearch (KeepsItsPlace d) (accepting.after_answer d es ask answer)
+answered_places d es ask (Opened number writes) each =
+    each-opened (KeepsItsPlace d) es number _ each (λ off. record { handed = []; handed_later = []; place = opening_place d ask.id (search_of ask.spec) (start_of_ask d ask) (persists_of_ask ask) })
+answered_places d es ask (Refused code) each = each
+answered_places d es ask NoMemory each = each
+
+-- ---- a turn
+
+some_left : (m : SyncMessage) (ms : List SyncMessage) → m ∷ ms ≡ [] → ⊥
+some_left m ms e = cc
+
+-- where something of the refresh is left, nothing of later writes was handed out
+none_later : (m : SyncMessage) (rest handed_later : List SyncMessage) → (m ∷ rest ≡ []) ⊎ (handed_later ≡ []) → handed_later ≡ []
+none_later m rest handed_later (inl none) = absurd (some_left m rest none)
+none_later m rest handed_later (inr none) = none
+
+-- the place after a message was handed out, which was one more
+pub record IsNext (d : DirectoryState) (s : SearchState) (count : ℕ) : Type 0 where
+  pub now : IsPlaced d s
+  pub counted : length now.handed + length now.handed_later ≡ count + 1
+
+module _ (d : DirectoryState) (s : SearchState) (handed handed_later : List SyncMessage) (place : IsAtItsPlace d s handed handed_later) where
+  pub next_rest : (m : SyncMessage) (rest : List SyncMessage) → s.rest ≡ m ∷ rest → IsNext d (record s { rest = rest }) (length handed + length handed_later)
+  next_rest m rest is = record {
+    now = record {
+      handed = handed ++ m ∷ [];
+      handed_later = handed_later;
+      place = record {
+        within = place.within;
+        rest = λ writes begins. append_assoc handed (m ∷ []) rest ∙ ap (λ ms. handed ++ ms) (sym is) ∙ place.rest writes begins;
+        due = place.due;
+        ordered = inr (none_later m rest handed_later (subst (λ ms. (ms ≡ []) ⊎ (handed_later ≡ [])) is place.ordered));
+      };
+    };
+    counted = let one : length (handed ++ m ∷ []) ≡ length handed + 1 = length-append handed (m ∷ []) in omega (arith, one);
+  }
+
+  pub next_due : (m : SyncMessage) (due : List SyncMessage) → s.rest ≡ [] → s.due ≡ m ∷ due → IsNext d (record s { due = due }) (length handed + length handed_later)
+  next_due m due none is = record {
+    now = record {
+      handed = handed;
+      handed_later = handed_later ++ m ∷ [];
+      place = record {
+        within = place.within;
+        rest = place.rest;
+        due = λ writes begins. append_assoc handed_later (m ∷ []) due ∙ ap (λ ms. handed_later ++ ms) (sym is) ∙ place.due writes begins;
+        ordered = inl none;
+      };
+    };
+    counted = let one : length (handed_later ++ m ∷ []) ≡ length handed_later + 1 = length-append handed_later (m ∷ []) in omega (arith, one);
+  }
+
+advanced_place : (d : DirectoryState) (s : SearchState) (rest due : List SyncMessage) → s.rest ≡ rest → s.due ≡ due → KeepsItsPlace d s → KeepsItsPlace d (advanced s rest due)
+advanced_place d s (m ∷ rest) due is_rest is_due keeps = λ off. (next_rest d s (keeps off).handed (keeps off).handed_later (keeps off).place m rest is_rest).now
+advanced_place d s [] (m ∷ due) is_rest is_due keeps = λ off. (next_due d s (keeps off).handed (keeps off).handed_later (keeps off).place m due is_rest is_due).now
+advanced_place d s [] [] is_rest is_due keeps = keeps
+
+on_places : (d : DirectoryState) (es : Searches) (number : ℕ) (found : Option SearchState) → search_at es number ≡ found → EachSearch (KeepsItsPlace d) es
+    → EachSearch (KeepsItsPlace d) (handed_on es number found)
+on_places d es number None at each = each
+on_places d es number (Some s) at each =
+    each-put_on (KeepsItsPlace d) es number (without_first s) each (advanced_place d s s.rest s.due refl refl (each-at (KeepsItsPlace d) es number s each at))
+
+turn_places : (d : DirectoryState) (es : Searches) (number : ℕ) (turn : Turn) → EachSearch (KeepsItsPlace d) es → EachSearch (KeepsItsPlace d) (after_turn es number turn)
+turn_places d es number (Hands message) each = on_places d es number (search_at es number) refl each
+turn_places d es number (Closes code message) each = each-closed (KeepsItsPlace d) es number each
+turn_places d es number Waits each = each
+turn_places d es number Unknown each = each
+
+-- ---- all calls
+
+limited_place : (d : DirectoryState) (limit : ℕ) (s : SearchState) → KeepsItsPlace d s → KeepsItsPlace (with_log_limit d limit) s
+limited_place d limit s keeps = λ off. record {
+  handed = (keeps off).handed;
+  handed_later = (keeps off).handed_later;
+  place = record { within = (keeps off).place.within; rest = (keeps off).place.rest; due = (keeps off).place.due; ordered = (keeps off).place.ordered };
+}
+
+called_places : (p : ProviderState) (call : Call) → EachSearch (KeepsItsPlace p.directory) p.searches → EachSearch (KeepsItsPlace (called p call).directory) (called p call).searches
+called_places p (Writes op now) each = judged_places p (judged p.directory op now) each
+called_places p (Accepts ask) each = answered_places p.directory p.searches ask (answer_to p.directory p.searches ask) each
+called_places p (HandsOut number) each = turn_places p.directory p.searches number (turn_at p.searches number) each
+called_places p (Drops number) each = each-closed (KeepsItsPlace p.directory) p.searches number each
+called_places p (SetsLogLimit limit) each =
+    each-weaker (KeepsItsPlace p.directory) (KeepsItsPlace (with_log_limit p.directory limit)) p.searches (limited_place p.directory limit) each
+called_places p (SetsQueueLimit limit) each = each
+
+pub run_places : (calls : List Call) (p : ProviderState) → EachSearch (KeepsItsPlace p.directory) p.searches → EachSearch (KeepsItsPlace (run p calls).directory) (run p calls).searches
+run_places [] p each = each
+run_places (call ∷ calls) p each = run_places calls (called p call) (called_places p call each)

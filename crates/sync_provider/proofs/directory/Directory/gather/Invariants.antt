@@ -1,9 +1,0 @@
-use Rattle.std.proofs.Common.{◌≡◌, take}
-use Rattle.sync_provider.specs.Directory.{entries_of}
-use Rattle.sync_provider.specs.Gathering.{gathered_all}
-use Rattle.sync_provider.specs.Refreshing.{said_all}
-use Rattle.sync_provider.proofs.directory.Directory.gather.Given as goal
-
--- the decisions so far are gathered
-abbrev pub invariant-loop-decision : goal.invariant-loop-decision
-invariant-loop-decision l = l.gathering ≡ gathered_all (said_all (entries_of l.self) (take l.decision-index l.decisions))

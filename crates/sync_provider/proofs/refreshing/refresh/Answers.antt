@@ -1,0 +1,22 @@
+use Rattle.std.proofs.Common.{rules, ◌≡◌, ◌∙◌, Bool, ap, length, map}
+use Rattle.std.proofs.lemmas.Result.{IfOk-weaker}
+use Rattle.entry_tree.specs.Selection.{Search, search_of}
+use Rattle.sync_model.specs.Stream.{Start, is_covered}
+use Rattle.directory_writes.specs.Directory.{DirectoryState, entries_of, cookie_of}
+use Rattle.sync_provider.specs.Gathering.{finished, gathered_all}
+use Rattle.sync_provider.specs.Refreshing.{walked, item_at, planned, said_all}
+use Rattle.directory_writes.specs.Starting.{start_of}
+use Rattle.sync_provider.specs.Search.{messages_of, session_of, refresh_from}
+use Rattle.sync_provider.proofs.Deciding.{refresh_is}
+use Rattle.sync_provider.proofs.refreshing.refresh.Goals as goal
+
+pub returns : goal.returns
+returns c =
+    let d : DirectoryState = c.args.directory.now in
+    let wanted : Search = search_of c.args.spec.now in
+    let start : Start = start_of c.args.start in
+    let decided : c.as_slice-3.result.now ≡ planned start (map (item_at d wanted) (walked d start)) = search rules in
+    IfOk-weaker c.gather.result (λ parts. parts.items ≡ finished (gathered_all (said_all (entries_of d) c.as_slice-3.result.now)))
+    (λ parts. (persists : Bool) → messages_of persists (is_covered start) parts.items (cookie_of d) ≡ refresh_from (session_of persists d.sid d.history wanted d.writes) start (length d.writes))
+    (λ parts is persists. refresh_is persists d wanted start parts.items c.requires (is ∙ ap (λ ds. finished (gathered_all (said_all (entries_of d) ds))) decided))
+    c.gather.ensures

@@ -1,7 +1,0 @@
-use Rattle.std.proofs.Common.{◌≡◌, ◌-◌, ◌^◌, min, take}
-use Rattle.sync_provider.specs.Weights as spec
-use Rattle.sync_provider.proofs.weights.edits_weight.Given as goal
-
--- the edits so far are weighed
-abbrev pub invariant-loop-edit : goal.invariant-loop-edit
-invariant-loop-edit l = l.total ≡ min (spec.edits_weight (take l.edit-index l.edits)) (2 ^ 64 - 1)
