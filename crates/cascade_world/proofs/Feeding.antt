@@ -21,6 +21,7 @@ use Rattle.sync_model.specs.Stream.{Session, Start, content_after, among, told_a
 use Rattle.sync_model.proofs.Later.{stepping, staged_all}
 use Rattle.sync_provider.specs.HandingOut.{search_at}
 use Rattle.sync_provider.specs.Machine.{ProviderState, fresh, log_limited, queue_limited}
+use Rattle.sync_provider.specs.declared.provider.Kind.TheVariants.{Root}
 use Rattle.sync_provider.specs.Search.{SearchState, session_of, refresh_from, pending}
 use Rattle.schema_rules.specs.declared.raw.Change.{Change}
 use Rattle.cascade_world.specs.declared.exchange.Exchange.{Exchange}
@@ -310,7 +311,7 @@ RestIsFed =
     → f.consumer.copy.cookie ≡ None → is_at_or_below f.consumer.spec.base p.directory.suffix ≡ true → IsFed number p f nothing_known
 
 abbrev pub FreshIsSource : Type 0
-FreshIsSource = (number : ℕ) (suffix : List (List TypeAndValue)) → 1 ≤ number → number ≤ 16 → IsSource number suffix (fresh suffix number number)
+FreshIsSource = (number : ℕ) (suffix : List (List TypeAndValue)) → 1 ≤ number → number ≤ 16 → IsSource number suffix (fresh suffix number number Root)
 
 -- each search that is open was open before
 abbrev pub OpensNone : ProviderState → ProviderState → Type 0

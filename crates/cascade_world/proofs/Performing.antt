@@ -26,8 +26,8 @@ refused outcome old text p after NotYet h = h
 refused outcome old text p after NoMemory h = tt
 
 -- a provider whose directory and queue limit have not changed comes back with its searches
-pub back : (before mid after : ProviderState) (f f1 : Follower) (searches : List (ℕ × SearchState)) → mid.directory ≡ before.directory → mid.queue_limit ≡ before.queue_limit
+pub back : (before mid after : ProviderState) (f f1 : Follower) (searches : List (ℕ × SearchState)) → mid.directory ≡ before.directory → mid.queue_limit ≡ before.queue_limit → mid.kind ≡ before.kind
     → searches ≡ before.searches → after ≡ record mid { searches = searches } → f1 ≡ f → pair_of after f1 ≡ pair_of before f
-back before mid after f f1 searches kept limit same is follower =
-    let provider : after ≡ before = is ∙ λ i. record { directory = kept i; searches = same i; queue_limit = limit i } in
+back before mid after f f1 searches kept limit kind same is follower =
+    let provider : after ≡ before = is ∙ λ i. record { kind = kind i; directory = kept i; searches = same i; queue_limit = limit i } in
     ap (λ p. pair_of p f1) provider ∙ ap (pair_of before) follower

@@ -6,8 +6,8 @@ use Rattle.entry_tree.specs.declared.op.Op.{Op}
 use Rattle.entry_tree.specs.declared.op.Write.{Write}
 use Rattle.schema_rules.specs.declared.raw.Change.{Change}
 use Rattle.session_log.specs.Log.{Log, fresh}
-use Rattle.directory_writes.specs.Directory.{DirectoryState, write_code, written}
-use Rattle.sync_provider.specs.Machine.{ProviderState, wrote}
+use Rattle.directory_writes.specs.Directory.{DirectoryState, judged, write_code, written}
+use Rattle.sync_provider.specs.Machine.{ProviderState, after_judged}
 
 -- a directory of the history of this number, which is its own number in its stamps too, with this session log
 abbrev pub logged_directory : ℕ → List (List TypeAndValue) → List Write → Log → DirectoryState
@@ -34,9 +34,9 @@ change_code d now change = code_of_read d now (read_change change)
 abbrev pub changed : DirectoryState → ℕ → Change → DirectoryState
 changed d now change = written_read d now (read_change change)
 
--- the provider after what was read, with what it owes to its searches then
+-- a root after what was read, with what it owes to its searches then
 abbrev pub wrote_read : ProviderState → ℕ → Result Op ℕ → ProviderState
-wrote_read p now (Ok op) = wrote p op now
+wrote_read p now (Ok op) = after_judged p (judged p.directory op now)
 wrote_read p now (Err code) = p
 
 -- the provider after a change

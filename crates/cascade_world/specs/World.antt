@@ -10,6 +10,7 @@ use Rattle.sync_consumer.specs.Taking.{nothing}
 use Rattle.sync_messages.specs.declared.request.Mode.TheVariants.{RefreshOnly, RefreshAndPersist}
 use Rattle.directory_writes.specs.Directory.{entries_of}
 use Rattle.sync_provider.specs.Machine.{ProviderState, fresh, log_limited, queue_limited}
+use Rattle.sync_provider.specs.declared.provider.Kind.TheVariants as kind
 use Rattle.cascade_world.specs.declared.fault.ScriptFault.{ScriptFault}
 use Rattle.cascade_world.specs.declared.fault.Cause.{Cause}
 use Rattle.cascade_world.specs.declared.fault.Cause.TheVariants.{NameTaken, UnknownNode, OutsideSuffix, LimitReached, NoMemory}
@@ -79,7 +80,7 @@ where_room state after = if nat_le most_nodes (count_nodes state) then Err (Limi
 -- node number k is a provider of the history k
 abbrev pub new_root : State → List ℕ → List (List TypeAndValue) → Root
 new_root state name suffix =
-    record { name = name; provider = fresh suffix (count_nodes state + 1) (count_nodes state + 1) }
+    record { name = name; provider = fresh suffix (count_nodes state + 1) (count_nodes state + 1) kind.Root }
 
 abbrev pub declare_root : State → List ℕ → List (List TypeAndValue) → Step
 declare_root state name suffix =

@@ -21,6 +21,7 @@ pub fn drop_all(provider: &mut Source, follower: &mut Follower)
     ensures does { pair_of provider.new follower.new ≡ spec.given_up (pair_of provider.old follower.old) follower.old.consumer.copy }
     ensures directory { provider.new.directory ≡ provider.old.directory }
     ensures queue_limit { provider.new.queue_limit ≡ provider.old.queue_limit }
+    ensures kind { provider.new.kind ≡ provider.old.kind }
 {
     if let Some(number) = follower.search {
         provider.drop_search(number);
@@ -36,6 +37,7 @@ pub fn cut(provider: &mut Source, follower: &mut Follower, out: &mut Vec<u8>) ->
         out.old.items (pair_of provider.new follower.new) out.new.items result }
     ensures directory { provider.new.directory ≡ provider.old.directory }
     ensures queue_limit { provider.new.queue_limit ≡ provider.old.queue_limit }
+    ensures kind { provider.new.kind ≡ provider.old.kind }
 {
     if !is_busy(follower) {
         push_nothing(out, follower.name.as_slice())?;

@@ -73,6 +73,7 @@ impl Exchange {
             out.old.items (pair_of provider.new follower.new) out.new.items result }
         ensures directory { provider.new.directory ≡ provider.old.directory }
         ensures queue_limit { provider.new.queue_limit ≡ provider.old.queue_limit }
+        ensures kind { provider.new.kind ≡ provider.old.kind }
     {
         match self {
             Exchange::Open(mode) => open_search(alloc, provider, follower, mode, out),

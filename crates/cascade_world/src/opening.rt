@@ -40,6 +40,7 @@ pub fn open_search(
         out.old.items (pair_of provider.new follower.new) out.new.items result }
     ensures directory { provider.new.directory ≡ provider.old.directory }
     ensures queue_limit { provider.new.queue_limit ≡ provider.old.queue_limit }
+    ensures kind { provider.new.kind ≡ provider.old.kind }
 {
     cut_if_busy(provider, follower, out)?;
     ask_once(alloc, provider, follower, mode, out)
@@ -58,6 +59,7 @@ pub fn open_anew(
         out.old.items (pair_of provider.new follower.new) out.new.items result }
     ensures directory { provider.new.directory ≡ provider.old.directory }
     ensures queue_limit { provider.new.queue_limit ≡ provider.old.queue_limit }
+    ensures kind { provider.new.kind ≡ provider.old.kind }
 {
     cut_if_busy(provider, follower, out)?;
     ask_again(alloc, provider, follower, out)
@@ -76,6 +78,7 @@ fn ask_once(
         out.old.items (pair_of provider.new follower.new) out.new.items result }
     ensures directory { provider.new.directory ≡ provider.old.directory }
     ensures queue_limit { provider.new.queue_limit ≡ provider.old.queue_limit }
+    ensures kind { provider.new.kind ≡ provider.old.kind }
 {
     open_idle(alloc, provider, follower, mode, out)?;
     Ok(())
@@ -93,6 +96,7 @@ fn ask_again(
         out.old.items (pair_of provider.new follower.new) out.new.items result }
     ensures directory { provider.new.directory ≡ provider.old.directory }
     ensures queue_limit { provider.new.queue_limit ≡ provider.old.queue_limit }
+    ensures kind { provider.new.kind ≡ provider.old.kind }
 {
     if open_idle(alloc, provider, follower, Mode::RefreshOnly, out)? {
         return ask_once(alloc, provider, follower, Mode::RefreshOnly, out);
@@ -111,6 +115,7 @@ fn cut_if_busy(
         out.old.items (pair_of provider.new follower.new) out.new.items result }
     ensures directory { provider.new.directory ≡ provider.old.directory }
     ensures queue_limit { provider.new.queue_limit ≡ provider.old.queue_limit }
+    ensures kind { provider.new.kind ≡ provider.old.kind }
 {
     if is_busy(follower) {
         return cut(provider, follower, out);
@@ -131,6 +136,7 @@ fn open_idle(
         out.old.items (pair_of provider.new follower.new) out.new.items result }
     ensures directory { provider.new.directory ≡ provider.old.directory }
     ensures queue_limit { provider.new.queue_limit ≡ provider.old.queue_limit }
+    ensures kind { provider.new.kind ≡ provider.old.kind }
 {
     let control = asked(alloc, follower, mode)?;
     let wanted = copy_of(follower.consumer.spec())?;

@@ -32,6 +32,7 @@ pub fn take(
         out.old.items (pair_of provider.new follower.new) out.new.items result }
     ensures directory { provider.new.directory ≡ provider.old.directory }
     ensures queue_limit { provider.new.queue_limit ≡ provider.old.queue_limit }
+    ensures kind { provider.new.kind ≡ provider.old.kind }
 {
     let mut left = count;
     while left > 0 {
@@ -56,6 +57,7 @@ pub fn take_one(
         out.old.items (pair_of provider.new follower.new) out.new.items result }
     ensures directory { provider.new.directory ≡ provider.old.directory }
     ensures queue_limit { provider.new.queue_limit ≡ provider.old.queue_limit }
+    ensures kind { provider.new.kind ≡ provider.old.kind }
 {
     let Some(bytes) = follower.link.pop() else {
         return Ok(false);
@@ -90,6 +92,7 @@ fn take_found(
         out.old.items (pair_of provider.new follower.new) out.new.items result }
     ensures directory { provider.new.directory ≡ provider.old.directory }
     ensures queue_limit { provider.new.queue_limit ≡ provider.old.queue_limit }
+    ensures kind { provider.new.kind ≡ provider.old.kind }
 {
     match found {
         Some(message) => {
@@ -117,6 +120,7 @@ fn take_message(
         out.old.items (pair_of provider.new follower.new) out.new.items result }
     ensures directory { provider.new.directory ≡ provider.old.directory }
     ensures queue_limit { provider.new.queue_limit ≡ provider.old.queue_limit }
+    ensures kind { provider.new.kind ≡ provider.old.kind }
 {
     match follower.consumer.take(message) {
         Taken::Staged => {
@@ -168,6 +172,7 @@ fn give_up(
     ensures line { OnOk result (out.new.items ≡ out.old.items ++ report.fault_line follower.old.name fault.now) }
     ensures directory { provider.new.directory ≡ provider.old.directory }
     ensures queue_limit { provider.new.queue_limit ≡ provider.old.queue_limit }
+    ensures kind { provider.new.kind ≡ provider.old.kind }
 {
     drop_all(provider, follower);
     push_fault(out, follower.name.as_slice(), fault)

@@ -26,6 +26,7 @@ pub fn send(
         out.old.items (pair_of provider.new follower.new) out.new.items result }
     ensures directory { provider.new.directory ≡ provider.old.directory }
     ensures queue_limit { provider.new.queue_limit ≡ provider.old.queue_limit }
+    ensures kind { provider.new.kind ≡ provider.old.kind }
 {
     let mut left = count;
     while left > 0 {
@@ -50,6 +51,7 @@ pub fn send_one(
         out.old.items (pair_of provider.new follower.new) out.new.items result }
     ensures directory { provider.new.directory ≡ provider.old.directory }
     ensures queue_limit { provider.new.queue_limit ≡ provider.old.queue_limit }
+    ensures kind { provider.new.kind ≡ provider.old.kind }
 {
     let Some(message) = next_message(alloc, provider, follower)? else {
         return Ok(false);
@@ -73,6 +75,7 @@ fn next_message(
     ensures spelled { IfOk result (λ found. IfSome found (λ message. HasSpelling (whole_of message))) }
     ensures directory { provider.new.directory ≡ provider.old.directory }
     ensures queue_limit { provider.new.queue_limit ≡ provider.old.queue_limit }
+    ensures kind { provider.new.kind ≡ provider.old.kind }
 {
     let Some(number) = follower.search else {
         return Ok(None);

@@ -28,6 +28,7 @@ pub fn settle(
         out.old.items (pair_of provider.new follower.new) out.new.items result }
     ensures directory { provider.new.directory ≡ provider.old.directory }
     ensures queue_limit { provider.new.queue_limit ≡ provider.old.queue_limit }
+    ensures kind { provider.new.kind ≡ provider.old.kind }
 {
     take_all(alloc, provider, follower, out)?;
     run_search(alloc, provider, follower, out)?;
@@ -48,6 +49,7 @@ fn catch_up(
         out.old.items (pair_of provider.new follower.new) out.new.items result }
     ensures directory { provider.new.directory ≡ provider.old.directory }
     ensures queue_limit { provider.new.queue_limit ≡ provider.old.queue_limit }
+    ensures kind { provider.new.kind ≡ provider.old.kind }
 {
     if follows_on(follower) {
         return Ok(());
@@ -67,6 +69,7 @@ fn refresh(
         out.old.items (pair_of provider.new follower.new) out.new.items result }
     ensures directory { provider.new.directory ≡ provider.old.directory }
     ensures queue_limit { provider.new.queue_limit ≡ provider.old.queue_limit }
+    ensures kind { provider.new.kind ≡ provider.old.kind }
 {
     open_anew(alloc, provider, follower, out)?;
     run_search(alloc, provider, follower, out)
@@ -91,6 +94,7 @@ fn take_all(
         out.old.items (pair_of provider.new follower.new) out.new.items result }
     ensures directory { provider.new.directory ≡ provider.old.directory }
     ensures queue_limit { provider.new.queue_limit ≡ provider.old.queue_limit }
+    ensures kind { provider.new.kind ≡ provider.old.kind }
 {
     while take_one(alloc, provider, follower, out)? {}
     Ok(())
@@ -108,6 +112,7 @@ fn run_search(
         out.old.items (pair_of provider.new follower.new) out.new.items result }
     ensures directory { provider.new.directory ≡ provider.old.directory }
     ensures queue_limit { provider.new.queue_limit ≡ provider.old.queue_limit }
+    ensures kind { provider.new.kind ≡ provider.old.kind }
 {
     while send_one(alloc, provider, follower, out)? {
         take_one(alloc, provider, follower, out)?;

@@ -1,12 +1,13 @@
 //! A provider of a script.
-ghost use Rattle.std.specs.Prelude.{◌≡◌, ◌≢◌, ◌<◌, ◌^◌, true, length, is_some, IfOk, IfSome};
+ghost use Rattle.std.specs.Prelude.{◌≡◌, ◌≢◌, ◌<◌, ◌^◌, true, false, length, is_some, IfOk, IfSome};
 ghost use Rattle.csn_cookie.specs.Csn as csns;
 ghost use Rattle.entry_tree.specs.Selection.{search_of};
-ghost use Rattle.entry_tree.specs.Sound.{is_sound_op};
+ghost use Rattle.entry_tree.specs.Sound.{is_commit, is_sound_op};
 ghost use Rattle.sync_provider.specs.Accepting as accepting;
 ghost use Rattle.directory_writes.specs.Directory as directory;
 ghost use Rattle.sync_provider.specs.HandingOut as handing;
 ghost use Rattle.sync_provider.specs.Machine as machine;
+ghost use Rattle.sync_provider.specs.declared.provider.Kind.TheVariants as kind;
 ghost use Rattle.cascade_world.specs.Opening.{answer_to, after_accepted};
 ghost use Rattle.cascade_world.specs.Ours.{AreOurs, IsSpelled};
 
@@ -31,7 +32,7 @@ impl Model for Source {
     ghost use Rattle.std.specs.Coded.{codes};
     ghost use Rattle.entry_tree.specs.FilterCode.{tree_code};
     ghost use Rattle.sync_provider.specs.Machine.{ProviderState};
-    ghost use Rattle.cascade_world.specs.Ours.{AreOurs};
+    ghost use Rattle.cascade_world.specs.Ours.{IsOurRoot};
 
     ghost Value = { ProviderState };
 
@@ -39,14 +40,14 @@ impl Model for Source {
 
     ghost view = { λ s. s.provider };
 
-    ghost invariant = { λ s. AreOurs s.provider.searches };
+    ghost invariant = { λ s. IsOurRoot s.provider };
 }
 
 impl Source {
     /// A root without writes and searches. Its number is that of its history too.
     pub fn new(alloc: Global, suffix: Dn, number: u16) -> Result<Source, NoMemory>
         requires { number < 4096 }
-        ensures { IfOk result (λ source. source ≡ machine.fresh suffix number number) }
+        ensures { IfOk result (λ source. source ≡ machine.fresh suffix number number kind.Root) }
     {
         let history = u128::from(number);
         let provider = Provider::new(alloc, suffix, number, history, Kind::Root)?;
@@ -84,9 +85,10 @@ impl Source {
     /// Applies a write where the clock shows `now`. The code 80 tells want of memory.
     #[tactic(auto, using(crate::proofs::Asked::wrote_ours))]
     pub fn write(&mut self, alloc: Global, op: Op, now: u64) -> Reply
-        requires { is_sound_op op ≡ true }
+        requires sound { is_sound_op op ≡ true }
+        requires asked { is_commit op ≡ false }
         ensures code { result.code ≢ 80 → result.code ≡ directory.write_code self.old.directory op now }
-        ensures state { result.code ≢ 80 → self.new ≡ machine.wrote self.old op now }
+        ensures state { result.code ≢ 80 → self.new ≡ machine.after_judged self.old (directory.judged self.old.directory op now) }
         ensures err { result.code ≡ 80 → self.new ≡ self.old }
         ensures number { result.number ≡ length self.new.directory.writes }
     {

@@ -751,6 +751,65 @@ fn entries_are_read(rt: HostRuntime) -> Result<(), Fail> {
     Ok(())
 }
 
+/// Searches in which an entry is refused behind one that was staged: no part of the stage is put.
+const REFUSED: [Table; 4] = [
+    FOUR_AND_FIVE,
+    (
+        ONCE,
+        &[
+            (B, "Staged"),
+            ("add 7 - cn=j,o=x CSN|uidNumber=12;x", "BadEntry(21)"),
+            ("doneDeletes 0 d", "OutOfPlace(101)"),
+        ],
+        "4 5 c",
+    ),
+    (
+        STAY,
+        &[
+            ("refreshDelete d", "Stored d"),
+            (B, "Staged"),
+            ("modify 5 e ou=a,o=x CSN|syncActive=maybe", "BadEntry(21)"),
+        ],
+        "4 5 d",
+    ),
+    (
+        STAY,
+        &[
+            ("refreshDelete", "Copied"),
+            ("add 7 e ou=c,o=x", "BadEntry(65)"),
+        ],
+        "4 5 d",
+    ),
+];
+
+#[test]
+fn a_refused_entry_is_not_put(rt: HostRuntime) -> Result<(), Fail> {
+    check_tables(&rt, &REFUSED)
+}
+
+/// A description of so many letters, and what comes of the entry that has it alone: with its name of
+/// 11 letters it weighs 65,536 at most.
+const WEIGHTS: [(usize, &str); 2] = [(65_525, "Staged"), (65_526, "BadEntry(11)")];
+
+/// The entry with a description of so many letters.
+fn described(alloc: Global, length: usize) -> Result<String, NoMemory> {
+    let mut text = format!(in alloc; "add 4 - cn=j,o=x CSN|description=")?;
+    for _ in 0..length {
+        text.push('d')?;
+    }
+    Ok(text)
+}
+
+#[test]
+fn an_entry_may_be_too_heavy(rt: HostRuntime) -> Result<(), Fail> {
+    for (length, answer) in &WEIGHTS {
+        let text = described(rt.alloc(), *length)?;
+        let told = told_at_first(&rt, rt.alloc(), text.as_str())?;
+        assert_same(&rt, "weight", &told.as_str(), answer);
+    }
+    Ok(())
+}
+
 /// The type with its values and a bar.
 fn attribute_text(alloc: Global, attribute: &Attribute) -> Result<String, NoMemory> {
     let mut text = format!(in alloc; "{}", utf8(attribute.kind.name()))?;
@@ -978,6 +1037,57 @@ fn asks_for_its_content(rt: HostRuntime) -> Result<(), Fail> {
     answer
 }
 
+/// What is wanted in place of all below `o=x`: what is right below `ou=a,o=x`.
+fn other_spec<R: Abort>(rt: &R, alloc: Global) -> Result<Spec, NoMemory> {
+    Ok(Spec {
+        base: Dn::parse(alloc, b"ou=a,o=x").expect(rt, "a name"),
+        scope: Scope::One,
+        filter: Filter::Present(octets(alloc, "objectClass")?),
+    })
+}
+
+/// The request for that, without a cookie.
+const OTHER_REQUEST: &[u8] =
+    b"\x30\x5b\x02\x01\x07\x63\x2e\x04\x08ou=a,o=x\x0a\x01\x01\x0a\x01\x00\x02\x01\x00\x02\x01\x00\x01\x01\x00\x87\x0bobjectClass\x30\x06\x04\x01*\x04\x01+\xa0\x26\x30\x24\x04\x181.3.6.1.4.1.4203.1.9.1.1\x01\x01\xff\x04\x05\x30\x03\x0a\x01\x01";
+
+/// A refresh that tells of an entry that was held and of a new one: the other entry was not wanted.
+const OTHER_REFRESH: Table = (
+    ONCE,
+    &[
+        ("present 5 - ou=a,o=x", "Staged"),
+        ("add 7 - cn=j,ou=a,o=x CSN", "Staged"),
+        ("done 0 e", "Stored +7 -4 e"),
+    ],
+    "5 7 e",
+);
+
+/// Another specification in the midst of a search: the entries stay, and the cookie, the search and
+/// what it staged go.
+fn check_respec<R: Abort + AllocGlobal>(rt: &R, consumer: &mut Consumer) -> Result<(), Fail> {
+    check_table(rt, consumer, &FOUR_AND_FIVE)?;
+    ask(consumer, STAY)?;
+    check_lines(rt, consumer, &[(B, "Staged"), ("deletes - 4", "Staged")])?;
+    consumer.respec(other_spec(rt, rt.alloc())?);
+    assert!(rt; !consumer.is_running());
+    check_end(rt, consumer, "4 5 -")?;
+    check_lines(rt, consumer, &[("refreshDelete d", "OutOfPlace(121)")])?;
+    check_end(rt, consumer, "4 5 -")
+}
+
+fn check_other_spec<R: Abort + AllocGlobal>(rt: &R, consumer: &mut Consumer) -> Result<(), Fail> {
+    check_respec(rt, consumer)?;
+    check_request(rt, consumer, OTHER_REQUEST)?;
+    check_table(rt, consumer, &OTHER_REFRESH)
+}
+
+#[test]
+fn another_specification_is_wanted(rt: HostRuntime) -> Result<(), Fail> {
+    let mut consumer = consumer(&rt, rt.alloc())?;
+    let answer = check_other_spec(&rt, &mut consumer);
+    discard(consumer);
+    answer
+}
+
 /// The text of a cookie, what a consumer of the entries 4 and 5 shows with it, and the request that
 /// carries it.
 type Cookie = (&'static [u8], &'static str, &'static [u8]);
@@ -1142,6 +1252,45 @@ fn a_copy_goes_on_as_its_original(rt: HostRuntime) -> Result<(), Fail> {
         check_new_fork(&rt, fork)?;
     }
     Ok(())
+}
+
+/// A search over the entries 4 and 5.
+const CHANGES: Table = (
+    ONCE,
+    &[
+        (B, "Staged"),
+        ("deletes - 4", "Staged"),
+        ("doneDeletes 0 d", "Stored +6 -4 d"),
+    ],
+    "5 6 d",
+);
+
+/// What comes into effect in one of the two is not seen in the other.
+fn check_apart<R: Abort + AllocGlobal>(
+    rt: &R,
+    consumer: &mut Consumer,
+    copy: &mut Consumer,
+) -> Result<(), Fail> {
+    check_table(rt, consumer, &CHANGES)?;
+    check_end(rt, copy, "4 5 c")?;
+    check_table(rt, copy, &CHANGES)?;
+    check_end(rt, consumer, "5 6 d")
+}
+
+fn check_beside_copy<R: Abort + AllocGlobal>(rt: &R, consumer: &mut Consumer) -> Result<(), Fail> {
+    check_table(rt, consumer, &FOUR_AND_FIVE)?;
+    let mut copy = consumer.copy()?;
+    let answer = check_apart(rt, consumer, &mut copy);
+    discard(copy);
+    answer
+}
+
+#[test]
+fn a_copy_stays_as_it_was(rt: HostRuntime) -> Result<(), Fail> {
+    let mut consumer = consumer(&rt, rt.alloc())?;
+    let answer = check_beside_copy(&rt, &mut consumer);
+    discard(consumer);
+    answer
 }
 
 /// How many entries may be staged.

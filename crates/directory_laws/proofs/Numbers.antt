@@ -7,7 +7,8 @@ use Rattle.dn_names.proofs.SortedLists.{In}
 use Rattle.entry_tree.specs.declared.edit.Edit.{Edit}
 use Rattle.entry_tree.specs.declared.entry.Entry.{Entry}
 use Rattle.entry_tree.specs.declared.op.Op.{Op}
-use Rattle.entry_tree.specs.declared.op.Op.TheVariants.{Add, Delete, Modify, Rename}
+use Rattle.directory_laws.specs.Accepted.{IsWellFormed}
+use Rattle.entry_tree.specs.declared.op.Op.TheVariants.{Add, Delete, Modify, Rename, Commit}
 use Rattle.entry_tree.specs.Effects.{edited, modified, moved, new_name, new_attributes, renamed, effect}
 use Rattle.entry_tree.specs.History.{identity}
 use Rattle.entry_tree.specs.State.{is_identified, is_named, entry_named}
@@ -65,13 +66,14 @@ module _ (P : ℕ → Type 0) where
       let was = map_in (moved top name attrs csn) entries x member in
       subst P (sym (ap (λ (y : Entry). y.uuid) was.2 ∙ moved_keeps top name attrs csn was.0)) (each was.0 was.1)
 
-  pub each_effect : (op : Op) (entries : List Entry) (uuid : ℕ) (csn : Stamp) → P uuid → Each entries → Each (effect entries op uuid csn)
-  each_effect (Add name attrs) entries uuid csn new each x member =
+  pub each_effect : (op : Op) (entries : List Entry) (uuid : ℕ) (csn : Stamp) → IsWellFormed op → P uuid → Each entries → Each (effect entries op uuid csn)
+  each_effect (Add name attrs) entries uuid csn formed new each x member =
       let e : Entry = record { uuid = uuid; csn = csn; dn = name; attrs = attrs } in
       elim (put_in e entries x member) [
         | inl here ↦ subst P (sym (ap (λ (y : Entry). y.uuid) here)) new
         | inr there ↦ each x there
       ]
-  each_effect (Delete name) entries uuid csn new each x member = each x (filter_in (λ e. not (is_named name e)) entries x member).0
-  each_effect (Modify name edits) entries uuid csn new each x member = each_modified entries (entry_named entries name) edits csn each x member
-  each_effect (Rename name rdn deletes superior) entries uuid csn new each x member = each_renamed entries (entry_named entries name) rdn deletes superior csn each x member
+  each_effect (Delete name) entries uuid csn formed new each x member = each x (filter_in (λ e. not (is_named name e)) entries x member).0
+  each_effect (Modify name edits) entries uuid csn formed new each x member = each_modified entries (entry_named entries name) edits csn each x member
+  each_effect (Rename name rdn deletes superior) entries uuid csn formed new each x member = each_renamed entries (entry_named entries name) rdn deletes superior csn each x member
+  each_effect (Commit puts drops) entries uuid csn formed new each x member = absurd formed

@@ -7,7 +7,8 @@ use Rattle.dn_names.specs.Names.{TypeAndValue}
 use Rattle.entry_tree.specs.declared.edit.Edit.{Edit}
 use Rattle.entry_tree.specs.declared.entry.Entry.{Entry}
 use Rattle.entry_tree.specs.declared.op.Op.{Op}
-use Rattle.entry_tree.specs.declared.op.Op.TheVariants.{Add, Delete, Modify, Rename}
+use Rattle.directory_laws.specs.Accepted.{IsWellFormed}
+use Rattle.entry_tree.specs.declared.op.Op.TheVariants.{Add, Delete, Modify, Rename, Commit}
 use Rattle.entry_tree.specs.Codes.{weight_code, kept_code, edited_code, modify_code, target_code, length_code, rename_code, code_of}
 use Rattle.entry_tree.specs.Edits.{after_edits, edits_code}
 use Rattle.entry_tree.specs.Effects.{edited, modified, new_name, new_attributes, renamed, effect}
@@ -88,14 +89,15 @@ small-renamed suffix entries name (Some top) rdn deletes superior csn small is n
 
 -- ---- each kind of write
 
-pub small-effect : (op : Op) (suffix : List (List TypeAndValue)) (entries : List Entry) (uuid : ℕ) (csn : Stamp) → IsSmall entries → code_of suffix entries op ≡ None → IsSmall (effect entries op uuid csn)
-small-effect (Add name attrs) suffix entries uuid csn small none =
+pub small-effect : (op : Op) (suffix : List (List TypeAndValue)) (entries : List Entry) (uuid : ℕ) (csn : Stamp) → IsSmall entries → IsWellFormed op → code_of suffix entries op ≡ None → IsSmall (effect entries op uuid csn)
+small-effect (Add name attrs) suffix entries uuid csn small formed none =
     let e : Entry = record { uuid = uuid; csn = csn; dn = name; attrs = attrs } in
     let room = add_where_none suffix entries name attrs none in
     put_directory e entries (total_weight entries) (total_weight (put e entries)) small room.0 room.1 (total_put e entries small.ascends)
-small-effect (Delete name) suffix entries uuid csn small none =
+small-effect (Delete name) suffix entries uuid csn small formed none =
     let p : Entry → Bool = is_named name in
     at_total (filter (λ e. not (p e)) entries) (total_weight entries - total_weight (filter p entries)) (without_passing p entries (total_weight entries) small)
-small-effect (Modify name edits) suffix entries uuid csn small none = small-modified entries name (entry_named entries name) edits csn small refl none
-small-effect (Rename name rdn deletes superior) suffix entries uuid csn small none =
+small-effect (Modify name edits) suffix entries uuid csn small formed none = small-modified entries name (entry_named entries name) edits csn small refl none
+small-effect (Rename name rdn deletes superior) suffix entries uuid csn small formed none =
     small-renamed suffix entries name (entry_named entries name) rdn deletes superior csn small refl none
+small-effect (Commit puts drops) suffix entries uuid csn small formed none = absurd formed

@@ -32,7 +32,7 @@ small-state_from [] suffix history entries before small accepted = small
 small-state_from (write ∷ writes) suffix history entries before small accepted =
     let uuid = identity history (before + 1) in
     let first : IsAccepted suffix entries write = accepted 0 write (omega arith) in
-    small-state_from writes suffix history (effect entries write.op uuid write.csn) (before + 1) (small-effect write.op suffix entries uuid write.csn small first.free)
+    small-state_from writes suffix history (effect entries write.op uuid write.csn) (before + 1) (small-effect write.op suffix entries uuid write.csn small first.formed first.free)
     (λ number other low. accepted (suc number) other (omega arith))
 
 pub small-state_of : (suffix : List (List TypeAndValue)) (history : ℕ) (writes : List Write) (number : ℕ) → WereAccepted suffix history writes → IsSmall (state_of history writes number)
@@ -52,8 +52,8 @@ tree-state_from (write ∷ writes) suffix history entries before tree numbered a
     let uuid = identity history (before + 1) in
     let first : IsAccepted suffix entries write = accepted 0 write (omega arith) in
     tree-state_from writes suffix history (effect entries write.op uuid write.csn) (before + 1)
-    (tree-effect write.op suffix entries uuid write.csn first.free (λ other member. IsNumbered-new history before other.uuid (numbered other member) (omega (arith, few))) tree)
-    (each_effect (IsNumbered history (before + 1)) write.op entries uuid write.csn (IsNumbered-next history before)
+    (tree-effect write.op suffix entries uuid write.csn first.formed first.free (λ other member. IsNumbered-new history before other.uuid (numbered other member) (omega (arith, few))) tree)
+    (each_effect (IsNumbered history (before + 1)) write.op entries uuid write.csn first.formed (IsNumbered-next history before)
     (λ e member. IsNumbered-later history before e.uuid (numbered e member)))
     (λ number other low. accepted (suc number) other (omega arith)) (omega (arith, few))
 

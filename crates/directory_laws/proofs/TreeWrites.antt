@@ -7,7 +7,8 @@ use Rattle.dn_names.proofs.SortedLists.{In}
 use Rattle.entry_tree.specs.declared.edit.Edit.{Edit}
 use Rattle.entry_tree.specs.declared.entry.Entry.{Entry}
 use Rattle.entry_tree.specs.declared.op.Op.{Op}
-use Rattle.entry_tree.specs.declared.op.Op.TheVariants.{Add, Delete, Modify, Rename}
+use Rattle.directory_laws.specs.Accepted.{IsWellFormed}
+use Rattle.entry_tree.specs.declared.op.Op.TheVariants.{Add, Delete, Modify, Rename, Commit}
 use Rattle.entry_tree.specs.Codes.{has_no_place, place_code, add_code, target_code, rename_code, code_of}
 use Rattle.entry_tree.specs.Effects.{edited, modified, new_name, new_attributes, renamed, effect}
 use Rattle.entry_tree.specs.State.{ascends, put, is_identified, is_named, entry_named, has_name, has_below}
@@ -51,12 +52,13 @@ tree-renamed suffix entries name (Some top) rdn deletes superior csn is none tre
     IsTree-moved suffix entries top (new_name top rdn superior) (new_attributes top rdn deletes) csn tree member
     (HasPlace-target suffix entries top rdn superior tree member (none_first (target_code suffix entries top (new_name top rdn superior) superior) _ none))
 
-pub tree-effect : (op : Op) (suffix : List (List TypeAndValue)) (entries : List Entry) (uuid : ℕ) (csn : Stamp) → code_of suffix entries op ≡ None
+pub tree-effect : (op : Op) (suffix : List (List TypeAndValue)) (entries : List Entry) (uuid : ℕ) (csn : Stamp) → IsWellFormed op → code_of suffix entries op ≡ None
     → ((other : Entry) → In other entries → other.uuid ≢ uuid) → IsTree suffix entries → IsTree suffix (effect entries op uuid csn)
-tree-effect (Add name attrs) suffix entries uuid csn none fresh tree = tree-added suffix entries (record { uuid = uuid; csn = csn; dn = name; attrs = attrs }) none fresh tree
-tree-effect (Delete name) suffix entries uuid csn none fresh tree =
+tree-effect (Add name attrs) suffix entries uuid csn formed none fresh tree = tree-added suffix entries (record { uuid = uuid; csn = csn; dn = name; attrs = attrs }) none fresh tree
+tree-effect (Delete name) suffix entries uuid csn formed none fresh tree =
     let leaf = cond (has_below entries name) (Some 66) None in
     IsTree-without suffix entries name (no_test (has_below entries name) 66 None (no_other (not (has_name entries name)) 32 leaf none)) tree
-tree-effect (Modify name edits) suffix entries uuid csn none fresh tree = tree-modified suffix entries name (entry_named entries name) edits csn refl tree
-tree-effect (Rename name rdn deletes superior) suffix entries uuid csn none fresh tree =
+tree-effect (Modify name edits) suffix entries uuid csn formed none fresh tree = tree-modified suffix entries name (entry_named entries name) edits csn refl tree
+tree-effect (Rename name rdn deletes superior) suffix entries uuid csn formed none fresh tree =
     tree-renamed suffix entries name (entry_named entries name) rdn deletes superior csn refl none tree
+tree-effect (Commit puts drops) suffix entries uuid csn formed none fresh tree = absurd formed

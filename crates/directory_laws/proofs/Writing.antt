@@ -11,7 +11,7 @@ use Rattle.dn_names.specs.Names.{TypeAndValue}
 use Rattle.entry_tree.specs.declared.edit.Edit.{Edit}
 use Rattle.entry_tree.specs.declared.entry.Entry.{Entry}
 use Rattle.entry_tree.specs.declared.op.Op.{Op}
-use Rattle.entry_tree.specs.declared.op.Op.TheVariants.{Add, Delete, Modify, Rename}
+use Rattle.entry_tree.specs.declared.op.Op.TheVariants.{Add, Delete, Modify, Rename, Commit}
 use Rattle.entry_tree.specs.declared.op.Write.{Write}
 use Rattle.entry_tree.specs.Codes.{code_of, modify_code}
 use Rattle.entry_tree.specs.Effects.{edited, modified, effect}
@@ -88,6 +88,7 @@ sent-op (Modify name edits) suffix entries uuid csn sound formed asked stamp non
     sent-modified entries (entry_named entries name) edits csn sound (sent-found (is_named name) entries sound) asked stamp none
 sent-op (Rename name rdn deletes superior) suffix entries uuid csn sound formed asked stamp none below =
     sent-renamed suffix entries (entry_named entries name) rdn deletes superior csn sound (sent-found (is_named name) entries sound) formed.0 formed.1 stamp none
+sent-op (Commit puts drops) suffix entries uuid csn sound formed asked stamp none below = absurd formed
 
 pub sent-effect : (suffix : List (List TypeAndValue)) (entries : List Entry) (write : Write) (uuid : ℕ) → All CanBeSent entries → IsAccepted suffix entries write
     → uuid < 2 ^ 128 → All CanBeSent (effect entries write.op uuid write.csn)

@@ -3,8 +3,10 @@
 //! the laws, and one that tells what holds of a write.
 #![tactic(auto)]
 
+ghost use Rattle.std.specs.Prelude.{◌≡◌, false};
 ghost use Rattle.directory_laws.specs.Accepted.{IsWellFormed};
 ghost use Rattle.directory_laws.specs.Law.{EntriesCanBeSent, WritesKeepEntries, SentIsReadAgain, AcceptedWritesGrow, FrontsWereAccepted, StatesAreSmall, StatesAreWithin, DrawnStampsAreInRange, ReadWritesAreSound};
+ghost use Rattle.entry_tree.specs.Sound.{is_commit};
 
 use entry_tree::Op;
 
@@ -50,8 +52,10 @@ pub fn read_writes_are_sound()
     ensures { ReadWritesAreSound }
 {}
 
-/// Tells that the names of a write are names, and what it adds is a list of attributes. It does nothing.
+/// Tells of what a client asks for that its names are names, and what it adds is a list of attributes. It does
+/// nothing.
 pub fn is_well_formed(op: &Op)
+    requires { is_commit op.now ≡ false }
     ensures { IsWellFormed op.now }
 {
     match op {
@@ -67,5 +71,6 @@ pub fn is_well_formed(op: &Op)
                 let _rdns = above.rdns();
             }
         }
+        Op::Commit(_, _) => {}
     }
 }

@@ -20,13 +20,13 @@ const FIRST: [&str; 5] = [
 ];
 
 /// The number of a write after these.
-const NEXT: u32 = 9;
+pub(crate) const NEXT: u32 = 9;
 
 /// Drops a value through its bound, so that no proof goes through the cases of its type.
-fn discard<T: Drop>(_value: T) {}
+pub(crate) fn discard<T: Drop>(_value: T) {}
 
 /// Asserts that what was found is what is wanted, or tells the row.
-fn assert_same<T: PartialEq + Debug>(rt: &impl Abort, row: &str, found: &T, wanted: &T) {
+pub(crate) fn assert_same<T: PartialEq + Debug>(rt: &impl Abort, row: &str, found: &T, wanted: &T) {
     assert!(rt;
         *found == *wanted,
         "{row}: {found:?} in place of {wanted:?}"
@@ -70,14 +70,14 @@ fn signed(text: &str) -> Option<(How, &str)> {
 }
 
 /// The text before the first bar, and that behind it, where there is one.
-fn parted(text: &str) -> (&str, Option<&str>) {
+pub(crate) fn parted(text: &str) -> (&str, Option<&str>) {
     match text.split_once('|') {
         None => (text, None),
         Some((first, rest)) => (first, Some(rest)),
     }
 }
 
-fn raw_list(alloc: Global, text: Option<&str>) -> Result<RawList, NoMemory> {
+pub(crate) fn raw_list(alloc: Global, text: Option<&str>) -> Result<RawList, NoMemory> {
     let mut list = RawList::new(alloc);
     if let Some(pieces) = text {
         for piece in pieces.split('|') {
@@ -134,12 +134,12 @@ fn change_of(alloc: Global, line: &str) -> Result<Change, Fail> {
 
 /// The number of a write, and its stamp.
 #[derive(Clone, Copy)]
-struct WriteMark {
-    number: u32,
-    csn: Csn,
+pub(crate) struct WriteMark {
+    pub(crate) number: u32,
+    pub(crate) csn: Csn,
 }
 
-fn mark_of(alloc: Global, number: u32) -> Result<WriteMark, Fail> {
+pub(crate) fn mark_of(alloc: Global, number: u32) -> Result<WriteMark, Fail> {
     let text = format!(in alloc; "19700101000000.{number:06}Z#000000#001#000000")?;
     let csn = Csn::parse(text.as_bytes())?;
     Ok(WriteMark { number, csn })
@@ -226,7 +226,7 @@ fn write(alloc: Global, tree: &mut Tree, line: &str, number: u32) -> Result<(), 
     Ok(())
 }
 
-fn first_tree(alloc: Global) -> Result<Tree, Fail> {
+pub(crate) fn first_tree(alloc: Global) -> Result<Tree, Fail> {
     let mut tree = Tree::new(alloc);
     let mut number = 1;
     for line in &FIRST {
@@ -390,7 +390,7 @@ const UNIT_WEIGHT: u64 = 3 * (11 + 18) + (2 + 1) + (2 + 1) + (2 + 2) + (1 + 1) +
 
 const PERSON_WEIGHT: u64 = (11 + 13) + 2 * (2 + 1) + (2 + 1) + (14 + 1);
 
-const FIRST_WEIGHT: u64 = SUFFIX_WEIGHT + UNIT_WEIGHT + PERSON_WEIGHT;
+pub(crate) const FIRST_WEIGHT: u64 = SUFFIX_WEIGHT + UNIT_WEIGHT + PERSON_WEIGHT;
 
 /// The longest description that the unit may get: it weighs 11 + 18 and 2 + 1 without, and the type
 /// of the description 11.
@@ -522,7 +522,7 @@ fn push_found(line: &mut Vec<u8>, sign: &str, entry: &Option<Entry>) -> Result<(
 }
 
 /// What a write touches: a line of what was, and one of what is.
-fn difference(alloc: Global, touches: &Touched) -> Result<Vec<u8>, NoMemory> {
+pub(crate) fn difference(alloc: Global, touches: &Touched) -> Result<Vec<u8>, NoMemory> {
     let mut lines = Vec::new(alloc);
     for touch in touches.list() {
         push_found(&mut lines, "-", &touch.was)?;
@@ -717,7 +717,7 @@ fn apply_answer(alloc: Global, tree: &mut Tree, line: &str, number: u32) -> Resu
 }
 
 /// The entries, each on a line.
-fn entries_of(alloc: Global, tree: &Tree) -> Result<Vec<u8>, NoMemory> {
+pub(crate) fn entries_of(alloc: Global, tree: &Tree) -> Result<Vec<u8>, NoMemory> {
     let mut lines = Vec::new(alloc);
     for entry in tree.entries() {
         push_entry(&mut lines, "=", entry)?;

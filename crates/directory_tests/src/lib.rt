@@ -2,4 +2,6 @@
 #![tactic(auto)]
 
 #[cfg(test)]
+mod commit_tests;
+#[cfg(test)]
 mod entry_tree_tests;

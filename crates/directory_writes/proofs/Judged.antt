@@ -5,6 +5,7 @@ use Rattle.csn_cookie.specs.Csn.{Stamp}
 use Rattle.dn_names.specs.Names.{TypeAndValue}
 use Rattle.entry_tree.specs.Codes.{code_of}
 use Rattle.entry_tree.specs.Effects.{effect}
+use Rattle.entry_tree.specs.Fitting.{fits}
 use Rattle.entry_tree.specs.History.{identity, state_from, state_of}
 use Rattle.entry_tree.specs.Sound.{is_sound_op}
 use Rattle.entry_tree.specs.declared.entry.Entry.{Entry}
@@ -78,12 +79,17 @@ HasAccepted d = AreAccepted d.suffix d.history d.writes
 abbrev pub HasRisen : DirectoryState → Type 0
 HasRisen d = StampsRise d.sid d.writes
 
-pub judged_accepted : (d : DirectoryState) (op : Op) (now : ℕ) (outcome : Result Write ℕ) → judged d op now ≡ outcome → is_sound_op op ≡ true → HasAccepted d → HasAccepted (with_judged d outcome)
-judged_accepted d op now (Err code) is sound each = each
-judged_accepted d op now (Ok w) is sound each =
+pub judged_accepted : (d : DirectoryState) (op : Op) (now : ℕ) (outcome : Result Write ℕ) → judged d op now ≡ outcome → is_sound_op op ≡ true → fits (entries_of d) op ≡ true → HasAccepted d
+    → HasAccepted (with_judged d outcome)
+judged_accepted d op now (Err code) is sound fitting each = each
+judged_accepted d op now (Ok w) is sound fitting each =
     let good = judged_is d op now w is in
     accepted-push d.suffix d.history d.writes w
-    (record { sound = ap is_sound_op good.same ∙ sound; unopposed = ap (code_of d.suffix (entries_of d)) good.same ∙ good.unopposed }) each
+    (record {
+      sound = ap is_sound_op good.same ∙ sound;
+      unopposed = ap (code_of d.suffix (entries_of d)) good.same ∙ good.unopposed;
+      fitting = ap (fits (entries_of d)) good.same ∙ fitting;
+    }) each
 
 pub judged_rises : (d : DirectoryState) (op : Op) (now : ℕ) (outcome : Result Write ℕ) → judged d op now ≡ outcome → HasRisen d → HasRisen (with_judged d outcome)
 judged_rises d op now (Err code) is rise = rise

@@ -1,9 +1,9 @@
 -- What is kept in a map at its keys, which are numbers.
-use Rattle.std.proofs.Common.{◌≡◌, ◌≢◌, ◌<◌, ◌⊎◌, ℕ, Bool, true, false, cond, List, [], ◌∷◌, Option, Some, None, refl, ap, sym, ◌∙◌, inl, inr, arith}
-use Rattle.std.specs.Cmp.{nat_cmp_is}
+use Rattle.std.proofs.Common.{◌≡◌, ◌≢◌, ◌<◌, ◌⊎◌, ℕ, Bool, true, false, cond, List, [], ◌∷◌, Option, Some, None, refl, ap, sym, ◌∙◌, inl, inr, subst, arith}
+use Rattle.std.specs.Cmp.{nat_cmp_is, ranks}
 use Rattle.std.specs.Map.{lookup, remove_entry, set_value}
 use Rattle.std.specs.BTreeMap.{insert_entry, is_at}
-use Rattle.std.specs.Ordering.{nat_cmp, is_eq, match_ordering}
+use Rattle.std.specs.Ordering.{nat_cmp, is_eq, match_ordering, MatchOrdering}
 use Rattle.std.specs.declared.cmp.Ordering.TheVariants.{Less, Equal, Greater}
 use Rattle.std.proofs.lemmas.Bool.{cases_order, false≢true}
 
@@ -18,6 +18,12 @@ same_cmp a b h = sym (nat_cmp_is a b Equal h)
 
 more_cmp : (a b : ℕ) → b < a → nat_cmp a b ≡ Greater
 more_cmp a b h = sym (nat_cmp_is a b Greater h)
+
+pub cmp_less : (a b : ℕ) → nat_cmp a b ≡ Less → a < b
+cmp_less a b h = subst (λ o. MatchOrdering o (a < b) (a ≡ b) (b < a)) h (ranks a b)
+
+pub cmp_same : (a b : ℕ) → nat_cmp a b ≡ Equal → a ≡ b
+cmp_same a b h = subst (λ o. MatchOrdering o (a < b) (a ≡ b) (b < a)) h (ranks a b)
 
 pub is_at-same : (a b : ℕ) → a ≡ b → is_at (nat_cmp a) b ≡ true
 is_at-same a b h = ap is_eq (same_cmp a b h)

@@ -1,8 +1,6 @@
 -- The log and the numbers of the last touches after one more write.
 use Rattle.std.proofs.Common.{◌≡◌, ◌≢◌, ◌⊎◌, ℕ, suc, ◌+◌, ◌-◌, ◌<◌, Bool, true, false, cond, List, [], ◌∷◌, ◌++◌, length, take, refl, sym, ap, ◌∙◌, arith, subst, Some, None, Option, inl, inr, length-append}
 use Rattle.std.specs.Prelude.{not, ◌||◌, is_some, filter, map}
-use Rattle.std.specs.BTreeMap.{insert_entry}
-use Rattle.std.specs.Ordering.{nat_cmp}
 use Rattle.std.proofs.Math.Seq.{take-append_seam}
 use Rattle.std.proofs.lemmas.Bool.{cases_Bool, cases_eq, eq-eqb, ne_eqb, ltb-true, false≢true}
 use Rattle.std.proofs.lemmas.List.{append-nil}
@@ -21,9 +19,10 @@ use Rattle.sync_model.proofs.Gather.{Each}
 use Rattle.sync_model.proofs.Histories.{ascends-state_of}
 use Rattle.sync_model.proofs.Steps.{among-differing, steady_within}
 use Rattle.directory_writes.specs.Directory.{entries_after}
-use Rattle.directory_writes.specs.Touches.{Numbers, uuids_of, last_touch, logged, notes_of, all_notes, IsLogged, number_at, renewed_at, renewed, KeepsNumbers, IsRenewed, AreNumbered}
+use Rattle.directory_writes.specs.Touches.{Numbers, uuids_of, last_touch, logged, notes_of, all_notes, IsLogged, arrivals, number_at, renewed_at, renewed, KeepsNumbers, IsRenewed, AreNumbered}
 use Rattle.directory_writes.proofs.Effects.{IsThere, found_before}
-use Rattle.directory_writes.proofs.Keyed.{opened-same, opened-other, closed-other, put_on, put_on-same, put_on-other, closed_at}
+use Rattle.directory_writes.proofs.Keyed.{closed-other, put_on, put_on-same, put_on-other}
+use Rattle.directory_writes.proofs.Places.{place_among}
 use Rattle.directory_writes.proofs.Told.{Agree, agree-longer, notes-agree, last-agree, last-tells, noted_each-is}
 
 -- ---- the states around the last write
@@ -86,31 +85,6 @@ last-some history writes u e found = elim (cases_Bool (among u (differing_over (
   where
     never : Some e ≡ None → ⊥
     never q = cc
-
--- ---- a place for an identity
-
--- it is made where there was none
-pub place_made : (numbers : Numbers) (u : ℕ) → is_some (number_at numbers u) ≡ false → KeepsNumbers numbers (insert_entry nat_cmp numbers u 0)
-place_made numbers u none v number low found = opened-other numbers u v 0 far ∙ found
-  where
-    far : v ≢ u
-    far same = false≢true (sym none ∙ ap (λ w. is_some (number_at numbers w)) (sym same) ∙ ap is_some found)
-
-pub place_is : (numbers : Numbers) (u : ℕ) → is_some (number_at (insert_entry nat_cmp numbers u 0) u) ≡ true
-place_is numbers u = ap is_some (opened-same numbers u 0)
-
--- it is taken back where it has no number
-pub place_left : (numbers : Numbers) (u : ℕ) → number_at numbers u ≡ Some 0 → KeepsNumbers numbers (closed_at numbers u)
-place_left numbers u none v number low found = closed-other numbers u v far ∙ found
-  where
-    zero_is : Some 0 ≡ Some number → 0 ≡ number
-    zero_is q = cc
-
-    far : v ≢ u
-    far same = never (zero_is (sym none ∙ ap (number_at numbers) (sym same) ∙ found))
-      where
-        never : 0 ≡ number → ⊥
-        never q = omega (arith, q, low)
 
 -- ---- what is kept for an identity after a renewal
 
@@ -175,14 +149,14 @@ each-now old new (u ∷ us) = step (is_change (touch_at old new u)) (each-now ol
 pub numbered-kept : (history : ℕ) (writes : List Write) (entries : List Entry) (old new : Numbers) → entries ≡ entries_after history writes
     → KeepsNumbers old new → AreNumbered history writes entries old → AreNumbered history writes entries new
 numbered-kept history writes entries old new made keeps each u e found =
-    keeps u (last_touch (state_of history writes) (length writes) u)
+    keeps.number u (last_touch (state_of history writes) (length writes) u)
     (last-some history writes u e (ap (λ es. entry_at es u) (whole history writes ∙ sym made) ∙ found)) (each u e found)
 
 pub numbered-push : (history : ℕ) (writes : List Write) (w : Write) (uuid : ℕ) (old new : List Entry) (numbers later : Numbers)
     → old ≡ entries_after history writes → new ≡ entries_after history (writes ++ w ∷ []) → new ≡ effect old w.op uuid w.csn
-    → IsRenewed (length writes + 1) uuid (touched old new) numbers later → AreNumbered history writes old numbers → AreNumbered history (writes ++ w ∷ []) new later
+    → IsRenewed (length writes + 1) (arrivals w.op uuid) (touched old new) numbers later → AreNumbered history writes old numbers → AreNumbered history (writes ++ w ∷ []) new later
 numbered-push history writes w uuid old new numbers later is_old is_new made renews each u e found =
-    renews.left u last positive (at_renewed (touched old new) (length writes + 1) renews.made new u e (each-now old new (joined (identities old) (identities new))) found place ∙ chosen)
+    renews.left.number u last positive (at_renewed (touched old new) (length writes + 1) renews.made new u e (each-now old new (joined (identities old) (identities new))) found place ∙ chosen)
   where
     f : ℕ → List Entry
     f = state_of history writes
@@ -202,16 +176,16 @@ numbered-push history writes w uuid old new numbers later is_old is_new made ren
     -- what was kept before the write for an entry that there was
     was : (before : Entry) → entry_at old u ≡ Some before → number_at renews.made u ≡ Some (last_touch (state_of history writes) (length writes) u)
     was before at =
-        renews.kept u (last_touch (state_of history writes) (length writes) u)
+        renews.kept.number u (last_touch (state_of history writes) (length writes) u)
         (last-some history writes u before (ap (λ es. entry_at es u) (whole history writes ∙ sym is_old) ∙ at)) (each u before at)
 
     there : (o : Option Entry) → entry_at old u ≡ o → is_some o ≡ true → is_some (number_at renews.made u) ≡ true
     there None at h = absurd (false≢true h)
     there (Some before) at h = ap is_some (was before at)
 
-    placed : IsThere old uuid u → is_some (number_at renews.made u) ≡ true
+    placed : IsThere old (arrivals w.op uuid) u → is_some (number_at renews.made u) ≡ true
     placed (inl here) = there (entry_at old u) refl here
-    placed (inr same) = ap (λ v. is_some (number_at renews.made v)) same ∙ renews.place
+    placed (inr comes) = place_among renews.made (arrivals w.op uuid) u renews.places comes
 
     place : is_some (number_at renews.made u) ≡ true
     place = placed (found_before w.op old uuid w.csn u asc (ap (λ es. is_some (entry_at es u)) (sym made) ∙ ap is_some found))

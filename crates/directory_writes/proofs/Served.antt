@@ -1,5 +1,5 @@
 -- What is kept beside the writes serves a refresh.
-use Rattle.std.proofs.Common.{◌≡◌, ℕ, ◌-◌, ◌≤◌, Bool, true, false, cond, List, [], ◌∷◌, length, refl, ap, ◌∙◌, subst, Some, None, Option, OnErr}
+use Rattle.std.proofs.Common.{◌≡◌, ℕ, ◌≤◌, Bool, true, false, cond, List, [], ◌∷◌, length, refl, ap, ◌∙◌, subst, Some, None, Option, OnErr}
 use Rattle.std.specs.Prelude.{is_some, Result, Ok, Err}
 use Rattle.std.specs.BTreeMap.{is_at}
 use Rattle.std.specs.Map.{set_value}
@@ -14,7 +14,7 @@ use Rattle.sync_model.specs.Stream.Start.{Covered, Uncovered}
 use Rattle.directory_writes.specs.Directory.{DirectoryState}
 use Rattle.directory_writes.specs.Starting.{IsServed}
 use Rattle.entry_tree.specs.declared.touched.Touch.{Touch}
-use Rattle.directory_writes.specs.Touches.{Numbers, last_touch, IsLogged, number_at, renewed_at, renewed_by, renewed, KeepsNumbers, IsRenewed, AreNumbered}
+use Rattle.directory_writes.specs.Touches.{Numbers, last_touch, IsLogged, number_at, renewed_at, renewed_by, renewed, KeepsNumbers, HavePlaces, IsRenewed, AreNumbered}
 use Rattle.directory_writes.proofs.Told.{log-tells}
 
 -- the log tells the walk of a covered number
@@ -38,15 +38,22 @@ number_is history writes entries numbers uuid each here = by (entry_at entries u
     by (Some entry) at h = each uuid entry at
 
 pub keeps_itself : (numbers : Numbers) → KeepsNumbers numbers numbers
-keeps_itself numbers uuid number low found = found
+keeps_itself numbers = record { number = λ uuid number low found. found }
 
 pub keeps_both : (one two three : Numbers) → KeepsNumbers one two → KeepsNumbers two three → KeepsNumbers one three
-keeps_both one two three first second uuid number low found = second uuid number low (first uuid number low found)
+keeps_both one two three first second =
+    record { number = λ uuid number low found. second.number uuid number low (first.number uuid number low found) }
 
-pub renews : (number uuid : ℕ) (touches : List Touch) (old made after new : Numbers) → is_some (number_at made uuid) ≡ true → KeepsNumbers old made
-    → after ≡ renewed number made touches → KeepsNumbers after new → IsRenewed number uuid touches old new
-renews number uuid touches old made after new place kept is left =
-    record { made = made; place = place; kept = kept; left = subst (λ numbers. KeepsNumbers numbers new) is left }
+pub renews : (number : ℕ) (uuids : List ℕ) (touches : List Touch) (old made new : Numbers) → HavePlaces made uuids → KeepsNumbers old made
+    → new ≡ renewed number made touches → IsRenewed number uuids touches old new
+renews number uuids touches old made new places kept is =
+    record { made = made; places = places; kept = kept; left = subst (λ numbers. KeepsNumbers numbers new) is (keeps_itself new) }
+
+-- taking back places leaves what was renewed
+pub renews_left : (number : ℕ) (uuids : List ℕ) (touches : List Touch) (old new left : Numbers) → IsRenewed number uuids touches old new → KeepsNumbers new left
+    → IsRenewed number uuids touches old left
+renews_left number uuids touches old new left is keeps =
+    record { made = is.made; places = is.places; kept = is.kept; left = keeps_both (renewed number is.made touches) new left is.left keeps }
 
 -- where an entry has no place nothing is renewed
 renewed_none : (numbers : Numbers) (uuid number : ℕ) → number_at numbers uuid ≡ None → set_value (is_at (nat_cmp uuid)) numbers number ≡ numbers

@@ -19,7 +19,7 @@ use Rattle.entry_tree.specs.declared.op.Op.{Op}
 use Rattle.entry_tree.specs.declared.op.Write.{Write}
 use Rattle.entry_tree.specs.declared.touched.Touch.{Touch}
 use Rattle.directory_writes.specs.Directory.{DirectoryState, entries_after, entries_of, last_stamp, stamp_of, next_stamp, most_writes, most_writes_weight, has_room, judged_code, judged_at, judged, with_write, with_judged, written, code_of_judged, write_code, IsAccepted, IsKept}
-use Rattle.directory_writes.specs.Touches.{Numbers, logged, all_notes, IsLogged, KeepsNumbers, IsRenewed, AreNumbered}
+use Rattle.directory_writes.specs.Touches.{Numbers, arrivals, logged, all_notes, IsLogged, KeepsNumbers, IsRenewed, AreNumbered}
 use Rattle.directory_writes.specs.Weights.{op_weight, kept_weight}
 use Rattle.session_log.specs.Log.{Log, fresh, trimmed}
 use Rattle.session_log.proofs.Covering.{IsLogOf-fresh, IsLogOf-trimmed}
@@ -133,7 +133,7 @@ pub record IsPushed (d : DirectoryState) (entries after : List Entry) (numbers l
   pub good : IsAccepted d.suffix entries w.op
   pub same : uuid ≡ identity d.history (length d.writes + 1)
   pub notes : log ≡ logged (length d.writes + 1) entries after d.log
-  pub renews : IsRenewed (length d.writes + 1) uuid (touched entries after) numbers later
+  pub renews : IsRenewed (length d.writes + 1) (arrivals w.op uuid) (touched entries after) numbers later
 
 after_is : (d : DirectoryState) (entries after : List Entry) (uuid : ℕ) (w : Write) → entries ≡ entries_of d → after ≡ effect entries w.op uuid w.csn
     → uuid ≡ identity d.history (length d.writes + 1) → after ≡ entries_after d.history (d.writes ++ w ∷ [])

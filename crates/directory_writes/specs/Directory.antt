@@ -8,6 +8,7 @@ use Rattle.csn_cookie.specs.declared.cookie.Cookie.{Cookie}
 use Rattle.dn_names.specs.Names.{TypeAndValue}
 use Rattle.entry_tree.specs.Codes.{code_of}
 use Rattle.entry_tree.specs.Effects.{effect}
+use Rattle.entry_tree.specs.Fitting.{fits}
 use Rattle.entry_tree.specs.History.{identity, state_from}
 use Rattle.entry_tree.specs.Sound.{is_sound_op}
 use Rattle.entry_tree.specs.declared.entry.Entry.{Entry}
@@ -127,10 +128,11 @@ Refuses outcome NoMemory = Unit {0}
 
 -- ---- what holds of the accepted writes
 
--- an operation is sound, and nothing is against it on these entries
+-- an operation is sound, nothing is against it on these entries, and they have room for it
 pub record IsAccepted (suffix : List (List TypeAndValue)) (entries : List Entry) (op : Op) : Type 0 where
   pub sound : is_sound_op op ≡ true
   pub unopposed : code_of suffix entries op ≡ None
+  pub fitting : fits entries op ≡ true
 
 -- each write is accepted on the entries before it, from these entries and so many writes on
 abbrev pub AreAcceptedFrom : List (List TypeAndValue) → ℕ → List Entry → ℕ → List Write → Type 0

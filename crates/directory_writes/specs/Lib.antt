@@ -1,4 +1,5 @@
--- A directory by its accepted writes, what these touched, and where a search on it begins.
+-- A directory by its accepted writes, what these touched, what is against a commit, and where a search begins.
+pub mod Commits
 pub mod Directory
 pub mod Starting
 pub mod Touches

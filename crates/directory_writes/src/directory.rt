@@ -1,13 +1,15 @@
 //! A directory by its accepted writes.
 
-ghost use Rattle.std.specs.Prelude.{◌≡◌, ◌+◌, ◌<◌, ◌≤◌, ◌&&◌, nat_lt, nat_le, true, [], ◌∷◌, ◌++◌, length, is_some, Some, Ok, IfOk, IfErr, OnOk, OnErr, IfSome};
+ghost use Rattle.std.specs.Prelude.{◌≡◌, ◌+◌, ◌<◌, ◌≤◌, ◌&&◌, nat_lt, nat_le, true, [], ◌∷◌, ◌++◌, length, is_some, None, Some, Ok, IfOk, IfErr, OnOk, OnErr, IfSome};
 ghost use Rattle.std.specs.List.Sorted.{IsStrictlySortedBy};
 ghost use Rattle.std.specs.Ordering.{nat_cmp};
 ghost use Rattle.csn_cookie.specs.Csn as csns;
 ghost use Rattle.entry_tree.specs.History.{identity as identity_of, state_of, touched_over};
+ghost use Rattle.entry_tree.specs.Fitting.{fits};
 ghost use Rattle.entry_tree.specs.State.{entry_at};
 ghost use Rattle.entry_tree.specs.Sound.{is_sound_op};
 ghost use Rattle.entry_tree.specs.Touched.{touched};
+ghost use Rattle.directory_writes.specs.Commits.{commit_refusal, log_refusal, Opposes};
 ghost use Rattle.directory_writes.specs.Starting as starting;
 ghost use Rattle.directory_writes.specs.Directory as directory;
 ghost use Rattle.directory_writes.specs.Starting.{start_of, IsServed};
@@ -15,14 +17,15 @@ ghost use Rattle.directory_writes.specs.Touches.{last_touch};
 ghost use Rattle.directory_writes.specs.Weights.{kept_weight};
 
 use crate::NoMemory;
+use crate::commit::CommitFault;
 use crate::held::{Held, Mark};
 use crate::preview::Preview;
 use crate::start::Start;
 use crate::touches::Touches;
-use crate::weights::op_weight;
+use crate::weights::{commit_weight, op_weight};
 use csn_cookie::{Cookie, Csn, CsnMaker};
 use dn_names::Dn;
-use entry_tree::{Op, OpFault, Tree, Write};
+use entry_tree::{Entry, Op, OpFault, Tree, Write};
 use ldap_ber::Octets;
 use std::alloc::{AllocError, Global};
 use std::marker::Model;
@@ -35,6 +38,9 @@ const MOST_WRITES: usize = 1_000_000;
 
 /// The most that the kept writes weigh, 512 MiB.
 const MOST_WRITES_WEIGHT: u64 = 536_870_912;
+
+/// The greatest count of the change numbers of one microsecond.
+const GREATEST_COUNT: u64 = 16_777_215;
 
 /// How many notes the session log of a new directory keeps.
 const FIRST_LOG_LIMIT: u64 = 1_000;
@@ -221,7 +227,8 @@ impl Directory {
     /// Applies a write where the clock shows `now`, in microseconds from the first moment of 1970
     /// on, and answers its code. A write with another code than 0 leaves the directory as it was.
     pub fn write(&mut self, alloc: Global, op: Op, now: u64) -> Result<u32, NoMemory>
-        requires { is_sound_op op ≡ true }
+        requires sound { is_sound_op op ≡ true }
+        requires fits { fits (directory.entries_of self.old) op ≡ true }
         ensures code { IfOk result (λ code. code ≡ directory.write_code self.old op now) }
         ensures ok { OnOk result (self.new ≡ directory.written self.old op now) }
         ensures err { OnErr result (self.new ≡ self.old) }
@@ -250,7 +257,8 @@ impl Directory {
     /// What `write` would do where the clock shows `now`, or the code that it would answer. The
     /// directory is left as it is.
     pub fn preview(&self, alloc: Global, op: &Op, now: u64) -> Result<Preview, OpFault>
-        requires { is_sound_op op.now ≡ true }
+        requires sound { is_sound_op op.now ≡ true }
+        requires fits { fits (directory.entries_of self.now) op.now ≡ true }
         ensures accepted { IfOk result (λ preview. directory.judged self.now op.now now
             ≡ Ok (record { csn = preview.csn; op = op.now })) }
         ensures touched { IfOk result (λ preview. preview.touched
@@ -264,6 +272,42 @@ impl Directory {
         let uuid = identity(self.history, number);
         let touched = self.held.tree.preview(alloc, op, &self.suffix, uuid, csn)?;
         Ok(Preview { csn, touched })
+    }
+
+    /// Whether a commit that puts these entries and drops these identities may be kept where the
+    /// clock shows `now`, or the first cause against it.
+    #[tactic(auto, using(crate::proofs::Commits::log_capped, crate::proofs::Commits::first_opposed, crate::proofs::Commits::none_opposed))]
+    pub fn check_commit(
+        &self,
+        alloc: Global,
+        puts: &[Entry],
+        drops: &[u128],
+        now: u64,
+    ) -> Result<(), CommitFault>
+        ensures ok { OnOk result (commit_refusal self.now puts.now drops.now now ≡ None) }
+        ensures refused { IfErr result (Opposes (commit_refusal self.now puts.now drops.now now)) }
+    {
+        let weight = commit_weight(puts, drops)?;
+        self.check_log(weight, now)?;
+        self.held.check_commit(alloc, puts, drops)
+    }
+
+    /// Whether one more write of this weight may be kept, or the first cause against it.
+    fn check_log(&self, weight: u64, now: u64) -> Result<(), CommitFault>
+        ensures ok { OnOk result (log_refusal self.now weight now ≡ None) }
+        ensures refused { IfErr result (Opposes (log_refusal self.now weight now)) }
+    {
+        if self.accepted.len() >= MOST_WRITES {
+            return Err(CommitFault::LimitReached(MOST_WRITES as u64));
+        }
+        if weight > MOST_WRITES_WEIGHT - self.weight {
+            return Err(CommitFault::LimitReached(MOST_WRITES_WEIGHT));
+        }
+        let mut stamps = self.stamps.copy();
+        match stamps.next(now) {
+            Ok(_) => Ok(()),
+            Err(_) => Err(CommitFault::LimitReached(GREATEST_COUNT)),
+        }
     }
 
     /// The change number that this operation would get, or 11 where it cannot be kept.

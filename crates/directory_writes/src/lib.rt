@@ -3,6 +3,7 @@
 //! with content synchronisation begins on it (RFC 4533, section 3.3).
 #![tactic(auto)]
 
+mod commit;
 mod directory;
 mod held;
 mod preview;
@@ -10,6 +11,7 @@ mod start;
 mod touches;
 mod weights;
 
+pub use commit::CommitFault;
 pub use directory::{ADMIN_LIMIT_EXCEEDED, Directory};
 pub use ldap_ber::NoMemory;
 pub use preview::Preview;

@@ -1,14 +1,15 @@
 //! What is known of which write touched which entry.
 
-ghost use Rattle.std.specs.Prelude.{◌≡◌, ◌≤◌, [], length, is_some, true, OnOk, IfOk};
+ghost use Rattle.std.specs.Prelude.{◌≡◌, ◌≤◌, [], ◌∷◌, length, is_some, true, OnOk, IfOk};
 ghost use Rattle.std.specs.List.Sorted.{IsStrictlySortedBy};
 ghost use Rattle.std.specs.Ordering.{nat_cmp};
+ghost use Rattle.entry_tree.specs.Touched.{identities};
 ghost use Rattle.session_log.specs.Log as log;
 ghost use Rattle.directory_writes.specs.Touches as spec;
 ghost use Rattle.directory_writes.specs.Touches.{number_at};
 
 use crate::NoMemory;
-use entry_tree::Touch;
+use entry_tree::{Entry, Touch};
 use session_log::SessionLog;
 use std::alloc::Global;
 use std::collections::BTreeMap;
@@ -42,30 +43,50 @@ impl Touches {
         }
     }
 
-    /// Makes room for so many notes, and a place for an entry of this identity.
-    #[tactic(auto, using(crate::proofs::Pushed::place_made, crate::proofs::Pushed::place_is, crate::proofs::Served::keeps_itself))]
-    pub(crate) fn make_room(&mut self, uuid: u128, notes: usize) -> Result<(), NoMemory>
+    /// Makes room for so many notes.
+    pub(crate) fn make_room(&mut self, notes: usize) -> Result<(), NoMemory>
         ensures log { self.new.log ≡ self.old.log }
         ensures room { OnOk result (notes ≤ self.new.spare) }
-        ensures place { OnOk result (is_some (number_at self.new.numbers uuid) ≡ true) }
+        ensures numbers { self.new.numbers ≡ self.old.numbers }
+    {
+        self.log.reserve(notes)
+    }
+
+    /// Makes a place for an entry of this identity.
+    #[tactic(auto, using(crate::proofs::Places::have_one))]
+    pub(crate) fn make_place(&mut self, uuid: u128) -> Result<(), NoMemory>
+        ensures log { self.new.log ≡ self.old.log }
+        ensures room { self.new.spare ≡ self.old.spare }
+        ensures place { OnOk result (spec.HavePlaces self.new.numbers (uuid ∷ [])) }
         ensures numbers { spec.KeepsNumbers self.old.numbers self.new.numbers }
     {
-        self.log.reserve(notes)?;
-        if !self.numbers.contains_key(&uuid) {
-            self.numbers.insert(uuid, 0)?;
-        }
-        Ok(())
+        make_place(&mut self.numbers, uuid)
+    }
+
+    /// Makes a place for each of these entries.
+    pub(crate) fn make_places(&mut self, entries: &[Entry]) -> Result<(), NoMemory>
+        ensures log { self.new.log ≡ self.old.log }
+        ensures room { self.new.spare ≡ self.old.spare }
+        ensures places { OnOk result (spec.HavePlaces self.new.numbers (identities entries.now)) }
+        ensures numbers { spec.KeepsNumbers self.old.numbers self.new.numbers }
+    {
+        make_each(&mut self.numbers, entries)
     }
 
     /// Takes back the place of this identity, where it has no number yet.
-    #[tactic(auto, using(crate::proofs::Pushed::place_left, crate::proofs::Served::keeps_itself))]
-    pub(crate) fn leave_room(&mut self, uuid: u128)
+    pub(crate) fn leave_place(&mut self, uuid: u128)
         ensures log { self.new.log ≡ self.old.log }
         ensures numbers { spec.KeepsNumbers self.old.numbers self.new.numbers }
     {
-        if matches!(self.numbers.get(&uuid), Some(0)) {
-            self.numbers.remove(&uuid);
-        }
+        leave_place(&mut self.numbers, uuid);
+    }
+
+    /// Takes back the places of these entries that have no number yet.
+    pub(crate) fn leave_places(&mut self, entries: &[Entry])
+        ensures log { self.new.log ≡ self.old.log }
+        ensures numbers { spec.KeepsNumbers self.old.numbers self.new.numbers }
+    {
+        leave_each(&mut self.numbers, entries);
     }
 
     /// Notes what a write changed. It takes no memory.
@@ -107,6 +128,47 @@ impl Touches {
         ensures numbers { self.new.numbers ≡ self.old.numbers }
     {
         self.log.trim(limit);
+    }
+}
+
+#[tactic(auto, using(crate::proofs::Places::place_made, crate::proofs::Places::places_kept, crate::proofs::Places::place_is, crate::proofs::Places::places_itself, crate::proofs::Served::keeps_itself))]
+fn make_place(numbers: &mut BTreeMap<u128, u64>, uuid: u128) -> Result<(), NoMemory>
+    ensures place { OnOk result (is_some (number_at numbers.new.entries uuid) ≡ true) }
+    ensures places { spec.KeepsPlaces numbers.old.entries numbers.new.entries }
+    ensures numbers { spec.KeepsNumbers numbers.old.entries numbers.new.entries }
+{
+    if !numbers.contains_key(&uuid) {
+        numbers.insert(uuid, 0)?;
+    }
+    Ok(())
+}
+
+#[tactic(auto, using(crate::proofs::Served::keeps_itself, crate::proofs::Served::keeps_both, crate::proofs::Places::next_place))]
+fn make_each(numbers: &mut BTreeMap<u128, u64>, entries: &[Entry]) -> Result<(), NoMemory>
+    ensures places { OnOk result (spec.HavePlaces numbers.new.entries (identities entries.now)) }
+    ensures numbers { spec.KeepsNumbers numbers.old.entries numbers.new.entries }
+{
+    for entry in entries {
+        make_place(numbers, entry.uuid)?;
+    }
+    Ok(())
+}
+
+#[tactic(auto, using(crate::proofs::Places::place_left, crate::proofs::Served::keeps_itself))]
+fn leave_place(numbers: &mut BTreeMap<u128, u64>, uuid: u128)
+    ensures { spec.KeepsNumbers numbers.old.entries numbers.new.entries }
+{
+    if matches!(numbers.get(&uuid), Some(0)) {
+        numbers.remove(&uuid);
+    }
+}
+
+#[tactic(auto, using(crate::proofs::Served::keeps_itself, crate::proofs::Served::keeps_both))]
+fn leave_each(numbers: &mut BTreeMap<u128, u64>, entries: &[Entry])
+    ensures { spec.KeepsNumbers numbers.old.entries numbers.new.entries }
+{
+    for entry in entries {
+        leave_place(numbers, entry.uuid);
     }
 }
 

@@ -3,15 +3,22 @@
 ghost use Rattle.std.specs.Prelude.{◌≡◌, ◌-◌, ◌^◌, min, IfOk};
 ghost use Rattle.schema_rules.specs.Attributes as attributes;
 ghost use Rattle.schema_rules.specs.Schema.{type_name};
+ghost use Rattle.entry_tree.specs.declared.op.Op.TheVariants as ops;
 ghost use Rattle.directory_writes.specs.Weights as spec;
 
 use dn_names::Dn;
-use entry_tree::{Edit, Op};
+use entry_tree::{Edit, Entry, Op};
 use ldap_ber::{NoMemory, OctetsList};
 use schema_rules::AttributeType;
 
 /// What each write weighs beside what it gives.
 const WRITE_WEIGHT: u64 = 64;
+
+/// What each entry that a commit puts weighs beside its name and its attributes.
+const PUT_WEIGHT: u64 = 64;
+
+/// What each identity that a commit drops weighs.
+const DROP_WEIGHT: u64 = 16;
 
 /// 64, the length of each name that the write gives, as it is written, and for each value the
 /// lengths of its type's name and of the value. The greatest number stands for all sums above it.
@@ -28,8 +35,39 @@ pub(crate) fn op_weight(op: &Op) -> Result<u64, NoMemory>
                 .saturating_add(rdn)
                 .saturating_add(superior_weight(superior)?)
         }
+        Op::Commit(puts, drops) => return commit_weight(puts.list(), drops.list()),
     };
     Ok(parts.saturating_add(WRITE_WEIGHT))
+}
+
+/// The same of a commit: each entry that it puts weighs 64 beside its name and its attributes, and
+/// each identity that it drops 16.
+pub(crate) fn commit_weight(puts: &[Entry], drops: &[u128]) -> Result<u64, NoMemory>
+    ensures { IfOk result (λ weight. weight ≡ min (spec.op_weight (ops.Commit puts.now drops.now)) (2 ^ 64 - 1)) }
+{
+    let dropped = (drops.len() as u64).saturating_mul(DROP_WEIGHT);
+    let put = puts_weight(puts)?;
+    Ok(put.saturating_add(dropped).saturating_add(WRITE_WEIGHT))
+}
+
+fn puts_weight(puts: &[Entry]) -> Result<u64, NoMemory>
+    ensures { IfOk result (λ weight. weight ≡ min (spec.puts_weight puts.now) (2 ^ 64 - 1)) }
+{
+    let mut total: u64 = 0;
+    for entry in puts {
+        total = total.saturating_add(put_weight(entry)?);
+    }
+    Ok(total)
+}
+
+fn put_weight(entry: &Entry) -> Result<u64, NoMemory>
+    ensures { IfOk result (λ weight. weight ≡ min (spec.put_weight entry.now) (2 ^ 64 - 1)) }
+{
+    let name = name_weight(&entry.dn)?;
+    Ok(
+        name.saturating_add(entry.attrs.weight())
+            .saturating_add(PUT_WEIGHT),
+    )
 }
 
 /// The length of the name as it is written.

@@ -261,7 +261,7 @@ one_change t e stays (x ∷ es) asc =
     by later rest (inr (inr more)) =
         ap (λ xs. filter is_change (map t (identities xs))) (put_before e x es more later) ∙ alone (x ∷ es) (above_all e.uuid x es more later)
 
-found_same : (found : Option Entry) → is_one_found found found ≡ true
+pub found_same : (found : Option Entry) → is_one_found found found ≡ true
 found_same None = refl
 found_same (Some e) = entry_same e
 

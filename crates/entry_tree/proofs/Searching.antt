@@ -1,6 +1,7 @@
 -- The place of an entry, as a binary search finds it.
-use Rattle.std.proofs.Common.{◌≡◌, ◌<◌, ◌≤◌, ℕ, zero, suc, true, cond, nat_lt, List, [], ◌∷◌, length, get_or, set, Option, Some, None, ap, ◌∙◌, subst, sym, refl, ◌⊎◌, inl, inr, arith}
+use Rattle.std.proofs.Common.{◌≡◌, ◌<◌, ◌≤◌, ℕ, zero, suc, true, cond, nat_lt, List, [], ◌∷◌, length, get_or, set, Some, None, ap, ◌∙◌, subst, sym, refl, ◌⊎◌, inl, inr, arith}
 use Rattle.std.specs.Cmp.{ranks}
+use Rattle.std.specs.Prelude.{Result, IsOk, is_ok}
 use Rattle.std.specs.List.{HoldsAt, insert}
 use Rattle.std.specs.List.Sorted.{IsNonDecreasingBy, IsPartitionPoint}
 use Rattle.std.specs.Ordering.{nat_cmp, MatchOrdering, ordering_index}
@@ -82,3 +83,9 @@ held_nowhere es u place asc found =
 
     by : IsPartitionPoint (λ (y : Entry). nat_cmp y.uuid u ≡ Less) (λ (y : Entry). nat_cmp y.uuid u ≡ Greater) es place → (k : ℕ) (d : Entry) → k < length es → (get_or es k d).uuid ≡ u → ⊥
     by parted k d low same = at parted k d low same (cases_lt k place)
+
+-- ---- a place for which there is room
+
+-- what is so where there was room
+pub with_room : {A E X : Type 0} (r : Result A E) (x y : X) → IsOk r → cond (is_ok r) x y ≡ x
+with_room r x y room = ap (λ b. cond b x y) room

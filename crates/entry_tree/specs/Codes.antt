@@ -9,7 +9,7 @@ use Rattle.dn_names.specs.Sound.{most_rdns}
 use Rattle.entry_tree.specs.declared.edit.Edit.{Edit}
 use Rattle.entry_tree.specs.declared.entry.Entry.{Entry}
 use Rattle.entry_tree.specs.declared.op.Op.{Op}
-use Rattle.entry_tree.specs.declared.op.Op.TheVariants.{Add, Delete, Modify, Rename}
+use Rattle.entry_tree.specs.declared.op.Op.TheVariants.{Add, Delete, Modify, Rename, Commit}
 use Rattle.entry_tree.specs.Edits.{has_pair_value, after_edits, edits_code}
 use Rattle.entry_tree.specs.Effects.{new_name, new_attributes}
 use Rattle.entry_tree.specs.State.{has_name, has_parent, has_below, is_named, is_identified, entry_named, own_pairs, total_weight, weight_with, most_entry_weight, most_entries, most_weight}
@@ -110,9 +110,11 @@ rename_code suffix entries None rdn deletes superior = Some 32
 rename_code suffix entries (Some e) rdn deletes superior =
     moved_code suffix entries e (new_name e rdn superior) (new_attributes e rdn deletes) superior
 
--- ---- the code of a write to the directory with this suffix, where one is against it
+-- ---- the code of a write to the directory with this suffix, where one is against it; nothing is against a commit, which
+-- its provider accepted write by write
 abbrev pub code_of : List (List TypeAndValue) → List Entry → Op → Option ℕ
 code_of suffix entries (Add name attrs) = add_code suffix entries name attrs
 code_of suffix entries (Delete name) = delete_code entries name
 code_of suffix entries (Modify name edits) = modify_code entries (entry_named entries name) edits
 code_of suffix entries (Rename name rdn deletes superior) = rename_code suffix entries (entry_named entries name) rdn deletes superior
+code_of suffix entries (Commit puts drops) = None

@@ -1,12 +1,13 @@
 -- The entries after a write (RFC 4511, sections 4.6 to 4.9).
-use Rattle.std.specs.Prelude.{ℕ, Bool, not, ◌==◌, if◌then◌else◌, List, ◌∷◌, map, filter, Option, Some, None, unwrap_or}
+use Rattle.std.specs.Prelude.{ℕ, Bool, not, ◌==◌, if◌then◌else◌, List, ◌∷◌, map, filter, fold, Option, Some, None, unwrap_or}
+use Rattle.std.specs.List.{list_any}
 use Rattle.schema_rules.specs.declared.attributes.Attribute.{Attribute}
 use Rattle.csn_cookie.specs.Csn.{Stamp}
 use Rattle.dn_names.specs.Names.{TypeAndValue, is_at_or_below, parent_of, moved_name}
 use Rattle.entry_tree.specs.declared.edit.Edit.{Edit}
 use Rattle.entry_tree.specs.declared.entry.Entry.{Entry}
 use Rattle.entry_tree.specs.declared.op.Op.{Op}
-use Rattle.entry_tree.specs.declared.op.Op.TheVariants.{Add, Delete, Modify, Rename}
+use Rattle.entry_tree.specs.declared.op.Op.TheVariants.{Add, Delete, Modify, Rename, Commit}
 use Rattle.entry_tree.specs.Edits.{after_edits, with_rdn}
 use Rattle.entry_tree.specs.State.{put, is_identified, is_named, entry_named, own_pairs}
 
@@ -38,6 +39,14 @@ abbrev pub renamed : List Entry → Option Entry → List TypeAndValue → Bool 
 renamed entries None rdn deletes superior csn = entries
 renamed entries (Some top) rdn deletes superior csn = map (moved top (new_name top rdn superior) (new_attributes top rdn deletes) csn) entries
 
+-- the identity is one of these
+abbrev pub is_one_of : List ℕ → Entry → Bool
+is_one_of uuids e = list_any (λ uuid. is_identified uuid e) uuids
+
+-- the entries without these identities, and then with each of these entries in the place of one of its identity
+abbrev pub committed : List Entry → List Entry → List ℕ → List Entry
+committed entries puts drops = fold (λ held entry. put entry held) (filter (λ e. not (is_one_of drops e)) entries) puts
+
 -- the entries after a write that has no code against it; an entry that it adds has the identity, and each entry that it
 -- adds or changes the stamp
 abbrev pub effect : List Entry → Op → ℕ → Stamp → List Entry
@@ -45,3 +54,4 @@ effect entries (Add name attrs) uuid csn = put (record { uuid = uuid; csn = csn;
 effect entries (Delete name) uuid csn = filter (λ e. not (is_named name e)) entries
 effect entries (Modify name edits) uuid csn = modified entries (entry_named entries name) edits csn
 effect entries (Rename name rdn deletes superior) uuid csn = renamed entries (entry_named entries name) rdn deletes superior csn
+effect entries (Commit puts drops) uuid csn = committed entries puts drops

@@ -1,6 +1,6 @@
 -- A code of filters as trees, by which a proof tells values that hold them apart: signs in the order in which a
 -- machine with two stacks, of filters and of lists of filters, builds the tree from them.
-use Rattle.std.specs.Prelude.{◌≡◌, ℕ, Option, Some, None, List, [], ◌∷◌, ◌++◌, fold, refl, ◌==◌, if◌then◌else◌}
+use Rattle.std.specs.Prelude.{◌≡◌, ℕ, Option, None, List, [], ◌∷◌, ◌++◌, fold, refl, ◌==◌, if◌then◌else◌}
 use Rattle.std.specs.Coded.{Coded, code_by, coded×, coded_ℕ, coded_list, coded_option}
 use Rattle.std.proofs.Common.{ap, ◌∙◌}
 use Rattle.ldap_filter.specs.Tree.{Tree, Trees, all_of, any_of, negated, equal, substrings, at_least, at_most, present, approx, extensible, no_trees, more_trees}

@@ -5,6 +5,7 @@ pub mod Edits
 pub mod Effects
 pub mod Fault
 pub mod FilterCode
+pub mod Fitting
 pub mod History
 pub mod Reading
 pub mod Selection

@@ -1,5 +1,6 @@
 -- The entries of a directory, in ascending order of identity (RFC 4512, section 2).
-use Rattle.std.specs.Prelude.{◌≡◌, ◌≤◌, length, ℕ, Bool, true, not, ◌&&◌, ◌==◌, ◌+◌, nat_lt, List, [], ◌∷◌, ◌++◌, filter, find, sum_by, Option}
+use Rattle.std.specs.Prelude.{◌≡◌, ◌≤◌, length, ℕ, Bool, true, not, ◌&&◌, ◌||◌, ◌==◌, ◌+◌, nat_lt, List, [], ◌∷◌, ◌++◌, filter, find, sum_by, Option, None, option_map}
+use Rattle.std.specs.Option.{option_or}
 use Rattle.std.specs.List.{list_any, list_all}
 use Rattle.schema_rules.specs.Attributes.{weight_of}
 use Rattle.dn_names.specs.Names.{TypeAndValue, same_name, is_at_or_below, is_child_of}
@@ -64,6 +65,15 @@ most_entries = 20000
 
 abbrev pub most_weight : ℕ
 most_weight = 67108864
+
+-- more entries than a directory may have, or heavier ones
+abbrev pub is_crowded : List Entry → Bool
+is_crowded entries = nat_lt most_entries (length entries) || nat_lt most_weight (total_weight entries)
+
+-- the first entry whose name a later one has, with the first such
+abbrev pub same_named : List Entry → Option (ℕ × ℕ)
+same_named [] = None
+same_named (entry ∷ entries) = option_or (option_map (λ (other : Entry). (entry.uuid, other.uuid)) (entry_named entries entry.dn)) (same_named entries)
 
 -- what holds of the entries of a directory and of the weight that is kept beside them
 pub record IsDirectory (entries : List Entry) (weight : ℕ) : Type 0 where

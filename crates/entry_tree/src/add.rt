@@ -1,6 +1,7 @@
 //! The addition of an entry (RFC 4511, section 4.7).
 ghost use Rattle.std.specs.Prelude.{◌≡◌, ◌+◌, ◌≤◌, ◌<◌, true, None, Some, [], ◌∷◌, filter, length, unwrap_or, option_map, IfOk, IfErr, OnOk, OnErr};
 ghost use Rattle.std.specs.Option.{option_copied};
+ghost use Rattle.std.specs.Vec.{vec_capacity, vec_len};
 ghost use Rattle.schema_rules.specs.Attributes.{weight_of};
 ghost use Rattle.entry_tree.specs.Codes.{add_code};
 ghost use Rattle.entry_tree.specs.Fault.{Tells};
@@ -135,9 +136,23 @@ fn put_entry(entries: &mut Vec<Entry>, entry: Entry) -> Result<(), NoMemory>
     ensures ok { OnOk result (entries.new.items ≡ state.put entry entries.old.items) }
     ensures err { OnErr result (entries.new.items ≡ entries.old.items) }
 {
+    entries.reserve(1)?;
+    put_reserved(entries, entry);
+    Ok(())
+}
+
+/// Puts the entry, for which there is room, in its place among entries in ascending order.
+pub(crate) fn put_reserved(entries: &mut Vec<Entry>, entry: Entry)
+    requires ascends { state.ascends entries.old.items ≡ true }
+    requires room { vec_len entries.old < vec_capacity entries.old }
+    ensures items { entries.new.items ≡ state.put entry entries.old.items }
+    ensures len { vec_len entries.new ≤ vec_len entries.old + 1 }
+    ensures capacity { vec_capacity entries.old ≤ vec_capacity entries.new }
+{
     match entries.binary_search_by_key(&entry.uuid, |held| held.uuid) {
         Ok(place) => entries[place] = entry,
-        Err(place) => entries.insert(place, entry)?,
+        Err(place) => {
+            let _ = entries.insert(place, entry);
+        }
     }
-    Ok(())
 }

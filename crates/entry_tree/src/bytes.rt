@@ -1,6 +1,7 @@
 //! Whether two entries are one, byte for byte.
 ghost use Rattle.std.specs.Prelude.{◌≡◌};
 ghost use Rattle.std.specs.List.{list_all, zip};
+ghost use Rattle.std.specs.Option.{option_copied};
 ghost use Rattle.entry_tree.specs.Bytes as spec;
 
 use crate::entry::Entry;
@@ -16,6 +17,17 @@ pub(crate) fn is_one_entry(one: &Entry, other: &Entry) -> bool
         && is_one_stamp(one.csn, other.csn)
         && is_one_name(one.dn.rdns(), other.dn.rdns())
         && is_one_list(one.attrs.list(), other.attrs.list())
+}
+
+/// Whether neither is there, or both are and are one.
+pub(crate) fn is_one_found(one: Option<&Entry>, other: Option<&Entry>) -> bool
+    ensures { result ≡ spec.is_one_found (option_copied one.entry) (option_copied other.entry) }
+{
+    match (one, other) {
+        (None, None) => true,
+        (Some(one), Some(other)) => is_one_entry(one, other),
+        (None, Some(_)) | (Some(_), None) => false,
+    }
 }
 
 fn is_one_stamp(one: Csn, other: Csn) -> bool

@@ -20,10 +20,10 @@ use std::alloc::Global;
 const MOST_ENTRY_WEIGHT: u64 = 65_536;
 
 /// The most entries of a directory.
-const MOST_ENTRIES: usize = 20_000;
+pub(crate) const MOST_ENTRIES: usize = 20_000;
 
 /// The most that the entries of a directory weigh.
-const MOST_WEIGHT: u64 = 67_108_864;
+pub(crate) const MOST_WEIGHT: u64 = 67_108_864;
 
 pub(crate) fn has_name(entries: &[Entry], dn: &Dn) -> bool
     ensures { result ≡ state.has_name entries.now dn.now }

@@ -3,13 +3,16 @@
 #![tactic(auto)]
 
 mod add;
+mod after;
 mod bytes;
 mod changing;
 mod checks;
+mod commit;
 mod delete;
 mod edit;
 mod entry;
 mod fault;
+mod held;
 mod modify;
 mod op;
 mod reading;
@@ -19,9 +22,11 @@ mod target;
 mod touched;
 mod tree;
 
+pub use commit::CommitRefusal;
 pub use edit::{Edit, Edits};
 pub use entry::{Entry, EntryList};
 pub use fault::OpFault;
+pub use held::check_held;
 pub use ldap_ber::NoMemory;
 pub use op::{Op, Write};
 pub use reading::read_op;

@@ -1,8 +1,10 @@
 //! Writes, with names, types and values that were read.
 use crate::edit::Edits;
+use crate::entry::EntryList;
 use csn_cookie::Csn;
 use dn_names::{Dn, Rdn};
 use schema_rules::Attrs;
+use sync_messages::IdList;
 
 /// What a write does.
 #[derive(Drop)]
@@ -16,6 +18,10 @@ pub enum Op {
     /// Gives the entry of that name another RDN, and another superior where one is told; all below
     /// it move with it. The values of the old RDN go where this is asked for (RFC 4511, section 4.9).
     Rename(Dn, Rdn, bool, Option<Dn>),
+    /// Puts entries, each in the place of one of its identity, and drops the identities that it does
+    /// not put: what a replica takes from its provider at one time (RFC 4533, section 3.3). No client
+    /// asks for it.
+    Commit(EntryList, IdList),
 }
 
 /// A write that was accepted, with its stamp.

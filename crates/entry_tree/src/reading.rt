@@ -1,11 +1,11 @@
 //! Writes as they come in, read by the schema.
-ghost use Rattle.std.specs.Prelude.{◌≡◌, true, None, Some, Ok, IfOk, IfErr, OnOk};
+ghost use Rattle.std.specs.Prelude.{◌≡◌, true, false, None, Some, Ok, IfOk, IfErr, OnOk};
 ghost use Rattle.std.specs.List.{list_all};
 ghost use Rattle.std.specs.Result.{result_err};
 ghost use Rattle.entry_tree.specs.Fault.{Tells};
 ghost use Rattle.entry_tree.specs.Reading as spec;
 ghost use Rattle.entry_tree.specs.Sound as sound;
-ghost use Rattle.entry_tree.specs.Sound.{is_sound_op, is_sound_edit};
+ghost use Rattle.entry_tree.specs.Sound.{is_sound_op, is_sound_edit, is_commit};
 
 use crate::edit::{Edit, Edits};
 use crate::fault::{
@@ -26,6 +26,7 @@ use std::alloc::Global;
 pub fn read_op(alloc: Global, change: &Change) -> Result<Op, OpFault>
     ensures ok { IfOk result (λ op. spec.read_change change.now ≡ Ok op) }
     ensures sound { IfOk result (λ op. is_sound_op op ≡ true) }
+    ensures asked { IfOk result (λ op. is_commit op ≡ false) }
     ensures fault { IfErr result (Tells (result_err (spec.read_change change.now))) }
 {
     match change {

@@ -1,7 +1,8 @@
 //! What a write changes.
-ghost use Rattle.std.specs.Prelude.{◌≡◌, [], ◌∷◌, ◌++◌, OnOk, OnErr};
+ghost use Rattle.std.specs.Prelude.{◌≡◌, [], ◌∷◌, ◌++◌, IfOk, OnOk, OnErr};
+ghost use Rattle.std.specs.Option.{option_copied};
 
-use crate::bytes::is_one_entry;
+use crate::bytes::{is_one_entry, is_one_found};
 use crate::entry::Entry;
 use ldap_ber::NoMemory;
 use std::alloc::Global;
@@ -32,7 +33,6 @@ impl Model for Touched {
 
 impl Touched {
     ghost use Rattle.std.specs.Prelude.{filter, Some};
-    ghost use Rattle.std.specs.Option.{option_copied};
     ghost use Rattle.entry_tree.specs.Touched.{is_change};
 
     pub(crate) fn new(alloc: Global) -> Touched
@@ -77,9 +77,38 @@ impl Touched {
         }
     }
 
+    /// Puts what an identity had and has at the end, where these differ.
+    pub(crate) fn push_difference(
+        &mut self,
+        uuid: u128,
+        was: Option<&Entry>,
+        now: Option<&Entry>,
+    ) -> Result<(), NoMemory>
+        ensures { OnOk result (self.new ≡ self.old ++ filter is_change
+            (record { uuid = uuid; was = option_copied was.entry; now = option_copied now.entry } ∷ [])) }
+    {
+        if is_one_found(was, now) {
+            return Ok(());
+        }
+        self.push(Touch {
+            uuid,
+            was: copy_of(was)?,
+            now: copy_of(now)?,
+        })
+    }
+
     pub fn list(&self) -> &[Touch]
         ensures { result.now ≡ self.now }
     {
         self.items.as_slice()
+    }
+}
+
+fn copy_of(entry: Option<&Entry>) -> Result<Option<Entry>, NoMemory>
+    ensures { IfOk result (λ copy. copy ≡ option_copied entry.entry) }
+{
+    match entry {
+        None => Ok(None),
+        Some(entry) => Ok(Some(entry.copy()?)),
     }
 }

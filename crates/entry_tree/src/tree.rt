@@ -4,6 +4,7 @@ ghost use Rattle.std.specs.Option.{option_copied};
 ghost use Rattle.entry_tree.specs.Codes.{code_of};
 ghost use Rattle.entry_tree.specs.Effects.{effect};
 ghost use Rattle.entry_tree.specs.Fault.{Tells};
+ghost use Rattle.entry_tree.specs.Fitting.{fits};
 ghost use Rattle.entry_tree.specs.Selection.{search_of, select};
 ghost use Rattle.entry_tree.specs.Sound.{is_sound_op};
 ghost use Rattle.entry_tree.specs.State as state;
@@ -92,8 +93,9 @@ impl Tree {
     }
 
     /// Applies a write to the directory with this suffix, or tells the first code that is against it.
-    /// An entry that is added gets the identity, and each entry that is added or changed the stamp.
-    /// The answer is what differs, with what was and what is. A refusal leaves the entries.
+    /// An entry that is added gets the identity, and each entry that is added or changed the stamp;
+    /// what a commit puts keeps its own, and `check_commit` tells whether there is room for it. The
+    /// answer is what differs, with what was and what is. A refusal leaves the entries.
     pub fn apply(
         &mut self,
         alloc: Global,
@@ -102,7 +104,8 @@ impl Tree {
         uuid: u128,
         csn: Csn,
     ) -> Result<Touched, OpFault>
-        requires { is_sound_op op.now ≡ true }
+        requires sound { is_sound_op op.now ≡ true }
+        requires fits { fits self.old op.now ≡ true }
         ensures accepted { OnOk result (code_of suffix.now self.old op.now ≡ None) }
         ensures effect { OnOk result (self.new ≡ effect self.old op.now uuid csn) }
         ensures touched { IfOk result (λ touches. touches ≡ touched self.old self.new) }
@@ -116,6 +119,7 @@ impl Tree {
             Op::Rename(dn, rdn, deletes, superior) => {
                 self.rename(alloc, suffix, dn, rdn, *deletes, superior, csn)
             }
+            Op::Commit(puts, drops) => Ok(self.commit(alloc, puts.list(), drops.list())?),
         }
     }
 
@@ -128,7 +132,8 @@ impl Tree {
         uuid: u128,
         csn: Csn,
     ) -> Result<Touched, OpFault>
-        requires { is_sound_op op.now ≡ true }
+        requires sound { is_sound_op op.now ≡ true }
+        requires fits { fits self.now op.now ≡ true }
         ensures accepted { OnOk result (code_of suffix.now self.now op.now ≡ None) }
         ensures touched { IfOk result (λ touches. touches ≡ touched self.now (effect self.now op.now uuid csn)) }
         ensures refused { IfErr result (Tells (code_of suffix.now self.now op.now)) }
@@ -140,6 +145,7 @@ impl Tree {
             Op::Rename(dn, rdn, deletes, superior) => {
                 self.preview_rename(alloc, suffix, dn, rdn, *deletes, superior, csn)
             }
+            Op::Commit(puts, drops) => Ok(self.preview_commit(alloc, puts.list(), drops.list())?),
         }
     }
 

@@ -3,6 +3,10 @@
 #![tactic(auto)]
 
 #[cfg(test)]
+mod commit_tests;
+#[cfg(test)]
+mod commits;
+#[cfg(test)]
 mod directory_writes_tests;
 #[cfg(test)]
 mod persist_tests;

@@ -1,8 +1,9 @@
-//! Steps of a provider, and what is told of them. Before all steps the entry `dc=x` is added, which is
-//! the first write.
+//! Steps of a provider, and what is told of them. At a root the entry `dc=x` is added before all steps,
+//! which is the first write. A replica has no write before them.
 
+use crate::commits::{Put, committed};
 use crate::sync_provider_tests::{
-    accepted, add_unit, control, discard, octets, one_entry, replied,
+    accepted, add_unit, control, discard, empty, octets, one_entry, replied,
 };
 use crate::telling::Telling;
 use ldap_ber::{NoMemory, Octets, OctetsList};
@@ -11,7 +12,7 @@ use std::alloc::Global;
 use std::fmt::Debug;
 use std::process::Abort;
 use std::test::Fail;
-use sync_provider::{Accepted, Provider};
+use sync_provider::{Accepted, Kind, Provider};
 
 /// Names are those of units.
 pub(crate) enum Step {
@@ -30,6 +31,8 @@ pub(crate) enum Step {
     /// The first parts of two names right below `dc=x`: the one becomes the other, and the other the one,
     /// so many times in all.
     Swing(&'static str, &'static str, u32),
+    /// The entries that a commit puts, and the identities that it drops.
+    Commit(&'static [Put], &'static [u64]),
     /// So many notes are kept in the session log.
     Log(u64),
     /// So many messages of later writes are kept for a search.
@@ -93,9 +96,18 @@ pub(crate) fn assert_told(rt: &impl Abort, alloc: Global, row: &Row) -> Result<(
     Ok(())
 }
 
-/// What is told of these steps.
+/// What is told of these steps at a root.
 pub(crate) fn told(alloc: Global, parts: &[&[Step]]) -> Result<Vec<u8>, Fail> {
-    let mut provider = one_entry(alloc)?;
+    told_of(alloc, one_entry(alloc)?, parts)
+}
+
+/// What is told of these steps at a replica.
+pub(crate) fn told_of_replica(alloc: Global, steps: &[Step]) -> Result<Vec<u8>, Fail> {
+    told_of(alloc, empty(alloc, Kind::Replica)?, &[steps])
+}
+
+fn told_of(alloc: Global, provider: Provider, parts: &[&[Step]]) -> Result<Vec<u8>, Fail> {
+    let mut provider = provider;
     let mut telling = Telling::new(alloc);
     let done = take_parts(alloc, &mut provider, parts, &mut telling);
     discard(provider);
@@ -141,6 +153,10 @@ fn take_step(
         Step::Queue(limit) => {
             provider.set_queue_limit(*limit);
             Ok(())
+        }
+        Step::Commit(puts, drops) => {
+            let answer = committed(alloc, provider, puts, drops)?;
+            telling.committed(answer)
         }
         Step::AddUpTo(number) => add_up_to(alloc, provider, *number, telling),
         Step::Swell(name, octets, count) => {

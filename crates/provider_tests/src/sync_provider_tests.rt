@@ -46,7 +46,11 @@ pub(crate) fn octets(alloc: Global, text: &[u8]) -> Result<Octets, NoMemory> {
     Octets::from_slice(alloc, text)
 }
 
-fn attribute(alloc: Global, name: &[u8], values: &[&[u8]]) -> Result<RawAttribute, NoMemory> {
+pub(crate) fn attribute(
+    alloc: Global,
+    name: &[u8],
+    values: &[&[u8]],
+) -> Result<RawAttribute, NoMemory> {
     let mut list = OctetsList::new(alloc);
     for value in values {
         list.push(octets(alloc, value)?)?;
@@ -74,9 +78,10 @@ pub(crate) fn add_unit(alloc: Global, name: &[u8], unit: &[u8]) -> Result<Change
     Ok(Change::Add(octets(alloc, name)?, list))
 }
 
-fn provider(alloc: Global) -> Result<Provider, Fail> {
+/// A provider without entries.
+pub(crate) fn empty(alloc: Global, kind: Kind) -> Result<Provider, Fail> {
     let suffix = Dn::parse(alloc, b"dc=x")?;
-    Ok(Provider::new(alloc, suffix, 1, 1, Kind::Root)?)
+    Ok(Provider::new(alloc, suffix, 1, 1, kind)?)
 }
 
 /// The reply to a write.
@@ -100,7 +105,7 @@ fn written(alloc: Global, provider: &mut Provider, change: &Change) -> Result<(u
 
 /// A provider with the entry `dc=x`.
 pub(crate) fn one_entry(alloc: Global) -> Result<Provider, Fail> {
-    let mut provider = provider(alloc)?;
+    let mut provider = empty(alloc, Kind::Root)?;
     let change = first_add(alloc)?;
     if written(alloc, &mut provider, &change)? == (0, 1) {
         Ok(provider)
@@ -278,7 +283,7 @@ fn assert_empty_end(rt: &impl Abort, alloc: Global, provider: &mut Provider) -> 
 
 #[test]
 fn the_end_of_an_empty_directory(rt: HostRuntime) -> Result<(), Fail> {
-    let mut provider = provider(rt.alloc())?;
+    let mut provider = empty(rt.alloc(), Kind::Root)?;
     let done = assert_empty_end(&rt, rt.alloc(), &mut provider);
     discard(provider);
     done

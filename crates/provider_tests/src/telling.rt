@@ -1,6 +1,8 @@
 //! What a provider does, told in short words.
 //!
-//! A write: `w` and the number of writes, or `c` and the code that is against it. A search that is
+//! A write: `w` and the number of writes, or `c` and the code that is against it. So it is with a
+//! commit, but what is against it is `same` and the numbers of two entries of one name, `limit` and a
+//! limit, or `root`. A search that is
 //! opened: `s`, its number, `@` and the number of writes; or `c` and a code.
 //!
 //! A message: `+`, `~` or `!` for an entry that is added, modified or deleted, the number of the write
@@ -15,7 +17,7 @@ use ldap_messages::{Message, Protocol};
 use std::alloc::Global;
 use std::test::Fail;
 use sync_messages::{State, SyncDone, SyncInfo, SyncState};
-use sync_provider::{Accepted, Handed, Provider, Reply};
+use sync_provider::{Accepted, CommitFault, Handed, Provider, Reply};
 
 /// The Sync State control and the Sync Done control.
 const SYNC_STATE: &[u8] = b"1.3.6.1.4.1.4203.1.9.1.2";
@@ -75,6 +77,20 @@ impl Telling {
         match reply.code {
             0 => self.counted("w", reply.number),
             code => self.counted("c", u64::from(code)),
+        }
+    }
+
+    pub(crate) fn committed(&mut self, answer: Result<u64, CommitFault>) -> Result<(), Fail> {
+        match answer {
+            Ok(number) => Ok(self.counted("w", number)?),
+            Err(CommitFault::DuplicateName(one, other)) => {
+                self.counted("same", number_of(one))?;
+                self.text.push(b',')?;
+                Ok(self.number(number_of(other))?)
+            }
+            Err(CommitFault::LimitReached(limit)) => Ok(self.counted("limit", limit)?),
+            Err(CommitFault::NotAReplica) => Ok(self.word("root")?),
+            Err(CommitFault::NoMemory) => Err(Fail::from("out of memory")),
         }
     }
 

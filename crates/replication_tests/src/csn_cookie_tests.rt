@@ -1,172 +1,158 @@
-use csn_cookie::{Cookie, CookieFault, Csn, CsnMaker, is_blank};
+//! Change numbers and cookies as text, and numbers that are drawn.
+use crate::rows::check_rows;
+use csn_cookie::{Cookie, Csn, CsnMaker, is_blank};
+use std::alloc::{AllocError, Global};
 use std::test::Fail;
 
-/// A text, and what it tells: the microseconds, the count, the directory and the last part.
-type Row = (&'static [u8; 40], u64, u32, u16, u32);
-
-const ROWS: [Row; 8] = [
-    (b"19700101000000.000000Z#000001#001#000000", 0, 1, 1, 0),
-    (
-        b"19700101000001.000000Z#000000#001#000000",
-        1_000_000,
-        0,
-        1,
-        0,
-    ),
-    (
-        b"20000229120000.000001Z#00000a#0ff#0000ff",
-        951_825_600_000_001,
-        10,
-        255,
-        255,
-    ),
-    (
-        b"20240229235959.999999Z#abcdef#fff#ffffff",
-        1_709_251_199_999_999,
-        0xabcdef,
-        4095,
-        0xffffff,
-    ),
-    (
-        b"20380119031408.000000Z#000000#000#000000",
-        2_147_483_648_000_000,
-        0,
-        0,
-        0,
-    ),
-    (
-        b"21000228010203.000045Z#000000#002#000001",
-        4_107_459_723_000_045,
-        0,
-        2,
-        1,
-    ),
-    (
-        b"99991230220001.000000Z#000000#003#000000",
-        253_402_207_201_000_000,
-        0,
-        3,
-        0,
-    ),
-    (
-        b"99991231235959.999999Z#ffffff#004#000000",
-        253_402_300_799_999_999,
-        0xffffff,
-        4,
-        0,
-    ),
-];
+/// Texts, and what is read of them: of a change number its parts and how it is written, of a cookie its
+/// parts; and the change numbers that are drawn, each above the one before, and the last one then.
+const ROWS: &str = "\
+csn 19700101000000.000000Z#000001#001#000000 => 0 1 1 0 19700101000000.000000Z#000001#001#000000
+csn 19700101000001.000000Z#000000#001#000000 => 1000000 0 1 0 19700101000001.000000Z#000000#001#000000
+csn 20000229120000.000001Z#00000a#0ff#0000ff => 951825600000001 10 255 255 20000229120000.000001Z#00000a#0ff#0000ff
+csn 20240229235959.999999Z#abcdef#fff#ffffff => 1709251199999999 11259375 4095 16777215 20240229235959.999999Z#abcdef#fff#ffffff
+csn 20380119031408.000000Z#000000#000#000000 => 2147483648000000 0 0 0 20380119031408.000000Z#000000#000#000000
+csn 21000228010203.000045Z#000000#002#000001 => 4107459723000045 0 2 1 21000228010203.000045Z#000000#002#000001
+csn 99991230220001.000000Z#000000#003#000000 => 253402207201000000 0 3 0 99991230220001.000000Z#000000#003#000000
+csn 99991231235959.999999Z#ffffff#004#000000 => 253402300799999999 16777215 4 0 99991231235959.999999Z#ffffff#004#000000
+csn 20240229235959.999999Z#ABCDEF#FFF#FFffFF => 1709251199999999 11259375 4095 16777215 20240229235959.999999Z#abcdef#fff#ffffff
+# No length but 40, no other signs in their places, no day or second that is not there, no year before 1970 or above 9999
+csn  => NotACsn
+csn 20240229235959.999999Z#000000#000#00000 => NotACsn
+csn 20240229235959.999999Z#000000#000#0000000 => NotACsn
+csn 20240229235959.999999z#000000#000#000000 => NotACsn
+csn 20240229235959.999999Z#00000g#000#000000 => NotACsn
+csn 20240229235959,999999Z#000000#000#000000 => NotACsn
+csn 20240229235959.99999aZ#000000#000#000000 => NotACsn
+csn 20230229235959.000000Z#000000#000#000000 => NotACsn
+csn 21000229000000.000000Z#000000#000#000000 => NotACsn
+csn 20240431000000.000000Z#000000#000#000000 => NotACsn
+csn 20240001000000.000000Z#000000#000#000000 => NotACsn
+csn 20240100000000.000000Z#000000#000#000000 => NotACsn
+csn 19691231235959.999999Z#000000#000#000000 => NotACsn
+csn 100000101000000.00000Z#000000#000#000000 => NotACsn
+csn 20240101240000.000000Z#000000#000#000000 => NotACsn
+csn 20240101235960.000000Z#000000#000#000000 => NotACsn
+# Drawn one after another, each where the clock shows the number
+draw 0 1000000 500000 18446744073709551615 => true true 19700101000000.000000Z#000001#001#000000,true true 19700101000001.000000Z#000000#001#000000,true true 19700101000001.000000Z#000001#001#000000,true true 99991231235959.999999Z#000000#001#000000,
+# Cookies, and whether a text is a blank one
+start => rid=000,sid=001,csn=19700101000000.000000Z#000000#001#000000,gen=00000000000000000000000000000001
+cookie rid=000,sid=001,csn=19700101000000.000000Z#000000#001#000000,gen=00000000000000000000000000000001 => 0 1 19700101000000.000000Z#000000#001#000000 1 false
+cookie rid=907,sid=abc,csn=20240229235959.999999Z#ABCDEF#fff#ffffff,gen=0123456789abcdef0123456789abcdef => 907 2748 20240229235959.999999Z#abcdef#fff#ffffff 123456789abcdef0123456789abcdef false
+cookie rid=00a,sid=001,csn=19700101000000.000000Z#000000#001#000000,gen=00000000000000000000000000000001 => NotACookie false
+cookie rid=000,sid=ABC,csn=19700101000000.000000Z#000000#001#000000,gen=00000000000000000000000000000001 => NotACookie false
+cookie rid=000,sid=001,csn=19691231000000.000000Z#000000#001#000000,gen=00000000000000000000000000000001 => NotACookie false
+cookie rid=000,sid=001,csn=19700101000000.000000Z#000000#001#000000,gen=0000000000000000000000000000000A => NotACookie false
+cookie rid=000,sid=001,csn=19700101000000.000000Z#000000#001#000000,gen=000000000000000000000000000000011 => NotACookie false
+cookie  => NotACookie true
+cookie rid=001 => NotACookie true
+cookie rid=001,sid=0af => NotACookie true
+cookie rid=01 => NotACookie false
+cookie rid=001, => NotACookie false
+cookie rid=001,sid=0AF => NotACookie false
+";
 
 #[test]
-fn csns_as_text(rt: HostRuntime) -> Result<(), Fail> {
-    for (text, micros, count, sid, part) in ROWS {
-        let csn = Csn::parse(text)?;
-        assert_eq!(rt; csn.micros(), micros);
-        assert_eq!(rt; csn.count(), count);
-        assert_eq!(rt; csn.sid(), sid);
-        assert_eq!(rt; csn.part(), part);
-        assert_eq!(rt; csn.write().as_slice(), text.as_slice());
-    }
-    let upper = Csn::parse(b"20240229235959.999999Z#ABCDEF#FFF#FFffFF")?;
-    assert_eq!(rt; upper.write().as_slice(), ROWS[3].0.as_slice());
-    Ok(())
+fn change_numbers_and_cookies(rt: HostRuntime) -> Result<(), Fail> {
+    check_rows(&rt, rt.alloc(), ROWS)
 }
 
-#[test]
-fn texts_that_are_no_csn(rt: HostRuntime) {
-    let texts: [&[u8]; 16] = [
-        b"",
-        b"20240229235959.999999Z#000000#000#00000",
-        b"20240229235959.999999Z#000000#000#0000000",
-        b"20240229235959.999999z#000000#000#000000",
-        b"20240229235959.999999Z#00000g#000#000000",
-        b"20240229235959,999999Z#000000#000#000000",
-        b"20240229235959.99999aZ#000000#000#000000",
-        b"20230229235959.000000Z#000000#000#000000",
-        b"21000229000000.000000Z#000000#000#000000",
-        b"20240431000000.000000Z#000000#000#000000",
-        b"20240001000000.000000Z#000000#000#000000",
-        b"20240100000000.000000Z#000000#000#000000",
-        b"19691231235959.999999Z#000000#000#000000",
-        b"100000101000000.00000Z#000000#000#000000",
-        b"20240101240000.000000Z#000000#000#000000",
-        b"20240101235960.000000Z#000000#000#000000",
-    ];
-    for text in texts {
-        assert_eq!(rt; Csn::parse(text), Err(CookieFault::NotACsn));
+pub(crate) fn told(alloc: Global, word: &str, text: &str) -> Result<String, AllocError> {
+    match word {
+        "csn" => csn_read(alloc, text),
+        "cookie" => cookie_read(alloc, text),
+        "draw" => drawn(alloc, text),
+        _ => start_written(alloc),
     }
 }
 
-#[test]
-fn drawn_in_order(rt: HostRuntime) -> Result<(), Fail> {
-    let mut maker = CsnMaker::new(1);
-    let drawn = [
-        (0, b"19700101000000.000000Z#000001#001#000000"),
-        (1_000_000, b"19700101000001.000000Z#000000#001#000000"),
-        (500_000, b"19700101000001.000000Z#000001#001#000000"),
-        (u64::MAX, b"99991231235959.999999Z#000000#001#000000"),
-    ];
-    for (now, text) in drawn {
-        let before = maker.last();
-        let csn = maker.next(now)?;
-        assert!(rt; before < csn);
-        assert_eq!(rt; csn.write().as_slice(), text.as_slice());
-        assert_eq!(rt; maker.last(), csn);
+fn csn_read(alloc: Global, text: &str) -> Result<String, AllocError> {
+    match Csn::parse(text.as_bytes()) {
+        Ok(csn) => csn_told(alloc, csn),
+        Err(fault) => format!(in alloc; "{fault:?}"),
     }
-    Ok(())
 }
 
-const COOKIE: &[u8; 97] =
-    b"rid=000,sid=001,csn=19700101000000.000000Z#000000#001#000000,gen=00000000000000000000000000000001";
+fn csn_told(alloc: Global, csn: Csn) -> Result<String, AllocError> {
+    let written = csn.write();
+    let text = text_of(&written);
+    format!(in alloc;
+        "{} {} {} {} {text}",
+        csn.micros(),
+        csn.count(),
+        csn.sid(),
+        csn.part()
+    )
+}
 
-#[test]
-fn cookies(rt: HostRuntime) -> Result<(), Fail> {
-    let cookie = Cookie::parse(COOKIE)?;
+fn text_of(bytes: &[u8]) -> &str {
+    str::from_utf8(bytes).unwrap_or("?")
+}
+
+/// A cookie's parts, and whether the text is a blank one.
+fn cookie_read(alloc: Global, text: &str) -> Result<String, AllocError> {
+    let blank = is_blank(text.as_bytes());
+    match Cookie::parse(text.as_bytes()) {
+        Ok(cookie) => cookie_told(alloc, cookie, blank),
+        Err(fault) => format!(in alloc; "{fault:?} {blank}"),
+    }
+}
+
+fn cookie_told(alloc: Global, cookie: Cookie, blank: bool) -> Result<String, AllocError> {
+    let written = cookie.csn.write();
+    let csn = text_of(&written);
+    format!(in alloc;
+        "{} {} {csn} {:x} {blank}",
+        cookie.rid, cookie.sid, cookie.history
+    )
+}
+
+/// The cookie of the directory 1 before all writes, as it is written.
+fn start_written(alloc: Global) -> Result<String, AllocError> {
     let start = Cookie {
         rid: 0,
         sid: 1,
         csn: Csn::start(1),
         history: 1,
     };
-    assert_eq!(rt; cookie, start);
-    assert_eq!(rt; start.write().as_slice(), COOKIE.as_slice());
-    let far =
-        b"rid=907,sid=abc,csn=20240229235959.999999Z#ABCDEF#fff#ffffff,gen=0123456789abcdef0123456789abcdef";
-    assert_eq!(rt;
-        Cookie::parse(far)?.history,
-        0x0123_4567_89ab_cdef_0123_4567_89ab_cdef
-    );
-    assert!(rt; !is_blank(far));
-    Ok(())
+    text_of(&start.write()).to_string(alloc)
 }
 
-#[test]
-fn texts_that_are_no_cookie(rt: HostRuntime) {
-    let texts: [&[u8]; 6] = [
-        b"",
-        b"rid=00a,sid=001,csn=19700101000000.000000Z#000000#001#000000,gen=00000000000000000000000000000001",
-        b"rid=000,sid=ABC,csn=19700101000000.000000Z#000000#001#000000,gen=00000000000000000000000000000001",
-        b"rid=000,sid=001,csn=19691231000000.000000Z#000000#001#000000,gen=00000000000000000000000000000001",
-        b"rid=000,sid=001,csn=19700101000000.000000Z#000000#001#000000,gen=0000000000000000000000000000000A",
-        b"rid=000,sid=001,csn=19700101000000.000000Z#000000#001#000000,gen=000000000000000000000000000000011",
-    ];
-    for text in texts {
-        assert_eq!(rt; Cookie::parse(text), Err(CookieFault::NotACookie));
+/// For each time whether the number is above the one before, whether it is the last one then, and
+/// how it is written.
+fn drawn(alloc: Global, times: &str) -> Result<String, AllocError> {
+    let mut maker = CsnMaker::new(1);
+    let mut text = String::new(alloc);
+    for time in times.split(' ') {
+        push_drawn(
+            alloc,
+            &mut text,
+            &mut maker,
+            time.parse::<u64>().unwrap_or(0),
+        )?;
+    }
+    Ok(text)
+}
+
+fn push_drawn(
+    alloc: Global,
+    text: &mut String,
+    maker: &mut CsnMaker,
+    time: u64,
+) -> Result<(), AllocError> {
+    let before = maker.last();
+    match maker.next(time) {
+        Ok(csn) => push_order(alloc, text, before < csn, maker.last() == csn, &csn.write()),
+        Err(_) => text.push_str("spent"),
     }
 }
 
-#[test]
-fn blank_cookies(rt: HostRuntime) {
-    let rows: [(&[u8], bool); 7] = [
-        (b"", true),
-        (b"rid=001", true),
-        (b"rid=001,sid=0af", true),
-        (b"rid=01", false),
-        (b"rid=001,", false),
-        (b"rid=001,sid=0AF", false),
-        (COOKIE, false),
-    ];
-    for (text, blank) in rows {
-        assert_eq!(rt; is_blank(text), blank);
-    }
+fn push_order(
+    alloc: Global,
+    text: &mut String,
+    rises: bool,
+    is_last: bool,
+    csn: &[u8],
+) -> Result<(), AllocError> {
+    text.push_str(&format!(in alloc; "{rises} {is_last} {},", text_of(csn))?)
 }

@@ -1,5 +1,5 @@
 //! Tests of the layers of replication: change numbers and cookies, the session log, the phases of a
-//! refresh, queues and rings. Each file tests the crate that it is named for, by its public calls.
+//! refresh, queues and rings. Each file tests the crates that it is named for, by their public calls.
 #![tactic(auto)]
 
 #[cfg(test)]
@@ -9,8 +9,8 @@ mod link_rings_tests;
 #[cfg(test)]
 mod persist_queues_tests;
 #[cfg(test)]
-mod refresh_delete_tests;
+mod refresh_tests;
 #[cfg(test)]
-mod refresh_present_tests;
+mod rows;
 #[cfg(test)]
 mod session_log_tests;

@@ -1,23 +1,67 @@
+//! A ring between two ends.
+use crate::rows::check_rows;
 use bytes::Bytes;
 use link_rings::{Full, ring};
+use std::alloc::{AllocError, Global};
 use std::test::Fail;
+
+/// In a ring of two slots: a, b and c are offered; three are taken; c is offered again; how many are
+/// there; one is taken, and how many are there then.
+const ROWS: &str = "\
+ring => Ok(()) Ok(()) Err(Full(b\"c\")) Some(b\"a\") Some(b\"b\") None Ok(()) 1 Some(b\"c\") 0
+";
+
+#[test]
+fn gives_what_was_offered(rt: HostRuntime) -> Result<(), Fail> {
+    check_rows(&rt, rt.alloc(), ROWS)
+}
 
 fn item(text: &'static [u8]) -> Bytes {
     Bytes::from_static(text)
 }
 
-#[test]
-fn gives_what_was_offered(rt: HostRuntime) -> Result<(), Fail> {
-    let (mut producer, mut consumer) = ring(rt.alloc(), 2)?;
-    assert_eq!(rt; producer.offer(item(b"a")), Ok(()));
-    assert_eq!(rt; producer.offer(item(b"b")), Ok(()));
-    assert_eq!(rt; producer.offer(item(b"c")), Err(Full(item(b"c"))));
-    assert_eq!(rt; consumer.take(), Some(item(b"a")));
-    assert_eq!(rt; consumer.take(), Some(item(b"b")));
-    assert_eq!(rt; consumer.take(), None);
-    assert_eq!(rt; producer.offer(item(b"c")), Ok(()));
-    assert_eq!(rt; consumer.beside(&mut producer), 1);
-    assert_eq!(rt; consumer.take(), Some(item(b"c")));
-    assert_eq!(rt; consumer.beside(&mut producer), 0);
-    Ok(())
+pub(crate) fn told(alloc: Global) -> Result<String, AllocError> {
+    let (mut producer, mut consumer) = ring(alloc, 2)?;
+    let first = producer.offer(item(b"a"));
+    let second = producer.offer(item(b"b"));
+    let full = producer.offer(item(b"c"));
+    let offered = offers_told(alloc, &first, &second, &full);
+    let taken = [consumer.take(), consumer.take(), consumer.take()];
+    let again = producer.offer(item(b"c"));
+    let left = consumer.beside(&mut producer);
+    let last = consumer.take();
+    let none = consumer.beside(&mut producer);
+    let behind = behind_told(alloc, &again, left, &last, none);
+    whole(alloc, offered, &taken, behind)
+}
+
+type Offer = Result<(), Full>;
+
+fn offers_told(
+    alloc: Global,
+    first: &Offer,
+    second: &Offer,
+    full: &Offer,
+) -> Result<String, AllocError> {
+    format!(in alloc; "{first:?} {second:?} {full:?}")
+}
+
+fn behind_told(
+    alloc: Global,
+    again: &Offer,
+    left: usize,
+    last: &Option<Bytes>,
+    none: usize,
+) -> Result<String, AllocError> {
+    format!(in alloc; "{again:?} {left} {last:?} {none}")
+}
+
+fn whole(
+    alloc: Global,
+    offered: Result<String, AllocError>,
+    taken: &[Option<Bytes>; 3],
+    behind: Result<String, AllocError>,
+) -> Result<String, AllocError> {
+    let [a, b, c] = taken;
+    format!(in alloc; "{} {a:?} {b:?} {c:?} {}", offered?, behind?)
 }

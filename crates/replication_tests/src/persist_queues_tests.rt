@@ -1,6 +1,34 @@
-use persist_queues::{QueueFault, SearchQueue, Weighs};
+//! Calls of a queue.
+use crate::rows::check_rows;
+use persist_queues::{SearchQueue, Weighs};
 use std::alloc::{AllocError, Global};
 use std::test::Fail;
+
+/// Calls of a queue, and what comes of each.
+const ROWS: &str = "\
+# A limit, what is pending, and what is put behind it
+queue limit 2;push 1;push 1 => set,pushed,pushed,
+queue limit 2;push 1,1;push 1 => set,pushed,the queue of 2 items is full,
+queue limit 3;push 1;push 1,1,1 => set,pushed,the queue of 3 items is full,
+queue limit 0;push;push => set,pushed,pushed,
+queue limit 0;push;push 1 => set,pushed,the queue of 0 items is full,
+queue limit 9;push 16777215;push 1 => set,pushed,pushed,
+queue limit 9;push 16777216;push => set,pushed,pushed,
+queue limit 9;push 16777216;push 1 => set,pushed,the queue of 9 items is full,
+queue limit 9;push 1;push 18446744073709551615 => set,pushed,the queue of 9 items is full,
+queue limit 9;push;push 18446744073709551615,1 => set,pushed,the queue of 9 items is full,
+# Each call
+queue limit 3;reserve 2;spare 2;push 1,2;limit 1;length;push;pop;pop;pop;push 3;end;pop => set,reserved,true,pushed,set,2,the queue of 1 items is full,Some(1),Some(2),None,pushed,ended,None,
+# What is pending by its place
+queue limit 3;push 1,2;pop;push 3,4;get 0;get 1;get 2;get 3 => set,pushed,Some(1),pushed,Some(2),Some(3),Some(4),None,
+# The text of a refusal
+queue limit 7;push 1,1,1,1,1,1,1,1 => set,the queue of 7 items is full,
+";
+
+#[test]
+fn calls_of_a_queue(rt: HostRuntime) -> Result<(), Fail> {
+    check_rows(&rt, rt.alloc(), ROWS)
+}
 
 /// An item that is nothing but its weight.
 #[derive(Clone, Copy, Debug, PartialEq)]
@@ -16,83 +44,95 @@ impl Weighs for Item {
     }
 }
 
+fn number(text: &str) -> u64 {
+    text.parse::<u64>().unwrap_or(0)
+}
+
 /// Items of these weights.
-fn items(alloc: Global, weights: &[u64]) -> Result<Vec<Item>, AllocError> {
+fn items(alloc: Global, weights: &str) -> Result<Vec<Item>, AllocError> {
     let mut items = Vec::new(alloc);
-    for weight in weights {
-        items.push(Item { weight: *weight })?;
+    for weight in weights.split(',') {
+        if !weight.is_empty() {
+            items.push(Item {
+                weight: number(weight),
+            })?;
+        }
     }
     Ok(items)
 }
 
-/// A limit, what is pending, what is put behind it, and whether that fits.
-type Row = (u64, &'static [u64], &'static [u64], bool);
-
-const ROWS: [Row; 10] = [
-    (2, &[1], &[1], true),
-    (2, &[1, 1], &[1], false),
-    (3, &[1], &[1, 1, 1], false),
-    (0, &[], &[], true),
-    (0, &[], &[1], false),
-    (9, &[16_777_215], &[1], true),
-    (9, &[16_777_216], &[], true),
-    (9, &[16_777_216], &[1], false),
-    (9, &[1], &[u64::MAX], false),
-    (9, &[], &[u64::MAX, 1], false),
-];
-
-#[test]
-fn takes_what_fits(rt: HostRuntime) -> Result<(), Fail> {
-    for (limit, pending, more, fits) in ROWS {
-        let mut queue = SearchQueue::new(rt.alloc(), limit);
-        queue.push_all(items(rt.alloc(), pending)?)?;
-        let wanted = if fits {
-            Ok(())
-        } else {
-            Err(QueueFault::QueueFull(limit))
-        };
-        let pushed = queue.push_all(items(rt.alloc(), more)?);
-        assert_eq!(rt; pushed, wanted, "{more:?} behind {pending:?}");
+/// What comes of each call, with a comma behind it.
+pub(crate) fn told(alloc: Global, calls: &str) -> Result<String, AllocError> {
+    let mut queue = SearchQueue::new(alloc, 0);
+    let mut text = String::new(alloc);
+    for call in calls.split(';') {
+        push_call(alloc, &mut text, &mut queue, call)?;
     }
-    Ok(())
+    Ok(text)
 }
 
-#[test]
-fn goes_through_each_call(rt: HostRuntime) -> Result<(), Fail> {
-    let mut queue = SearchQueue::new(rt.alloc(), 3);
-    queue.reserve(2)?;
-    assert!(rt; 2 <= queue.spare());
-    queue.push_all(items(rt.alloc(), &[1, 2])?)?;
-    queue.set_limit(1);
-    assert_eq!(rt; queue.len(), 2);
-    let refused = queue.push_all(Vec::new(rt.alloc()));
-    assert_eq!(rt; refused, Err(QueueFault::QueueFull(1)));
-    for wanted in [Some(Item { weight: 1 }), Some(Item { weight: 2 }), None] {
-        assert_eq!(rt; queue.pop(), wanted);
-    }
-    queue.push_all(items(rt.alloc(), &[3])?)?;
-    queue.end();
-    assert_eq!(rt; queue.pop(), None);
-    Ok(())
+fn push_call(
+    alloc: Global,
+    text: &mut String,
+    queue: &mut SearchQueue<Item>,
+    call: &str,
+) -> Result<(), AllocError> {
+    let (word, of) = call.split_once(' ').unwrap_or((call, ""));
+    let answer = after_call(alloc, queue, word, of)?;
+    text.push_str(&answer)?;
+    text.push(',')
 }
 
-#[test]
-fn finds_what_is_pending_by_its_place(rt: HostRuntime) -> Result<(), Fail> {
-    let mut queue = SearchQueue::new(rt.alloc(), 3);
-    queue.push_all(items(rt.alloc(), &[1, 2])?)?;
-    queue.pop();
-    queue.push_all(items(rt.alloc(), &[3, 4])?)?;
-    let rows = [Some(2), Some(3), Some(4), None];
-    for (place, wanted) in rows.into_iter().enumerate() {
-        let weight = queue.get(place).map(|item| item.weight);
-        assert_eq!(rt; weight, wanted, "the item at {place}");
+fn after_call(
+    alloc: Global,
+    queue: &mut SearchQueue<Item>,
+    word: &str,
+    of: &str,
+) -> Result<String, AllocError> {
+    match word {
+        "push" => pushed(alloc, queue, of),
+        "pop" => {
+            let weight = queue.pop().map(|item| item.weight);
+            format!(in alloc; "{weight:?}")
+        }
+        "get" => {
+            let weight = queue.get(number(of) as usize).map(|item| item.weight);
+            format!(in alloc; "{weight:?}")
+        }
+        "length" => format!(in alloc; "{}", queue.len()),
+        "spare" => format!(in alloc; "{}", number(of) <= queue.spare() as u64),
+        _ => changed(queue, word, number(of))?.to_string(alloc),
     }
-    Ok(())
 }
 
-#[test]
-fn says_what_is_wrong(rt: HostRuntime) -> Result<(), Fail> {
-    let full = format!(in rt.alloc(); "{}", QueueFault::QueueFull(7))?;
-    assert_eq!(rt; full.as_str(), "the queue of 7 items is full");
-    Ok(())
+fn changed(
+    queue: &mut SearchQueue<Item>,
+    word: &str,
+    number: u64,
+) -> Result<&'static str, AllocError> {
+    match word {
+        "limit" => {
+            queue.set_limit(number);
+            Ok("set")
+        }
+        "reserve" => {
+            queue.reserve(number as usize)?;
+            Ok("reserved")
+        }
+        _ => {
+            queue.end();
+            Ok("ended")
+        }
+    }
+}
+
+fn pushed(
+    alloc: Global,
+    queue: &mut SearchQueue<Item>,
+    weights: &str,
+) -> Result<String, AllocError> {
+    match queue.push_all(items(alloc, weights)?) {
+        Ok(()) => "pushed".to_string(alloc),
+        Err(fault) => format!(in alloc; "{fault}"),
+    }
 }

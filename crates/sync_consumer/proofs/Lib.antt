@@ -1,5 +1,6 @@
 -- Lemmas of the crate.
 pub mod Cuts
+pub mod Fits
 pub mod Heeding
 pub mod Keyed
 pub mod Merging
@@ -9,6 +10,8 @@ pub mod Phases
 pub mod Rising
 pub mod Rooms
 pub mod Searches
+pub mod Settling
 pub mod Stages
 pub mod Takings
 pub mod Turns
+pub mod Wired

@@ -1,15 +1,15 @@
 -- Numbers in ascending order.
-use Rattle.std.proofs.Common.{◌≡◌, ◌<◌, ◌≤◌, ℕ, zero, suc, Bool, true, false, cond, nat_lt, nat_eq, List, [], ◌∷◌, length, map, get_or, refl, sym, ap, ◌∙◌, arith}
+use Rattle.std.proofs.Common.{◌≡◌, ◌<◌, ◌≤◌, ℕ, zero, suc, Bool, true, false, cond, nat_lt, List, [], ◌∷◌, length, get_or, refl, sym, ap, arith}
 use Rattle.std.specs.Prelude.{◌&&◌, Result, Ok, Err, IfOk, IfErr, IsOk, is_ok}
 use Rattle.std.specs.BTreeSet.{insert_key}
 use Rattle.std.specs.List.{insert, list_all}
 use Rattle.std.specs.Ordering.{nat_cmp}
-use Rattle.std.proofs.lemmas.Bool.{and_parts, and_from, ltb-true}
+use Rattle.std.proofs.lemmas.Bool.{and_parts, ltb-true}
 use Rattle.std.proofs.lemmas.Bool.Decides.{nat_tests}
 use Rattle.std.proofs.lemmas.List.Sums.{AllPass-from_list_all}
 use Rattle.entry_tree.specs.declared.entry.Entry.{Entry}
 use Rattle.entry_tree.specs.State.{ascends}
-use Rattle.entry_tree.specs.Touched.{identities, joined}
+use Rattle.entry_tree.specs.Touched.{identities}
 use Rattle.sync_model.specs.Stream.{among}
 use Rattle.sync_consumer.specs.Staging.{rises, IsAt, IsGapFor}
 

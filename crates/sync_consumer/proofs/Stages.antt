@@ -1,8 +1,8 @@
 -- Stages with their counts and weights, as changes are laid and taken back.
-use Rattle.std.proofs.Common.{◌≡◌, ◌<◌, ◌≤◌, ◌+◌, ◌*◌, ◌-◌, ◌^◌, ℕ, zero, suc, true, nat_eq, List, [], ◌∷◌, ◌++◌, length, get_or, set, map, Vec, Global, Bor, Option, Some, None, refl, sym, ap, subst, ◌∙◌, arith}
+use Rattle.std.proofs.Common.{◌≡◌, ◌<◌, ◌≤◌, ◌+◌, ◌*◌, ◌-◌, ◌^◌, ℕ, zero, suc, true, nat_eq, List, [], ◌∷◌, ◌++◌, length, get_or, set, Vec, Global, Bor, Option, Some, None, refl, sym, ap, subst, ◌∙◌, arith}
 use Rattle.std.specs.Prelude.{is_some}
 use Rattle.std.specs.Option.{option_copied, option_and_then}
-use Rattle.std.specs.List.{sum_by, insert, remove}
+use Rattle.std.specs.List.{insert, remove}
 use Rattle.std.specs.Map.{keys_of, remove_entry, set_value}
 use Rattle.std.proofs.lemmas.List.{get_or_default, length-map, map-set, map_push}
 use Rattle.std.proofs.lemmas.List.Sums.{sum_by-cons, fold_push}
@@ -10,7 +10,6 @@ use Rattle.std.proofs.lemmas.Map.{keys-set_value}
 use Rattle.entry_tree.specs.declared.entry.Entry.{Entry}
 use Rattle.sync_model.specs.Copy.{Stage, slot, is_put}
 use Rattle.sync_consumer.specs.declared.stage.Staged.{Staged}
-use Rattle.sync_consumer.specs.declared.stage.Staged.TheVariants.{Put, Gone}
 use Rattle.sync_consumer.specs.declared.stage.Before.{Before}
 use Rattle.sync_consumer.specs.declared.stage.Before.TheVariants.{Had, Nothing}
 use Rattle.sync_consumer.specs.Staging.{rises, IsAt, IsGapFor, IsStage, count_of, weight_within, entry_staged, change_of, changes_of, laid_one, laid, put_back, undone}

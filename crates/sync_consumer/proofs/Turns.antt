@@ -1,7 +1,6 @@
 -- What one more element adds to what a loop made of a list so far.
-use Rattle.std.proofs.Common.{◌≡◌, ◌<◌, ◌+◌, ℕ, zero, suc, Bool, true, false, cond, List, [], ◌∷◌, ◌++◌, Bor, length, map, reverse, take, get_or, Option, Some, None, refl, sym, ap, ◌∙◌, arith}
-use Rattle.std.specs.Prelude.{is_some, ◌||◌, not}
-use Rattle.std.specs.List.{filter, find, cons_option}
+use Rattle.std.proofs.Common.{◌≡◌, ◌<◌, ℕ, zero, suc, Bool, true, false, cond, List, [], ◌∷◌, ◌++◌, Bor, length, map, reverse, take, get_or, Some, None, refl, sym, ap, ◌∙◌, arith}
+use Rattle.std.specs.List.{filter, find}
 use Rattle.std.proofs.lemmas.List.{map_push, reverse-append, reverse-reverse}
 use Rattle.entry_tree.specs.declared.entry.Entry.{Entry}
 use Rattle.entry_tree.specs.Touched.{identities}

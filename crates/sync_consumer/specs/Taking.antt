@@ -1,6 +1,10 @@
 -- A consumer, what it asks for, and what it makes of each message.
-use Rattle.std.specs.Prelude.{◌≡◌, ⊤, ℕ, Bool, false, ◌==◌, if◌then◌else◌, [], Option, Some, None, Result, Ok, Err}
+use Rattle.std.specs.Prelude.{◌≡◌, ⊤, ℕ, Bool, true, false, ◌==◌, if◌then◌else◌, List, [], Option, Some, None, Result, Ok, Err}
+use Rattle.std.specs.List.{list_all}
+use Rattle.entry_tree.specs.Fitting.{is_light}
 use Rattle.entry_tree.specs.Selection.{Search}
+use Rattle.entry_tree.specs.Sound.{is_sound_put}
+use Rattle.entry_tree.specs.declared.entry.Entry.{Entry}
 use Rattle.ldap_messages.specs.declared.message.Message.{Message}
 use Rattle.ldap_messages.specs.Whole.{Whole}
 use Rattle.sync_messages.specs.declared.request.Mode.{Mode}
@@ -31,6 +35,10 @@ pub record Following : Type 0 where
 -- no entries, no cookie and no search
 abbrev pub nothing : model.Copy
 nothing = record { held = []; cookie = None; running = None }
+
+-- the same entries, of which another search tells from now on: no cookie tells what it selected, and no search runs
+abbrev pub wanting : Following → Search → Following
+wanting following search = record following { spec = search; copy = record following.copy { cookie = None; running = None } }
 
 -- ---- the request
 
@@ -124,3 +132,20 @@ KeepsCookie before after (Copied commit) = after.cookie ≡ before.cookie
 KeepsCookie before after (Over code) = after.cookie ≡ (model.over before code).0.cookie
 KeepsCookie before after (Fault found) = after.cookie ≡ before.cookie
 KeepsCookie before after NoMemory = after.cookie ≡ before.cookie
+
+-- ---- commits of replicas
+
+-- entries as a commit of a replica puts them: their values are of their types' syntax, no type is operational, and each
+-- weighs no more than an entry of a directory may
+pub record AreFit (entries : List Entry) : Type 0 where
+  pub sound : list_all is_sound_put entries ≡ true
+  pub light : list_all is_light entries ≡ true
+
+-- what a stage that took effect puts is fit for a commit of a replica
+abbrev pub PutsFit : Taken → Type 0
+PutsFit Staged = ⊤
+PutsFit (Stored commit) = AreFit commit.puts
+PutsFit (Copied commit) = AreFit commit.puts
+PutsFit (Over code) = ⊤
+PutsFit (Fault found) = ⊤
+PutsFit NoMemory = ⊤

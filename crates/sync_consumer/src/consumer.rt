@@ -57,8 +57,9 @@ impl Model for Consumer {
     ghost use Rattle.std.specs.Coded.{codes};
     ghost use Rattle.entry_tree.specs.FilterCode.{tree_code};
     ghost use Rattle.entry_tree.specs.Selection.{search_of};
+    ghost use Rattle.sync_model.specs.Within.{staged_puts};
     ghost use Rattle.sync_consumer.specs.Running.{running_of, copy_of};
-    ghost use Rattle.sync_consumer.specs.Taking.{Following};
+    ghost use Rattle.sync_consumer.specs.Taking.{AreFit, Following};
 
     ghost Value = { Following };
 
@@ -69,6 +70,8 @@ impl Model for Consumer {
       reload = c.reload_hint;
       copy = copy_of c.held (option_map running_of c.running);
     } };
+
+    ghost invariant = { λ c. AreFit (staged_puts (option_map running_of c.running)) };
 }
 
 impl Consumer {
@@ -131,6 +134,8 @@ impl Consumer {
         ensures exact { taking.Takes self.old.copy message.now self.new.copy result }
         ensures entries { taking.KeepsEntries self.old.copy self.new.copy result }
         ensures cookie { taking.KeepsCookie self.old.copy self.new.copy result }
+        // What is put may be put by a commit of a replica: sound values, and no entry too heavy.
+        ensures fit { taking.PutsFit result }
         ensures spec { self.new.spec ≡ self.old.spec }
         ensures reload { self.new.reload ≡ self.old.reload }
     {
@@ -181,6 +186,17 @@ impl Consumer {
         ensures { self.new ≡ record self.old { copy = record self.old.copy { cookie = None } } }
     {
         self.held.cookie = None;
+    }
+
+    /// Wants this from now on, in place of what was wanted. The entries stay, up to the refresh
+    /// that tells which of them are wanted now. The cookie is lost, since it tells of what was wanted
+    /// before, and a search that runs is ended, with what is staged. It takes no memory.
+    pub fn respec(&mut self, spec: Spec)
+        ensures { self.new ≡ taking.wanting self.old (search_of spec) }
+    {
+        self.spec = spec;
+        self.lose_cookie();
+        self.cut();
     }
 
     /// Takes this text for the cookie, in place of the one that was there. A search that runs goes on.

@@ -1,39 +1,42 @@
 //! The entries that are held.
 
-ghost use Rattle.std.specs.Prelude.{◌≡◌, ◌==◌, ◌≤◌, [], true, length, IfOk};
-ghost use Rattle.std.specs.Map.{keys_of};
+ghost use Rattle.std.specs.Prelude.{◌≡◌, ◌==◌, ◌≤◌, [], true, length, map, IfOk, OnOk, OnErr, IsTrue, IsFalse};
 ghost use Rattle.std.specs.Vec.{vec_capacity};
 ghost use Rattle.std.specs.List.{slice_get};
 ghost use Rattle.std.specs.Option.{option_copied};
 ghost use Rattle.entry_tree.specs.State.{ascends, entry_at};
 ghost use Rattle.sync_model.specs.Copy.{effected};
-ghost use Rattle.sync_consumer.specs.Staging.{changes_of, rises};
+ghost use Rattle.sync_consumer.specs.Holding.{held_in};
 
-use crate::merge::merged;
+use crate::merge::{effected, merged};
 use crate::places::place_of_entry;
-use crate::stage::Staged;
+use crate::stage::Stage;
 use entry_tree::Entry;
 use ldap_ber::NoMemory;
-use std::alloc::Global;
+use std::alloc::{AllocError, Global};
 use std::marker::Model;
 use std::mem;
+use std::rc::Rc;
 
-/// Entries by their identities, in ascending order.
+/// Entries by their identities, in ascending order. A copy shares them, until one of the two changes.
 #[derive(Drop)]
 pub struct EntryMap {
-    entries: Vec<Entry>,
+    alloc: Global,
+    /// Nothing where there was no entry yet.
+    entries: Option<Rc<Vec<Entry>>>,
 }
 
 impl Model for EntryMap {
     ghost use Rattle.std.specs.Prelude.{◌≡◌, true, List};
     ghost use Rattle.entry_tree.specs.declared.entry.Entry.{Entry};
     ghost use Rattle.entry_tree.specs.State.{ascends};
+    ghost use Rattle.sync_consumer.specs.Holding.{held_in};
 
     ghost Value = { List Entry };
 
-    ghost view = { λ m. m.entries.items };
+    ghost view = { λ m. held_in m.entries };
 
-    ghost invariant = { λ m. ascends m.entries.items ≡ true };
+    ghost invariant = { λ m. ascends (held_in m.entries) ≡ true };
 }
 
 impl EntryMap {
@@ -41,38 +44,44 @@ impl EntryMap {
         ensures { result ≡ [] }
     {
         EntryMap {
-            entries: Vec::new(alloc),
+            alloc,
+            entries: None,
         }
     }
 
+    /// These entries, shared with this map.
     pub(crate) fn copy(&self) -> Result<EntryMap, NoMemory>
         ensures { IfOk result (λ copy. copy ≡ self.now) }
     {
-        let mut entries = Vec::new(self.allocator());
-        for entry in self.list() {
-            entries.push(entry.copy()?)?;
-        }
-        Ok(EntryMap { entries })
+        let entries = match &self.entries {
+            Some(shared) => Some(shared.clone()?),
+            None => None,
+        };
+        Ok(EntryMap {
+            alloc: self.alloc,
+            entries,
+        })
     }
 
     pub fn len(&self) -> usize
         ensures { result ≡ length self.now }
     {
-        self.entries.len()
+        self.list().len()
     }
 
     pub fn is_empty(&self) -> bool
         ensures { result ≡ (length self.now == 0) }
     {
-        self.entries.is_empty()
+        self.list().is_empty()
     }
 
     /// The entry of that identity.
     pub fn get(&self, uuid: u128) -> Option<&Entry>
         ensures { option_copied result ≡ entry_at self.now uuid }
     {
-        match place_of_entry(&self.entries, uuid) {
-            Ok(place) => Some(&self.entries[place]),
+        let entries = self.list();
+        match place_of_entry(entries, uuid) {
+            Ok(place) => Some(&entries[place]),
             Err(_) => None,
         }
     }
@@ -81,7 +90,7 @@ impl EntryMap {
     pub fn at(&self, place: usize) -> Option<&Entry>
         ensures { option_copied result ≡ slice_get self.now place }
     {
-        self.entries.get(place)
+        self.list().get(place)
     }
 
     /// The entries, in ascending order of identity.
@@ -89,23 +98,110 @@ impl EntryMap {
         ensures value { result.now ≡ self.now }
         ensures ascends { ascends self.now ≡ true }
     {
-        self.entries.as_slice()
+        match &self.entries {
+            Some(shared) => shared.as_slice(),
+            None => &[],
+        }
     }
 
     pub(crate) fn allocator(&self) -> Global {
-        *self.entries.allocator()
+        self.alloc
     }
 
-    /// Brings the stage into effect. The list is empty and has room for all that is left; it takes
-    /// no memory.
-    pub(crate) fn settle(&mut self, stage: Vec<Staged>, room: Vec<Entry>)
-        requires stage { rises (keys_of (changes_of stage.items)) ≡ true }
-        requires empty { room.items ≡ [] }
-        requires room { length (effected self.old (changes_of stage.items)) ≤ vec_capacity room }
-        ensures { self.new ≡ effected self.old (changes_of stage.items) }
+    /// Brings the stage into effect, which leaves so many entries. Want of memory leaves both as they were.
+    pub(crate) fn settle(&mut self, stage: &mut Stage, count: usize) -> Result<(), NoMemory>
+        requires { count ≡ length (effected self.old stage.old) }
+        ensures entries { OnOk result (self.new ≡ effected self.old stage.old) }
+        ensures stage { OnOk result (stage.new ≡ []) }
+        ensures err { OnErr result (self.new ≡ self.old) }
+        ensures err_stage { OnErr result (stage.new ≡ stage.old) }
     {
-        let alloc = self.allocator();
-        let held = mem::replace(&mut self.entries, Vec::new(alloc));
-        self.entries = merged(held, stage, room);
+        let room = Vec::with_capacity(self.alloc, count)?;
+        self.begin()?;
+        if !self.settle_alone(stage, room) {
+            self.entries = Some(self.copied(stage)?);
+            let _ = stage.take();
+        }
+        Ok(())
     }
+
+    /// Makes a list where there is none yet.
+    fn begin(&mut self) -> Result<(), NoMemory>
+        ensures { self.new ≡ self.old }
+    {
+        if let Some(_) = &self.entries {
+            return Ok(());
+        }
+        self.entries = Some(list_of(self.alloc, Vec::new(self.alloc))?);
+        Ok(())
+    }
+
+    /// Brings the stage into effect where no copy shares the entries, and tells whether it is so. The
+    /// list is empty and has room for all that is left; it takes no memory.
+    fn settle_alone(&mut self, stage: &mut Stage, room: Vec<Entry>) -> bool
+        requires empty { room.items ≡ [] }
+        requires room { length (effected self.old stage.old) ≤ vec_capacity room }
+        ensures entries { IsTrue result → self.new ≡ effected self.old stage.old }
+        ensures stage { IsTrue result → stage.new ≡ [] }
+        ensures shared { IsFalse result → self.new ≡ self.old }
+        ensures shared_stage { IsFalse result → stage.new ≡ stage.old }
+    {
+        match &mut self.entries {
+            Some(shared) => merge_alone(shared, stage, room),
+            None => false,
+        }
+    }
+
+    /// Copies of the entries that there would be with the stage in effect.
+    #[tactic(auto, using(crate::proofs::Settling::after_ascends))]
+    fn copied(&self, stage: &Stage) -> Result<Rc<Vec<Entry>>, NoMemory>
+        ensures value { IfOk result (λ shared. shared.value.items ≡ effected self.now stage.now) }
+        ensures ascends { IfOk result (λ shared. ascends shared.value.items ≡ true) }
+    {
+        let after = effected(self.alloc, self.list(), stage.changes())?;
+        list_of(self.alloc, copies(self.alloc, &after)?)
+    }
+}
+
+/// A list that copies can share.
+fn list_of(alloc: Global, entries: Vec<Entry>) -> Result<Rc<Vec<Entry>>, NoMemory>
+    ensures { IfOk result (λ shared. shared.value ≡ entries) }
+{
+    match Rc::new(alloc, entries) {
+        Ok(shared) => Ok(shared),
+        Err(_) => Err(AllocError),
+    }
+}
+
+/// Brings the stage into effect in the list, where nothing else shares it, and tells whether it is so.
+#[tactic(auto, using(crate::proofs::Settling::after_ascends))]
+fn merge_alone(shared: &mut Rc<Vec<Entry>>, stage: &mut Stage, room: Vec<Entry>) -> bool
+    requires ascends { ascends shared.old.value.items ≡ true }
+    requires empty { room.items ≡ [] }
+    requires room { length (effected shared.old.value.items stage.old) ≤ vec_capacity room }
+    ensures entries { IsTrue result → shared.new.value.items ≡ effected shared.old.value.items stage.old }
+    ensures stage { IsTrue result → stage.new ≡ [] }
+    ensures ascends { ascends shared.new.value.items ≡ true }
+    ensures shared { IsFalse result → shared.new.value.items ≡ shared.old.value.items }
+    ensures shared_stage { IsFalse result → stage.new ≡ stage.old }
+{
+    match Rc::get_mut(shared) {
+        Some(entries) => {
+            let alloc = *entries.allocator();
+            let held = mem::replace(entries, Vec::new(alloc));
+            *entries = merged(held, stage.take(), room);
+            true
+        }
+        None => false,
+    }
+}
+
+fn copies(alloc: Global, entries: &[&Entry]) -> Result<Vec<Entry>, NoMemory>
+    ensures { IfOk result (λ copied. copied.items ≡ map (λ e. e.now) entries.now) }
+{
+    let mut copied = Vec::new(alloc);
+    for entry in entries {
+        copied.push(entry.copy()?)?;
+    }
+    Ok(copied)
 }

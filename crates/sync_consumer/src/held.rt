@@ -60,11 +60,10 @@ impl Held {
         ensures err { OnErr result (self.new ≡ self.old) }
         ensures err_stage { OnErr result (stage.new ≡ stage.old) }
     {
-        let alloc = self.entries.allocator();
-        let room = Vec::with_capacity(alloc, self.checked_len(stage)?)?;
+        let count = self.checked_len(stage)?;
         let kept = copy_of(&cookie)?;
-        let commit = Commit::of(alloc, stage.changes(), cookie)?;
-        self.entries.settle(stage.take(), room);
+        let commit = Commit::of(self.entries.allocator(), stage.changes(), cookie)?;
+        self.entries.settle(stage, count)?;
         if kept.is_some() {
             self.cookie = kept;
         }

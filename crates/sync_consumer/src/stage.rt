@@ -195,6 +195,7 @@ impl Stage {
     #[tactic(auto, using(crate::proofs::Stages::empty_stage))]
     pub(crate) fn take(&mut self) -> Vec<Staged>
         ensures taken { changes_of result.items ≡ self.old }
+        ensures ordered { rises (keys_of (changes_of result.items)) ≡ true }
         ensures emptied { self.new ≡ [] }
     {
         let alloc = *self.changes.allocator();

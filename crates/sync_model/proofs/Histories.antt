@@ -8,11 +8,12 @@ use Rattle.dn_names.specs.Names.{TypeAndValue, is_at_or_below, moved_name}
 use Rattle.entry_tree.specs.declared.edit.Edit.{Edit}
 use Rattle.entry_tree.specs.declared.entry.Entry.{Entry}
 use Rattle.entry_tree.specs.declared.op.Op.{Op}
-use Rattle.entry_tree.specs.declared.op.Op.TheVariants.{Add, Delete, Modify, Rename}
+use Rattle.entry_tree.specs.declared.op.Op.TheVariants.{Add, Delete, Modify, Rename, Commit}
 use Rattle.entry_tree.specs.declared.op.Write.{Write}
 use Rattle.entry_tree.specs.Effects.{edited, modified, moved, new_name, new_attributes, renamed, effect}
 use Rattle.entry_tree.specs.History.{identity, state_from, state_of}
 use Rattle.entry_tree.specs.State.{ascends, is_identified, is_named, entry_named}
+use Rattle.entry_tree.proofs.Committing.{ascends_committed}
 use Rattle.entry_tree.proofs.Directory.{ascends_filter}
 use Rattle.entry_tree.proofs.Putting.{ascends_put}
 use Rattle.entry_tree.proofs.Replacing.{ascends_mapped}
@@ -44,6 +45,7 @@ ascends-effect (Add name attrs) entries uuid csn asc = ascends_put (record { uui
 ascends-effect (Delete name) entries uuid csn asc = ascends_filter (λ e. not (is_named name e)) entries asc
 ascends-effect (Modify name edits) entries uuid csn asc = ascends-modified entries (entry_named entries name) edits csn asc
 ascends-effect (Rename name rdn deletes superior) entries uuid csn asc = ascends-renamed entries (entry_named entries name) rdn deletes superior csn asc
+ascends-effect (Commit puts drops) entries uuid csn asc = ascends_committed entries puts drops asc
 
 pub ascends-state_from : (writes : List Write) (history : ℕ) (entries : List Entry) (before : ℕ) → ascends entries ≡ true → ascends (state_from history entries before writes) ≡ true
 unfolding state_from

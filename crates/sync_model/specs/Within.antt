@@ -1,22 +1,12 @@
 -- What a copy makes of each message within the limits of a directory.
 use Rattle.std.specs.Prelude.{ℕ, Bool, true, false, cond, ◌&&◌, ◌||◌, nat_lt, List, [], ◌∷◌, length, Option, Some, None, option_map}
-use Rattle.std.specs.Option.{option_or}
 use Rattle.entry_tree.specs.declared.entry.Entry.{Entry}
-use Rattle.entry_tree.specs.State.{entry_named, total_weight, most_entries, most_weight}
+pub use Rattle.entry_tree.specs.State.{is_crowded, same_named}
 use Rattle.sync_model.specs.Message.{SyncMessage}
 use Rattle.sync_model.specs.Message.SyncMessage.{Put, Gone, Present, IdSet, NewCookie, PhaseEnds, Done, Passed}
 use Rattle.sync_model.specs.Copy.{Running, Copy, Fault, Answer, puts_of, refused, taken}
 use Rattle.sync_model.specs.Copy.Fault.{StageFull, DuplicateName}
 use Rattle.sync_model.specs.Copy.Answer.{Staged, Stored, Copied, Over, Refused}
-
--- more entries than a directory may have, or heavier ones
-abbrev pub is_crowded : List Entry → Bool
-is_crowded entries = nat_lt most_entries (length entries) || nat_lt most_weight (total_weight entries)
-
--- the first entry whose name a later one has, with the first such
-abbrev pub same_named : List Entry → Option (ℕ × ℕ)
-same_named [] = None
-same_named (entry ∷ entries) = option_or (option_map (λ (other : Entry). (entry.uuid, other.uuid)) (entry_named entries entry.dn)) (same_named entries)
 
 abbrev pub puts_entry : SyncMessage → Bool
 puts_entry (Put adds entry cookie) = true

@@ -27,13 +27,12 @@ use Rattle.sync_model.proofs.Histories.{ascends-state_of}
 use Rattle.sync_model.proofs.Order.{entry_at-filter}
 use Rattle.sync_model.proofs.Steps.{over_none}
 use Rattle.directory_writes.specs.Directory.{DirectoryState, entries_of, cookie_at, cookie_of}
-use Rattle.sync_provider.specs.Gathering.{finished, gathered_all}
+use Rattle.sync_provider.specs.Gathering.{AreOf}
 use Rattle.directory_writes.specs.Starting.{IsServed}
 use Rattle.sync_provider.specs.Refreshing.{all_identities, walked, item_of, item_at, planned, sends, said_all}
 use Rattle.sync_provider.specs.Search.{cookie_after, session_of, messages_of, refresh_from}
 use Rattle.directory_writes.specs.Touches.{last_touch}
 use Rattle.sync_provider.specs.declared.parts.Part.{Part}
-use Rattle.sync_provider.proofs.Sets.{gathered-is}
 use Rattle.directory_writes.proofs.Keyed.{less_cmp}
 use Rattle.sync_provider.proofs.Refreshes.{decided_all, refresh_from-is}
 use Rattle.directory_writes.proofs.Told.{last-tells}
@@ -178,11 +177,9 @@ module _ (persists : Bool) (d : DirectoryState) (search : Search) where
 
   -- the parts that the code makes are the Stream's refresh
   pub refresh_is : (start : Start) (parts : List Part) → IsServed d start
-      → parts ≡ finished (gathered_all (said_all (entries_of d) (planned start (map (item_at d search) (walked d start)))))
+      → AreOf (said_all (entries_of d) (planned start (map (item_at d search) (walked d start)))) parts
       → messages_of persists (is_covered start) parts (cookie_of d) ≡ refresh_from (session_of persists d.sid d.history search d.writes) start (length d.writes)
   refresh_is start parts served made =
-      ap (λ ps. messages_of persists (is_covered start) ps (cookie_of d)) made
-      ∙ ap (λ ms. ms ++ end_of persists (is_covered start) (cookie_of d) ∷ [])
-      (gathered-is (is_covered start) (said_all (entries_of d) (planned start (map (item_at d search) (walked d start)))))
+      ap (λ ms. ms ++ end_of persists (is_covered start) (cookie_of d) ∷ []) (made (is_covered start))
       ∙ (λ i. gathered (is_covered start) (decisions-are start served i) ++ end_of persists (is_covered start) (cookie i) ∷ [])
       ∙ sym (refresh_from-is session start (length d.writes))

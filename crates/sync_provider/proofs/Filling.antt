@@ -1,5 +1,5 @@
 -- What is pushed into a queue, by whether it is full.
-use Rattle.std.proofs.Common.{◌≡◌, ℕ, ◌+◌, ◌-◌, ◌<◌, ◌≤◌, ◌^◌, Bool, true, false, cond, nat_lt, List, [], ◌∷◌, ◌++◌, length, refl, ap, sym, ◌∙◌, arith, inl, inr, ◌⊎◌, subst}
+use Rattle.std.proofs.Common.{◌≡◌, ℕ, ◌-◌, ◌<◌, ◌≤◌, ◌^◌, Bool, true, false, cond, nat_lt, List, [], ◌∷◌, ◌++◌, length, refl, ap, arith, inl, inr, ◌⊎◌}
 use Rattle.std.specs.Prelude.{◌||◌, sum_by}
 use Rattle.std.proofs.lemmas.Bool.{lt-ltb, ltb-true, or_right}
 use Rattle.persist_queues.specs.Pending.{IsOver}

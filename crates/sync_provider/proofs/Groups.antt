@@ -1,10 +1,10 @@
 -- What a write's touches say to a search is what its Stream sends for the write.
-use Rattle.std.proofs.Common.{◌≡◌, ℕ, ◌+◌, Bool, true, false, cond, List, [], ◌∷◌, ◌++◌, length, map, refl, sym, ap, ◌∙◌, arith, subst, Some, None, Option, ◌⊎◌, inl, inr, length-append, nat_eq, nat_lt, eqb-true, eq-eqb}
-use Rattle.std.specs.Prelude.{not, ◌||◌, ◌&&◌, filter, flat_map, fold, is_some, take}
+use Rattle.std.proofs.Common.{◌≡◌, ℕ, ◌+◌, Bool, true, false, cond, List, [], ◌∷◌, ◌++◌, length, map, refl, sym, ap, ◌∙◌, arith, Some, None, Option, inl, inr, length-append, nat_eq, nat_lt, eqb-true, eq-eqb}
+use Rattle.std.specs.Prelude.{not, ◌||◌, ◌&&◌, filter, flat_map, is_some, take}
 use Rattle.std.specs.BTreeSet.{insert_key}
 use Rattle.std.specs.Cmp.{nat_cmp_total}
 use Rattle.std.specs.Ordering.{nat_cmp, is_eq}
-use Rattle.std.specs.declared.cmp.Ordering.TheVariants.{Less, Equal}
+use Rattle.std.specs.declared.cmp.Ordering.TheVariants.{Equal}
 use Rattle.std.proofs.lemmas.Bool.{and_parts, false≢true, ltb-true, or_right}
 use Rattle.std.proofs.lemmas.List.{append-nil}
 use Rattle.std.proofs.lemmas.Map.Entries.{option_filter}

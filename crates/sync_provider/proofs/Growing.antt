@@ -4,11 +4,12 @@ use Rattle.std.specs.Prelude.{Option, Some, None, option_map, Result, Ok, Err}
 use Rattle.std.specs.BTreeMap.{is_at}
 use Rattle.std.specs.Ordering.{nat_cmp}
 use Rattle.std.proofs.lemmas.Map.Made.{lookup-map_values}
+use Rattle.entry_tree.specs.declared.op.Op.TheVariants.{Commit}
 use Rattle.entry_tree.specs.declared.op.Write.{Write}
 use Rattle.entry_tree.specs.declared.entry.Entry.{Entry}
 use Rattle.sync_model.specs.Message.{Cookie, SyncMessage}
 use Rattle.sync_model.specs.Message.SyncMessage.{Put, Gone, Present, IdSet, NewCookie, PhaseEnds, Done, Passed}
-use Rattle.sync_model.specs.Stream.{Session, Start, Decision, group, later, told, told_all, gathered, end_of, is_covered, content_after}
+use Rattle.sync_model.specs.Stream.{Session, Decision, group, later, told, told_all, gathered, end_of, is_covered, content_after}
 use Rattle.sync_model.specs.Stream.Decision.{Sends, Names}
 use Rattle.sync_model.proofs.Gather.{Each, EachD, IsPart, each-append, each-gathered}
 use Rattle.entry_tree.specs.declared.touched.Touch.{Touch}
@@ -16,10 +17,12 @@ use Rattle.entry_tree.specs.Touched.{touched}
 use Rattle.directory_writes.specs.Directory.{DirectoryState, judged, with_write, with_judged}
 use Rattle.sync_provider.specs.HandingOut.{search_at}
 use Rattle.sync_provider.specs.Law.{BeginsWith, session_at, refresh_of, later_of}
-use Rattle.sync_provider.specs.Machine.{ProviderState, Call, each_informed, called, run}
-use Rattle.sync_provider.specs.Machine.Call.{Writes, Accepts, HandsOut, Drops, SetsLogLimit, SetsQueueLimit}
+use Rattle.sync_provider.specs.Committing.{commit_refusal}
+use Rattle.sync_provider.specs.Machine.{ProviderState, Call, each_informed, judged_by, called, run}
+use Rattle.sync_provider.specs.Machine.Call.{Writes, Commits, Accepts, HandsOut, Drops, SetsLogLimit, SetsQueueLimit}
 use Rattle.sync_provider.specs.Queueing.{group_of, informed}
 use Rattle.sync_provider.specs.Search.{SearchState, is_end}
+use Rattle.sync_provider.proofs.Commits.{commit_case}
 use Rattle.sync_provider.proofs.Refreshes.{decided_all, refresh_from-is, group-longer}
 
 -- ---- histories that begin with a directory's writes
@@ -32,7 +35,10 @@ judged_begins d (Ok w) writes begins = begins_before d w writes begins
 judged_begins d (Err code) writes begins = begins
 
 called_begins : (p : ProviderState) (call : Call) (writes : List Write) → BeginsWith (called p call).directory writes → BeginsWith p.directory writes
-called_begins p (Writes op now) writes begins = judged_begins p.directory (judged p.directory op now) writes begins
+called_begins p (Writes op now) writes begins = judged_begins p.directory (judged_by p.kind p.directory op now) writes begins
+called_begins p (Commits puts drops now) writes begins =
+    commit_case (λ q. BeginsWith q.directory writes → BeginsWith p.directory writes) p (Commit puts drops) now (commit_refusal p.kind p.directory puts drops now)
+    (λ same. same) (judged_begins p.directory (judged p.directory (Commit puts drops) now) writes) begins
 called_begins p (Accepts ask) writes begins = begins
 called_begins p (HandsOut number) writes begins = begins
 called_begins p (Drops number) writes begins = begins

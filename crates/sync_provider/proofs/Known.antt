@@ -1,17 +1,20 @@
 -- After every list of calls the log and the numbers of the last touches are those of the writes.
-use Rattle.std.proofs.Common.{◌≡◌, ℕ, ◌-◌, List, [], ◌∷◌, ◌++◌, length, sym, ap, ◌∙◌}
+use Rattle.std.proofs.Common.{◌≡◌, ℕ, List, [], ◌∷◌, ◌++◌, length, sym, ap, ◌∙◌}
 use Rattle.std.specs.Prelude.{Result, Ok, Err}
 use Rattle.std.proofs.lemmas.Bool.{leb-true, le-leb}
+use Rattle.entry_tree.specs.declared.op.Op.TheVariants.{Commit}
 use Rattle.entry_tree.specs.declared.op.Write.{Write}
 use Rattle.entry_tree.specs.History.{state_of, touched_over}
 use Rattle.session_log.proofs.Covering.{IsLogOf-trimmed}
 use Rattle.sync_model.specs.Stream.{among}
 use Rattle.directory_writes.specs.Directory.{DirectoryState, judged, with_judged}
 use Rattle.sync_provider.specs.Law.{BeginsWith, LogTells, NumberTells}
-use Rattle.sync_provider.specs.Machine.{ProviderState, Call, called, run}
-use Rattle.sync_provider.specs.Machine.Call.{Writes, Accepts, HandsOut, Drops, SetsLogLimit, SetsQueueLimit}
+use Rattle.sync_provider.specs.Committing.{commit_refusal}
+use Rattle.sync_provider.specs.Machine.{ProviderState, Call, judged_by, called, run}
+use Rattle.sync_provider.specs.Machine.Call.{Writes, Commits, Accepts, HandsOut, Drops, SetsLogLimit, SetsQueueLimit}
 use Rattle.directory_writes.specs.Touches.{all_notes, IsLogged}
 use Rattle.directory_writes.proofs.Pushed.{logged-push}
+use Rattle.sync_provider.proofs.Commits.{commit_case}
 use Rattle.directory_writes.proofs.Told.{agree-longer, over-agree_upto, log-tells, floor-low, last-tells}
 
 abbrev HasLogged : DirectoryState → Type 0
@@ -22,7 +25,10 @@ judged_logged d (Ok w) is = logged-push d.history d.writes w d.log is
 judged_logged d (Err code) is = is
 
 called_logged : (p : ProviderState) (call : Call) → HasLogged p.directory → HasLogged (called p call).directory
-called_logged p (Writes op now) is = judged_logged p.directory (judged p.directory op now) is
+called_logged p (Writes op now) is = judged_logged p.directory (judged_by p.kind p.directory op now) is
+called_logged p (Commits puts drops now) is =
+    commit_case (λ q. HasLogged q.directory) p (Commit puts drops) now (commit_refusal p.kind p.directory puts drops now) is
+    (judged_logged p.directory (judged p.directory (Commit puts drops) now) is)
 called_logged p (Accepts ask) is = is
 called_logged p (HandsOut number) is = is
 called_logged p (Drops number) is = is

@@ -1,5 +1,6 @@
 -- Lemmas of the crate.
 pub mod Asking
+pub mod Commits
 pub mod Copying
 pub mod Deciding
 pub mod Filling

@@ -1,20 +1,24 @@
 -- A search is over exactly where a write was too much by the writes and a count of what was handed out.
-use Rattle.std.proofs.Common.{◌≡◌, ℕ, ◌+◌, ◌-◌, ◌<◌, ◌≤◌, Bool, true, false, cond, nat_eq, nat_lt, List, [], ◌∷◌, ◌++◌, length, Option, Some, None, refl, ap, sym, ◌∙◌, arith, inl, inr, ◌⊎◌, subst, append_assoc, length-append, eqb-true, eq-eqb}
+use Rattle.std.proofs.Common.{◌≡◌, ℕ, ◌+◌, ◌-◌, ◌<◌, Bool, true, false, cond, nat_eq, nat_lt, List, [], ◌∷◌, ◌++◌, length, Option, Some, None, refl, ap, sym, ◌∙◌, arith, inl, inr, ◌⊎◌, subst, append_assoc, length-append, eqb-true, eq-eqb}
 use Rattle.std.specs.Prelude.{Result, Ok, Err, not, ◌&&◌, ◌||◌, drop}
 use Rattle.std.proofs.lemmas.Bool.{false≢true, true≢false, lt-ltb, le-ltb}
 use Rattle.std.proofs.lemmas.List.{append-nil}
+use Rattle.entry_tree.specs.declared.op.Op.TheVariants.{Commit}
+use Rattle.entry_tree.specs.declared.op.Op.{Op}
 use Rattle.entry_tree.specs.declared.op.Write.{Write}
 use Rattle.sync_model.specs.Law.{is_nil}
 use Rattle.sync_model.specs.Message.{SyncMessage}
 use Rattle.sync_model.specs.Stream.{group, later}
 use Rattle.sync_model.proofs.Gather.{Each}
-use Rattle.directory_writes.specs.Directory.{DirectoryState, judged, with_write, with_judged}
+use Rattle.directory_writes.specs.Directory.{DirectoryState, judged, with_write}
 use Rattle.directory_writes.proofs.Keyed.{closed-other}
 use Rattle.sync_provider.specs.Accepting.{answer_to, start_of_ask, persists_of_ask}
 use Rattle.sync_provider.specs.HandingOut.{turn_at, search_at, without_first, closed, after_turn}
-use Rattle.sync_provider.specs.Law.{BeginsWith, refresh_of, later_of, stream_of, IsAtItsPlace, IsPlaced, Told, pending_of, pending_at, over_of, told_now, first_told, told, asked, Tally, items_of, is_too_much, after_write, after_hand_out, is_over_after}
-use Rattle.sync_provider.specs.Machine.{ProviderState, Call, searches_after, accepted, called}
-use Rattle.sync_provider.specs.Machine.Call.{Writes, Accepts, HandsOut, Drops, SetsLogLimit, SetsQueueLimit}
+use Rattle.sync_provider.specs.Law.{BeginsWith, refresh_of, later_of, stream_of, IsAtItsPlace, IsPlaced, Told, pending_of, pending_at, over_of, told_now, first_told, told, asked, Tally, items_of, is_too_much, after_write, after_commit, after_hand_out, is_over_after}
+use Rattle.sync_provider.specs.Committing.{commit_refusal}
+use Rattle.sync_provider.specs.Machine.{ProviderState, Call, after_judged, judged_by, after_commit as provider_after, accepted, called}
+use Rattle.sync_provider.specs.declared.writing.CommitFault.{CommitFault}
+use Rattle.sync_provider.specs.Machine.Call.{Writes, Commits, Accepts, HandsOut, Drops, SetsLogLimit, SetsQueueLimit}
 use Rattle.sync_provider.specs.Queueing.{is_full, group_of, overflowed, pushed, informed}
 use Rattle.sync_provider.specs.Search.{SearchState, session_of, refresh_from, busy_end, pending, advanced, is_end}
 use Rattle.sync_provider.specs.declared.searches.Accepted.TheVariants.{Opened}
@@ -22,7 +26,7 @@ use Rattle.sync_provider.specs.declared.searches.SyncSearch.{SyncSearch}
 use Rattle.sync_provider.proofs.Growing.{GoesOn, begins_before, later_grows, informed_at, refresh_goes, laters_go}
 use Rattle.sync_provider.proofs.Kept.{answered_other, turn_other, waiting_turn, next_turn, asked_at}
 use Rattle.sync_provider.proofs.Places.{stays_place, pushed_place, next_rest, next_due, opening_place}
-use Rattle.sync_provider.proofs.Streams.{judged_so, not_over, pending_open}
+use Rattle.sync_provider.proofs.Streams.{not_over, pending_open}
 
 -- ---- a search and its count
 
@@ -282,20 +286,29 @@ module _ (s0 : SearchState) (p : ProviderState) (s : SearchState) (t : Tally) (s
 
 -- ---- after its end
 
--- nothing changes any more where it is over, or where it does not go on
+-- a write changes nothing any more where it is over, or where it does not go on
+write_stays : (s0 : SearchState) (p : ProviderState) (t : Tally) (over : Bool) (outcome : Result Write ℕ) → t.over ≡ over → (over ≡ true) ⊎ (s0.persists ≡ false)
+    → (after_write p s0 outcome t).over ≡ over
+write_stays s0 p t over (Err code) is why = is
+write_stays s0 p t over (Ok write) is (inl on) = ap (λ b. b || (s0.persists && is_too_much p.queue_limit p.directory s0 write t.handed)) (is ∙ on) ∙ sym on
+write_stays s0 p t over (Ok write) is (inr stays) =
+    ap (λ b. t.over || (b && is_too_much p.queue_limit p.directory s0 write t.handed)) stays ∙ or_none t.over ∙ is
+
+commit_stays : (s0 : SearchState) (p : ProviderState) (t : Tally) (over : Bool) (op : Op) (now : ℕ) (refusal : Option CommitFault) → t.over ≡ over
+    → (over ≡ true) ⊎ (s0.persists ≡ false) → (after_commit p s0 op now refusal t).over ≡ over
+commit_stays s0 p t over op now None is why = write_stays s0 p t over (judged p.directory op now) is why
+commit_stays s0 p t over op now (Some fault) is why = is
+
+-- nor does any call
 pub stays_over : (calls : List Call) (number : ℕ) (s0 : SearchState) (p : ProviderState) (t : Tally) (over : Bool) → t.over ≡ over → (over ≡ true) ⊎ (s0.persists ≡ false)
     → is_over_after number s0 p t calls ≡ over
 stays_over [] number s0 p t over is why = is
-stays_over (Writes op now ∷ calls) number s0 p t over is why = by (stays_over calls number s0 (called p (Writes op now))) (judged p.directory op now)
-  where
-    still : (write : Write) → (over ≡ true) ⊎ (s0.persists ≡ false) → (t.over || (s0.persists && is_too_much p.queue_limit p.directory s0 write t.handed)) ≡ over
-    still write (inl on) = ap (λ b. b || (s0.persists && is_too_much p.queue_limit p.directory s0 write t.handed)) (is ∙ on) ∙ sym on
-    still write (inr stays) = ap (λ b. t.over || (b && is_too_much p.queue_limit p.directory s0 write t.handed)) stays ∙ or_none t.over ∙ is
-
-    by : ((u : Tally) (o : Bool) → u.over ≡ o → (o ≡ true) ⊎ (s0.persists ≡ false) → is_over_after number s0 (called p (Writes op now)) u calls ≡ o)
-        → (outcome : Result Write ℕ) → is_over_after number s0 (called p (Writes op now)) (after_write p s0 outcome t) calls ≡ over
-    by rest (Ok write) = rest (after_write p s0 (Ok write) t) over (still write why) why
-    by rest (Err code) = rest t over is why
+stays_over (Writes op now ∷ calls) number s0 p t over is why =
+    stays_over calls number s0 (called p (Writes op now)) (after_write p s0 (judged_by p.kind p.directory op now) t) over
+    (write_stays s0 p t over (judged_by p.kind p.directory op now) is why) why
+stays_over (Commits puts drops now ∷ calls) number s0 p t over is why =
+    stays_over calls number s0 (called p (Commits puts drops now)) (after_commit p s0 (Commit puts drops) now (commit_refusal p.kind p.directory puts drops now) t) over
+    (commit_stays s0 p t over (Commit puts drops) now (commit_refusal p.kind p.directory puts drops now) is why) why
 stays_over (Accepts ask ∷ calls) number s0 p t over is why = stays_over calls number s0 (called p (Accepts ask)) t over is why
 stays_over (SetsLogLimit limit ∷ calls) number s0 p t over is why = stays_over calls number s0 (called p (SetsLogLimit limit)) t over is why
 stays_over (SetsQueueLimit limit ∷ calls) number s0 p t over is why = stays_over calls number s0 (called p (SetsQueueLimit limit)) t over is why
@@ -321,17 +334,31 @@ stays_over (Drops other ∷ calls) number s0 p t over is why = by (stays_over ca
 abbrev IsOverAlike : ℕ → SearchState → ProviderState → Tally → List Call → Type 0
 IsOverAlike number s0 p t calls = (told number p calls).over ≡ is_over_after number s0 p t calls
 
+-- so it is from a provider with the search on
+abbrev AlikeFrom : ℕ → SearchState → List Call → Type 0
+AlikeFrom number s0 calls =
+    (p : ProviderState) (s : SearchState) (t : Tally) → search_at p.searches number ≡ Some s → Matches s0 p.directory s t → IsOverAlike number s0 p t calls
+
+judged_alike : (number : ℕ) (s0 : SearchState) (calls : List Call) (p : ProviderState) (outcome : Result Write ℕ) → AlikeFrom number s0 calls → (s : SearchState) (t : Tally)
+    → search_at p.searches number ≡ Some s → Matches s0 p.directory s t → IsOverAlike number s0 (after_judged p outcome) (after_write p s0 outcome t) calls
+judged_alike number s0 calls p (Ok w) rest s t found same =
+    rest (after_judged p (Ok w)) (informed p.queue_limit p.directory w s) (after_write p s0 (Ok w) t) (informed_at p.queue_limit p.directory w p.searches number s found)
+    (informed_match s0 p.queue_limit p.directory w s t same)
+judged_alike number s0 calls p (Err code) rest s t found same = rest (after_judged p (Err code)) s t found same
+
+commit_alike : (number : ℕ) (s0 : SearchState) (calls : List Call) (p : ProviderState) (op : Op) (now : ℕ) (refusal : Option CommitFault) → AlikeFrom number s0 calls
+    → (s : SearchState) (t : Tally) → search_at p.searches number ≡ Some s → Matches s0 p.directory s t
+    → IsOverAlike number s0 (provider_after p op now refusal) (after_commit p s0 op now refusal t) calls
+commit_alike number s0 calls p op now None rest s t found same = judged_alike number s0 calls p (judged p.directory op now) rest s t found same
+commit_alike number s0 calls p op now (Some fault) rest s t found same = rest p s t found same
+
 pub over_alike : (calls : List Call) (number : ℕ) (s0 : SearchState) (p : ProviderState) (s : SearchState) (t : Tally)
     → search_at p.searches number ≡ Some s → Matches s0 p.directory s t → IsOverAlike number s0 p t calls
 over_alike [] number s0 p s t found same = ap over_of found ∙ sym same.over
-over_alike (Writes op now ∷ calls) number s0 p s t found same = by (over_alike calls number s0) (judged p.directory op now)
-  where
-    by : ((after : ProviderState) (r : SearchState) (u : Tally) → search_at after.searches number ≡ Some r → Matches s0 after.directory r u → IsOverAlike number s0 after u calls)
-        → (outcome : Result Write ℕ) → IsOverAlike number s0 (judged_so p outcome) (after_write p s0 outcome t) calls
-    by rest (Ok w) =
-        rest (judged_so p (Ok w)) (informed p.queue_limit p.directory w s) (after_write p s0 (Ok w) t) (informed_at p.queue_limit p.directory w p.searches number s found)
-        (informed_match s0 p.queue_limit p.directory w s t same)
-    by rest (Err code) = rest (judged_so p (Err code)) s t found same
+over_alike (Writes op now ∷ calls) number s0 p s t found same =
+    judged_alike number s0 calls p (judged_by p.kind p.directory op now) (over_alike calls number s0) s t found same
+over_alike (Commits puts drops now ∷ calls) number s0 p s t found same =
+    commit_alike number s0 calls p (Commit puts drops) now (commit_refusal p.kind p.directory puts drops now) (over_alike calls number s0) s t found same
 over_alike (Accepts ask ∷ calls) number s0 p s t found same =
     over_alike calls number s0 (called p (Accepts ask)) s t (answered_other p.directory p.searches ask (answer_to p.directory p.searches ask) refl number s found) same
 over_alike (SetsLogLimit limit ∷ calls) number s0 p s t found same =

@@ -1,8 +1,9 @@
 -- Each call leaves every open search at its place in its Stream.
 use Rattle.std.proofs.Common.{◌≡◌, ℕ, ◌+◌, ◌≤◌, Bool, true, false, cond, List, [], ◌∷◌, ◌++◌, length, Option, Some, None, refl, ap, sym, ◌∙◌, arith, inl, inr, ◌⊎◌, subst, append_assoc, length-append}
 use Rattle.std.specs.Prelude.{Result, Ok, Err, not, ◌&&◌}
-use Rattle.std.proofs.lemmas.Bool.{false≢true, true≢false}
+use Rattle.std.proofs.lemmas.Bool.{true≢false}
 use Rattle.std.proofs.lemmas.List.{append-nil}
+use Rattle.entry_tree.specs.declared.op.Op.TheVariants.{Commit}
 use Rattle.entry_tree.specs.declared.op.Write.{Write}
 use Rattle.entry_tree.specs.Selection.{Search, search_of}
 use Rattle.sync_model.specs.Message.{SyncMessage}
@@ -13,13 +14,15 @@ use Rattle.sync_provider.specs.Accepting.{answer_to, start_of_ask, persists_of_a
 use Rattle.sync_provider.specs.HandingOut.{Turn, turn_at, search_at, without_first, handed_on, after_turn}
 use Rattle.sync_provider.specs.HandingOut.Turn.{Hands, Closes, Waits, Unknown}
 use Rattle.sync_provider.specs.Law.{BeginsWith, later_of, IsAtItsPlace, IsPlaced, KeepsItsPlace, EachSearch}
-use Rattle.sync_provider.specs.Machine.{ProviderState, Call, each_informed, searches_after, called, run}
-use Rattle.sync_provider.specs.Machine.Call.{Writes, Accepts, HandsOut, Drops, SetsLogLimit, SetsQueueLimit}
+use Rattle.sync_provider.specs.Committing.{commit_refusal}
+use Rattle.sync_provider.specs.Machine.{ProviderState, Call, each_informed, searches_after, judged_by, called, run}
+use Rattle.sync_provider.specs.Machine.Call.{Writes, Commits, Accepts, HandsOut, Drops, SetsLogLimit, SetsQueueLimit}
 use Rattle.sync_provider.specs.Queueing.{is_full, group_of, overflowed, pushed, informed}
 use Rattle.sync_provider.specs.Search.{SearchState, opening, advanced}
 use Rattle.sync_provider.specs.declared.searches.Accepted.{Accepted}
 use Rattle.sync_provider.specs.declared.searches.Accepted.TheVariants.{Opened, Refused, NoMemory}
 use Rattle.sync_provider.specs.declared.searches.SyncSearch.{SyncSearch}
+use Rattle.sync_provider.proofs.Commits.{commit_case}
 use Rattle.sync_provider.proofs.Growing.{begins_before, later_stays, later_none, later_grows}
 use Rattle.sync_provider.proofs.Looking.{each-opened, each-closed, each-put_on, each-at, each-weaker}
 use Rattle.sync_provider.proofs.Refreshes.{refresh-longer}
@@ -188,7 +191,10 @@ limited_place d limit s keeps = λ off. record {
 }
 
 called_places : (p : ProviderState) (call : Call) → EachSearch (KeepsItsPlace p.directory) p.searches → EachSearch (KeepsItsPlace (called p call).directory) (called p call).searches
-called_places p (Writes op now) each = judged_places p (judged p.directory op now) each
+called_places p (Writes op now) each = judged_places p (judged_by p.kind p.directory op now) each
+called_places p (Commits puts drops now) each =
+    commit_case (λ q. EachSearch (KeepsItsPlace q.directory) q.searches) p (Commit puts drops) now (commit_refusal p.kind p.directory puts drops now) each
+    (judged_places p (judged p.directory (Commit puts drops) now) each)
 called_places p (Accepts ask) each = answered_places p.directory p.searches ask (answer_to p.directory p.searches ask) each
 called_places p (HandsOut number) each = turn_places p.directory p.searches number (turn_at p.searches number) each
 called_places p (Drops number) each = each-closed (KeepsItsPlace p.directory) p.searches number each

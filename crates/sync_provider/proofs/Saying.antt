@@ -1,15 +1,13 @@
 -- What is said of one touch, and the cookie of the last message.
-use Rattle.std.proofs.Common.{◌≡◌, ℕ, ◌+◌, ◌-◌, ◌<◌, ◌≤◌, ◌^◌, min, Bool, true, false, cond, List, [], ◌∷◌, ◌++◌, length, Option, Some, None, refl, ap, sym, ◌∙◌, arith, inl, inr, ◌⊎◌}
-use Rattle.std.specs.Prelude.{is_some, sum_by, option_map}
+use Rattle.std.proofs.Common.{◌≡◌, ℕ, ◌+◌, ◌-◌, ◌<◌, ◌≤◌, ◌^◌, min, Bool, true, false, cond, List, [], ◌∷◌, ◌++◌, Option, Some, None, refl, ap, sym, ◌∙◌, arith, inl, inr, ◌⊎◌}
+use Rattle.std.specs.Prelude.{is_some, sum_by}
 use Rattle.std.proofs.lemmas.Bool.{cases_lt, false≢true, true≢false}
 use Rattle.std.proofs.lemmas.List.Sums.{sum_by-cons}
-use Rattle.csn_cookie.specs.Cookie.{cookie_text}
-use Rattle.csn_cookie.specs.declared.cookie.Cookie as cookies
 use Rattle.entry_tree.specs.declared.entry.Entry.{Entry}
 use Rattle.entry_tree.specs.Selection.{Search, is_selected}
 use Rattle.sync_model.specs.Message.{Cookie, SyncMessage}
 use Rattle.sync_model.specs.Stream.{told}
-use Rattle.sync_provider.specs.Queueing.{message_weight, most_pending_weight}
+use Rattle.sync_provider.specs.Queueing.{message_weight}
 use Rattle.sync_provider.specs.Search.{is_end}
 use Rattle.sync_provider.specs.Staging.{message_of_change, messages_of_change, change_to, change_from, chosen, with_cookie, last_with_cookie, counted_weight}
 use Rattle.sync_provider.specs.declared.change.Change.{Change}

@@ -1,62 +1,84 @@
 -- What is gathered is what the messages of a part of a refresh are.
-use Rattle.std.proofs.Common.{◌≡◌, ℕ, ◌+◌, Bool, true, false, cond, nat_lt, List, [], ◌∷◌, ◌++◌, length, map, refl, sym, ap, ◌∙◌, None, append_assoc}
+use Rattle.std.proofs.Common.{◌≡◌, ℕ, ◌+◌, ◌<◌, ◌≤◌, Bool, true, false, cond, nat_lt, List, [], ◌∷◌, ◌++◌, length, map, refl, sym, ap, ◌∙◌, None, arith, length-append}
+use Rattle.std.proofs.lemmas.Bool.{lt-ltb, le-ltb}
 use Rattle.std.proofs.lemmas.List.{append-nil, map-append}
+use Rattle.entry_tree.specs.declared.entry.Entry.{Entry}
 use Rattle.sync_model.specs.Message.{SyncMessage}
-use Rattle.sync_model.specs.Message.SyncMessage.{IdSet}
-use Rattle.sync_model.specs.Stream as stream
-use Rattle.sync_model.specs.Stream.{Decision, most_names, whole, left_over, gathered}
+use Rattle.sync_model.specs.Message.SyncMessage.{Put, IdSet}
+use Rattle.sync_model.specs.Stream.{Decision, most_names, whole, left_over}
 use Rattle.sync_model.specs.Stream.Decision.{Sends, Names}
-use Rattle.sync_provider.specs.Gathering.{Gathered, none_gathered, with_entry, gathered_more, gathered_all, rest_of, finished}
+use Rattle.sync_provider.specs.Gathering.{Gathered, Gathers}
 use Rattle.sync_provider.specs.Search.{message_of}
 use Rattle.sync_provider.specs.declared.parts.Part.{Part}
 use Rattle.sync_provider.specs.declared.parts.Part.TheVariants as part
 
+-- ---- more decisions
+
+whole-append : (ds more : List Decision) (deletes : Bool) (names : List ℕ) → whole deletes names (ds ++ more) ≡ whole deletes names ds ++ whole deletes (left_over names ds) more
+whole-append [] more deletes names = refl
+whole-append (Sends entry ∷ ds) more deletes names = ap (λ ms. Put true entry None ∷ ms) (whole-append ds more deletes names)
+whole-append (Names uuid ∷ ds) more deletes names =
+    step (nat_lt (length names + 1) most_names) (whole-append ds more deletes (names ++ uuid ∷ [])) (whole-append ds more deletes [])
+  where
+    step : (b : Bool) → whole deletes (names ++ uuid ∷ []) (ds ++ more) ≡ whole deletes (names ++ uuid ∷ []) ds ++ whole deletes (left_over (names ++ uuid ∷ []) ds) more
+        → whole deletes [] (ds ++ more) ≡ whole deletes [] ds ++ whole deletes (left_over [] ds) more
+        → cond b (whole deletes (names ++ uuid ∷ []) (ds ++ more)) (IdSet deletes (names ++ uuid ∷ []) None ∷ whole deletes [] (ds ++ more))
+        ≡ cond b (whole deletes (names ++ uuid ∷ []) ds) (IdSet deletes (names ++ uuid ∷ []) None ∷ whole deletes [] ds)
+        ++ whole deletes (cond b (left_over (names ++ uuid ∷ []) ds) (left_over [] ds)) more
+    step true longer fresh = longer
+    step false longer fresh = ap (λ ms. IdSet deletes (names ++ uuid ∷ []) None ∷ ms) fresh
+
+left_over-append : (ds more : List Decision) (names : List ℕ) → left_over names (ds ++ more) ≡ left_over (left_over names ds) more
+left_over-append [] more names = refl
+left_over-append (Sends entry ∷ ds) more names = left_over-append ds more names
+left_over-append (Names uuid ∷ ds) more names =
+    step (nat_lt (length names + 1) most_names) (left_over-append ds more (names ++ uuid ∷ [])) (left_over-append ds more [])
+  where
+    step : (b : Bool) → left_over (names ++ uuid ∷ []) (ds ++ more) ≡ left_over (left_over (names ++ uuid ∷ []) ds) more
+        → left_over [] (ds ++ more) ≡ left_over (left_over [] ds) more
+        → cond b (left_over (names ++ uuid ∷ []) (ds ++ more)) (left_over [] (ds ++ more)) ≡ left_over (cond b (left_over (names ++ uuid ∷ []) ds) (left_over [] ds)) more
+    step true longer fresh = longer
+    step false longer fresh = fresh
+
+-- the messages of more parts
 abbrev messages : Bool → List Part → List SyncMessage
 messages deletes parts = map (message_of deletes) parts
 
--- more messages at the end of those so far
-on_end : (deletes : Bool) (parts : List Part) (last : Part) (more : List SyncMessage) → messages deletes (parts ++ last ∷ []) ++ more ≡ messages deletes parts ++ message_of deletes last ∷ more
-on_end deletes parts last more =
-    ap (λ ms. ms ++ more) (map-append (message_of deletes) parts (last ∷ []))
-    ∙ append_assoc (messages deletes parts) (message_of deletes last ∷ []) more
+-- what is gathered, with these messages and these names of one decision more
+gathers_by : (old new : Gathered) (more : List Decision) (parts : List Part) → new.parts ≡ old.parts ++ parts
+    → ((deletes : Bool) → messages deletes parts ≡ whole deletes old.names more) → new.names ≡ left_over old.names more → Gathers more old new
+gathers_by old new more parts grown are names decisions is = record {
+  parts = λ deletes.
+      ap (messages deletes) grown
+      ∙ map-append (message_of deletes) old.parts parts
+      ∙ (λ i. is.parts deletes i ++ (are deletes ∙ ap (λ left. whole deletes left more) is.names) i)
+      ∙ sym (whole-append decisions more deletes []);
+  names = names ∙ ap (λ left. left_over left more) is.names ∙ sym (left_over-append decisions more []);
+}
 
-parts-are : (ds : List Decision) (deletes : Bool) (g : Gathered) → messages deletes (gathered_more g ds).parts ≡ messages deletes g.parts ++ whole deletes g.names ds
-parts-are [] deletes g = sym (append-nil (messages deletes g.parts))
-parts-are (Sends entry ∷ ds) deletes g = parts-are ds deletes (with_entry g entry) ∙ on_end deletes g.parts (part.Whole entry) (whole deletes g.names ds)
-parts-are (Names uuid ∷ ds) deletes g = step (nat_lt (length g.names + 1) most_names) (parts-are ds deletes more) (parts-are ds deletes full) where
-  more : Gathered
-  more = record { parts = g.parts; names = g.names ++ uuid ∷ [] }
+pub gathers_entry : (old new : Gathered) (entry : Entry) → new.parts ≡ old.parts ++ part.Whole entry ∷ [] → new.names ≡ old.names → Gathers (Sends entry ∷ []) old new
+gathers_entry old new entry parts names = gathers_by old new (Sends entry ∷ []) (part.Whole entry ∷ []) parts (λ deletes. refl) names
 
-  full : Gathered
-  full = record { parts = g.parts ++ part.Names (g.names ++ uuid ∷ []) ∷ []; names = [] }
+-- a name, where the set is not full with it
+pub gathers_name : (old new : Gathered) (uuid : ℕ) → new.parts ≡ old.parts → new.names ≡ old.names ++ uuid ∷ [] → length new.names < most_names → Gathers (Names uuid ∷ []) old new
+gathers_name old new uuid parts names low =
+    let long : length new.names ≡ length old.names + 1 = ap length names ∙ length-append old.names (uuid ∷ []) in
+    let few : length old.names + 1 < most_names = omega (arith, long, low) in
+    gathers_by old new (Names uuid ∷ []) [] (parts ∙ sym (append-nil old.parts))
+    (λ deletes. sym (ap (λ b. cond {A = List SyncMessage} b [] (IdSet deletes (old.names ++ uuid ∷ []) None ∷ [])) (lt-ltb (length old.names + 1) most_names few)))
+    (names ∙ sym (ap (λ b. cond {A = List ℕ} b (old.names ++ uuid ∷ []) []) (lt-ltb (length old.names + 1) most_names few)))
 
-  step : (b : Bool) → messages deletes (gathered_more more ds).parts ≡ messages deletes g.parts ++ whole deletes (g.names ++ uuid ∷ []) ds
-      → messages deletes (gathered_more full ds).parts ≡ messages deletes (g.parts ++ part.Names (g.names ++ uuid ∷ []) ∷ []) ++ whole deletes [] ds
-      → messages deletes (gathered_more (cond b more full) ds).parts
-      ≡ messages deletes g.parts ++ cond b (whole deletes (g.names ++ uuid ∷ []) ds) (IdSet deletes (g.names ++ uuid ∷ []) None ∷ whole deletes [] ds)
-  step true rest none = rest
-  step false none rest = rest ∙ on_end deletes g.parts (part.Names (g.names ++ uuid ∷ [])) (whole deletes [] ds)
+-- and where it is
+pub gathers_set : (old new : Gathered) (uuid : ℕ) (set : List ℕ) → set ≡ old.names ++ uuid ∷ [] → most_names ≤ length set → new.parts ≡ old.parts ++ part.Names set ∷ [] → new.names ≡ []
+    → Gathers (Names uuid ∷ []) old new
+gathers_set old new uuid set is full parts names =
+    let long : length set ≡ length old.names + 1 = ap length is ∙ length-append old.names (uuid ∷ []) in
+    let many : most_names ≤ length old.names + 1 = omega (arith, long, full) in
+    gathers_by old new (Names uuid ∷ []) (part.Names (old.names ++ uuid ∷ []) ∷ []) (parts ∙ ap (λ names. old.parts ++ part.Names names ∷ []) is)
+    (λ deletes. sym (ap (λ b. cond {A = List SyncMessage} b [] (IdSet deletes (old.names ++ uuid ∷ []) None ∷ [])) (le-ltb (length old.names + 1) most_names many)))
+    (names ∙ sym (ap (λ b. cond {A = List ℕ} b (old.names ++ uuid ∷ []) []) (le-ltb (length old.names + 1) most_names many)))
 
-names-are : (ds : List Decision) (g : Gathered) → (gathered_more g ds).names ≡ left_over g.names ds
-names-are [] g = refl
-names-are (Sends entry ∷ ds) g = names-are ds (with_entry g entry)
-names-are (Names uuid ∷ ds) g = step (nat_lt (length g.names + 1) most_names) (names-are ds more) (names-are ds full) where
-  more : Gathered
-  more = record { parts = g.parts; names = g.names ++ uuid ∷ [] }
+-- ---- none
 
-  full : Gathered
-  full = record { parts = g.parts ++ part.Names (g.names ++ uuid ∷ []) ∷ []; names = [] }
-
-  step : (b : Bool) → (gathered_more more ds).names ≡ left_over (g.names ++ uuid ∷ []) ds → (gathered_more full ds).names ≡ left_over [] ds
-      → (gathered_more (cond b more full) ds).names ≡ cond b (left_over (g.names ++ uuid ∷ []) ds) (left_over [] ds)
-  step true one other = one
-  step false one other = other
-
-rest-is : (deletes : Bool) (names : List ℕ) → messages deletes (rest_of names) ≡ stream.rest_of deletes names
-rest-is deletes [] = refl
-rest-is deletes (u ∷ us) = refl
-
-pub gathered-is : (deletes : Bool) (ds : List Decision) → map (message_of deletes) (finished (gathered_all ds)) ≡ gathered deletes ds
-gathered-is deletes ds =
-    map-append (message_of deletes) (gathered_all ds).parts (rest_of (gathered_all ds).names)
-    ∙ (λ i. parts-are ds deletes none_gathered i ++ (ap (λ names. messages deletes (rest_of names)) (names-are ds none_gathered) ∙ rest-is deletes (left_over [] ds)) i)
+pub gathers_nothing : (g : Gathered) → Gathers [] g g
+gathers_nothing g decisions is = gathers_by g g [] [] (sym (append-nil g.parts)) (λ deletes. refl) refl decisions is

@@ -1,23 +1,25 @@
 -- A search tells its Stream.
-use Rattle.std.proofs.Common.{◌≡◌, ℕ, ◌+◌, ◌≤◌, Bool, true, false, cond, nat_eq, List, [], ◌∷◌, ◌++◌, length, Option, Some, None, refl, ap, sym, ◌∙◌, arith, subst, append_assoc, length-append, eqb-true, eq-eqb}
+use Rattle.std.proofs.Common.{◌≡◌, ℕ, ◌+◌, ◌≤◌, Bool, true, false, cond, nat_eq, List, [], ◌∷◌, ◌++◌, length, Some, refl, ap, sym, ◌∙◌, arith, subst, append_assoc, length-append, eqb-true, eq-eqb}
 use Rattle.std.specs.Prelude.{Result, Ok, Err, not, ◌&&◌}
 use Rattle.std.proofs.lemmas.Bool.{false≢true, true≢false}
 use Rattle.std.proofs.lemmas.List.{append-nil}
+use Rattle.entry_tree.specs.declared.op.Op.TheVariants.{Commit}
 use Rattle.entry_tree.specs.declared.op.Write.{Write}
-use Rattle.entry_tree.specs.Selection.{Search}
 use Rattle.sync_model.specs.Message.{SyncMessage}
 use Rattle.sync_model.specs.Stream.{group}
-use Rattle.directory_writes.specs.Directory.{DirectoryState, judged, with_write, with_judged}
+use Rattle.directory_writes.specs.Directory.{DirectoryState, judged, with_write}
 use Rattle.directory_writes.proofs.Keyed.{closed-other}
 use Rattle.sync_provider.specs.Accepting.{answer_to}
 use Rattle.sync_provider.specs.HandingOut.{turn_at, search_at, without_first, closed, after_turn}
 use Rattle.sync_provider.specs.Law.{BeginsWith, session_at, refresh_of, later_of, stream_of, Told, pending_of, pending_at, over_of, told_now, first_told, told, all_told, IsCutShort, Tells, asked, TellsItsStream}
-use Rattle.sync_provider.specs.Machine.{ProviderState, Call, searches_after, accepted, called, run}
-use Rattle.sync_provider.specs.Machine.Call.{Writes, Accepts, HandsOut, Drops, SetsLogLimit, SetsQueueLimit}
+use Rattle.sync_provider.specs.Committing.{commit_refusal}
+use Rattle.sync_provider.specs.Machine.{ProviderState, Call, after_judged, judged_by, accepted, called, run}
+use Rattle.sync_provider.specs.Machine.Call.{Writes, Commits, Accepts, HandsOut, Drops, SetsLogLimit, SetsQueueLimit}
 use Rattle.sync_provider.specs.Queueing.{is_full, group_of, overflowed, pushed, informed}
 use Rattle.sync_provider.specs.Search.{SearchState, session_of, busy_end, pending, advanced, is_end}
 use Rattle.sync_provider.specs.declared.searches.Accepted.TheVariants.{Opened}
 use Rattle.sync_provider.specs.declared.searches.SyncSearch.{SyncSearch}
+use Rattle.sync_provider.proofs.Commits.{commit_case}
 use Rattle.sync_provider.proofs.Growing.{begins_before, run_begins, later_stays, later_none, later_more, group_in, informed_at}
 use Rattle.sync_provider.proofs.Kept.{answered_other, turn_other, waiting_turn, next_turn, asked_at}
 use Rattle.sync_provider.proofs.Refreshes.{refresh-longer}
@@ -216,23 +218,34 @@ now_told d0 s0 p number s before handed left writes found stands is begins =
     subst (λ o. Tells (over_of o) (before ++ (handed ++ left)) (stream_of d0 s0 (length p.directory.writes) writes)) (sym found)
     (subst (λ ms. Tells s.over (before ++ ms) (stream_of d0 s0 (length p.directory.writes) writes)) (sym is) (stands.tells writes begins))
 
--- the directory and the searches after an operation that was judged so
-abbrev pub judged_so : ProviderState → Result Write ℕ → ProviderState
-judged_so p outcome = record p { directory = with_judged p.directory outcome; searches = searches_after p outcome }
+-- from this provider on, the search that has the number tells its Stream
+abbrev TellsFrom : DirectoryState → SearchState → ℕ → List Write → List SyncMessage → List Call → ProviderState → Type 0
+TellsFrom d0 s0 number writes before calls p =
+    (s : SearchState) → search_at p.searches number ≡ Some s → Stands d0 s0 p.directory s before → BeginsWith (run p calls).directory writes
+    → IsTold d0 s0 before writes (told number p calls)
+
+-- and so it does where that is what an operation left, which was judged so
+judged_told : (d0 : DirectoryState) (s0 : SearchState) (number : ℕ) (writes : List Write) (before : List SyncMessage) (calls : List Call) (p : ProviderState) (outcome : Result Write ℕ)
+    → ((after : ProviderState) → TellsFrom d0 s0 number writes before calls after) → (s : SearchState) → search_at p.searches number ≡ Some s → Stands d0 s0 p.directory s before
+    → BeginsWith (run (after_judged p outcome) calls).directory writes → IsTold d0 s0 before writes (told number (after_judged p outcome) calls)
+judged_told d0 s0 number writes before calls p (Ok w) rest s found stands =
+    rest (after_judged p (Ok w)) (informed p.queue_limit p.directory w s) (informed_at p.queue_limit p.directory w p.searches number s found)
+    (informed_stands d0 s0 p.queue_limit p.directory w s before stands)
+judged_told d0 s0 number writes before calls p (Err code) rest s found stands = rest (after_judged p (Err code)) s found stands
 
 pub told_is : (calls : List Call) (d0 : DirectoryState) (s0 : SearchState) (number : ℕ) (p : ProviderState) (s : SearchState) (before : List SyncMessage) (writes : List Write)
     → search_at p.searches number ≡ Some s → Stands d0 s0 p.directory s before → BeginsWith (run p calls).directory writes → IsTold d0 s0 before writes (told number p calls)
 told_is [] d0 s0 number p s before writes found stands begins =
     now_told d0 s0 p number s before [] (pending_at p number) writes found stands (ap pending_of found) begins
-told_is (Writes op now ∷ calls) d0 s0 number p s before writes found stands begins = by (told_is calls d0 s0 number) (judged p.directory op now) begins
-  where
-    by : ((after : ProviderState) (t : SearchState) (sent : List SyncMessage) (all : List Write) → search_at after.searches number ≡ Some t → Stands d0 s0 after.directory t sent
-        → BeginsWith (run after calls).directory all → IsTold d0 s0 sent all (told number after calls))
-        → (outcome : Result Write ℕ) → BeginsWith (run (judged_so p outcome) calls).directory writes → IsTold d0 s0 before writes (told number (judged_so p outcome) calls)
-    by rest (Ok w) goes =
-        rest (judged_so p (Ok w)) (informed p.queue_limit p.directory w s) before writes (informed_at p.queue_limit p.directory w p.searches number s found)
-        (informed_stands d0 s0 p.queue_limit p.directory w s before stands) goes
-    by rest (Err code) goes = rest (judged_so p (Err code)) s before writes found stands goes
+told_is (Writes op now ∷ calls) d0 s0 number p s before writes found stands begins =
+    judged_told d0 s0 number writes before calls p (judged_by p.kind p.directory op now)
+    (λ after t. told_is calls d0 s0 number after t before writes) s found stands begins
+told_is (Commits puts drops now ∷ calls) d0 s0 number p s before writes found stands begins =
+    commit_case (λ q. BeginsWith (run q calls).directory writes → IsTold d0 s0 before writes (told number q calls)) p
+    (Commit puts drops) now (commit_refusal p.kind p.directory puts drops now)
+    (told_is calls d0 s0 number p s before writes found stands)
+    (judged_told d0 s0 number writes before calls p (judged p.directory (Commit puts drops) now)
+    (λ after t. told_is calls d0 s0 number after t before writes) s found stands) begins
 told_is (Accepts ask ∷ calls) d0 s0 number p s before writes found stands begins =
     told_is calls d0 s0 number (called p (Accepts ask)) s before writes
     (answered_other p.directory p.searches ask (answer_to p.directory p.searches ask) refl number s found) stands begins

@@ -4,31 +4,38 @@ use Rattle.std.specs.Prelude.{◌≡◌, ◌≤◌, ◌⊎◌, ⊤, ℕ, ◌+◌
 use Rattle.std.specs.List.{list_all}
 use Rattle.csn_cookie.specs.Csn.{start, upto}
 use Rattle.dn_names.specs.Names.{TypeAndValue}
+use Rattle.entry_tree.specs.declared.op.Op.{Op}
+use Rattle.entry_tree.specs.declared.op.Op.TheVariants.{Commit}
 use Rattle.entry_tree.specs.declared.op.Write.{Write}
+use Rattle.entry_tree.specs.Fitting.{is_light}
 use Rattle.entry_tree.specs.History.{state_of, touched_over}
 use Rattle.entry_tree.specs.Selection.{search_of}
-use Rattle.entry_tree.specs.Sound.{is_sound_op}
+use Rattle.entry_tree.specs.Sound.{is_commit, is_sound_op, is_sound_put}
 use Rattle.session_log.specs.Log.{covers, since}
 use Rattle.sync_model.specs.Incremental.{number_of, sent_entry}
 use Rattle.sync_model.specs.Message.{SyncMessage}
 use Rattle.sync_model.specs.Law.{is_nil}
 use Rattle.sync_model.specs.Stream.{Session, among, later, stream}
 use Rattle.sync_provider.specs.Accepting.{answer_to, start_of_ask, persists_of_ask}
+use Rattle.sync_provider.specs.Committing.{commit_refusal}
 use Rattle.directory_writes.specs.Directory.{DirectoryState, last_stamp, stamps, judged, with_write, AreAccepted}
 use Rattle.sync_provider.specs.HandingOut.{search_at}
-use Rattle.sync_provider.specs.Machine.{ProviderState, Call, fresh, accepted, called, run}
-use Rattle.sync_provider.specs.Machine.Call.{Writes, Accepts, HandsOut, Drops, SetsLogLimit, SetsQueueLimit}
+use Rattle.sync_provider.specs.Machine.{ProviderState, Call, fresh, judged_by, accepted, called, run}
+use Rattle.sync_provider.specs.Machine.Call.{Writes, Commits, Accepts, HandsOut, Drops, SetsLogLimit, SetsQueueLimit}
 use Rattle.sync_provider.specs.Queueing.{is_full, group_of}
 use Rattle.sync_provider.specs.Search.{SearchState, session_of, whole_walk, refresh_from, opening, busy_end, pending, is_end}
 use Rattle.directory_writes.specs.Touches.{last_touch}
+use Rattle.sync_provider.specs.declared.provider.Kind.{Kind}
 use Rattle.sync_provider.specs.declared.searches.Accepted.TheVariants.{Opened}
 use Rattle.sync_provider.specs.declared.searches.SyncSearch.{SyncSearch}
+use Rattle.sync_provider.specs.declared.writing.CommitFault.{CommitFault}
 
 -- ---- the writes
 
--- a write that a client may ask for, or another call
+-- a write that a client may ask for, a commit of entries that a directory may have, or another call
 abbrev pub is_sound_call : Call → Bool
-is_sound_call (Writes op now) = is_sound_op op
+is_sound_call (Writes op now) = is_sound_op op && not (is_commit op)
+is_sound_call (Commits puts drops now) = list_all is_sound_put puts && list_all is_light puts
 is_sound_call (Accepts ask) = true
 is_sound_call (HandsOut number) = true
 is_sound_call (Drops number) = true
@@ -38,8 +45,8 @@ is_sound_call (SetsQueueLimit limit) = true
 -- after every list of sound calls, each kept write was accepted on the entries before it
 abbrev pub WritesWereAccepted : Type 0
 WritesWereAccepted =
-    (suffix : List (List TypeAndValue)) (sid history : ℕ) (calls : List Call) → list_all is_sound_call calls ≡ true
-    → AreAccepted suffix history (run (fresh suffix sid history) calls).directory.writes
+    (suffix : List (List TypeAndValue)) (sid history : ℕ) (kind : Kind) (calls : List Call) → list_all is_sound_call calls ≡ true
+    → AreAccepted suffix history (run (fresh suffix sid history kind) calls).directory.writes
 
 -- so many stamps are not above that of the write of that number, or above the one before all where the number is 0
 abbrev pub NamesItsPrefix : ℕ → List Write → Type 0
@@ -48,7 +55,7 @@ NamesItsPrefix sid writes = (number : ℕ) → number ≤ length writes → upto
 -- after every list of calls, the stamp in the cookie of a content tells how many writes led to it
 abbrev pub CookiesNameTheirPrefix : Type 0
 CookiesNameTheirPrefix =
-    (suffix : List (List TypeAndValue)) (sid history : ℕ) (calls : List Call) → NamesItsPrefix sid (run (fresh suffix sid history) calls).directory.writes
+    (suffix : List (List TypeAndValue)) (sid history : ℕ) (kind : Kind) (calls : List Call) → NamesItsPrefix sid (run (fresh suffix sid history kind) calls).directory.writes
 
 -- ---- what the writes touched
 
@@ -66,7 +73,7 @@ LogTells d =
 
 -- after every list of calls
 abbrev pub LogsTellWhatWasTouched : Type 0
-LogsTellWhatWasTouched = (suffix : List (List TypeAndValue)) (sid history : ℕ) (calls : List Call) → LogTells (run (fresh suffix sid history) calls).directory
+LogsTellWhatWasTouched = (suffix : List (List TypeAndValue)) (sid history : ℕ) (kind : Kind) (calls : List Call) → LogTells (run (fresh suffix sid history kind) calls).directory
 
 -- the number of an identity's last touch is above a number exactly where the writes since then touched it
 abbrev pub NumberTells : DirectoryState → Type 0
@@ -77,7 +84,7 @@ NumberTells d =
 
 -- after every list of calls
 abbrev pub NumbersTellWhatWasTouched : Type 0
-NumbersTellWhatWasTouched = (suffix : List (List TypeAndValue)) (sid history : ℕ) (calls : List Call) → NumberTells (run (fresh suffix sid history) calls).directory
+NumbersTellWhatWasTouched = (suffix : List (List TypeAndValue)) (sid history : ℕ) (kind : Kind) (calls : List Call) → NumberTells (run (fresh suffix sid history kind) calls).directory
 
 -- ---- the Stream of a search
 
@@ -124,8 +131,8 @@ EachSearch P (search ∷ searches) = P search.1 × EachSearch P searches
 -- after every list of calls, each open search is at its place in its Stream
 abbrev pub SearchesKeepTheirPlace : Type 0
 SearchesKeepTheirPlace =
-    (suffix : List (List TypeAndValue)) (sid history : ℕ) (calls : List Call)
-    → EachSearch (KeepsItsPlace (run (fresh suffix sid history) calls).directory) (run (fresh suffix sid history) calls).searches
+    (suffix : List (List TypeAndValue)) (sid history : ℕ) (kind : Kind) (calls : List Call)
+    → EachSearch (KeepsItsPlace (run (fresh suffix sid history kind) calls).directory) (run (fresh suffix sid history kind) calls).searches
 
 -- ---- what one search hands out over the calls after its acceptance
 
@@ -162,6 +169,7 @@ first_told p number (message ∷ rest) later =
 abbrev pub told : ℕ → ProviderState → List Call → Told
 told number p [] = told_now p number [] (pending_at p number)
 told number p (Writes op now ∷ calls) = told number (called p (Writes op now)) calls
+told number p (Commits puts drops now ∷ calls) = told number (called p (Commits puts drops now)) calls
 told number p (Accepts ask ∷ calls) = told number (called p (Accepts ask)) calls
 told number p (SetsLogLimit limit ∷ calls) = told number (called p (SetsLogLimit limit)) calls
 told number p (SetsQueueLimit limit ∷ calls) = told number (called p (SetsQueueLimit limit)) calls
@@ -200,9 +208,9 @@ TellsItsStream p ask number calls =
 
 abbrev pub SearchesTellTheirStreams : Type 0
 SearchesTellTheirStreams =
-    (suffix : List (List TypeAndValue)) (sid history : ℕ) (before after : List Call) (ask : SyncSearch) (number count : ℕ)
-    → answer_to (run (fresh suffix sid history) before).directory (run (fresh suffix sid history) before).searches ask ≡ Opened number count
-    → TellsItsStream (run (fresh suffix sid history) before) ask number after
+    (suffix : List (List TypeAndValue)) (sid history : ℕ) (kind : Kind) (before after : List Call) (ask : SyncSearch) (number count : ℕ)
+    → answer_to (run (fresh suffix sid history kind) before).directory (run (fresh suffix sid history kind) before).searches ask ≡ Opened number count
+    → TellsItsStream (run (fresh suffix sid history kind) before) ask number after
 
 -- ---- when a write is too much, by the writes and a count of what was handed out
 
@@ -224,6 +232,11 @@ after_write p s (Err code) t = t
 after_write p s (Ok write) t =
     record t { over = t.over || (s.persists && is_too_much p.queue_limit p.directory s write t.handed) }
 
+-- a commit is a write where nothing is against it
+abbrev pub after_commit : ProviderState → SearchState → Op → ℕ → Option CommitFault → Tally → Tally
+after_commit p s op now None t = after_write p s (judged p.directory op now) t
+after_commit p s op now (Some fault) t = t
+
 -- one message more, where one is left
 abbrev pub after_hand_out : ProviderState → SearchState → Tally → Tally
 after_hand_out p s t =
@@ -235,7 +248,10 @@ after_hand_out p s t =
 abbrev pub is_over_after : ℕ → SearchState → ProviderState → Tally → List Call → Bool
 is_over_after number s p t [] = t.over
 is_over_after number s p t (Writes op now ∷ calls) =
-    is_over_after number s (called p (Writes op now)) (after_write p s (judged p.directory op now) t) calls
+    is_over_after number s (called p (Writes op now)) (after_write p s (judged_by p.kind p.directory op now) t) calls
+is_over_after number s p t (Commits puts drops now ∷ calls) =
+    is_over_after number s (called p (Commits puts drops now))
+    (after_commit p s (Commit puts drops) now (commit_refusal p.kind p.directory puts drops now) t) calls
 is_over_after number s p t (Accepts ask ∷ calls) = is_over_after number s (called p (Accepts ask)) t calls
 is_over_after number s p t (SetsLogLimit limit ∷ calls) = is_over_after number s (called p (SetsLogLimit limit)) t calls
 is_over_after number s p t (SetsQueueLimit limit ∷ calls) = is_over_after number s (called p (SetsQueueLimit limit)) t calls
@@ -247,10 +263,10 @@ is_over_after number s p t (Drops other ∷ calls) =
 -- over every list of calls, a search ends with the code busy exactly where a write is too much for it
 abbrev pub QueuesOverflowExactly : Type 0
 QueuesOverflowExactly =
-    (suffix : List (List TypeAndValue)) (sid history : ℕ) (before after : List Call) (ask : SyncSearch) (number count : ℕ)
-    → answer_to (run (fresh suffix sid history) before).directory (run (fresh suffix sid history) before).searches ask ≡ Opened number count
-    → (told number (accepted (run (fresh suffix sid history) before) ask) after).over
-    ≡ is_over_after number (asked (run (fresh suffix sid history) before) ask) (accepted (run (fresh suffix sid history) before) ask)
+    (suffix : List (List TypeAndValue)) (sid history : ℕ) (kind : Kind) (before after : List Call) (ask : SyncSearch) (number count : ℕ)
+    → answer_to (run (fresh suffix sid history kind) before).directory (run (fresh suffix sid history kind) before).searches ask ≡ Opened number count
+    → (told number (accepted (run (fresh suffix sid history kind) before) ask) after).over
+    ≡ is_over_after number (asked (run (fresh suffix sid history kind) before) ask) (accepted (run (fresh suffix sid history kind) before) ask)
     (record { handed = 0; over = false }) after
 
 -- ---- what is sent from a cookie
@@ -273,6 +289,6 @@ SendsWhatWasTouched p ask number count calls =
 -- acceptance
 abbrev pub RefreshesAreIncremental : Type 0
 RefreshesAreIncremental =
-    (suffix : List (List TypeAndValue)) (sid history : ℕ) (before after : List Call) (ask : SyncSearch) (number count : ℕ)
-    → answer_to (run (fresh suffix sid history) before).directory (run (fresh suffix sid history) before).searches ask ≡ Opened number count
-    → SendsWhatWasTouched (run (fresh suffix sid history) before) ask number count after
+    (suffix : List (List TypeAndValue)) (sid history : ℕ) (kind : Kind) (before after : List Call) (ask : SyncSearch) (number count : ℕ)
+    → answer_to (run (fresh suffix sid history kind) before).directory (run (fresh suffix sid history kind) before).searches ask ≡ Opened number count
+    → SendsWhatWasTouched (run (fresh suffix sid history kind) before) ask number count after

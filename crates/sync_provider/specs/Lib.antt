@@ -1,5 +1,6 @@
 -- The searches with content synchronisation that are open on a directory.
 pub mod Accepting
+pub mod Committing
 pub mod Gathering
 pub mod HandingOut
 pub mod Law

@@ -1,20 +1,27 @@
 -- A provider as a machine: what each call does to its directory and its open searches, where memory suffices.
-use Rattle.std.specs.Prelude.{ℕ, List, [], ◌∷◌, map, Result, Ok, Err}
+use Rattle.std.specs.Prelude.{ℕ, List, [], ◌∷◌, map, Option, Some, None, Result, Ok, Err}
 use Rattle.dn_names.specs.Names.{TypeAndValue}
+use Rattle.entry_tree.specs.declared.entry.Entry.{Entry}
 use Rattle.entry_tree.specs.declared.op.Op.{Op}
+use Rattle.entry_tree.specs.declared.op.Op.TheVariants.{Commit}
 use Rattle.entry_tree.specs.declared.op.Write.{Write}
 use Rattle.sync_provider.specs.Accepting as accepting
 use Rattle.sync_provider.specs.Accepting.{answer_to}
-use Rattle.directory_writes.specs.Directory.{DirectoryState, fresh_directory, judged, written, with_log_limit}
+use Rattle.directory_writes.specs.Directory.{DirectoryState, fresh_directory, judged, with_judged, code_of_judged, with_log_limit}
+use Rattle.sync_provider.specs.Committing.{commit_refusal}
 use Rattle.sync_provider.specs.HandingOut as handing
 use Rattle.sync_provider.specs.HandingOut.{turn_at, closed}
 use Rattle.sync_provider.specs.Queueing.{informed}
 use Rattle.sync_provider.specs.Search.{SearchState}
+use Rattle.sync_provider.specs.declared.provider.Kind.{Kind}
+use Rattle.sync_provider.specs.declared.provider.Kind.TheVariants.{Root, Replica}
 use Rattle.sync_provider.specs.declared.searches.SyncSearch.{SyncSearch}
+use Rattle.sync_provider.specs.declared.writing.CommitFault.{CommitFault}
 
--- the directory, the open searches by their numbers, ascending, and how many messages of later writes each may have
+-- where its writes come from, the directory, the open searches by their numbers, ascending, and how many messages of later writes each may have
 -- pending
 pub record ProviderState : Type 0 where
+  pub kind : Kind
   pub directory : DirectoryState
   pub searches : List (ℕ × SearchState)
   pub queue_limit : ℕ
@@ -23,9 +30,11 @@ pub record ProviderState : Type 0 where
 abbrev pub first_queue_limit : ℕ
 first_queue_limit = 4096
 
-abbrev pub fresh : List (List TypeAndValue) → ℕ → ℕ → ProviderState
-fresh suffix sid history =
-    record { directory = fresh_directory suffix sid history; searches = []; queue_limit = first_queue_limit }
+abbrev pub fresh : List (List TypeAndValue) → ℕ → ℕ → Kind → ProviderState
+fresh suffix sid history kind =
+    record { kind = kind; directory = fresh_directory suffix sid history; searches = []; queue_limit = first_queue_limit }
+
+-- ---- writes
 
 -- each open search after a write of the directory
 abbrev pub each_informed : ℕ → DirectoryState → Write → List (ℕ × SearchState) → List (ℕ × SearchState)
@@ -36,9 +45,32 @@ abbrev pub searches_after : ProviderState → Result Write ℕ → List (ℕ × 
 searches_after p (Ok write) = each_informed p.queue_limit p.directory write p.searches
 searches_after p (Err code) = p.searches
 
--- an accepted write is told in the same call to each open search whose content it changes
+-- the provider after an operation that was judged so: an accepted write is told in the same call to each open search
+-- whose content it changes
+abbrev pub after_judged : ProviderState → Result Write ℕ → ProviderState
+after_judged p outcome = record p { directory = with_judged p.directory outcome; searches = searches_after p outcome }
+
+-- a client's operation, judged: a replica is unwilling to perform any (53)
+abbrev pub judged_by : Kind → DirectoryState → Op → ℕ → Result Write ℕ
+judged_by Root d op now = judged d op now
+judged_by Replica d op now = Err 53
+
+abbrev pub write_code : ProviderState → Op → ℕ → ℕ
+write_code p op now = code_of_judged (judged_by p.kind p.directory op now)
+
 abbrev pub wrote : ProviderState → Op → ℕ → ProviderState
-wrote p op now = record p { directory = written p.directory op now; searches = searches_after p (judged p.directory op now) }
+wrote p op now = after_judged p (judged_by p.kind p.directory op now)
+
+-- the provider after a commit, by what is against it: where nothing is, it is judged and told as each write is
+abbrev pub after_commit : ProviderState → Op → ℕ → Option CommitFault → ProviderState
+after_commit p op now None = after_judged p (judged p.directory op now)
+after_commit p op now (Some fault) = p
+
+-- one write more, which puts these entries and drops these identities, where nothing is against it
+abbrev pub committed : ProviderState → List Entry → List ℕ → ℕ → ProviderState
+committed p puts drops now = after_commit p (Commit puts drops) now (commit_refusal p.kind p.directory puts drops now)
+
+-- ---- other calls
 
 abbrev pub accepted : ProviderState → SyncSearch → ProviderState
 accepted p ask = record p { searches = accepting.after_answer p.directory p.searches ask (answer_to p.directory p.searches ask) }
@@ -58,6 +90,7 @@ queue_limited p limit = record p { queue_limit = limit }
 
 pub data Call : Type 0 where
   Writes : (op : Op) (now : ℕ) → Call
+  Commits : (puts : List Entry) (drops : List ℕ) (now : ℕ) → Call
   Accepts : (ask : SyncSearch) → Call
   HandsOut : (number : ℕ) → Call
   Drops : (number : ℕ) → Call
@@ -66,6 +99,7 @@ pub data Call : Type 0 where
 
 abbrev pub called : ProviderState → Call → ProviderState
 called p (Writes op now) = wrote p op now
+called p (Commits puts drops now) = committed p puts drops now
 called p (Accepts ask) = accepted p ask
 called p (HandsOut number) = handed_out p number
 called p (Drops number) = dropped p number

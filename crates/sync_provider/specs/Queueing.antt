@@ -1,6 +1,6 @@
 -- The queue of a search that goes on after its refresh: the messages of later writes that are not handed out yet
 -- (RFC 4533, section 3.4).
-use Rattle.std.specs.Prelude.{ℕ, ◌+◌, Bool, true, false, cond, not, ◌&&◌, ◌||◌, nat_lt, List, [], ◌∷◌, ◌++◌, length, sum_by}
+use Rattle.std.specs.Prelude.{ℕ, ◌+◌, Bool, true, cond, not, ◌&&◌, ◌||◌, nat_lt, List, [], ◌∷◌, ◌++◌, length, sum_by}
 use Rattle.schema_rules.specs.Attributes.{weight_of}
 use Rattle.entry_tree.specs.declared.op.Write.{Write}
 use Rattle.sync_model.specs.Message.{SyncMessage}

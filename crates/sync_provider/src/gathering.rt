@@ -1,7 +1,9 @@
 //! How what is decided is gathered into messages (RFC 4533, section 3.3.2).
 
-ghost use Rattle.std.specs.Prelude.{◌≡◌, [], OnOk, IfOk};
-ghost use Rattle.sync_provider.specs.Gathering as spec;
+ghost use Rattle.std.specs.Prelude.{List, [], ◌∷◌, OnOk, IfOk};
+ghost use Rattle.sync_model.specs.Stream.{Decision};
+ghost use Rattle.sync_model.specs.Stream.Decision.{Sends, Names};
+ghost use Rattle.sync_provider.specs.Gathering.{IsGathered, Gathers, AreOf};
 
 use crate::NoMemory;
 use crate::parts::Part;
@@ -31,7 +33,7 @@ impl Model for Gathering {
 
 impl Gathering {
     pub(crate) fn new(alloc: Global) -> Gathering
-        ensures { result ≡ record { parts = []; names = [] } }
+        ensures { IsGathered [] result }
     {
         Gathering {
             parts: Vec::new(alloc),
@@ -41,7 +43,7 @@ impl Gathering {
 
     /// The entry is sent whole.
     pub(crate) fn send(&mut self, entry: Entry) -> Result<(), NoMemory>
-        ensures { OnOk result (self.new ≡ spec.with_entry self.old entry) }
+        ensures { OnOk result (Gathers (Sends entry ∷ []) self.old self.new) }
     {
         self.parts.push(Part::Whole(entry))?;
         Ok(())
@@ -49,7 +51,7 @@ impl Gathering {
 
     /// The identity is named. A set that is full goes at once.
     pub(crate) fn name(&mut self, alloc: Global, uuid: u128) -> Result<(), NoMemory>
-        ensures { OnOk result (self.new ≡ spec.with_name self.old uuid) }
+        ensures { OnOk result (Gathers (Names uuid ∷ []) self.old self.new) }
     {
         self.names.push(uuid)?;
         if self.names.list().len() >= MOST_NAMES {
@@ -61,12 +63,14 @@ impl Gathering {
 
     /// All messages. The rest of the names goes last.
     pub(crate) fn finish(self) -> Result<Vec<Part>, NoMemory>
-        ensures { IfOk result (λ parts. parts.items ≡ spec.finished self) }
+        ensures { IfOk result (λ parts.
+            (decisions : List Decision) → IsGathered decisions self → AreOf decisions parts.items) }
     {
         let Gathering { mut parts, names } = self;
-        if !names.list().is_empty() {
-            parts.push(Part::Names(names))?;
+        if names.list().is_empty() {
+            return Ok(parts);
         }
+        parts.push(Part::Names(names))?;
         Ok(parts)
     }
 }

@@ -11,8 +11,8 @@ ghost use Rattle.sync_provider.specs.Law.{
   WritesWereAccepted,
 };
 
-/// After every list of calls whose writes are sound, each write that is kept was accepted on the
-/// entries before it.
+/// After every list of calls whose writes and commits are sound, each write that is kept was accepted
+/// on the entries before it.
 pub fn writes_were_accepted()
     ensures { WritesWereAccepted }
 {}
@@ -35,8 +35,9 @@ pub fn numbers_tell_what_was_touched()
     ensures { NumbersTellWhatWasTouched }
 {}
 
-/// After every list of calls, what is pending of each open search is its Stream over the writes
-/// without the messages that were handed out, unless a write was too much for it.
+/// After every list of calls, what is pending of each open search is an end of its refresh and then an
+/// end of what the later writes send, all of that where something of the refresh is left; unless a
+/// write was too much for the search.
 pub fn searches_keep_their_place()
     ensures { SearchesKeepTheirPlace }
 {}

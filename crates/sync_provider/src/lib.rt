@@ -1,6 +1,9 @@
 //! A directory with its accepted writes, and the searches with content synchronisation that are open
 //! on it (RFC 4533, section 3, the server's part).
 //!
+//! The directory of a root has the writes of clients. That of a replica has commits of what it took
+//! from the provider that it follows; each of them is one write, and is told to its own searches.
+//!
 //! Each search begins with a refresh, whose end carries the cookie of the content. Without a cookie
 //! every entry that its specification selects is sent whole. With a cookie of the directory only
 //! what was touched since then is sent. The rest is a delete phase, where the session log tells what
@@ -27,6 +30,7 @@ mod searches;
 mod selecting;
 mod staging;
 mod telling;
+mod writing;
 
 pub use handed::Handed;
 pub use laws::{
@@ -37,6 +41,7 @@ pub use laws::{
 pub use ldap_ber::NoMemory;
 pub use open_search::OpenSearch;
 pub use open_searches::OpenSearches;
-pub use provider::{Kind, Provider, Reply};
+pub use provider::{Kind, Provider};
 pub use searches::{Accepted, SyncSearch};
 pub use sync_wire::done_message;
+pub use writing::{CommitFault, Reply};

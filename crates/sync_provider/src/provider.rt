@@ -1,8 +1,7 @@
 //! A directory with the searches that are open on it.
 
-ghost use Rattle.std.specs.Prelude.{◌≡◌, ◌≢◌, ◌≤◌, ◌-◌, ◌<◌, ◌^◌, true, length, slice_get, is_some, Some, IfOk, IfSome, OnOk, OnErr};
+ghost use Rattle.std.specs.Prelude.{◌≡◌, ◌≤◌, ◌-◌, ◌<◌, ◌^◌, length, slice_get, is_some, Some, IfOk, IfSome};
 ghost use Rattle.csn_cookie.specs.Csn as csns;
-ghost use Rattle.entry_tree.specs.Sound.{is_sound_op};
 ghost use Rattle.directory_writes.specs.Directory as directory;
 ghost use Rattle.sync_provider.specs.HandingOut as handing;
 ghost use Rattle.sync_provider.specs.Machine as machine;
@@ -10,17 +9,13 @@ ghost use Rattle.sync_provider.specs.Machine as machine;
 use crate::NoMemory;
 use crate::handed::Handed;
 use crate::open_search::{OpenSearch, discard};
-use crate::staging::{any_queueing, push_each, stage_write};
 use csn_cookie::Csn;
 use directory_writes::Directory;
 use dn_names::Dn;
-use entry_tree::{Op, OpFault, Tree, Write};
-use std::alloc::{AllocError, Global};
+use entry_tree::{Tree, Write};
+use std::alloc::Global;
 use std::collections::BTreeMap;
 use std::marker::Model;
-
-/// other (RFC 4511, appendix A.1): memory ran out.
-const OTHER: u32 = 80;
 
 /// How many messages of later writes a search of a new provider may have pending.
 const FIRST_QUEUE_LIMIT: u64 = 4_096;
@@ -30,20 +25,14 @@ const FIRST_QUEUE_LIMIT: u64 = 4_096;
 pub enum Kind {
     /// From clients.
     Root,
-}
-
-/// The answer to a write.
-#[derive(Clone, Copy, Debug, PartialEq, Eq)]
-pub struct Reply {
-    /// 0 where the write was accepted, and 80 where memory ran out.
-    pub code: u32,
-    /// How many writes are accepted after it.
-    pub number: u64,
+    /// From the provider that it follows, whose content it takes by commits.
+    Replica,
 }
 
 /// A directory with the searches that are open on it, by their numbers.
 #[derive(Drop)]
 pub struct Provider {
+    pub(crate) kind: Kind,
     pub(crate) directory: Directory,
     pub(crate) searches: BTreeMap<u64, OpenSearch>,
     /// How many messages of later writes each search may have pending.
@@ -61,6 +50,7 @@ impl Model for Provider {
     ghost coded = { Prim.hlevel (codes, tree_code) };
 
     ghost view = { λ p. record {
+      kind = p.kind;
       directory = p.directory;
       searches = searches_of p.searches.entries;
       queue_limit = p.queue_limit;
@@ -75,61 +65,17 @@ impl Provider {
         suffix: Dn,
         sid: u16,
         history: u128,
-        _kind: Kind,
+        kind: Kind,
     ) -> Result<Provider, NoMemory>
         requires { sid < 4096 }
-        ensures { IfOk result (λ provider. provider ≡ machine.fresh suffix sid history) }
+        ensures { IfOk result (λ provider. provider ≡ machine.fresh suffix sid history kind) }
     {
         Ok(Provider {
+            kind,
             directory: Directory::new(alloc, suffix, sid, history),
             searches: BTreeMap::new(alloc),
             queue_limit: FIRST_QUEUE_LIMIT,
         })
-    }
-
-    /// Applies a write where the clock shows `now`, in microseconds from the first moment of 1970
-    /// on, and tells it to the searches that go on and whose content it changes. A write that is not
-    /// accepted leaves all as it was.
-    #[tactic(auto, using(crate::proofs::Told::unwritten_all))]
-    pub fn write(&mut self, alloc: Global, op: Op, now: u64) -> Reply
-        requires { is_sound_op op ≡ true }
-        ensures code { result.code ≢ 80 → result.code ≡ directory.write_code self.old.directory op now }
-        ensures state { result.code ≢ 80 → self.new ≡ machine.wrote self.old op now }
-        ensures err { result.code ≡ 80 → self.new ≡ self.old }
-        ensures number { result.number ≡ length self.new.directory.writes }
-    {
-        let code = match self.write_and_tell(alloc, op, now) {
-            Ok(code) => code,
-            Err(_) => OTHER,
-        };
-        Reply {
-            code,
-            number: self.writes(),
-        }
-    }
-
-    /// The code of the write.
-    #[tactic(auto, using(crate::proofs::Told::refused_view, crate::proofs::Told::code_none))]
-    fn write_and_tell(&mut self, alloc: Global, op: Op, now: u64) -> Result<u32, NoMemory>
-        requires { is_sound_op op ≡ true }
-        ensures code { IfOk result (λ code. code ≡ directory.write_code self.old.directory op now) }
-        ensures state { OnOk result (self.new ≡ machine.wrote self.old op now) }
-        ensures err { OnErr result (self.new ≡ self.old) }
-    {
-        if !any_queueing(&self.searches) {
-            return self.directory.write(alloc, op, now);
-        }
-        match stage_write(&mut self.searches, alloc, &self.directory, &op, now) {
-            Ok(()) => {
-                let code = self.directory.write(alloc, op, now)?;
-                push_each(&mut self.searches, self.queue_limit);
-                Ok(code)
-            }
-            Err(fault) => {
-                discard(op);
-                code_of(fault)
-            }
-        }
     }
 
     /// The next message of the search with this number. Where memory runs out the same message is
@@ -225,15 +171,5 @@ impl Provider {
         ensures { result ≡ self.now.directory.history }
     {
         self.directory.history()
-    }
-}
-
-/// The code that a fault tells.
-fn code_of(fault: OpFault) -> Result<u32, NoMemory>
-    ensures { IfOk result (λ code. fault ≡ OpFault.Code code) }
-{
-    match fault {
-        OpFault::Code(code) => Ok(code),
-        OpFault::NoMemory => Err(AllocError),
     }
 }

@@ -7,7 +7,7 @@ ghost use Rattle.entry_tree.specs.Selection.{search_of};
 ghost use Rattle.refresh_present.specs.Item.{identities as item_identities};
 ghost use Rattle.sync_model.specs.Stream.{is_covered};
 ghost use Rattle.directory_writes.specs.Directory.{cookie_of, entries_of};
-ghost use Rattle.sync_provider.specs.Gathering as sets;
+ghost use Rattle.sync_provider.specs.Gathering.{Gathers, AreOf};
 ghost use Rattle.sync_provider.specs.Refreshing as refreshing;
 ghost use Rattle.directory_writes.specs.Starting.{start_of, IsServed};
 ghost use Rattle.sync_provider.specs.Search.{messages_of, session_of, refresh_from};
@@ -110,8 +110,8 @@ fn gather(
     directory: &Directory,
     decisions: &[Decision],
 ) -> Result<Vec<Part>, NoMemory>
-    ensures { IfOk result (λ parts. parts.items ≡ sets.finished
-        (sets.gathered_all (refreshing.said_all (entries_of directory.now) decisions.now))) }
+    ensures { IfOk result (λ parts.
+        AreOf (refreshing.said_all (entries_of directory.now) decisions.now) parts.items) }
 {
     let mut gathering = Gathering::new(alloc);
     for decision in decisions {
@@ -120,14 +120,15 @@ fn gather(
     gathering.finish()
 }
 
+/// What one decision says comes behind what is gathered.
+#[tactic(auto, using(crate::proofs::Sets::gathers_nothing))]
 fn gather_one(
     alloc: Global,
     directory: &Directory,
     gathering: &mut Gathering,
     decision: Decision,
 ) -> Result<(), NoMemory>
-    ensures { OnOk result (gathering.new ≡ sets.gathered_more gathering.old
-        (refreshing.said (entries_of directory.now) decision)) }
+    ensures { OnOk result (Gathers (refreshing.said (entries_of directory.now) decision) gathering.old gathering.new) }
 {
     match decision {
         Decision::Send(uuid) => match directory.tree().get(uuid) {

@@ -8,7 +8,8 @@ ghost use Rattle.std.specs.Prelude.{◌≡◌, ◌<◌, true, is_some, OnOk, IfE
 ghost use Rattle.std.specs.List.{list_all, list_any};
 ghost use Rattle.std.specs.Map.{values_of};
 ghost use Rattle.csn_cookie.specs.Cookie.{cookie_text};
-ghost use Rattle.directory_writes.specs.Directory.{judged, Refuses};
+ghost use Rattle.directory_writes.specs.Directory.{entries_of, judged, Refuses};
+ghost use Rattle.entry_tree.specs.Fitting.{fits};
 ghost use Rattle.entry_tree.specs.Sound.{is_sound_op};
 ghost use Rattle.sync_provider.specs.Queueing.{is_queueing};
 ghost use Rattle.sync_provider.specs.Staging.{searches_of, each_pushed, AreStaged, IsToldAhead};
@@ -30,7 +31,8 @@ pub(crate) fn stage_write(
     op: &Op,
     now: u64,
 ) -> Result<(), OpFault>
-    requires { is_sound_op op.now ≡ true }
+    requires sound { is_sound_op op.now ≡ true }
+    requires fits { fits (entries_of directory.now) op.now ≡ true }
     ensures searches { searches_of searches.new.entries ≡ searches_of searches.old.entries }
     ensures staged { OnOk result (IsToldAhead directory.now op.now now searches.new.entries) }
     ensures refused { IfErr result (Refuses (judged directory.now op.now now)) }

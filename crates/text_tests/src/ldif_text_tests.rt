@@ -5,6 +5,7 @@ use ldap_ber::{NoMemory, Octets, OctetsList};
 use ldif_text::{LdifFault, Records, write_entry};
 use schema_rules::{Attrs, Change, EditList, How, RawAttribute, RawList};
 use std::alloc::{AllocError, Global};
+use std::process::Abort;
 use std::test::Fail;
 
 /// Appends the type with its values, as ` cn|a|b`.
@@ -385,100 +386,101 @@ fn examples_are_read(rt: HostRuntime) -> Result<(), Fail> {
     Ok(())
 }
 
-const RULES: [(&[u8], &[u8]); 45] = [
-    (b"", b"end"),
-    (b"\n# c\n d\n\n", b"end"),
-    (b"dn: a\r\ncn:  x \r\n", b"add a cn|x  @2\nend"),
-    (b"dn: a\nCN: x\nsn: y\ncn: z", b"add a CN|x|z sn|y @4\nend"),
-    (b"dn: a\ncn: x\n# c\n d\n", b"add a cn|x @2\nend"),
+const RULES: [(&str, &str); 45] = [
+    ("", "end"),
+    ("\n# c\n d\n\n", "end"),
+    ("dn: a\r\ncn:  x \r\n", "add a cn|x  @2\nend"),
+    ("dn: a\nCN: x\nsn: y\ncn: z", "add a CN|x|z sn|y @4\nend"),
+    ("dn: a\ncn: x\n# c\n d\n", "add a cn|x @2\nend"),
     (
-        b"dn: a\ncn: x\n \n y\n\n\ndn: b\nsn:",
-        b"add a cn|xy @4\nadd b sn| @8\nend",
+        "dn: a\ncn: x\n \n y\n\n\ndn: b\nsn:",
+        "add a cn|xy @4\nadd b sn| @8\nend",
     ),
-    (b"dn:: YQ==\ncn: <x\nsn: :y\n", b"add a cn|<x sn|:y @3\nend"),
+    ("dn:: YQ==\ncn: <x\nsn: :y\n", "add a cn|<x sn|:y @3\nend"),
     (
-        b"version: 1\n\n# c\n\ndn: a\nchangetype: delete",
-        b"delete a @6\nend",
+        "version: 1\n\n# c\n\ndn: a\nchangetype: delete",
+        "delete a @6\nend",
     ),
-    (b"dn: a\nchangetype: modify\n", b"modify a @2\nend"),
+    ("dn: a\nchangetype: modify\n", "modify a @2\nend"),
     (
-        b"dn: a\nchangetype: modify\nadd: cn\nCN: x",
-        b"modify a + cn|x @4\nend",
+        "dn: a\nchangetype: modify\nadd: cn\nCN: x",
+        "modify a + cn|x @4\nend",
     ),
     (
-        b"dn: a\nchangetype: modify\nreplace: cn\n-\n",
-        b"modify a = cn @4\nend",
+        "dn: a\nchangetype: modify\nreplace: cn\n-\n",
+        "modify a = cn @4\nend",
     ),
-    (b"dn: a\nchangetype:: ZGVsZXRl\n", b"delete a @2\nend"),
-    (b"dn: a\ncontrol: 1\n", b"add a control|1 @2\nend"),
+    ("dn: a\nchangetype:: ZGVsZXRl\n", "delete a @2\nend"),
+    ("dn: a\ncontrol: 1\n", "add a control|1 @2\nend"),
     // Lines that are no lines of a record.
-    (b" dn: a\n", b"BadLine(1)"),
-    (b"dn: a\ncn: x\n\n y\n", b"add a cn|x @2\nBadLine(4)"),
-    (b"dn: a\ncn\n", b"BadLine(2)"),
-    (b"dn: a\ncn:< file:///x\n", b"BadLine(2)"),
-    (b"dn: a\ncn:<x\n", b"BadLine(2)"),
-    (b"dn: a\n-\n", b"BadLine(2)"),
-    (b"dn: a\nchangetype: modify\n-\n", b"BadLine(3)"),
-    (b"dn: a\nchangetype: modify\nadd: cn\n-\n-\n", b"BadLine(5)"),
-    (b"dn: a\nchangetype: delete\n-\n", b"BadLine(3)"),
+    (" dn: a\n", "BadLine(1)"),
+    ("dn: a\ncn: x\n\n y\n", "add a cn|x @2\nBadLine(4)"),
+    ("dn: a\ncn\n", "BadLine(2)"),
+    ("dn: a\ncn:< file:///x\n", "BadLine(2)"),
+    ("dn: a\ncn:<x\n", "BadLine(2)"),
+    ("dn: a\n-\n", "BadLine(2)"),
+    ("dn: a\nchangetype: modify\n-\n", "BadLine(3)"),
+    ("dn: a\nchangetype: modify\nadd: cn\n-\n-\n", "BadLine(5)"),
+    ("dn: a\nchangetype: delete\n-\n", "BadLine(3)"),
     // Values that are not in the padded standard form.
-    (b"dn: a\ncn:: eA\n", b"BadBase64(2)"),
-    (b"dn: a\ncn:: eB==\n", b"BadBase64(2)"),
-    (b"dn: a\ncn:: eA==x\n", b"BadBase64(2)"),
-    (b"dn: a\ncn:: eA=\n = \n", b"BadBase64(2)"),
+    ("dn: a\ncn:: eA\n", "BadBase64(2)"),
+    ("dn: a\ncn:: eB==\n", "BadBase64(2)"),
+    ("dn: a\ncn:: eA==x\n", "BadBase64(2)"),
+    ("dn: a\ncn:: eA=\n = \n", "BadBase64(2)"),
     // Other departures, at their line or at the last one.
-    (b"version: 1\n# c\n", b"BadChange(1)"),
-    (b"version: 2\ndn: a\ncn: x\n", b"BadChange(1)"),
+    ("version: 1\n# c\n", "BadChange(1)"),
+    ("version: 2\ndn: a\ncn: x\n", "BadChange(1)"),
     (
-        b"dn: a\ncn: x\n\nversion: 1\ndn: b\n",
-        b"add a cn|x @2\nBadChange(4)",
+        "dn: a\ncn: x\n\nversion: 1\ndn: b\n",
+        "add a cn|x @2\nBadChange(4)",
     ),
-    (b"cn: a\n", b"BadChange(1)"),
-    (b"DN: a\ncn: x\n", b"BadChange(1)"),
-    (b"dn: a\n b\n# c\n", b"BadChange(2)"),
-    (b"dn: a\nchangetype: add\n", b"BadChange(2)"),
-    (b"dn: a\nchangetype: moved\n", b"BadChange(2)"),
-    (b"dn: a\nchangetype: delete\ncn: x\n", b"BadChange(3)"),
-    (b"dn: a\nchangetype: delete\ncontrol: 1\n", b"BadChange(3)"),
+    ("cn: a\n", "BadChange(1)"),
+    ("DN: a\ncn: x\n", "BadChange(1)"),
+    ("dn: a\n b\n# c\n", "BadChange(2)"),
+    ("dn: a\nchangetype: add\n", "BadChange(2)"),
+    ("dn: a\nchangetype: moved\n", "BadChange(2)"),
+    ("dn: a\nchangetype: delete\ncn: x\n", "BadChange(3)"),
+    ("dn: a\nchangetype: delete\ncontrol: 1\n", "BadChange(3)"),
     (
-        b"dn: a\nchangetype: modify\nadd: cn\ncn: x\nadd: sn\n",
-        b"BadChange(5)",
-    ),
-    (
-        b"dn: a\nchangetype: modify\nincrement: uidNumber\n",
-        b"BadChange(3)",
+        "dn: a\nchangetype: modify\nadd: cn\ncn: x\nadd: sn\n",
+        "BadChange(5)",
     ),
     (
-        b"dn: a\nchangetype: modify\nadd: cn\nsn: x\n",
-        b"BadChange(4)",
-    ),
-    (b"dn: a\nchangetype: modrdn\n", b"BadChange(2)"),
-    (
-        b"dn: a\nchangetype: modrdn\nnewrdn: b\n \n\n",
-        b"BadChange(4)",
+        "dn: a\nchangetype: modify\nincrement: uidNumber\n",
+        "BadChange(3)",
     ),
     (
-        b"dn: a\nchangetype: modrdn\nnewrdn: b\ndeleteoldrdn: 2\n",
-        b"BadChange(4)",
+        "dn: a\nchangetype: modify\nadd: cn\nsn: x\n",
+        "BadChange(4)",
+    ),
+    ("dn: a\nchangetype: modrdn\n", "BadChange(2)"),
+    (
+        "dn: a\nchangetype: modrdn\nnewrdn: b\n \n\n",
+        "BadChange(4)",
     ),
     (
-        b"dn: a\nchangetype: modrdn\ndeleteoldrdn: 1\nnewrdn: b\n",
-        b"BadChange(3)",
+        "dn: a\nchangetype: modrdn\nnewrdn: b\ndeleteoldrdn: 2\n",
+        "BadChange(4)",
     ),
     (
-        b"dn: a\nchangetype: moddn\nnewrdn: b\ndeleteoldrdn: 1\nsuperior: c\n",
-        b"BadChange(5)",
+        "dn: a\nchangetype: modrdn\ndeleteoldrdn: 1\nnewrdn: b\n",
+        "BadChange(3)",
     ),
     (
-        b"dn: a\nchangetype: moddn\nnewrdn: b\ndeleteoldrdn: 1\nnewsuperior: c\ncn: x\n",
-        b"BadChange(6)",
+        "dn: a\nchangetype: moddn\nnewrdn: b\ndeleteoldrdn: 1\nsuperior: c\n",
+        "BadChange(5)",
+    ),
+    (
+        "dn: a\nchangetype: moddn\nnewrdn: b\ndeleteoldrdn: 1\nnewsuperior: c\ncn: x\n",
+        "BadChange(6)",
     ),
 ];
 
 #[test]
 fn rules_of_records(rt: HostRuntime) -> Result<(), Fail> {
     for (text, want) in &RULES {
-        assert_same(&rt, "rule", &told(rt.alloc(), text)?.as_slice(), want);
+        let found = told(rt.alloc(), text.as_bytes())?;
+        assert_same(&rt, text, &found.as_slice(), &want.as_bytes());
     }
     Ok(())
 }
@@ -592,36 +594,36 @@ fn entries_with_marks(rt: HostRuntime) -> Result<(), Fail> {
 }
 
 /// Names, and the lines that they are written on.
-const NAMES: [(&[u8], &[u8]); 16] = [
-    (b"", b"dn: \n\n"),
-    (b"cn=x", b"dn: cn=x\n\n"),
-    (b"a: b <c>", b"dn: a: b <c>\n\n"),
-    (b"#x", b"dn: #x\n\n"),
-    (b"\x7f", b"dn: \x7f\n\n"),
-    (b"a\tb", b"dn: a\tb\n\n"),
-    (b" ", b"dn:: IA==\n\n"),
-    (b" x", b"dn:: IHg=\n\n"),
-    (b"x ", b"dn:: eCA=\n\n"),
-    (b":x", b"dn:: Ong=\n\n"),
-    (b"<x", b"dn:: PHg=\n\n"),
-    (b"\x00", b"dn:: AA==\n\n"),
-    (b"a\nb", b"dn:: YQpi\n\n"),
-    (b"a\rb", b"dn:: YQ1i\n\n"),
-    (b"\xc3\xa9", b"dn:: w6k=\n\n"),
-    (b"\xff", b"dn:: /w==\n\n"),
+const NAMES: [(&str, &str); 15] = [
+    ("", "dn: \n\n"),
+    ("cn=x", "dn: cn=x\n\n"),
+    ("a: b <c>", "dn: a: b <c>\n\n"),
+    ("#x", "dn: #x\n\n"),
+    ("\x7f", "dn: \x7f\n\n"),
+    ("a\tb", "dn: a\tb\n\n"),
+    (" ", "dn:: IA==\n\n"),
+    (" x", "dn:: IHg=\n\n"),
+    ("x ", "dn:: eCA=\n\n"),
+    (":x", "dn:: Ong=\n\n"),
+    ("<x", "dn:: PHg=\n\n"),
+    ("\x00", "dn:: AA==\n\n"),
+    ("a\nb", "dn:: YQpi\n\n"),
+    ("a\rb", "dn:: YQ1i\n\n"),
+    ("é", "dn:: w6k=\n\n"),
 ];
+
+fn assert_line(rt: &impl Abort, alloc: Global, name: &[u8], want: &str) -> Result<(), Fail> {
+    let found = written(alloc, name, &[], None)?;
+    assert_same(rt, want, &found.as_slice(), &want.as_bytes());
+    Ok(())
+}
 
 #[test]
 fn values_as_lines(rt: HostRuntime) -> Result<(), Fail> {
     for (name, want) in &NAMES {
-        assert_same(
-            &rt,
-            "name",
-            &written(rt.alloc(), name, &[], None)?.as_slice(),
-            want,
-        );
+        assert_line(&rt, rt.alloc(), name.as_bytes(), want)?;
     }
-    Ok(())
+    assert_line(&rt, rt.alloc(), b"\xff", "dn:: /w==\n\n")
 }
 
 /// A record of a million lines: comments, values, and what continues those.

@@ -15,4 +15,5 @@ loop-left-preserved c = record {
       _ _ _ c.in_ok-take_one.field-0 c.loop-left-test.true c.loop-left.invariant.left c.in_ok-take_one.ensures.does c.if-not-branch.false;
   directory = c.in_ok-take_one.ensures.directory ∙ c.loop-left.invariant.directory;
   queue_limit = c.in_ok-take_one.ensures.queue_limit ∙ c.loop-left.invariant.queue_limit;
+  kind = c.in_ok-take_one.ensures.kind ∙ c.loop-left.invariant.kind;
 }

@@ -15,4 +15,5 @@ loop-left-preserved c = record {
       _ _ _ c.loop-left-test.true c.loop-left.invariant.goes (rw c.if-not-branch.false at c.in_ok-send_one.ensures.does);
   directory = c.in_ok-send_one.ensures.directory ∙ c.loop-left.invariant.directory;
   queue_limit = c.in_ok-send_one.ensures.queue_limit ∙ c.loop-left.invariant.queue_limit;
+  kind = c.in_ok-send_one.ensures.kind ∙ c.loop-left.invariant.kind;
 }

@@ -19,6 +19,7 @@ loop-provider-preserved c = record {
       c.in_ok-take_one.ensures.does;
   directory = c.in_ok-take_one.ensures.directory ∙ (c.in_ok-send_one.ensures.directory ∙ c.loop-provider.invariant.directory);
   queue_limit = c.in_ok-take_one.ensures.queue_limit ∙ (c.in_ok-send_one.ensures.queue_limit ∙ c.loop-provider.invariant.queue_limit);
+  kind = c.in_ok-take_one.ensures.kind ∙ (c.in_ok-send_one.ensures.kind ∙ c.loop-provider.invariant.kind);
 }
 
 pub loop-provider-smaller : goal.loop-provider-smaller

@@ -10,4 +10,5 @@ loop-preserved c = record {
       c.loop.invariant.left c.in_ok-take_one.ensures.does c.if-branch.true;
   directory = c.in_ok-take_one.ensures.directory ∙ c.loop.invariant.directory;
   queue_limit = c.in_ok-take_one.ensures.queue_limit ∙ c.loop.invariant.queue_limit;
+  kind = c.in_ok-take_one.ensures.kind ∙ c.loop.invariant.kind;
 }

@@ -9,6 +9,7 @@ invariant-loop l = record {
   left : Drains (drains (pair_of l.fn.provider l.fn.follower)) (pair_of l.provider l.follower) l.fn.out.items l.out.items;
   directory : l.provider.directory ≡ l.fn.provider.directory;
   queue_limit : l.provider.queue_limit ≡ l.fn.provider.queue_limit;
+  kind : l.provider.kind ≡ l.fn.provider.kind;
 }
 
 abbrev pub decreases-loop : goal.decreases-loop

@@ -6,8 +6,8 @@ use Rattle.directory_writes.proofs.Stamps.{rises-none, upto_stamp}
 use Rattle.sync_provider.proofs.laws.cookies_name_their_prefix.Goals as goal
 
 pub returns : goal.returns
-returns c = λ suffix sid history calls.
-    let after = (run (fresh suffix sid history) calls).directory in
-    let same = run_same calls (fresh suffix sid history) in
+returns c = λ suffix sid history kind calls.
+    let after = (run (fresh suffix sid history kind) calls).directory in
+    let same = run_same calls (fresh suffix sid history kind) in
     upto_stamp sid after.writes
-    (subst (λ number. StampsRise number after.writes) same.sid (run_rises calls (fresh suffix sid history) (rises-none sid)))
+    (subst (λ number. StampsRise number after.writes) same.sid (run_rises calls (fresh suffix sid history kind) (rises-none sid)))

@@ -5,5 +5,5 @@ use Rattle.sync_provider.proofs.Known.{run_logged, tells_of_log}
 use Rattle.sync_provider.proofs.laws.logs_tell_what_was_touched.Goals as goal
 
 pub returns : goal.returns
-returns c = λ suffix sid history calls.
-    tells_of_log (run (fresh suffix sid history) calls).directory (run_logged calls (fresh suffix sid history) (IsLogOf-fresh first_log_limit))
+returns c = λ suffix sid history kind calls.
+    tells_of_log (run (fresh suffix sid history kind) calls).directory (run_logged calls (fresh suffix sid history kind) (IsLogOf-fresh first_log_limit))

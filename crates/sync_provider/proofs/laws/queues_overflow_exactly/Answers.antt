@@ -3,5 +3,5 @@ use Rattle.sync_provider.proofs.Overflows.{overflows_exactly}
 use Rattle.sync_provider.proofs.laws.queues_overflow_exactly.Goals as goal
 
 pub returns : goal.returns
-returns c = λ suffix sid history before after ask number count answered.
-    overflows_exactly (run (fresh suffix sid history) before) ask number count after answered
+returns c = λ suffix sid history kind before after ask number count answered.
+    overflows_exactly (run (fresh suffix sid history kind) before) ask number count after answered

@@ -1,9 +1,9 @@
-use Rattle.std.proofs.Common.{rules, ◌≡◌, ◌∙◌, Bool, ap, length, map}
+use Rattle.std.proofs.Common.{rules, ◌≡◌, Bool, length, map, subst}
 use Rattle.std.proofs.lemmas.Result.{IfOk-weaker}
 use Rattle.entry_tree.specs.Selection.{Search, search_of}
 use Rattle.sync_model.specs.Stream.{Start, is_covered}
 use Rattle.directory_writes.specs.Directory.{DirectoryState, entries_of, cookie_of}
-use Rattle.sync_provider.specs.Gathering.{finished, gathered_all}
+use Rattle.sync_provider.specs.Gathering.{AreOf}
 use Rattle.sync_provider.specs.Refreshing.{walked, item_at, planned, said_all}
 use Rattle.directory_writes.specs.Starting.{start_of}
 use Rattle.sync_provider.specs.Search.{messages_of, session_of, refresh_from}
@@ -16,7 +16,7 @@ returns c =
     let wanted : Search = search_of c.args.spec.now in
     let start : Start = start_of c.args.start in
     let decided : c.as_slice-3.result.now ≡ planned start (map (item_at d wanted) (walked d start)) = search rules in
-    IfOk-weaker c.gather.result (λ parts. parts.items ≡ finished (gathered_all (said_all (entries_of d) c.as_slice-3.result.now)))
+    IfOk-weaker c.gather.result (λ parts. AreOf (said_all (entries_of d) c.as_slice-3.result.now) parts.items)
     (λ parts. (persists : Bool) → messages_of persists (is_covered start) parts.items (cookie_of d) ≡ refresh_from (session_of persists d.sid d.history wanted d.writes) start (length d.writes))
-    (λ parts is persists. refresh_is persists d wanted start parts.items c.requires (is ∙ ap (λ ds. finished (gathered_all (said_all (entries_of d) ds))) decided))
+    (λ parts are persists. refresh_is persists d wanted start parts.items c.requires (subst (λ ds. AreOf (said_all (entries_of d) ds) parts.items) decided are))
     c.gather.ensures

@@ -1,10 +1,14 @@
-use Rattle.std.proofs.Common.{◌≡◌, Option, Some, refl, ap}
+use Rattle.std.proofs.Common.{◌≡◌, Option, Some, refl, sym, ap, subst}
 use Rattle.std.specs.Prelude.{option_map}
 use Rattle.sync_wire.specs.Kind.{tag_of}
 use Rattle.sync_consumer.specs.declared.fault.PeerFault.TheVariants as peer
 use Rattle.sync_consumer.specs.declared.running.Running.{Running}
 use Rattle.sync_consumer.specs.declared.running.Step.TheVariants.{Goes, Ends}
+use Rattle.sync_model.specs.Copy as model
+use Rattle.sync_model.specs.Within.{staged_puts}
 use Rattle.sync_consumer.specs.Running.{running_of, copy_of, copy_with}
+use Rattle.sync_consumer.specs.Taking.{AreFit}
+use Rattle.sync_consumer.proofs.Fits.{step_fits}
 use Rattle.sync_consumer.proofs.Takings.{step_kept, refusal_kept, out_of_place_takes, fault_takes}
 use Rattle.sync_consumer.proofs.consumer.Consumer.take.Goals as goal
 use Rattle.sync_consumer.proofs.consumer.Consumer.take.Goals.{In-Some}
@@ -12,6 +16,42 @@ use Rattle.sync_consumer.proofs.consumer.Consumer.take.Goals.{In-Some}
 -- the copy before
 was : (c : In-Some) → c.args.self.now.copy ≡ copy_with c.self.inside.held c.in-Some.running
 was c = cc
+
+-- what was staged before is fit
+fit : (c : In-Some) → AreFit (staged_puts c.args.self.now.copy.running)
+fit c =
+    let here : c.self.inside.running ≡ Some c.in-Some.running = cc in
+    let all = subst (λ (r : Option Running). AreFit (staged_puts (option_map running_of r))) here c.self.invariant in
+    subst (λ (k : model.Copy). AreFit (staged_puts k.running)) (sym (was c)) all
+
+pub invariant_of-self-in-Ok-Goes : goal.invariant_of-self-in-Ok-Goes
+invariant_of-self-in-Ok-Goes c =
+    let by = rw c.in-Ok-Goes.field-0-is at c.in-Ok-Goes.ensures in
+    let some = (goal.at.invariant_of-self-in-Ok-Goes c).In-Some in
+    (step_fits (Goes c.in-Ok-Goes.taken) c.self.inside.held c.in-Some.running c.take-2.new.held c.take-2.new.self c.args.message.now c.args.self.now.copy
+    (copy_of c.take-2.new.held (Some (running_of c.take-2.new.self))) (was some) refl by (fit some)).0
+
+pub returns-in-Ok-Goes-clause-fit : goal.returns-in-Ok-Goes-clause-fit
+returns-in-Ok-Goes-clause-fit c =
+    let by = rw c.in-Ok-Goes.field-0-is at c.in-Ok-Goes.ensures in
+    let some = (goal.at.returns-in-Ok-Goes-clause-fit c).In-Some in
+    (step_fits (Goes c.in-Ok-Goes.taken) c.self.inside.held c.in-Some.running c.take-2.new.held c.take-2.new.self c.args.message.now c.args.self.now.copy
+    (copy_of c.take-2.new.held (Some (running_of c.take-2.new.self))) (was some) refl by (fit some)).1
+
+pub returns-in-Ok-Ends-clause-fit : goal.returns-in-Ok-Ends-clause-fit
+returns-in-Ok-Ends-clause-fit c =
+    let by = rw c.in-Ok-Ends.field-0-is at c.in-Ok-Ends.ensures in
+    let some = (goal.at.returns-in-Ok-Ends-clause-fit c).In-Some in
+    (step_fits (Ends c.in-Ok-Ends.taken) c.self.inside.held c.in-Some.running c.take-2.new.held c.take-2.new.self c.args.message.now c.args.self.now.copy
+    (copy_of c.take-2.new.held (option_map running_of c.take.new.self)) (was some)
+    (ap (λ (r : Option Running). copy_of c.take-2.new.held (option_map running_of r)) c.take.ensures.after) by (fit some)).1
+
+pub returns-in-Ok-Goes-clause-exact : goal.returns-in-Ok-Goes-clause-exact
+returns-in-Ok-Goes-clause-exact c =
+    let by = rw c.in-Ok-Goes.field-0-is at c.in-Ok-Goes.ensures in
+    (step_kept (Goes c.in-Ok-Goes.taken) c.self.inside.held c.in-Some.running c.take-2.new.held c.take-2.new.self c.args.message.now c.args.self.now.copy
+    (copy_of c.take-2.new.held (Some (running_of c.take-2.new.self)))
+    (was (goal.at.returns-in-Ok-Goes-clause-exact c).In-Some) refl by).0
 
 pub returns-in-Ok-Goes-clause-entries : goal.returns-in-Ok-Goes-clause-entries
 returns-in-Ok-Goes-clause-entries c =

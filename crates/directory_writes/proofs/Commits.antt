@@ -1,0 +1,151 @@
+-- What a commit that has nothing against it gets, and that other writes fit.
+use Rattle.std.proofs.Common.{◌≡◌, ℕ, ◌+◌, ◌-◌, ◌^◌, ◌<◌, ◌≤◌, min, Bool, true, false, cond, List, length, Option, Some, None, refl, ap, sym, ◌∙◌, arith, subst}
+use Rattle.std.specs.Prelude.{not, ◌&&◌, ◌||◌, nat_lt, nat_le, is_none, option_map, Result, Ok, Err, IfErr}
+use Rattle.std.specs.List.{list_all}
+use Rattle.std.specs.Option.{option_or}
+use Rattle.std.proofs.lemmas.Bool.{false≢true, leb-false, ltb-false, lt-ltb, le-ltb, le-leb}
+use Rattle.std.proofs.lemmas.Bool.Decides.{nat_tests}
+use Rattle.csn_cookie.specs.Csn.{Stamp}
+use Rattle.csn_cookie.specs.CsnMaker.{greatest_count}
+use Rattle.entry_tree.specs.Effects.{committed}
+use Rattle.entry_tree.specs.Fitting as fitting
+use Rattle.entry_tree.specs.Fitting.{is_light, may_be_held, fits}
+use Rattle.entry_tree.specs.declared.commit.CommitRefusal.{CommitRefusal}
+use Rattle.entry_tree.specs.declared.commit.CommitRefusal.TheVariants as refusals
+use Rattle.entry_tree.specs.Sound.{is_commit}
+use Rattle.entry_tree.specs.State.{most_entries, most_weight, total_weight, same_named}
+use Rattle.entry_tree.specs.declared.entry.Entry.{Entry}
+use Rattle.entry_tree.specs.declared.op.Op.{Op}
+use Rattle.entry_tree.specs.declared.op.Op.TheVariants.{Add, Delete, Modify, Rename, Commit}
+use Rattle.entry_tree.specs.declared.op.Write.{Write}
+use Rattle.directory_writes.specs.Commits.{held_refusal, log_refusal, commit_refusal, Opposes}
+use Rattle.directory_writes.specs.Directory.{DirectoryState, entries_of, next_stamp, most_writes, most_writes_weight, judged, write_code, code_of_judged}
+use Rattle.directory_writes.specs.Weights.{op_weight, kept_weight}
+use Rattle.directory_writes.specs.declared.commit.CommitFault.{CommitFault}
+use Rattle.directory_writes.specs.declared.commit.CommitFault.TheVariants.{LimitReached, DuplicateName, NoMemory}
+use Rattle.directory_writes.proofs.Writes.{judged_good}
+
+-- an operation that is no commit fits
+pub plain_fits : (entries : List Entry) (op : Op) → is_commit op ≡ false → fits entries op ≡ true
+plain_fits entries (Add name attrs) plain = refl
+plain_fits entries (Delete name) plain = refl
+plain_fits entries (Modify name edits) plain = refl
+plain_fits entries (Rename name rdn deletes superior) plain = refl
+plain_fits entries (Commit puts drops) plain = absurd (false≢true (sym plain))
+
+-- a commit that has nothing against it fits, and is accepted
+pub record IsOpen (d : DirectoryState) (puts : List Entry) (drops : List ℕ) (now : ℕ) : Type 0 where
+  pub fitting : list_all is_light puts ≡ true → fits (entries_of d) (Commit puts drops) ≡ true
+  pub write : Write
+  pub judged : judged d (Commit puts drops) now ≡ Ok write
+  pub code : write_code d (Commit puts drops) now ≡ 0
+
+held_open : (entries : List Entry) → held_refusal entries ≡ None → may_be_held entries ≡ true
+held_open entries = by (nat_lt most_entries (length entries)) (nat_lt most_weight (total_weight entries)) (same_named entries)
+  where
+    by : (many heavy : Bool) (same : Option (ℕ × ℕ))
+        → cond many (Some (LimitReached most_entries)) (cond heavy (Some (LimitReached most_weight)) (option_map (λ pair. DuplicateName pair.0 pair.1) same)) ≡ None
+        → (not (many || heavy) && is_none same) ≡ true
+    by true heavy same h = let never : ⊥ = cc in absurd never
+    by false true same h = let never : ⊥ = cc in absurd never
+    by false false (Some pair) h = let never : ⊥ = cc in absurd never
+    by false false None h = refl
+
+-- room for what the limits let in
+room_left : (writes weight : ℕ) → nat_le most_writes writes ≡ false → nat_lt most_writes_weight weight ≡ false
+    → (nat_lt writes most_writes && nat_le weight most_writes_weight) ≡ true
+room_left writes weight few light =
+    (λ i. lt-ltb writes most_writes (leb-false most_writes writes few) i && le-leb weight most_writes_weight (ltb-false most_writes_weight weight light) i)
+
+pub commit_open : (d : DirectoryState) (puts : List Entry) (drops : List ℕ) (now : ℕ) → commit_refusal d puts drops now ≡ None → IsOpen d puts drops now
+commit_open d puts drops now =
+    by (nat_le most_writes (length d.writes)) refl (nat_lt most_writes_weight (kept_weight d.writes + op_weight (Commit puts drops))) refl (next_stamp d now) refl
+  where
+    after : List Entry
+    after = committed (entries_of d) puts drops
+
+    by : (full : Bool) → nat_le most_writes (length d.writes) ≡ full → (heavy : Bool) → nat_lt most_writes_weight (kept_weight d.writes + op_weight (Commit puts drops)) ≡ heavy
+        → (next : Option Stamp) → next_stamp d now ≡ next
+        → option_or (cond full (Some (LimitReached most_writes)) (cond heavy (Some (LimitReached most_writes_weight)) (cond (is_none next) (Some (LimitReached greatest_count)) None))) (held_refusal after) ≡ None
+        → IsOpen d puts drops now
+    by true few heavy light next is h = let never : ⊥ = cc in absurd never
+    by false few true light next is h = let never : ⊥ = cc in absurd never
+    by false few false light None is h = let never : ⊥ = cc in absurd never
+    by false few false light (Some csn) is h =
+        let good = judged_good d (Commit puts drops) now csn None (room_left (length d.writes) (kept_weight d.writes + op_weight (Commit puts drops)) few light) is refl in
+        record {
+          fitting = λ small. (λ i. small i && held_open after h i);
+          write = record { csn = csn; op = Commit puts drops };
+          judged = good;
+          code = ap code_of_judged good;
+        }
+
+-- ---- the causes
+
+pub open_held : (entries : List Entry) → may_be_held entries ≡ true → held_refusal entries ≡ None
+open_held entries = by (nat_lt most_entries (length entries)) (nat_lt most_weight (total_weight entries)) (same_named entries)
+  where
+    by : (many heavy : Bool) (same : Option (ℕ × ℕ)) → (not (many || heavy) && is_none same) ≡ true
+        → cond many (Some (LimitReached most_entries)) (cond heavy (Some (LimitReached most_weight)) (option_map (λ pair. DuplicateName pair.0 pair.1) same)) ≡ None
+    by true heavy same h = absurd (false≢true h)
+    by false true same h = absurd (false≢true h)
+    by false false (Some pair) h = absurd (false≢true h)
+    by false false None h = refl
+
+abbrev of_refusal : CommitRefusal → CommitFault
+of_refusal refusals.TooMany = LimitReached most_entries
+of_refusal refusals.TooHeavy = LimitReached most_weight
+of_refusal (refusals.SameName one other) = DuplicateName one other
+of_refusal refusals.NoMemory = NoMemory
+
+-- what a tree has against the entries is what is against them here
+pub held_opposed : (entries : List Entry) (refusal : CommitRefusal) → fitting.Opposes entries refusal → Opposes (held_refusal entries) (of_refusal refusal)
+held_opposed entries = by
+  where
+    heavy_only : (length entries ≤ most_entries) → most_weight < total_weight entries → held_refusal entries ≡ Some (LimitReached most_weight)
+    heavy_only few heavy =
+        ap (λ b. cond b (Some (LimitReached most_entries)) (cond (nat_lt most_weight (total_weight entries)) (Some (LimitReached most_weight)) (option_map (λ pair. DuplicateName pair.0 pair.1) (same_named entries))))
+        (le-ltb most_entries (length entries) few)
+        ∙ ap (λ b. cond b (Some (LimitReached most_weight)) (option_map (λ pair. DuplicateName pair.0 pair.1) (same_named entries))) (lt-ltb most_weight (total_weight entries) heavy)
+
+    named : (many heavy : Bool) (same : Option (ℕ × ℕ)) (one other : ℕ) → (many || heavy) ≡ false → same ≡ Some (one, other)
+        → cond many (Some (LimitReached most_entries)) (cond heavy (Some (LimitReached most_weight)) (option_map (λ pair. DuplicateName pair.0 pair.1) same)) ≡ Some (DuplicateName one other)
+    named true heavy same one other h is = absurd (false≢true (sym h))
+    named false true same one other h is = absurd (false≢true (sym h))
+    named false false same one other h is = ap (option_map (λ pair. DuplicateName pair.0 pair.1)) is
+
+    by : (given : CommitRefusal) → fitting.Opposes entries given → Opposes (held_refusal entries) (of_refusal given)
+    by refusals.TooMany many =
+        ap (λ b. cond b (Some (LimitReached most_entries)) (cond (nat_lt most_weight (total_weight entries)) (Some (LimitReached most_weight)) (option_map (λ pair. DuplicateName pair.0 pair.1) (same_named entries))))
+        (lt-ltb most_entries (length entries) many)
+    by refusals.TooHeavy heavy = heavy_only heavy.0 heavy.1
+    by (refusals.SameName one other) same =
+        named (nat_lt most_entries (length entries)) (nat_lt most_weight (total_weight entries)) (same_named entries) one other same.0 same.1
+    by refusals.NoMemory none = none
+
+-- a weight that is capped at the greatest number is as much too heavy
+capped_heavy : (kept weight : ℕ) → nat_lt most_writes_weight (kept + min weight (2 ^ 64 - 1)) ≡ nat_lt most_writes_weight (kept + weight)
+capped_heavy kept weight = grind (arith, nat_tests)
+
+pub log_capped : (d : DirectoryState) (weight capped now : ℕ) → capped ≡ min weight (2 ^ 64 - 1) → log_refusal d capped now ≡ log_refusal d weight now
+log_capped d weight capped now is =
+    ap (λ b. cond (nat_le most_writes (length d.writes)) (Some (LimitReached most_writes))
+    (cond b (Some (LimitReached most_writes_weight)) (cond (is_none (next_stamp d now)) (Some (LimitReached greatest_count)) None)))
+    (ap (λ w. nat_lt most_writes_weight (kept_weight d.writes + w)) is ∙ capped_heavy (kept_weight d.writes) weight)
+
+-- the first of two causes
+pub first_opposed : (first second : Option CommitFault) (fault : CommitFault) → Opposes first fault → Opposes (option_or first second) fault
+first_opposed first second (LimitReached limit) is = ap (λ o. option_or o second) is
+first_opposed first second (DuplicateName one other) is = ap (λ o. option_or o second) is
+first_opposed first second NoMemory is = is
+
+pub second_opposed : (first second : Option CommitFault) (fault : CommitFault) → first ≡ None → Opposes second fault → Opposes (option_or first second) fault
+second_opposed first second fault none is = subst (λ o. Opposes (option_or o second) fault) (sym none) is
+
+pub second_of : {T : Type 0} (first second : Option CommitFault) (outcome : Result T CommitFault) → first ≡ None → IfErr outcome (Opposes second)
+    → IfErr outcome (Opposes (option_or first second))
+second_of first second (Ok x) none is = is
+second_of first second (Err fault) none is = second_opposed first second fault none is
+
+pub none_opposed : (first second : Option CommitFault) → first ≡ None → second ≡ None → option_or first second ≡ None
+none_opposed first second none other = ap (λ o. option_or o second) none ∙ other

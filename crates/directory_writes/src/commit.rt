@@ -1,0 +1,51 @@
+//! Why a commit is refused.
+
+ghost use Rattle.std.specs.Prelude.{◌≡◌, List};
+ghost use Rattle.entry_tree.specs.Fitting as fitting;
+ghost use Rattle.entry_tree.specs.declared.entry.Entry.{Entry};
+ghost use Rattle.directory_writes.specs.Commits.{held_refusal, Opposes};
+ghost use Rattle.directory_writes.specs.declared.commit.CommitFault.TheVariants.{NoMemory};
+
+use entry_tree::CommitRefusal;
+use std::alloc::AllocError;
+
+/// The most entries of a directory.
+const MOST_ENTRIES: u64 = 20_000;
+
+/// The most that the entries of a directory weigh, 64 MiB.
+const MOST_WEIGHT: u64 = 67_108_864;
+
+/// Why a commit of a replica is refused.
+#[derive(Clone, Copy, Debug, PartialEq, Eq)]
+pub enum CommitFault {
+    /// A limit would be passed: so many writes are kept, so much the kept writes may weigh, so high
+    /// the counts of change numbers go, so many entries there may be, or so much they may weigh.
+    LimitReached(u64),
+    /// These two entries would have one name: the first whose name a later one has, and the first
+    /// such.
+    DuplicateName(u128, u128),
+    NoMemory,
+}
+
+impl From<AllocError> for CommitFault {
+    ghost from_gives = { λ _ fault. fault ≡ NoMemory };
+
+    fn from(_error: AllocError) -> CommitFault {
+        CommitFault::NoMemory
+    }
+}
+
+/// The fault tells the same of the entries.
+impl From<CommitRefusal> for CommitFault {
+    ghost from_gives = { λ given fault. (entries : List Entry) → fitting.Opposes entries given → Opposes (held_refusal entries) fault };
+
+    #[tactic(auto, using(crate::proofs::Commits::held_opposed))]
+    fn from(refusal: CommitRefusal) -> CommitFault {
+        match refusal {
+            CommitRefusal::TooMany => CommitFault::LimitReached(MOST_ENTRIES),
+            CommitRefusal::TooHeavy => CommitFault::LimitReached(MOST_WEIGHT),
+            CommitRefusal::SameName(one, other) => CommitFault::DuplicateName(one, other),
+            CommitRefusal::NoMemory => CommitFault::NoMemory,
+        }
+    }
+}

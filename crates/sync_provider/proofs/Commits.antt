@@ -1,0 +1,36 @@
+-- A commit by what is against it.
+use Rattle.std.proofs.Common.{◌≡◌, ℕ, true, false, List, Option, Some, None, refl}
+use Rattle.std.specs.Prelude.{option_map}
+use Rattle.entry_tree.specs.declared.entry.Entry.{Entry}
+use Rattle.entry_tree.specs.declared.op.Op.{Op}
+use Rattle.entry_tree.specs.Fitting.{fits}
+use Rattle.entry_tree.specs.Sound.{is_commit}
+use Rattle.directory_writes.proofs.Commits.{plain_fits}
+use Rattle.directory_writes.specs.Commits as directory
+use Rattle.directory_writes.specs.Directory.{DirectoryState, judged}
+use Rattle.directory_writes.specs.declared.commit.CommitFault as causes
+use Rattle.sync_provider.specs.Committing.{fault_of, commit_refusal}
+use Rattle.sync_provider.specs.Machine.{ProviderState, after_judged, after_commit}
+use Rattle.sync_provider.specs.declared.provider.Kind.{Kind}
+use Rattle.sync_provider.specs.declared.provider.Kind.TheVariants.{Root, Replica}
+use Rattle.sync_provider.specs.declared.writing.CommitFault.{CommitFault}
+
+-- a client's write fits
+pub asked_fits : (entries : List Entry) (op : Op) → is_commit op ≡ false → fits entries op ≡ true
+asked_fits = plain_fits
+
+-- what holds of a provider, and of it after a write, holds after a commit
+pub commit_case : (P : ProviderState → Type 0) (p : ProviderState) (op : Op) (now : ℕ) (refusal : Option CommitFault)
+    → P p → P (after_judged p (judged p.directory op now)) → P (after_commit p op now refusal)
+commit_case P p op now None before after = after
+commit_case P p op now (Some fault) before after = before
+
+-- nothing is against it where nothing is against it at the directory
+none_of : (refusal : Option causes.CommitFault) → option_map fault_of refusal ≡ None → refusal ≡ None
+none_of None is = refl
+none_of (Some fault) is = let never : ⊥ = cc in absurd never
+
+pub unopposed : (kind : Kind) (d : DirectoryState) (puts : List Entry) (drops : List ℕ) (now : ℕ) → commit_refusal kind d puts drops now ≡ None
+    → directory.commit_refusal d puts drops now ≡ None
+unopposed Root d puts drops now is = let never : ⊥ = cc in absurd never
+unopposed Replica d puts drops now is = none_of (directory.commit_refusal d puts drops now) is

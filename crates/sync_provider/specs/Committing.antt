@@ -1,0 +1,29 @@
+-- Commits: the writes of a replica (RFC 4533, section 3.3).
+use Rattle.std.specs.Prelude.{◌≡◌, ℕ, List, Option, Some, option_map}
+use Rattle.entry_tree.specs.declared.entry.Entry.{Entry}
+use Rattle.directory_writes.specs.Commits as directory
+use Rattle.directory_writes.specs.Directory.{DirectoryState}
+use Rattle.directory_writes.specs.declared.commit.CommitFault as causes
+use Rattle.directory_writes.specs.declared.commit.CommitFault.TheVariants as cause
+use Rattle.sync_provider.specs.declared.provider.Kind.{Kind}
+use Rattle.sync_provider.specs.declared.provider.Kind.TheVariants.{Root, Replica}
+use Rattle.sync_provider.specs.declared.writing.CommitFault.{CommitFault}
+use Rattle.sync_provider.specs.declared.writing.CommitFault.TheVariants.{DuplicateName, LimitReached, NoMemory, NotAReplica}
+
+abbrev pub fault_of : causes.CommitFault → CommitFault
+fault_of (cause.DuplicateName one other) = DuplicateName one other
+fault_of (cause.LimitReached limit) = LimitReached limit
+fault_of cause.NoMemory = NoMemory
+
+-- what is against a commit of these entries and dropped identities: at a root that it is none, else what the directory has
+-- against it
+abbrev pub commit_refusal : Kind → DirectoryState → List Entry → List ℕ → ℕ → Option CommitFault
+commit_refusal Root d puts drops now = Some NotAReplica
+commit_refusal Replica d puts drops now = option_map fault_of (directory.commit_refusal d puts drops now)
+
+-- a fault tells what is against a commit; want of memory tells nothing
+abbrev pub Opposes : Option CommitFault → CommitFault → Type 0
+Opposes refusal (DuplicateName one other) = refusal ≡ Some (DuplicateName one other)
+Opposes refusal (LimitReached limit) = refusal ≡ Some (LimitReached limit)
+Opposes refusal NoMemory = Unit {0}
+Opposes refusal NotAReplica = refusal ≡ Some NotAReplica

@@ -1,0 +1,189 @@
+//! How a provider comes to its writes: a root by those of clients (RFC 4511, sections 4.6 to 4.9), a
+//! replica by commits of what it took from the provider that it follows (RFC 4533, section 3.3).
+
+ghost use Rattle.std.specs.Prelude.{◌≡◌, ◌≢◌, ◌+◌, ◌↔◌, true, false, length, None, IfOk, IfErr, OnOk, OnErr, IsErrOf};
+ghost use Rattle.std.specs.List.{list_all};
+ghost use Rattle.directory_writes.specs.Commits as commits;
+ghost use Rattle.directory_writes.specs.Directory as directory;
+ghost use Rattle.entry_tree.specs.Fitting.{fits, is_light};
+ghost use Rattle.entry_tree.specs.Sound.{is_commit, is_sound_op, is_sound_put};
+ghost use Rattle.sync_provider.specs.Committing.{commit_refusal, fault_of, Opposes};
+ghost use Rattle.sync_provider.specs.Machine as machine;
+ghost use Rattle.sync_provider.specs.declared.writing.CommitFault.TheVariants as faults;
+
+use crate::NoMemory;
+use crate::open_search::discard;
+use crate::provider::{Kind, Provider};
+use crate::staging::{any_queueing, push_each, stage_write};
+use entry_tree::{EntryList, Op, OpFault};
+use std::alloc::{AllocError, Global};
+use sync_messages::IdList;
+
+/// unwillingToPerform (RFC 4511, appendix A.1): a replica takes no writes of clients.
+const UNWILLING_TO_PERFORM: u32 = 53;
+
+/// other (RFC 4511, appendix A.1): memory ran out.
+const OTHER: u32 = 80;
+
+/// The answer to a write.
+#[derive(Clone, Copy, Debug, PartialEq, Eq)]
+pub struct Reply {
+    /// 0 where the write was accepted, 53 at a replica, and 80 where memory ran out.
+    pub code: u32,
+    /// How many writes are accepted after it.
+    pub number: u64,
+}
+
+/// Why a commit is refused.
+#[derive(Clone, Copy, Debug, PartialEq, Eq)]
+pub enum CommitFault {
+    /// Two entries would have one name.
+    DuplicateName(u128, u128),
+    /// More would be kept than this limit allows.
+    LimitReached(u64),
+    NoMemory,
+    /// A root takes its writes from clients.
+    NotAReplica,
+}
+
+impl From<directory_writes::CommitFault> for CommitFault {
+    ghost from_gives = { λ cause fault. fault ≡ fault_of cause };
+
+    fn from(cause: directory_writes::CommitFault) -> CommitFault {
+        match cause {
+            directory_writes::CommitFault::DuplicateName(one, other) => {
+                CommitFault::DuplicateName(one, other)
+            }
+            directory_writes::CommitFault::LimitReached(limit) => CommitFault::LimitReached(limit),
+            directory_writes::CommitFault::NoMemory => CommitFault::NoMemory,
+        }
+    }
+}
+
+impl Provider {
+    /// Applies a write of a client where the clock shows `now`, in microseconds from the first
+    /// moment of 1970 on, and tells it to the searches that go on and whose content it changes. A
+    /// write that is not accepted leaves all as it was. A replica accepts none.
+    #[tactic(auto, using(crate::proofs::Told::unwritten_all))]
+    pub fn write(&mut self, alloc: Global, op: Op, now: u64) -> Reply
+        requires sound { is_sound_op op ≡ true }
+        requires asked { is_commit op ≡ false }
+        ensures code { result.code ≢ 80 → result.code ≡ machine.write_code self.old op now }
+        ensures state { result.code ≢ 80 → self.new ≡ machine.wrote self.old op now }
+        ensures err { result.code ≡ 80 → self.new ≡ self.old }
+        ensures number { result.number ≡ length self.new.directory.writes }
+    {
+        let code = match self.take_write(alloc, op, now) {
+            Ok(code) => code,
+            Err(_) => OTHER,
+        };
+        Reply {
+            code,
+            number: self.writes(),
+        }
+    }
+
+    /// The code of a client's write.
+    #[tactic(auto, using(crate::proofs::Commits::asked_fits))]
+    fn take_write(&mut self, alloc: Global, op: Op, now: u64) -> Result<u32, NoMemory>
+        requires sound { is_sound_op op ≡ true }
+        requires asked { is_commit op ≡ false }
+        ensures code { IfOk result (λ code. code ≡ machine.write_code self.old op now) }
+        ensures state { OnOk result (self.new ≡ machine.wrote self.old op now) }
+        ensures err { OnErr result (self.new ≡ self.old) }
+    {
+        match self.kind {
+            Kind::Root => self.write_and_tell(alloc, op, now),
+            Kind::Replica => {
+                discard(op);
+                Ok(UNWILLING_TO_PERFORM)
+            }
+        }
+    }
+
+    /// Adds one write that puts these entries, each in the place of one of its identity, and drops
+    /// these identities, where the clock shows `now`. It is told as a client's write is. The answer
+    /// is the number of accepted writes after it. The entries keep their stamps; the write has a
+    /// stamp of this directory. A commit that is refused leaves all as it was.
+    pub fn commit(
+        &mut self,
+        alloc: Global,
+        puts: EntryList,
+        drops: IdList,
+        now: u64,
+    ) -> Result<u64, CommitFault>
+        requires sound { list_all is_sound_put puts ≡ true }
+        requires light { list_all is_light puts ≡ true }
+        ensures accepted { OnOk result (commit_refusal self.old.kind self.old.directory puts drops now ≡ None) }
+        ensures refused { IfErr result (Opposes (commit_refusal self.old.kind self.old.directory puts drops now)) }
+        ensures root { IsErrOf result faults.NotAReplica ↔ self.old.kind ≡ Kind.Root }
+        ensures state { OnOk result (self.new ≡ machine.committed self.old puts drops now) }
+        ensures err { OnErr result (self.new ≡ self.old) }
+        ensures number { IfOk result (λ number. number ≡ length self.new.directory.writes) }
+        ensures one { IfOk result (λ number. number ≡ length self.old.directory.writes + 1) }
+    {
+        match self.kind {
+            Kind::Root => Err(CommitFault::NotAReplica),
+            Kind::Replica => Ok(self.take_commit(alloc, puts, drops, now)?),
+        }
+    }
+
+    /// The same at a replica.
+    fn take_commit(
+        &mut self,
+        alloc: Global,
+        puts: EntryList,
+        drops: IdList,
+        now: u64,
+    ) -> Result<u64, directory_writes::CommitFault>
+        requires sound { list_all is_sound_put puts ≡ true }
+        requires light { list_all is_light puts ≡ true }
+        ensures accepted { OnOk result (commits.commit_refusal self.old.directory puts drops now ≡ None) }
+        ensures refused { IfErr result (commits.Opposes (commits.commit_refusal self.old.directory puts drops now)) }
+        ensures state { OnOk result (self.new ≡ machine.after_judged self.old
+            (directory.judged self.old.directory (Op.Commit puts drops) now)) }
+        ensures err { OnErr result (self.new ≡ self.old) }
+        ensures number { IfOk result (λ number. number ≡ length self.new.directory.writes) }
+        ensures one { IfOk result (λ number. number ≡ length self.old.directory.writes + 1) }
+    {
+        self.directory
+            .check_commit(alloc, puts.list(), drops.list(), now)?;
+        self.write_and_tell(alloc, Op::Commit(puts, drops), now)?;
+        Ok(self.writes())
+    }
+
+    /// Applies a write, whoever asks for it, and tells it. The answer is its code.
+    #[tactic(auto, using(crate::proofs::Told::refused_view, crate::proofs::Told::code_none))]
+    fn write_and_tell(&mut self, alloc: Global, op: Op, now: u64) -> Result<u32, NoMemory>
+        requires sound { is_sound_op op ≡ true }
+        requires fits { fits (directory.entries_of self.old.directory) op ≡ true }
+        ensures code { IfOk result (λ code. code ≡ directory.write_code self.old.directory op now) }
+        ensures state { OnOk result (self.new ≡ machine.after_judged self.old (directory.judged self.old.directory op now)) }
+        ensures err { OnErr result (self.new ≡ self.old) }
+    {
+        if !any_queueing(&self.searches) {
+            return self.directory.write(alloc, op, now);
+        }
+        match stage_write(&mut self.searches, alloc, &self.directory, &op, now) {
+            Ok(()) => {
+                let code = self.directory.write(alloc, op, now)?;
+                push_each(&mut self.searches, self.queue_limit);
+                Ok(code)
+            }
+            Err(fault) => {
+                discard(op);
+                code_of(fault)
+            }
+        }
+    }
+}
+
+/// The code that a fault tells.
+fn code_of(fault: OpFault) -> Result<u32, NoMemory>
+    ensures { IfOk result (λ code. fault ≡ OpFault.Code code) }
+{
+    match fault {
+        OpFault::Code(code) => Ok(code),
+        OpFault::NoMemory => Err(AllocError),
+    }
+}
