@@ -1,10 +1,11 @@
 -- The accepted writes and the time after one more order.
-use Rattle.std.proofs.Common.{◌≡◌, ℕ, Bool, true, false, List, [], ◌∷◌, ◌++◌, refl, ap, sym, ◌∙◌, append_assoc}
-use Rattle.std.specs.Prelude.{count_by}
+use Rattle.std.proofs.Common.{◌≡◌, ℕ, false, List, [], ◌∷◌, ◌++◌, refl, ap, ◌∙◌, append_assoc}
+use Rattle.std.proofs.lemmas.List.Sums.{fold-append}
+use Rattle.std.specs.Prelude.{None}
 use Rattle.std.specs.Str.{bytes_eq}
 use Rattle.dn_names.specs.Names.{TypeAndValue}
 use Rattle.entry_tree.specs.declared.op.Write.{Write}
-use Rattle.cascade_world.specs.Headline.{time_after, time_from, with_accepted, accepted_from, is_declaration, IsDeclared}
+use Rattle.cascade_world.specs.Headline.{time_after, time_from, with_accepted, accepted_from, IsDeclared, followed, follows_now}
 use Rattle.cascade_world.specs.Orders.{Order}
 use Rattle.cascade_world.specs.Orders.{Order as asks}
 
@@ -32,6 +33,7 @@ pub with_accepted-untouched : (history : ℕ) (suffix : List (List TypeAndValue)
     → Untouched order name → with_accepted history suffix name time writes order ≡ writes
 with_accepted-untouched history suffix name time writes (asks.Provider other base) h = refl
 with_accepted-untouched history suffix name time writes (asks.Consumer other source search reload) h = refl
+with_accepted-untouched history suffix name time writes (asks.Replica other source search reload) h = refl
 with_accepted-untouched history suffix name time writes (asks.Clock new) h = refl
 with_accepted-untouched history suffix name time writes (asks.Write target change) h = rw h refl
 with_accepted-untouched history suffix name time writes (asks.OpenOnce other) h = refl
@@ -42,6 +44,8 @@ with_accepted-untouched history suffix name time writes (asks.Cut other) h = ref
 with_accepted-untouched history suffix name time writes (asks.Settle other) h = refl
 with_accepted-untouched history suffix name time writes (asks.Lose other) h = refl
 with_accepted-untouched history suffix name time writes (asks.Cookie other text) h = refl
+with_accepted-untouched history suffix name time writes (asks.Repoint other source) h = refl
+with_accepted-untouched history suffix name time writes (asks.Respec other search) h = refl
 with_accepted-untouched history suffix name time writes (asks.Log other limit) h = refl
 with_accepted-untouched history suffix name time writes (asks.Queue other limit) h = refl
 with_accepted-untouched history suffix name time writes (asks.Show other) h = refl
@@ -53,3 +57,7 @@ declared-push before n d later order is = record {
   whole = ap (λ b. b ++ order ∷ []) is.whole ∙ append_assoc is.earlier (d ∷ later) (order ∷ []);
   numbered = is.numbered;
 }
+
+-- what a consumer follows after one more order
+pub follows-push : (before : List Order) (order : Order) (consumer : List ℕ) → follows_now (before ++ order ∷ []) consumer ≡ followed consumer (follows_now before consumer) order
+follows-push before order consumer = fold-append (followed consumer) None before (order ∷ [])

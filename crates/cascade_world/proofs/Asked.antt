@@ -3,8 +3,11 @@ use Rattle.std.proofs.Common.{◌≡◌, ◌≢◌, ◌≤◌, ℕ, Bool, true, 
 use Rattle.std.specs.BTreeMap.{insert_entry}
 use Rattle.std.specs.Ordering.{nat_cmp}
 use Rattle.std.specs.Prelude.{◌==◌, Ok, Err, Result, IfSome}
-use Rattle.directory_writes.specs.Directory as directory
-use Rattle.directory_writes.specs.Directory.{DirectoryState, judged, code_of_judged}
+use Rattle.directory_writes.specs.Directory.{DirectoryState, judged}
+use Rattle.entry_tree.specs.declared.entry.Entry.{Entry}
+use Rattle.entry_tree.specs.declared.op.Op.TheVariants.{Commit}
+use Rattle.sync_provider.specs.Committing.{commit_refusal}
+use Rattle.sync_provider.specs.declared.writing.CommitFault.{CommitFault}
 use Rattle.entry_tree.specs.Selection.{search_of}
 use Rattle.entry_tree.specs.declared.op.Op.{Op}
 use Rattle.entry_tree.specs.declared.op.Write.{Write}
@@ -17,9 +20,7 @@ use Rattle.sync_model.specs.Message.SyncMessage.{Put, Gone, Present, IdSet, NewC
 use Rattle.sync_provider.specs.Accepting as accepting
 use Rattle.sync_provider.specs.HandingOut.{Turn, turn_of_message, turn_of_pending, turn_of_found, turn_at, turn_of, search_at, without_first, closed, handed_on, after_turn, after_answer}
 use Rattle.sync_provider.specs.HandingOut.Turn.{Hands, Closes, Waits, Unknown}
-use Rattle.sync_provider.specs.Machine as machine
-use Rattle.sync_provider.specs.Machine.{ProviderState, each_informed, searches_after, after_judged, judged_by, wrote}
-use Rattle.sync_provider.specs.declared.provider.Kind.TheVariants.{Root}
+use Rattle.sync_provider.specs.Machine.{ProviderState, each_informed, searches_after, judged_by, wrote, after_commit, committed}
 use Rattle.sync_provider.specs.Queueing.{overflowed, queued, pushed, informed, is_full, group_of, is_queueing}
 use Rattle.sync_provider.specs.Search.{SearchState, pending, opening, advanced}
 use Rattle.sync_provider.specs.declared.handed.Handed.{Handed}
@@ -29,7 +30,7 @@ use Rattle.sync_provider.specs.declared.searches.Accepted.TheVariants as accepte
 use Rattle.sync_provider.specs.declared.searches.SyncSearch.{SyncSearch}
 use Rattle.sync_provider.proofs.Looking.{each-opened, each-closed, each-put_on, each-at}
 use Rattle.cascade_world.specs.Opening.{message_id, answer_to, answer_to_request, after_accepted}
-use Rattle.cascade_world.specs.Ours.{IsOurs, AreOurs, IsOurRoot, IsSpelled}
+use Rattle.cascade_world.specs.Ours.{IsOurs, AreOurs, IsSpelled}
 
 -- ---- acceptance
 
@@ -80,25 +81,27 @@ after_ours_by : (p : ProviderState) (found : Result Write ℕ) → AreOurs p.sea
 after_ours_by p (Ok write) ours = each_ours p.queue_limit p.directory write p.searches ours
 after_ours_by p (Err code) ours = ours
 
--- a client's write to a root is judged by its directory
-pub wrote_root : (p : ProviderState) (op : Op) (now : ℕ) → p.kind ≡ Root → wrote p op now ≡ after_judged p (judged p.directory op now)
-wrote_root p op now root = ap (λ k. after_judged p (judged_by k p.directory op now)) root
-
-pub code_root : (p : ProviderState) (op : Op) (now : ℕ) → p.kind ≡ Root → machine.write_code p op now ≡ directory.write_code p.directory op now
-code_root p op now root = ap (λ k. code_of_judged (judged_by k p.directory op now)) root
-
--- a root after a write, or as it was where memory ran out
-pub wrote_ours : (p after : ProviderState) (op : Op) (now code : ℕ) → IsOurRoot p → (code ≢ 80 → after ≡ wrote p op now) → (code ≡ 80 → after ≡ p) → IsOurRoot after
+-- the searches of a provider after a write, or as they were where memory ran out
+pub wrote_ours : (p after : ProviderState) (op : Op) (now code : ℕ) → AreOurs p.searches → (code ≢ 80 → after ≡ wrote p op now) → (code ≡ 80 → after ≡ p) → AreOurs after.searches
 wrote_ours p after op now code ours done starved = by (code == 80) refl
   where
-    by : (full : Bool) → (code == 80) ≡ full → IsOurRoot after
-    by true is = subst IsOurRoot (sym (starved (eqb-true code 80 is))) ours
-    by false is =
-        subst IsOurRoot (sym (done (λ same. differs is same) ∙ wrote_root p op now ours.root))
-        (record { root = ours.root; searches = after_ours_by p (judged p.directory op now) ours.searches })
+    ours_of : (q : ProviderState) → after ≡ q → AreOurs q.searches → AreOurs after.searches
+    ours_of q is there = subst (λ (r : ProviderState). AreOurs r.searches) (sym is) there
+
+    by : (full : Bool) → (code == 80) ≡ full → AreOurs after.searches
+    by true is = ours_of p (starved (eqb-true code 80 is)) ours
+    by false is = ours_of (wrote p op now) (done (λ same. differs is same)) (after_ours_by p (judged_by p.kind p.directory op now) ours)
       where
         differs : (code == 80) ≡ false → code ≡ 80 → ⊥
         differs is same = let hit : (code == 80) ≡ true = eq-eqb code 80 same in cc
+
+-- the searches of a replica after a commit, or as they were where it is refused
+committed_ours_by : (p : ProviderState) (op : Op) (now : ℕ) (refusal : Option CommitFault) → AreOurs p.searches → AreOurs (after_commit p op now refusal).searches
+committed_ours_by p op now None ours = after_ours_by p (judged p.directory op now) ours
+committed_ours_by p op now (Some fault) ours = ours
+
+pub committed_ours : (p : ProviderState) (puts : List Entry) (drops : List ℕ) (now : ℕ) → AreOurs p.searches → AreOurs (committed p puts drops now).searches
+committed_ours p puts drops now ours = committed_ours_by p (Commit puts drops) now (commit_refusal p.kind p.directory puts drops now) ours
 
 -- ---- turns
 
@@ -123,11 +126,6 @@ turn_ours es number (Some turn) ours = after_ours es number turn ours
 
 pub dropped_ours : (es : List (ℕ × SearchState)) (number : ℕ) → AreOurs es → AreOurs (closed es number)
 dropped_ours es number ours = each-closed IsOurs es number ours
-
--- ---- a root whose searches change
-
-pub root_searches : (p : ProviderState) (searches : List (ℕ × SearchState)) → IsOurRoot p → AreOurs searches → IsOurRoot (record p { searches = searches })
-root_searches p searches ours now = record { root = ours.root; searches = now }
 
 -- ---- spellings
 

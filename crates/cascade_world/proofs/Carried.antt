@@ -90,11 +90,6 @@ IsShort m = length (message_octets (wire.sent 1 m)) ≤ 4194304
 gone_short : (uuid : ℕ) (dn : List (List TypeAndValue)) (cookie : Option (List ℕ)) → IsIdentity uuid → IsName dn → IsText cookie → IsShort (Gone uuid (name_text dn) cookie)
 gone_short uuid dn cookie range name text = gone_size uuid (name_text dn) cookie (name_size dn name) text
 
-pub sent_short : (m : SyncMessage) → IsOfSearch m → IsShort m
-sent_short m is =
-    of_each IsShort
-    (record { puts = put_size; gones = gone_short; sets = λ deletes uuids range few. set_size deletes uuids few; phases = phase_size; ends = done_size; busy = busy_size }) m is
-
 -- ---- what its bytes are decoded to
 
 -- a message that is not too long is decoded as it was written

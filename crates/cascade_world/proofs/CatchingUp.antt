@@ -8,8 +8,6 @@ use Rattle.ldap_messages.specs.Whole.{message_octets}
 use Rattle.csn_cookie.specs.Cookie.{cookie_text}
 use Rattle.csn_cookie.specs.Csn.{start}
 use Rattle.csn_cookie.specs.declared.cookie.Cookie.{Cookie}
-use Rattle.directory_laws.proofs.Histories.{sent-state_of}
-use Rattle.directory_laws.proofs.States.{IsWithin-state_of}
 use Rattle.directory_writes.specs.Directory.{cookie_at, entries_after, last_stamp}
 use Rattle.dn_names.specs.Names.{TypeAndValue}
 use Rattle.entry_tree.specs.Selection.{select}
@@ -30,6 +28,7 @@ use Rattle.cascade_world.specs.Exchange.{Pair, pair_of, Outcome, after_lines, an
 use Rattle.cascade_world.specs.Headline.{Opening, Known, with_sent, known_after, session_over, octets_of, busy}
 use Rattle.cascade_world.specs.Hearing.{Came, heard}
 use Rattle.cascade_world.specs.Hearing.{Came as came}
+use Rattle.cascade_world.specs.Origins.{Lineage}
 use Rattle.cascade_world.specs.Report.{Told}
 use Rattle.cascade_world.specs.Report.{Told as told}
 use Rattle.cascade_world.proofs.Composing.{IsKeptIn, known_by_lines, room_after, kept-still, kept-told, kept-then, kept-lines}
@@ -65,17 +64,17 @@ length_none [] same = refl
 length_none (x ∷ xs) same = absurd (omega (arith, same))
 
 -- the messages that are pending are counted
-pending_counted : (p : ProviderState) (f : Follower) (mode cut : Bool) (own : Option ℕ) (messages : List SyncMessage) → HasPending p.searches f.consumer.spec mode cut own messages
-    → left_to_send (pair_of p f) own ≡ length messages
-pending_counted p f mode cut None messages has = ap length (sym has.0)
-pending_counted p f mode cut (Some at) messages has = ap pending_count has.found ∙ ap length has.same
+pending_counted : (lin : Lineage) (p : ProviderState) (f : Follower) (mode cut : Bool) (own : Option ℕ) (messages : List SyncMessage) → HasPending p.searches f.consumer.spec mode cut own messages
+    → left_to_send (pair_of p f lin) own ≡ length messages
+pending_counted lin p f mode cut None messages has = ap length (sym has.0)
+pending_counted lin p f mode cut (Some at) messages has = ap pending_count has.found ∙ ap length has.same
 
-module _ (number : ℕ) (p : ProviderState) (f : Follower) (opening : Opening) (entries : List Entry) (goes : GoesOn number p f opening entries) (drained : IsDrained (pair_of p f)) where
+module _ (lin : Lineage) (number : ℕ) (p : ProviderState) (f : Follower) (opening : Opening) (entries : List Entry) (goes : GoesOn number p f opening entries) (drained : IsDrained (pair_of p f lin)) where
   no_link : goes.linked ≡ []
   no_link = map_none goes.linked (sym goes.link ∙ drained.link)
 
   no_pending : goes.pending ≡ []
-  no_pending = length_none goes.pending (sym (pending_counted p f opening.persists goes.cut f.search goes.pending goes.search) ∙ drained.none)
+  no_pending = length_none goes.pending (sym (pending_counted lin p f opening.persists goes.cut f.search goes.pending goes.search) ∙ drained.none)
 
   nothing_left : goes.linked ++ goes.pending ≡ []
   nothing_left = (λ i. no_link i ++ no_pending i)
@@ -94,8 +93,8 @@ module _ (number : ℕ) (p : ProviderState) (f : Follower) (opening : Opening) (
 
 -- ---- a consumer whose search goes on, and has nothing left, is up to its provider
 
-module _ (number : ℕ) (suffix : Name) (p : ProviderState) (f : Follower) (opening : Opening) (entries : List Entry) (source : IsSource number suffix p) (goes : GoesOn number p f opening entries)
-    (drained : IsDrained (pair_of p f)) where
+module _ (lin : Lineage) (number : ℕ) (suffix : Name) (p : ProviderState) (f : Follower) (opening : Opening) (entries : List Entry) (source : IsSource number suffix p) (goes : GoesOn number p f opening entries)
+    (drained : IsDrained (pair_of p f lin)) where
   abbrev writes : List Write
   writes = p.directory.writes
 
@@ -106,7 +105,7 @@ module _ (number : ℕ) (suffix : Name) (p : ProviderState) (f : Follower) (open
   texts count = (cookie_at number number (last_stamp (start number) (take count writes)), refl)
 
   none_ahead : goes.ahead ≡ []
-  none_ahead = (all_taken number p f opening entries goes drained).1
+  none_ahead = (all_taken lin number p f opening entries goes drained).1
 
   in_refresh : InRefresh session goes.start opening.writes goes.count entries f.consumer.copy goes.taken goes.ahead → ⊥
   in_refresh is = let bad : [] ≡ is.some.next ∷ (is.some.later ++ cond session.persists (later session opening.writes goes.count) []) =
@@ -115,20 +114,20 @@ module _ (number : ℕ) (suffix : Name) (p : ProviderState) (f : Follower) (open
       never
 
   at_end : (persists : opening.persists ≡ true) → opening.writes + goes.count ≡ length writes
-  at_end persists = goes.all ((λ i. waits (persists i) ((all_taken number p f opening entries goes drained).0 i)))
+  at_end persists = goes.all ((λ i. waits (persists i) ((all_taken lin number p f opening entries goes drained).0 i)))
 
   whole_is : opening.persists ≡ true → AtWhole session opening.writes goes.count entries f.consumer.copy goes.ahead → entries ≡ all_content number p f
   whole_is persists is =
       is.content
-      ∙ past.none_left session (λ n. ascends-state_of number writes n) (λ n. IsWithin-state_of suffix number writes source.accepted (omega (arith, source.few)) n)
-      (λ n. sent-state_of suffix number writes n source.accepted) texts opening.writes goes.count is.more is.number (sym is.behind ∙ none_ahead)
+      ∙ past.none_left session (λ n. ascends-state_of number writes n) (λ n. (source.good n).within)
+      (λ n. (source.good n).sent) texts opening.writes goes.count is.more is.number (sym is.behind ∙ none_ahead)
       ∙ ap (content_after session) (is.sum ∙ at_end persists)
       ∙ content_of_all number p f
 
   group_is : InGroup session opening.writes goes.count entries f.consumer.copy goes.ahead → ⊥
   group_is is =
-      past.group_filled session (λ n. ascends-state_of number writes n) (λ n. IsWithin-state_of suffix number writes source.accepted (omega (arith, source.few)) n)
-      (λ n. sent-state_of suffix number writes n source.accepted) texts opening.writes goes.count entries f.consumer.copy
+      past.group_filled session (λ n. ascends-state_of number writes n) (λ n. (source.good n).within)
+      (λ n. (source.good n).sent) texts opening.writes goes.count entries f.consumer.copy
       (subst (InGroup session opening.writes goes.count entries f.consumer.copy) none_ahead is)
 
   pub up_to_date : entries ≡ all_content number p f
@@ -166,12 +165,12 @@ IsIdle Unknown = Unit {0}
 idle_turn : (pair : Pair) (turn : Turn) → sending_by pair turn ≡ Rests → IsIdle turn
 idle_turn pair (Hands whole) is = by (fits pair.follower (message_octets whole)) is
   where
-    by : (room : Bool) → cond room (Sends (pair_of (handed pair.provider pair.follower.search) (linked pair.follower pair.follower.search (message_octets whole))) (message_octets whole)) Overflows ≡ Rests → ⊥
+    by : (room : Bool) → cond room (Sends (pair_of (handed pair.provider pair.follower.search) (linked pair.follower pair.follower.search (message_octets whole)) pair.lineage) (message_octets whole)) Overflows ≡ Rests → ⊥
     by true is = cc
     by false is = cc
 idle_turn pair (Closes code whole) is = by (fits pair.follower (message_octets whole)) is
   where
-    by : (room : Bool) → cond room (Sends (pair_of (handed pair.provider pair.follower.search) (linked pair.follower None (message_octets whole))) (message_octets whole)) Overflows ≡ Rests → ⊥
+    by : (room : Bool) → cond room (Sends (pair_of (handed pair.provider pair.follower.search) (linked pair.follower None (message_octets whole)) pair.lineage) (message_octets whole)) Overflows ≡ Rests → ⊥
     by true is = cc
     by false is = cc
 idle_turn pair Waits is = tt
@@ -210,12 +209,12 @@ LinksOne pair Overflows = Unit {0}
 links_one : (pair : Pair) (turn : Turn) → LinksOne pair (sending_by pair turn)
 links_one pair (Hands whole) = by (fits pair.follower (message_octets whole))
   where
-    by : (room : Bool) → LinksOne pair (cond room (Sends (pair_of (handed pair.provider pair.follower.search) (linked pair.follower pair.follower.search (message_octets whole))) (message_octets whole)) Overflows)
+    by : (room : Bool) → LinksOne pair (cond room (Sends (pair_of (handed pair.provider pair.follower.search) (linked pair.follower pair.follower.search (message_octets whole)) pair.lineage) (message_octets whole)) Overflows)
     by true = refl
     by false = tt
 links_one pair (Closes code whole) = by (fits pair.follower (message_octets whole))
   where
-    by : (room : Bool) → LinksOne pair (cond room (Sends (pair_of (handed pair.provider pair.follower.search) (linked pair.follower None (message_octets whole))) (message_octets whole)) Overflows)
+    by : (room : Bool) → LinksOne pair (cond room (Sends (pair_of (handed pair.provider pair.follower.search) (linked pair.follower None (message_octets whole)) pair.lineage) (message_octets whole)) Overflows)
     by true = refl
     by false = tt
 links_one pair Waits = tt
@@ -228,7 +227,7 @@ record IsShorter (pair : Pair) (rest : List (List ℕ)) (after : Pair) : Type 0 
 
 as_shorter : (pair : Pair) (rest : List (List ℕ)) (copy : Copy) (found : Came) → IsShorter pair rest (taken_as pair rest copy found).0
 as_shorter pair rest copy came.Staged = record { link = omega arith; left = omega arith }
-as_shorter pair rest copy came.Stored = record { link = omega arith; left = omega arith }
+as_shorter pair rest copy (came.Stored commit) = record { link = omega arith; left = omega arith }
 as_shorter pair rest copy came.Copied = record { link = omega arith; left = omega arith }
 as_shorter pair rest copy (came.Over code) = record { link = omega arith; left = omega arith }
 as_shorter pair rest copy (came.Refused fault) = record { link = omega arith; left = omega arith }
@@ -301,7 +300,7 @@ catches_sent number suffix pair known source fed is after message sends' = by is
     by : GoesOn number pair.provider pair.follower is.opening known.entries ⊎ (IsAtRest pair.follower × (known.entries ≡ content_at number pair.follower.consumer.spec pair.provider.directory.writes is.opening.writes))
         → IsKept number suffix pair after (told.Sent (name_of pair) message ∷ []) known × Catches number after.provider after.follower (known_after pair.follower.name known (told.Sent (name_of pair) message))
     by (inl goes) =
-        let sent = subst (GoingSent number suffix pair known is.opening) sends' (going_sent number suffix pair.provider pair.follower known is.opening is.latest source fed goes) in
+        let sent = subst (GoingSent number suffix pair known is.opening) sends' (going_sent pair.lineage number suffix pair.provider pair.follower known is.opening is.latest source fed goes) in
         let same = own_sent pair.follower.name message known in (
           sent.0,
           record {
@@ -343,8 +342,8 @@ catches_taken number suffix pair known source fed is after line takes' = by is.s
       },
     )
       where
-        taken : IsTaken number suffix pair.provider pair.follower known is.opening is.latest source fed goes after line
-        taken = subst (GoingTaken number suffix pair.provider pair.follower known is.opening is.latest source fed goes) takes' (going_taken number suffix pair.provider pair.follower known is.opening is.latest source fed goes)
+        taken : IsTaken pair.lineage number suffix pair.provider pair.follower known is.opening is.latest source fed goes after line
+        taken = subst (GoingTaken pair.lineage number suffix pair.provider pair.follower known is.opening is.latest source fed goes) takes' (going_taken pair.lineage number suffix pair.provider pair.follower known is.opening is.latest source fed goes)
 
         there : content_at number after.follower.consumer.spec after.provider.directory.writes is.opening.writes ≡ content_at number pair.follower.consumer.spec writes is.opening.writes
         there = λ i. content_at number (same_spec number suffix pair after (line ∷ []) known taken.kept i) (same_writes number suffix pair after (line ∷ []) known taken.kept i) is.opening.writes
@@ -416,16 +415,16 @@ UpIn number suffix pair known (Ok next) =
     IsKept number suffix pair next.0 next.1 known × ((known_by_lines pair.follower.name known next.1).entries ≡ all_content number next.0.provider next.0.follower)
 UpIn number suffix pair known (Err cause) = Unit {0}
 
-caught_up : (number : ℕ) (suffix : Name) (p : ProviderState) (f : Follower) (known : Known) → IsSource number suffix p → IsDrained (pair_of p f) → Catches number p f known → known.entries ≡ all_content number p f
-caught_up number suffix p f known source drained is = by is.state
+caught_up : (lin : Lineage) (number : ℕ) (suffix : Name) (p : ProviderState) (f : Follower) (known : Known) → IsSource number suffix p → IsDrained (pair_of p f lin) → Catches number p f known → known.entries ≡ all_content number p f
+caught_up lin number suffix p f known source drained is = by is.state
   where
     by : GoesOn number p f is.opening known.entries ⊎ (IsAtRest f × (known.entries ≡ content_at number f.consumer.spec p.directory.writes is.opening.writes)) → known.entries ≡ all_content number p f
-    by (inl goes) = up_to_date number suffix p f is.opening known.entries source goes drained
+    by (inl goes) = up_to_date lin number suffix p f is.opening known.entries source goes drained
     by (inr rest) = rest.1 ∙ ap (content_at number f.consumer.spec p.directory.writes) is.all ∙ content_of_all number p f
 
 up_of : (number : ℕ) (suffix : Name) (pair : Pair) (known : Known) (outcome : Outcome) → CatchesIn number suffix pair known outcome → DrainedIn outcome → UpIn number suffix pair known outcome
 up_of number suffix pair known (Ok next) is drained =
-    (is.0, caught_up number suffix next.0.provider next.0.follower (known_by_lines pair.follower.name known next.1) is.0.source drained is.1)
+    (is.0, caught_up next.0.lineage number suffix next.0.provider next.0.follower (known_by_lines pair.follower.name known next.1) is.0.source drained is.1)
 up_of number suffix pair known (Err cause) is drained = tt
 
 -- a new search is opened, and runs
@@ -450,7 +449,7 @@ up_already number suffix pair known source fed drained follows = (kept-still num
   where
     by : IsAtRest pair.follower ⊎ IsGoing number pair.provider pair.follower known → known.entries ≡ all_content number pair.provider pair.follower
     by (inl rest) = absurd (false≢true (ap (λ own. is_some own && is_persisting (copy_of pair.follower).running) (sym rest.search) ∙ follows))
-    by (inr going) = up_to_date number suffix pair.provider pair.follower going.opening known.entries source going.goes drained
+    by (inr going) = up_to_date pair.lineage number suffix pair.provider pair.follower going.opening known.entries source going.goes drained
 
 pub catches_up_ups : (number : ℕ) (suffix : Name) (pair : Pair) (known : Known) → IsSource number suffix pair.provider → IsFed number pair.provider pair.follower known → HasRoom pair.provider pair.follower
     → IsDrained pair → UpIn number suffix pair known (catches_up pair)

@@ -3,6 +3,8 @@ use Rattle.std.proofs.Common.{◌≡◌, ℕ, ◌+◌, ◌≤◌, Bool, true, fa
 use Rattle.std.specs.Prelude.{◌⊎◌, All}
 use Rattle.csn_cookie.specs.Cookie.{cookie_text}
 use Rattle.csn_cookie.specs.declared.cookie.Cookie as stamps
+use Rattle.entry_tree.specs.Effects.{committed}
+use Rattle.entry_tree.specs.State.{ascends}
 use Rattle.entry_tree.specs.declared.entry.Entry.{Entry}
 use Rattle.sync_model.specs.Copy.{Copy, Commit, Answer}
 use Rattle.sync_model.specs.Copy.Answer.{Staged, Stored}
@@ -35,12 +37,14 @@ module _ (session : Session) (ascending : Ascending session) (within : (number :
     pub none : ahead ≡ []
 
   -- or the content after some of the writes is held, with its cookie
-  pub record StoresOne (ahead : List SyncMessage) (outcome : Copy × Answer) : Type 0 where
+  pub record StoresOne (entries : List Entry) (ahead : List SyncMessage) (outcome : Copy × Answer) : Type 0 where
     pub number : ℕ
     pub from : opened ≤ number
     pub upto : number ≤ opened + count
     pub commit : Commit
     pub answer : outcome.1 ≡ Stored commit
+    pub text : commit.cookie ≡ Some (session.cookies number)
+    pub staged : committed entries commit.puts commit.drops ≡ content_after session number
     pub held : outcome.0.held ≡ content_after session number
     pub cookie : outcome.0.cookie ≡ Some (session.cookies number)
     pub then : IsPast session opened count (content_after session number) outcome.0 ahead ⊎ IsOver ahead outcome.0
@@ -48,7 +52,7 @@ module _ (session : Session) (ascending : Ascending session) (within : (number :
 
   pub record TakesOne (entries : List Entry) (held : Copy) (taken : List SyncMessage) (m : SyncMessage) (ahead : List SyncMessage) : Type 0 where
     pub can : IsOfSearch m
-    pub comes : StagesOne entries held (taken ++ m ∷ []) ahead (taken_within 1 held m) ⊎ StoresOne ahead (taken_within 1 held m)
+    pub comes : StagesOne entries held (taken ++ m ∷ []) ahead (taken_within 1 held m) ⊎ StoresOne entries ahead (taken_within 1 held m)
 
   abbrev Later : List SyncMessage
   Later = cond session.persists (later session opened count) []
@@ -56,7 +60,7 @@ module _ (session : Session) (ascending : Ascending session) (within : (number :
   -- ---- in the refresh
 
   module _ (entries : List Entry) (held : Copy) (taken ahead : List SyncMessage) (m : SyncMessage) (rest : List SyncMessage) (is : InRefresh session start opened count entries held taken (m ∷ ahead))
-      (some : is.rest ≡ m ∷ rest) where
+      (some : is.rest ≡ m ∷ rest) (rises : ascends entries ≡ true) where
     whole : taken ++ m ∷ rest ≡ refresh_from session start opened
     whole = ap (λ ms. taken ++ ms) (sym some) ∙ is.whole
 
@@ -109,6 +113,8 @@ module _ (session : Session) (ascending : Ascending session) (within : (number :
         upto = omega arith;
         commit = now.commit;
         answer = ap (λ (o : Copy × Answer). o.1) same ∙ now.answer;
+        text = now.text;
+        staged = now.staged;
         held = ap (λ (c : Copy). c.held) copy;
         cookie = ap (λ (c : Copy). c.cookie) copy;
         then = by session.persists refl;
@@ -116,8 +122,8 @@ module _ (session : Session) (ascending : Ascending session) (within : (number :
       });
     }
       where
-        now : IsStored session.persists (content_after session opened) (session.cookies opened) (taken_within 1 before m)
-        now = end_stored session start opened ascending entries is.begins within held.cookie taken rest m whole end
+        now : IsStored session.persists entries (content_after session opened) (session.cookies opened) (taken_within 1 before m)
+        now = end_stored session start opened ascending entries is.begins within rises held.cookie taken rest m whole end
 
         copy : (taken_within 1 held m).0 ≡ settled 1 session.persists now.ended (content_after session opened) (Some (session.cookies opened))
         copy = ap (λ (o : Copy × Answer). o.0) same ∙ now.copy
@@ -156,18 +162,18 @@ module _ (session : Session) (ascending : Ascending session) (within : (number :
 
   -- ---- anywhere
 
-  pub one_comes : (entries : List Entry) (held : Copy) (taken ahead : List SyncMessage) (m : SyncMessage) → IsWhere session start opened count entries held taken (m ∷ ahead) → TakesOne entries held taken m ahead
-  one_comes entries held taken ahead m (inl is) = refresh_comes entries held taken ahead m is.some.later is (is.some.same ∙ ap (λ x. x ∷ is.some.later) (sym first))
+  pub one_comes : (entries : List Entry) (held : Copy) (taken ahead : List SyncMessage) (m : SyncMessage) → ascends entries ≡ true → IsWhere session start opened count entries held taken (m ∷ ahead) → TakesOne entries held taken m ahead
+  one_comes entries held taken ahead m rises (inl is) = refresh_comes entries held taken ahead m is.some.later is (is.some.same ∙ ap (λ x. x ∷ is.some.later) (sym first)) rises
     where
       first : m ≡ is.some.next
       first = heads m is.some.next ahead (is.some.later ++ Later) (is.behind ∙ ap (λ ms. ms ++ Later) is.some.same)
-  one_comes entries held taken ahead m (inr is) = record { can = now.can; comes = by now.comes }
+  one_comes entries held taken ahead m rises (inr is) = record { can = now.can; comes = by now.comes }
     where
       now : Comes session ascending within sent texts opened count entries held m ahead
       now = past_comes session ascending within sent texts opened count entries held m ahead is.1
 
-      by : IsMidway session ascending within sent texts opened count entries held ahead (taken_within 1 held m) ⊎ IsDone session ascending within sent texts opened count ahead (taken_within 1 held m)
-          → StagesOne entries held (taken ++ m ∷ []) ahead (taken_within 1 held m) ⊎ StoresOne ahead (taken_within 1 held m)
+      by : IsMidway session ascending within sent texts opened count entries held ahead (taken_within 1 held m) ⊎ IsDone session ascending within sent texts opened count entries ahead (taken_within 1 held m)
+          → StagesOne entries held (taken ++ m ∷ []) ahead (taken_within 1 held m) ⊎ StoresOne entries ahead (taken_within 1 held m)
       by (inl midway) = inl (record { answer = midway.answer; same = midway.same; cookie = midway.cookie; place = inr (is.0, inr midway.now) })
       by (inr done) = inr (record {
         number = done.number;
@@ -175,6 +181,8 @@ module _ (session : Session) (ascending : Ascending session) (within : (number :
         upto = done.upto;
         commit = done.commit;
         answer = done.answer;
+        text = done.text;
+        staged = done.staged;
         held = done.held;
         cookie = done.cookie;
         then = inl (is.0, inl done.now);

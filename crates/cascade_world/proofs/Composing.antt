@@ -4,15 +4,17 @@ use Rattle.std.specs.Prelude.{◌⊎◌, Ok, Err, fold}
 use Rattle.std.proofs.lemmas.Bool.{cases_Bool}
 use Rattle.std.proofs.lemmas.List.Sums.{fold-append}
 use Rattle.dn_names.specs.Names.{TypeAndValue}
+use Rattle.entry_tree.specs.Selection.{Search}
 use Rattle.sync_model.specs.Stream.{among}
 use Rattle.sync_provider.specs.HandingOut.{search_at}
 use Rattle.sync_provider.specs.Machine.{ProviderState}
 use Rattle.sync_provider.specs.Search.{SearchState}
 use Rattle.cascade_world.specs.declared.node.Follower.{Follower}
-use Rattle.cascade_world.specs.Exchange.{Pair, Outcome, after_lines, and_then}
+use Rattle.cascade_world.specs.Exchange.{Pair, Outcome, pair_of, after_lines, and_then}
 use Rattle.cascade_world.specs.Headline.{Known, known_after}
+use Rattle.cascade_world.specs.Origins.{Lineage}
 use Rattle.cascade_world.specs.Report.{Told}
-use Rattle.cascade_world.proofs.Feeding.{IsSource, IsFed, HasRoom, OwnsNew, Frame, frame_of, LineIsRightOf, LinesAreRightOf, IsKept}
+use Rattle.cascade_world.proofs.Feeding.{IsSource, IsFed, HasRoom, OwnsNew, Frame, frame_of, LineIsRightOf, LinesAreRightOf, Promises, KeepsPromises, IsKept, IsRespecced}
 
 -- what these lines leave known
 abbrev pub known_by_lines : List ℕ → Known → List Told → Known
@@ -28,6 +30,21 @@ fed-append : (number : ℕ) (p : ProviderState) (f : Follower) (name other : Lis
     → IsFed number p f (known_by_lines other (known_by_lines name known lines) more) → IsFed number p f (known_by_lines name known (lines ++ more))
 fed-append number p f name other known lines more same fed =
     subst (IsFed number p f) (ap (λ n. known_by_lines n (known_by_lines name known lines) more) same ∙ sym (fold-append (known_after name) known lines more)) fed
+
+-- what is promised after both
+promises-then : (number : ℕ) (search next : Search) (name other : List ℕ) (known : Known) (lines more : List Told) → other ≡ name → next ≡ search
+    → KeepsPromises number search known (known_by_lines name known lines)
+    → KeepsPromises number next (known_by_lines name known lines) (known_by_lines other (known_by_lines name known lines) more)
+    → KeepsPromises number search known (known_by_lines name known (lines ++ more))
+promises-then number search next name other known lines more same alike first then k writes least most far promised =
+    subst (Promises k search writes) (ap (λ n. known_by_lines n (known_by_lines name known lines) more) same ∙ sym (fold-append (known_after name) known lines more))
+    (subst (λ s. Promises k s writes now) alike (then k writes least most far (subst (λ s. Promises k s writes (known_by_lines name known lines)) (sym alike) (first k writes least most far promised))))
+  where
+    now : Known
+    now = known_by_lines other (known_by_lines name known lines) more
+
+pub promises-still : (number : ℕ) (search : Search) (known : Known) → KeepsPromises number search known known
+promises-still number search known other writes least most far promised = promised
 
 -- ---- the searches of others
 
@@ -78,12 +95,39 @@ kept-then number suffix one two three lines more known first then = record {
   source = then.source;
   fed = fed-append number three.provider three.follower one.follower.name two.follower.name known lines more (ap (λ (frame : Frame). frame.name) first.same) then.fed;
   right =
-      lines-append lines more number (frame_of one.provider one.follower) known first.right
+      lines-append lines more number (frame_of one) known first.right
       (subst (λ frame. LinesAreRightOf number frame (known_by_lines one.follower.name known lines) more) first.same then.right);
   same = then.same ∙ first.same;
   others = λ g k fed apart. let now = first.others g k fed apart in then.others g k now.0 now.1;
   owns = owns-then one two three first.owns then.owns;
+  elsewhere =
+      promises-then number one.follower.consumer.spec two.follower.consumer.spec one.follower.name two.follower.name known lines more
+      (ap (λ (frame : Frame). frame.name) first.same) (ap (λ (frame : Frame). frame.spec) first.same) first.elsewhere then.elsewhere;
 }
+
+-- and one after which something else is wanted
+pub respecced-then : (number : ℕ) (suffix : List (List TypeAndValue)) (search : Search) (one two three : Pair) (lines more : List Told) (known : Known)
+    → IsKept number suffix one two lines known → (known_by_lines one.follower.name known lines).entries ≡ known.entries
+    → IsRespecced number suffix search two three more (known_by_lines one.follower.name known lines) → IsRespecced number suffix search one three (lines ++ more) known
+respecced-then number suffix search one two three lines more known first entries then = record {
+  source = then.source;
+  fed = fed-append number three.provider three.follower one.follower.name two.follower.name known lines more named then.fed;
+  right =
+      lines-append lines more number (frame_of one) known first.right
+      (subst (λ frame. LinesAreRightOf number frame (known_by_lines one.follower.name known lines) more) first.same then.right);
+  same = then.same ∙ ap (λ (frame : Frame). record frame { spec = search }) first.same;
+  others = λ g k fed apart. let now = first.others g k fed apart in then.others g k now.0 now.1;
+  owns = owns-then one two three first.owns then.owns;
+  rest = then.rest;
+  none = ap (λ (k : Known). k.cookie) (sym known_is) ∙ then.none;
+  entries = ap (λ (k : Known). k.entries) (sym known_is) ∙ then.entries ∙ entries;
+}
+  where
+    named : two.follower.name ≡ one.follower.name
+    named = ap (λ (frame : Frame). frame.name) first.same
+
+    known_is : known_by_lines two.follower.name (known_by_lines one.follower.name known lines) more ≡ known_by_lines one.follower.name known (lines ++ more)
+    known_is = ap (λ n. known_by_lines n (known_by_lines one.follower.name known lines) more) named ∙ sym (fold-append (known_after one.follower.name) known lines more)
 
 -- a part that is refused changes nothing
 abbrev pub IsKeptIn : ℕ → List (List TypeAndValue) → Pair → Known → Outcome → Type 0
@@ -118,8 +162,8 @@ keeps-then number suffix first next one two pair known source fed room = by (fir
 
 -- ---- a part that changes nothing, and a line that tells nothing of what is known
 
-pub owns-still : (p : ProviderState) (f g : Follower) (own : (at : ℕ) → f.search ≡ Some at → g.search ≡ Some at) → OwnsNew (record { provider = p; follower = f }) (record { provider = p; follower = g })
-owns-still p f g own at s found = by f.search refl
+pub owns-still : (lin : Lineage) (p : ProviderState) (f g : Follower) (own : (at : ℕ) → f.search ≡ Some at → g.search ≡ Some at) → OwnsNew (pair_of p f lin) (pair_of p g lin)
+owns-still lin p f g own at s found = by f.search refl
   where
     by : (search : Option ℕ) → f.search ≡ search → (g.search ≡ Some at) ⊎ ((was : SearchState) × (search_at p.searches at ≡ Some was) × (f.search ≡ Some at → ⊥))
     by search is = elim (cases_Some search at) [
@@ -135,7 +179,8 @@ kept-still number suffix pair known source fed = record {
   right = tt;
   same = refl;
   others = λ g k other apart. (other, apart);
-  owns = owns-still pair.provider pair.follower pair.follower (λ at mine. mine);
+  owns = owns-still pair.lineage pair.provider pair.follower pair.follower (λ at mine. mine);
+  elsewhere = promises-still number pair.follower.consumer.spec known;
 }
 
 -- a line that leaves what is known
@@ -143,7 +188,7 @@ abbrev pub IsStill : Told → Type 0
 IsStill line = (name : List ℕ) (known : Known) → known_after name known line ≡ known
 
 pub kept-told : (number : ℕ) (suffix : List (List TypeAndValue)) (one two : Pair) (line : Told) (known : Known) → IsStill line
-    → LineIsRightOf number (frame_of one.provider one.follower) known line
+    → LineIsRightOf number (frame_of one) known line
     → IsKept number suffix one two [] known → IsKept number suffix one two (line ∷ []) known
 kept-told number suffix one two line known still right kept = record {
   source = kept.source;
@@ -152,4 +197,5 @@ kept-told number suffix one two line known still right kept = record {
   same = kept.same;
   others = kept.others;
   owns = kept.owns;
+  elsewhere = subst (KeepsPromises number one.follower.consumer.spec known) (sym (still one.follower.name known)) kept.elsewhere;
 }

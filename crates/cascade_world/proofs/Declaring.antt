@@ -1,38 +1,65 @@
 -- Consumers that are declared.
-use Rattle.std.proofs.Common.{◌≡◌, ◌<◌, ◌≤◌, ℕ, Bool, true, false, not, Some, None, List, [], ◌∷◌, ◌++◌, get_or, refl, ap, sym, ◌∙◌, arith}
+use Rattle.std.proofs.Common.{◌≡◌, ◌+◌, ◌<◌, ◌≤◌, ℕ, Bool, true, false, Some, None, List, [], ◌∷◌, ◌++◌, get_or, refl, ap, sym, subst, ◌∙◌, arith}
 use Rattle.std.proofs.lemmas.Bool.Decides.{nat_tests}
-use Rattle.std.specs.Prelude.{Ok, Err, position, nat_le}
-use Rattle.dn_names.specs.Names.{is_at_or_below}
+use Rattle.std.specs.Prelude.{Result, Ok, Err, position, nat_le}
+use Rattle.dn_names.specs.Names.{TypeAndValue}
 use Rattle.entry_tree.specs.Selection.{Search}
-use Rattle.cascade_world.specs.declared.fault.Cause.TheVariants.{UnknownNode, OutsideSuffix, LimitReached}
-use Rattle.cascade_world.specs.declared.node.Root.{Root}
+use Rattle.sync_consumer.specs.Taking.{Following, nothing}
+use Rattle.sync_provider.specs.Machine.{fresh}
+use Rattle.sync_provider.specs.declared.provider.Kind.TheVariants.{Replica}
+use Rattle.cascade_world.specs.declared.fault.Cause.TheVariants.{NameTaken, UnknownNode, OutsideSuffix, LimitReached}
+use Rattle.cascade_world.specs.declared.node.Supplier.{Supplier}
+use Rattle.cascade_world.specs.declared.node.Follower.{Follower}
 use Rattle.cascade_world.specs.Cookies.{most_nodes}
-use Rattle.cascade_world.specs.World.{State, is_root, has_node, root_named, count_nodes, where_room, new_follower, follow, declare_follower}
+use Rattle.cascade_world.specs.World.{State, IsStep, new_supplier, new_follower, with_replica, is_supplier, has_node, supplier_named, where_room, is_offered, follow, declare_follower}
 use Rattle.cascade_world.proofs.Places.{found_at, found_nowhere}
 
-by_source : (state : State) (name source : List ℕ) (search : Search) (reload : Bool) → has_node name state ≡ false → declare_follower state name source search reload ≡ follow state name source search reload (root_named source state)
-by_source state name source search reload new = rw new refl
+pub taken : (state : State) (name source : List ℕ) (search : Search) (after : State) → has_node name state ≡ true → declare_follower state name source search after ≡ Err NameTaken
+taken state name source search after there = rw there refl
 
-pub no_source : (state : State) (name source : List ℕ) (search : Search) (reload : Bool) → has_node name state ≡ false → position (is_root source) state.roots ≡ None → declare_follower state name source search reload ≡ Err UnknownNode
-no_source state name source search reload new none = by_source state name source search reload new ∙ ap (follow state name source search reload) (found_nowhere (is_root source) state.roots none)
+by_source : (state : State) (name source : List ℕ) (search : Search) (after : State) → has_node name state ≡ false → declare_follower state name source search after ≡ follow state search after (supplier_named source state)
+by_source state name source search after new = rw new refl
 
-pub outside : (state : State) (name source : List ℕ) (search : Search) (reload : Bool) (i : ℕ) (r : Root) → has_node name state ≡ false → position (is_root source) state.roots ≡ Some i → r ≡ get_or state.roots i r
-    → is_at_or_below search.base r.provider.directory.suffix ≡ false → declare_follower state name source search reload ≡ Err OutsideSuffix
-outside state name source search reload i r new e is out =
-    by_source state name source search reload new ∙ ap (follow state name source search reload) (found_at (is_root source) state.roots i r e is) ∙ rw out refl
+pub no_source : (state : State) (name source : List ℕ) (search : Search) (after : State) → has_node name state ≡ false → position (is_supplier source) state.suppliers ≡ None → declare_follower state name source search after ≡ Err UnknownNode
+no_source state name source search after new none = by_source state name source search after new ∙ ap (follow state search after) (found_nowhere (is_supplier source) state.suppliers none)
 
-inside : (state : State) (name source : List ℕ) (search : Search) (reload : Bool) (i : ℕ) (r : Root) → has_node name state ≡ false → position (is_root source) state.roots ≡ Some i → r ≡ get_or state.roots i r
-    → is_at_or_below search.base r.provider.directory.suffix ≡ true → declare_follower state name source search reload ≡ where_room state (record state { followers = state.followers ++ new_follower name source search reload ∷ [] })
-inside state name source search reload i r new e is within =
-    by_source state name source search reload new ∙ ap (follow state name source search reload) (found_at (is_root source) state.roots i r e is) ∙ rw within refl
+pub outside : (state : State) (name source : List ℕ) (search : Search) (after : State) (i : ℕ) (r : Supplier) → has_node name state ≡ false → position (is_supplier source) state.suppliers ≡ Some i → r ≡ get_or state.suppliers i r
+    → is_offered search r ≡ false → declare_follower state name source search after ≡ Err OutsideSuffix
+outside state name source search after i r new e is out =
+    by_source state name source search after new ∙ ap (follow state search after) (found_at (is_supplier source) state.suppliers i r e is) ∙ rw out refl
 
-pub no_room : (state : State) (name source : List ℕ) (search : Search) (reload : Bool) (i : ℕ) (r : Root) → has_node name state ≡ false → position (is_root source) state.roots ≡ Some i → r ≡ get_or state.roots i r
-    → is_at_or_below search.base r.provider.directory.suffix ≡ true → most_nodes ≤ count_nodes state → declare_follower state name source search reload ≡ Err (LimitReached most_nodes)
-no_room state name source search reload i r new e is within full =
-    let over : nat_le most_nodes (count_nodes state) ≡ true = grind (arith, nat_tests) in inside state name source search reload i r new e is within ∙ rw over refl
+inside : (state : State) (name source : List ℕ) (search : Search) (after : State) (i : ℕ) (r : Supplier) → has_node name state ≡ false → position (is_supplier source) state.suppliers ≡ Some i → r ≡ get_or state.suppliers i r
+    → is_offered search r ≡ true → declare_follower state name source search after ≡ where_room state after
+inside state name source search after i r new e is within =
+    by_source state name source search after new ∙ ap (follow state search after) (found_at (is_supplier source) state.suppliers i r e is) ∙ rw within refl
 
-pub followed : (state : State) (name source : List ℕ) (search : Search) (reload : Bool) (i : ℕ) (r : Root) → has_node name state ≡ false → position (is_root source) state.roots ≡ Some i → r ≡ get_or state.roots i r
-    → is_at_or_below search.base r.provider.directory.suffix ≡ true → count_nodes state < most_nodes
-    → declare_follower state name source search reload ≡ Ok (record state { followers = state.followers ++ new_follower name source search reload ∷ [] }, [])
-followed state name source search reload i r new e is within room =
-    let under : nat_le most_nodes (count_nodes state) ≡ false = grind (arith, nat_tests) in inside state name source search reload i r new e is within ∙ rw under refl
+pub no_room : (state : State) (name source : List ℕ) (search : Search) (after : State) (i : ℕ) (r : Supplier) → has_node name state ≡ false → position (is_supplier source) state.suppliers ≡ Some i → r ≡ get_or state.suppliers i r
+    → is_offered search r ≡ true → most_nodes ≤ state.nodes → declare_follower state name source search after ≡ Err (LimitReached most_nodes)
+no_room state name source search after i r new e is within full =
+    let over : nat_le most_nodes state.nodes ≡ true = grind (arith, nat_tests) in inside state name source search after i r new e is within ∙ rw over refl
+
+pub followed : (state : State) (name source : List ℕ) (search : Search) (after : State) (i : ℕ) (r : Supplier) → has_node name state ≡ false → position (is_supplier source) state.suppliers ≡ Some i → r ≡ get_or state.suppliers i r
+    → is_offered search r ≡ true → state.nodes < most_nodes → declare_follower state name source search after ≡ Ok (after, [])
+followed state name source search after i r new e is within room =
+    let under : nat_le most_nodes state.nodes ≡ false = grind (arith, nat_tests) in inside state name source search after i r new e is within ∙ rw under refl
+
+-- a node that may be declared is there then
+pub declared : (state after new : State) (name source : List ℕ) (search : Search) (text : List ℕ) → ((after : State) → declare_follower state name source search after ≡ Ok (after, [])) → new ≡ after → text ≡ []
+    → IsStep (declare_follower state name source search after) new text
+declared state after new name source search text ok same none = subst (λ step. IsStep step new text) (sym (ok after)) (same, none)
+
+pub same_made : {E : Type 0} (made : Result Following E) (one other : Following) → made ≡ Ok one → made ≡ Ok other → one ≡ other
+same_made made one other is are = cc
+
+-- a replica with its directory and its consumer
+pub replica_is : (state view : State) (name spelled source : List ℕ) (suffix : List (List TypeAndValue)) (search : Search) (reload : Bool) (number : ℕ) (own : Supplier) (consumer : Following) (follower : Follower)
+    (suppliers : List Supplier) (followers : List Follower)
+    → view ≡ state → spelled ≡ name → suffix ≡ [] → number ≡ state.nodes + 1 → own ≡ record { name = spelled; provider = fresh suffix number number Replica; notes = [] } → consumer ≡ record { spec = search; reload = reload; copy = nothing }
+    → follower ≡ record { name = name; source = source; consumer = consumer; link = []; search = None } → suppliers ≡ view.suppliers ++ own ∷ [] → followers ≡ view.followers ++ follower ∷ []
+    → record view { nodes = number; suppliers = suppliers; followers = followers } ≡ with_replica state (new_follower name source search reload)
+replica_is state view name spelled source suffix search reload number own consumer follower suppliers followers same named empty next own_is consumer_is follower_is suppliers_are followers_are =
+    let supplier : own ≡ new_supplier state Replica name [] = own_is ∙ λ k. record { name = named k; provider = fresh (empty k) (next k) (next k) Replica; notes = [] } in
+    let consumed : follower ≡ new_follower name source search reload = follower_is ∙ λ k. record { name = name; source = source; consumer = consumer_is k; link = []; search = None } in
+    let all : suppliers ≡ state.suppliers ++ new_supplier state Replica name [] ∷ [] = suppliers_are ∙ λ k. (same k).suppliers ++ supplier k ∷ [] in
+    let each : followers ≡ state.followers ++ new_follower name source search reload ∷ [] = followers_are ∙ λ k. (same k).followers ++ consumed k ∷ [] in
+    λ k. record { clock = (same k).clock; nodes = next k; suppliers = all k; followers = each k }

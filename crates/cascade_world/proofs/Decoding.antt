@@ -1,5 +1,5 @@
 -- What a decoded message says to a search, and what a consumer makes of it.
-use Rattle.std.proofs.Common.{◌≡◌, ◌==◌, ℕ, Bool, true, false, Option, Some, None, List, refl, ap, sym, ◌∙◌, inl, inr}
+use Rattle.std.proofs.Common.{◌≡◌, ◌==◌, ℕ, Bool, Option, Some, None, List, refl, ap, ◌∙◌, inl, inr}
 use Rattle.std.proofs.lemmas.Bool.{cases_Bool}
 use Rattle.std.specs.Prelude.{Result, Ok, Err, codes}
 use Rattle.ldap_messages.specs.declared.message.Message.{Message}
@@ -19,7 +19,7 @@ use Rattle.sync_wire.specs.Hearing as wire
 use Rattle.sync_wire.specs.Kind.{tag_of}
 use Rattle.sync_wire.specs.declared.fault.HearingFault.{HearingFault}
 use Rattle.sync_wire.specs.declared.fault.HearingFault.TheVariants as hearing
-use Rattle.cascade_world.specs.Hearing.{Came, operation_said, whole_said, came_of, heard_as, heard_by, hearing_name}
+use Rattle.cascade_world.specs.Hearing.{commit_told, Came, operation_said, whole_said, came_of, heard_as, heard_by, hearing_name}
 use Rattle.cascade_world.specs.Hearing.{Came as came}
 use Rattle.cascade_world.specs.Naming.{peer_name}
 
@@ -54,7 +54,7 @@ message_said persisting m = op_said persisting m.controls m.op
 -- what is told of a message, by what came of it
 abbrev pub came_told : Taken → Came
 came_told taken.Staged = came.Staged
-came_told (taken.Stored commit) = came.Stored
+came_told (taken.Stored commit) = came.Stored (commit_told commit)
 came_told (taken.Copied commit) = came.Copied
 came_told (taken.Over code) = came.Over code
 came_told (taken.Fault found) = came.Refused (peer_name found)

@@ -2,11 +2,12 @@
 use Rattle.std.proofs.Common.{◌≡◌, ℕ, zero, suc, Bool, true, false, Option, Some, None, List, [], ◌∷◌, ◌++◌, length, refl, ap, sym, subst, ◌∙◌, inl, inr}
 use Rattle.std.proofs.lemmas.Bool.{cases_Bool}
 use Rattle.std.proofs.lemmas.List.Sums.{fold-append}
-use Rattle.std.specs.Prelude.{Ok, Err}
+use Rattle.std.specs.Prelude.{Ok, Err, ◌||◌, is_some}
 use Rattle.std.specs.List.{fold}
+use Rattle.entry_tree.specs.Selection.{Search, search_of}
 use Rattle.sync_messages.specs.declared.request.Mode.{Mode}
 use Rattle.sync_messages.specs.declared.request.Mode.TheVariants.{RefreshOnly}
-use Rattle.sync_model.specs.Copy.{Copy}
+use Rattle.sync_model.specs.Copy.{Copy, Running}
 use Rattle.sync_provider.specs.HandingOut.{Turn}
 use Rattle.sync_provider.specs.HandingOut.Turn.{Hands, Closes, Waits, Unknown}
 use Rattle.sync_provider.specs.Machine.{ProviderState}
@@ -14,58 +15,72 @@ use Rattle.sync_provider.specs.declared.searches.Accepted.{Accepted}
 use Rattle.sync_provider.specs.declared.searches.Accepted.TheVariants as accepted
 use Rattle.cascade_world.specs.declared.exchange.Exchange.{Exchange}
 use Rattle.cascade_world.specs.declared.exchange.Exchange.TheVariants as goes
-use Rattle.cascade_world.specs.Exchange.{Pair, Outcome, part_of, fits, after_lines, and_then, name_of, copy_of, Sending, turn_of, handed, sends, sending_by, sending, sent_before, sent, closed, given_up, taken_as, taken_from, taking, taken_before, taken_some, takes, is_busy, cut, idle, answer_of, is_required, opened_by, opened_idle, opens, asked_again, opens_anew, left_to_send, ran_before, ran_some, runs, drains, follows_on, catches_up, settled_told, settles, holding, lost, given}
+use Rattle.cascade_world.specs.Exchange.{Pair, Outcome, part_of, fits, after_lines, and_then, name_of, copy_of, Sending, turn_of, handed, sends, sending_by, sending, sent_before, sent, closed, given_up, taken_as, taken_from, taking, taken_before, taken_some, takes, is_busy, cut, idle, answer_of, is_required, opened_by, opened_idle, opens, asked_again, opens_anew, left_to_send, ran_before, ran_some, runs, drains, follows_on, catches_up, settled_told, settles, holding, lost, given, wanted, respecs}
 use Rattle.cascade_world.specs.Exchange.Sending.{Sends, Rests, Overflows}
 use Rattle.cascade_world.specs.Hearing.{Came, heard}
 use Rattle.cascade_world.specs.Hearing.{Came as came}
 use Rattle.cascade_world.specs.Cookies.{is_later}
 use Rattle.cascade_world.specs.Report.{Told}
 use Rattle.cascade_world.specs.Report.{Told as told}
-use Rattle.cascade_world.specs.Trace.{Seen, seen_of, took, dropped, after_own, name_in}
+use Rattle.cascade_world.specs.Trace.{seen_of, took, dropped, after_own, name_in}
 
 -- lines of the consumer of this name
 abbrev pub EachOwn : List ℕ → List Told → Type 0
 EachOwn name [] = Unit {0}
 EachOwn name (line ∷ lines) = (name_in line ≡ name) × EachOwn name lines
 
--- what each part keeps: who the consumer is and what it wants, and the provider's writes; its link and its copy are
--- what its lines make of them
-pub record Keeps (before after : Pair) (lines : List Told) : Type 0 where
+-- what each part keeps: who the consumer is and what it wants, but where it is told to want something else, and the
+-- provider's writes and where they are from; its link and its copy are what its lines make of them
+pub record Alters (wants : Search → Search) (before after : Pair) (lines : List Told) : Type 0 where
   pub name : after.follower.name ≡ before.follower.name
   pub source : after.follower.source ≡ before.follower.source
-  pub spec : after.follower.consumer.spec ≡ before.follower.consumer.spec
+  pub spec : after.follower.consumer.spec ≡ wants before.follower.consumer.spec
   pub reload : after.follower.consumer.reload ≡ before.follower.consumer.reload
   pub directory : after.provider.directory ≡ before.provider.directory
+  pub kind : after.provider.kind ≡ before.provider.kind
+  pub lineage : after.lineage ≡ before.lineage
   pub own : EachOwn before.follower.name lines
   pub traced : seen_of after.follower ≡ fold after_own (seen_of before.follower) lines
+
+-- the same is wanted
+abbrev pub as_before : Search → Search
+as_before search = search
+
+abbrev pub Keeps : Pair → Pair → List Told → Type 0
+Keeps before after lines = Alters as_before before after lines
 
 own-append : (name : List ℕ) (ls ms : List Told) → EachOwn name ls → EachOwn name ms → EachOwn name (ls ++ ms)
 own-append name [] ms h k = k
 own-append name (l ∷ ls) ms h k = (h.0, own-append name ls ms h.1 k)
 
 pub keeps_nothing : (pair : Pair) → Keeps pair pair []
-keeps_nothing pair = record { name = refl; source = refl; spec = refl; reload = refl; directory = refl; own = tt; traced = refl }
+keeps_nothing pair = record { name = refl; source = refl; spec = refl; reload = refl; directory = refl; kind = refl; lineage = refl; own = tt; traced = refl }
 
-pub keeps_both : {a b c : Pair} {ls ms : List Told} → Keeps a b ls → Keeps b c ms → Keeps a c (ls ++ ms)
-keeps_both {a} {b} {c} {ls} {ms} first second = record {
+pub keeps_both : {wants : Search → Search} {a b c : Pair} {ls ms : List Told} → Keeps a b ls → Alters wants b c ms → Alters wants a c (ls ++ ms)
+keeps_both {wants} {a} {b} {c} {ls} {ms} first second = record {
   name = second.name ∙ first.name;
   source = second.source ∙ first.source;
-  spec = second.spec ∙ first.spec;
+  spec = second.spec ∙ ap wants first.spec;
   reload = second.reload ∙ first.reload;
   directory = second.directory ∙ first.directory;
+  kind = second.kind ∙ first.kind;
+  lineage = second.lineage ∙ first.lineage;
   own = own-append a.follower.name ls ms first.own (subst (λ n. EachOwn n ms) first.name second.own);
   traced = second.traced ∙ ap (λ s. fold after_own s ms) first.traced ∙ sym (fold-append after_own (seen_of a.follower) ls ms);
 }
 
 -- a line that tells of nothing that happened
 keeps_quiet : (pair : Pair) (line : Told) → name_in line ≡ pair.follower.name → seen_of pair.follower ≡ after_own (seen_of pair.follower) line → Keeps pair pair (line ∷ [])
-keeps_quiet pair line own quiet = record { name = refl; source = refl; spec = refl; reload = refl; directory = refl; own = (own, tt); traced = quiet }
+keeps_quiet pair line own quiet = record { name = refl; source = refl; spec = refl; reload = refl; directory = refl; kind = refl; lineage = refl; own = (own, tt); traced = quiet }
 
 -- ---- parts one after another
 
+abbrev pub AltersIn : (Search → Search) → Pair → Outcome → Type 0
+AltersIn wants pair (Ok next) = Alters wants pair next.0 next.1
+AltersIn wants pair (Err cause) = Unit {0}
+
 abbrev pub KeepsIn : Pair → Outcome → Type 0
-KeepsIn pair (Ok next) = Keeps pair next.0 next.1
-KeepsIn pair (Err cause) = Unit {0}
+KeepsIn pair outcome = AltersIn as_before pair outcome
 
 keeps_lines : (pair after : Pair) (lines : List Told) (outcome : Outcome) → Keeps pair after lines → KeepsIn after outcome → KeepsIn pair (after_lines lines outcome)
 keeps_lines pair after lines (Ok next) h k = keeps_both h k
@@ -80,6 +95,10 @@ keeps_then pair (Err cause) next h k = tt
 handed_directory : (p : ProviderState) (search : Option ℕ) → (handed p search).directory ≡ p.directory
 handed_directory p None = refl
 handed_directory p (Some number) = refl
+
+handed_kind : (p : ProviderState) (search : Option ℕ) → (handed p search).kind ≡ p.kind
+handed_kind p None = refl
+handed_kind p (Some number) = refl
 
 abbrev KeepsSending : Pair → Sending → Type 0
 KeepsSending pair (Sends after message) = Keeps pair after (told.Sent (name_of pair) message ∷ [])
@@ -96,6 +115,8 @@ sends_keeps pair search message =
             spec = refl;
             reload = refl;
             directory = handed_directory pair.provider pair.follower.search;
+            kind = handed_kind pair.provider pair.follower.search;
+            lineage = refl;
             own = (refl, tt);
             traced = refl;
           }
@@ -126,21 +147,27 @@ closed_directory : (p : ProviderState) (search : Option ℕ) → (closed p searc
 closed_directory p None = refl
 closed_directory p (Some number) = refl
 
+closed_kind : (p : ProviderState) (search : Option ℕ) → (closed p search).kind ≡ p.kind
+closed_kind p None = refl
+closed_kind p (Some number) = refl
+
 took_is : (before : Copy) (link : List (List ℕ)) (message : List ℕ) (rest : List (List ℕ)) → link ≡ message ∷ rest → took before link ≡ record { link = rest; copy = (heard before message).0 }
 took_is before link message rest e = ap (took before) e
 
 taken_as_keeps : (pair : Pair) (message : List ℕ) (rest : List (List ℕ)) (found : Came) → pair.follower.link ≡ message ∷ rest
     → Keeps pair (taken_as pair rest (heard (copy_of pair.follower) message).0 found).0 ((taken_as pair rest (heard (copy_of pair.follower) message).0 found).1 ∷ [])
-taken_as_keeps pair message rest came.Staged e = record { name = refl; source = refl; spec = refl; reload = refl; directory = refl; own = (refl, tt); traced = sym (took_is (copy_of pair.follower) pair.follower.link message rest e) }
-taken_as_keeps pair message rest came.Copied e = record { name = refl; source = refl; spec = refl; reload = refl; directory = refl; own = (refl, tt); traced = sym (took_is (copy_of pair.follower) pair.follower.link message rest e) }
-taken_as_keeps pair message rest came.Stored e = record { name = refl; source = refl; spec = refl; reload = refl; directory = refl; own = (refl, tt); traced = sym (took_is (copy_of pair.follower) pair.follower.link message rest e) }
-taken_as_keeps pair message rest (came.Over code) e = record { name = refl; source = refl; spec = refl; reload = refl; directory = refl; own = (refl, tt); traced = sym (took_is (copy_of pair.follower) pair.follower.link message rest e) }
+taken_as_keeps pair message rest came.Staged e = record { name = refl; source = refl; spec = refl; reload = refl; directory = refl; kind = refl; lineage = refl; own = (refl, tt); traced = sym (took_is (copy_of pair.follower) pair.follower.link message rest e) }
+taken_as_keeps pair message rest came.Copied e = record { name = refl; source = refl; spec = refl; reload = refl; directory = refl; kind = refl; lineage = refl; own = (refl, tt); traced = sym (took_is (copy_of pair.follower) pair.follower.link message rest e) }
+taken_as_keeps pair message rest (came.Stored commit) e = record { name = refl; source = refl; spec = refl; reload = refl; directory = refl; kind = refl; lineage = refl; own = (refl, tt); traced = sym (took_is (copy_of pair.follower) pair.follower.link message rest e) }
+taken_as_keeps pair message rest (came.Over code) e = record { name = refl; source = refl; spec = refl; reload = refl; directory = refl; kind = refl; lineage = refl; own = (refl, tt); traced = sym (took_is (copy_of pair.follower) pair.follower.link message rest e) }
 taken_as_keeps pair message rest (came.Refused fault) e = record {
   name = refl;
   source = refl;
   spec = refl;
   reload = refl;
   directory = closed_directory pair.provider pair.follower.search;
+  kind = closed_kind pair.provider pair.follower.search;
+  lineage = refl;
   own = (refl, tt);
   traced = ap dropped (sym (took_is (copy_of pair.follower) pair.follower.link message rest e));
 }
@@ -185,13 +212,15 @@ cut_keeps pair =
             spec = refl;
             reload = refl;
             directory = closed_directory pair.provider pair.follower.search;
+            kind = closed_kind pair.provider pair.follower.search;
+            lineage = refl;
             own = (refl, tt);
             traced = refl;
           }
       | inr free ↦ rw free (keeps_quiet pair (told.Nothing (name_of pair)) refl refl)
     ]
 
-idle_keeps : (pair : Pair) → KeepsIn pair (idle pair)
+pub idle_keeps : (pair : Pair) → KeepsIn pair (idle pair)
 idle_keeps pair =
     elim (cases_Bool (is_busy pair.follower)) [
       | inl busy ↦ let cut' = cut_keeps pair in rw busy (rw busy at cut')
@@ -199,8 +228,8 @@ idle_keeps pair =
     ]
 
 opened_by_keeps : (mode : Mode) (pair : Pair) (answer : Accepted) → KeepsIn pair (opened_by mode pair answer)
-opened_by_keeps mode pair (accepted.Opened number writes) = record { name = refl; source = refl; spec = refl; reload = refl; directory = refl; own = (refl, tt); traced = refl }
-opened_by_keeps mode pair (accepted.Refused code) = record { name = refl; source = refl; spec = refl; reload = refl; directory = refl; own = (refl, tt); traced = refl }
+opened_by_keeps mode pair (accepted.Opened number writes) = record { name = refl; source = refl; spec = refl; reload = refl; directory = refl; kind = refl; lineage = refl; own = (refl, tt); traced = refl }
+opened_by_keeps mode pair (accepted.Refused code) = record { name = refl; source = refl; spec = refl; reload = refl; directory = refl; kind = refl; lineage = refl; own = (refl, tt); traced = refl }
 opened_by_keeps mode pair accepted.NoMemory = keeps_nothing pair
 
 idly_keeps : (mode : Mode) (pair : Pair) → KeepsIn pair (opened_idle mode pair)
@@ -260,7 +289,7 @@ settles_keeps pair =
 -- ---- cookies
 
 holding_keeps : (pair : Pair) (cookie : Option (List ℕ)) → KeepsIn pair (holding pair cookie)
-holding_keeps pair cookie = record { name = refl; source = refl; spec = refl; reload = refl; directory = refl; own = (refl, tt); traced = refl }
+holding_keeps pair cookie = record { name = refl; source = refl; spec = refl; reload = refl; directory = refl; kind = refl; lineage = refl; own = (refl, tt); traced = refl }
 
 pub lost_keeps : (pair : Pair) → KeepsIn pair (lost pair)
 lost_keeps pair = holding_keeps pair None
@@ -272,13 +301,56 @@ given_keeps text pair =
       | inr good ↦ rw good (holding_keeps pair (Some text))
     ]
 
+-- ---- other wishes
+
+not_running : (asked : Bool) (running : Option Running) (rest : Bool) → ((asked || is_some running) || rest) ≡ false → running ≡ None
+not_running true running rest free = let never : true ≡ false = free in cc
+not_running false None rest free = refl
+not_running false (Some running) rest free = let never : true ≡ false = free in cc
+
+wanted_alters : (search : Search) (pair : Pair) → (copy_of pair.follower).running ≡ None → AltersIn (λ s. search) pair (wanted search pair)
+wanted_alters search pair idle' =
+    let copy = copy_of pair.follower in
+    record {
+      name = refl;
+      source = refl;
+      spec = refl;
+      reload = refl;
+      directory = refl;
+      kind = refl;
+      lineage = refl;
+      own = (refl, tt);
+      traced = ap (λ r. record { link = pair.follower.link; copy = record { held = copy.held; cookie = None; running = r } }) (sym idle');
+    }
+
+pub respecs_alters : (search : Search) (pair : Pair) → AltersIn (λ s. search) pair (respecs search pair)
+respecs_alters search pair =
+    elim (cases_Bool (is_busy pair.follower)) [
+      | inl busy ↦
+          let cut' = cut_keeps pair in
+          let first : Keeps pair (given_up pair (copy_of pair.follower)) (told.Cut (name_of pair) ∷ []) = rw busy at cut' in
+          rw busy (keeps_both first (wanted_alters search (given_up pair (copy_of pair.follower)) refl))
+      | inr free ↦
+          rw free (
+          wanted_alters search pair
+          (not_running (is_some pair.follower.search) (copy_of pair.follower).running _ free)
+          )
+    ]
+
 -- ---- what goes on
 
-pub part_keeps : (exchange : Exchange) (pair : Pair) → KeepsIn pair (part_of exchange pair)
-part_keeps (goes.Open mode) pair = opens_keeps mode pair
-part_keeps (goes.Send count) pair = sent_keeps count pair
-part_keeps (goes.Take count) pair = takes_keeps count pair
-part_keeps goes.Cut pair = cut_keeps pair
-part_keeps goes.Settle pair = settles_keeps pair
-part_keeps goes.Lose pair = lost_keeps pair
-part_keeps (goes.Give text) pair = given_keeps text pair
+-- what is wanted then
+abbrev pub wants_by : Exchange → Search → Search
+wants_by (goes.Want spec) search = search_of spec
+wants_by _ search = search
+
+pub part_alters : (exchange : Exchange) (pair : Pair) → AltersIn (wants_by exchange) pair (part_of exchange pair)
+part_alters (goes.Open mode) pair = opens_keeps mode pair
+part_alters (goes.Send count) pair = sent_keeps count pair
+part_alters (goes.Take count) pair = takes_keeps count pair
+part_alters goes.Cut pair = cut_keeps pair
+part_alters goes.Settle pair = settles_keeps pair
+part_alters goes.Lose pair = lost_keeps pair
+part_alters (goes.Give text) pair = given_keeps text pair
+part_alters goes.Idle pair = idle_keeps pair
+part_alters (goes.Want spec) pair = respecs_alters (search_of spec) pair

@@ -1,5 +1,5 @@
 -- A consumer that loses its cookie, or is given one, holds the entries of before, and its search goes on.
-use Rattle.std.proofs.Common.{◌≡◌, ℕ, Bool, true, false, cond, Option, Some, None, List, refl, ap, sym, inl, inr, subst}
+use Rattle.std.proofs.Common.{◌≡◌, ℕ, Bool, true, false, cond, Option, Some, None, List, refl, ap, sym, ◌∙◌, inl, inr, subst}
 use Rattle.std.specs.Prelude.{◌⊎◌, Err}
 use Rattle.std.proofs.lemmas.Slice.Eq.{bytes_eq-Decides}
 use Rattle.dn_names.specs.Names.{TypeAndValue}
@@ -12,10 +12,10 @@ use Rattle.cascade_world.specs.declared.fault.Cause.TheVariants.{LaterCookie}
 use Rattle.cascade_world.specs.declared.node.Follower.{Follower}
 use Rattle.cascade_world.specs.Cookies.{held_cookie, is_later}
 use Rattle.cascade_world.specs.Exchange.{Pair, Outcome, copy_of, with_text, holding, lost, given}
-use Rattle.cascade_world.specs.Headline.{Opening, Known, kept_of, known_after, text_of_kept, session_over}
+use Rattle.cascade_world.specs.Headline.{Opening, Known, known_after, session_over}
 use Rattle.cascade_world.specs.Report.{Told as told}
 use Rattle.cascade_world.proofs.Composing.{IsKeptIn, Keeps, owns-still}
-use Rattle.cascade_world.proofs.Feeding.{IsSource, IsPromised, IsWithinWrites, InRefresh, AtWhole, InGroup, IsWhere, GoesOn, IsAtRest, IsGoing, IsFed}
+use Rattle.cascade_world.proofs.Feeding.{IsSource, IsPromised, KeepsPromises, InRefresh, AtWhole, InGroup, IsWhere, GoesOn, IsAtRest, IsGoing, IsFed}
 use Rattle.cascade_world.proofs.Served.{given_promised}
 use Rattle.cascade_world.proofs.Sharing.{others-none}
 
@@ -23,16 +23,8 @@ abbrev Name : Type 0
 Name = List (List TypeAndValue)
 
 -- what was told of the cookie, and what is held of it
-own_cookie : (name : List ℕ) (known : Known) (cookie : Option (List ℕ)) → known_after name known (told.Holds name cookie) ≡ record known { kept = kept_of cookie }
-own_cookie name known cookie = ap (λ same. cond same (record known { kept = kept_of cookie }) known) ((bytes_eq-Decides name name).1 refl)
-
-text_is : (number : ℕ) (p : ProviderState) (cookie : Option (List ℕ)) → cookie ≡ text_of_kept number p.directory.writes (kept_of cookie)
-text_is number p None = refl
-text_is number p (Some text) = refl
-
-within_is : (most : ℕ) (cookie : Option (List ℕ)) → IsWithinWrites most (kept_of cookie)
-within_is most None = tt
-within_is most (Some text) = tt
+pub own_cookie : (name : List ℕ) (known : Known) (cookie : Option (List ℕ)) → known_after name known (told.Holds name cookie) ≡ record known { cookie = cookie }
+own_cookie name known cookie = ap (λ same. cond same (record known { cookie = cookie }) known) ((bytes_eq-Decides name name).1 refl)
 
 -- the search goes on with another cookie
 abbrev other_cookie : Copy → Option (List ℕ) → Copy
@@ -113,37 +105,37 @@ goes_with number p f opening entries cookie goes = record {
 
 fed_with : (number : ℕ) (p : ProviderState) (f : Follower) (known : Known) (cookie : Option (List ℕ)) → IsFed number p f known
     → IsPromised number f.consumer.spec p.directory.writes known.entries (held_cookie cookie)
-    → IsFed number p (with_text f cookie) (record known { kept = kept_of cookie })
+    → IsFed number p (with_text f cookie) (record known { cookie = cookie })
 fed_with number p f known cookie fed promised = record {
   held = fed.held;
   ascending = fed.ascending;
-  cookie = text_is number p cookie;
-  prefix = within_is _ cookie;
+  cookie = refl;
   promised = promised;
   below = fed.below;
   state = by fed.state;
 }
   where
-    by : IsAtRest f ⊎ IsGoing number p f known → IsAtRest (with_text f cookie) ⊎ IsGoing number p (with_text f cookie) (record known { kept = kept_of cookie })
+    by : IsAtRest f ⊎ IsGoing number p f known → IsAtRest (with_text f cookie) ⊎ IsGoing number p (with_text f cookie) (record known { cookie = cookie })
     by (inl rest) = inl (record { search = rest.search; running = rest.running; link = rest.link })
     by (inr going) = inr (record { opening = going.opening; latest = going.latest; goes = goes_with number p f going.opening known.entries cookie going.goes })
 
 holding_kept : (number : ℕ) (suffix : Name) (pair : Pair) (known : Known) (cookie : Option (List ℕ)) → IsSource number suffix pair.provider
     → IsFed number pair.provider pair.follower known → IsPromised number pair.follower.consumer.spec pair.provider.directory.writes known.entries (held_cookie cookie)
-    → IsKeptIn number suffix pair known (holding pair cookie)
-holding_kept number suffix pair known cookie source fed promised = record {
+    → KeepsPromises number pair.follower.consumer.spec known (record known { cookie = cookie }) → IsKeptIn number suffix pair known (holding pair cookie)
+holding_kept number suffix pair known cookie source fed promised elsewhere = record {
   source = source;
   fed =
       subst (IsFed number pair.provider (with_text pair.follower cookie)) (sym (own_cookie pair.follower.name known cookie))
       (fed_with number pair.provider pair.follower known cookie fed promised);
   right = (tt, tt);
   same = refl;
-  others = others-none number pair.provider pair.follower (with_text pair.follower cookie) refl;
-  owns = owns-still pair.provider pair.follower (with_text pair.follower cookie) (λ at mine. mine);
+  others = others-none pair.lineage number pair.provider pair.follower (with_text pair.follower cookie) refl;
+  owns = owns-still pair.lineage pair.provider pair.follower (with_text pair.follower cookie) (λ at mine. mine);
+  elsewhere = subst (KeepsPromises number pair.follower.consumer.spec known) (sym (own_cookie pair.follower.name known cookie)) elsewhere;
 }
 
 pub lost_keeps : (number : ℕ) (suffix : Name) → Keeps number suffix lost
-lost_keeps number suffix pair known source fed room = holding_kept number suffix pair known None source fed tt
+lost_keeps number suffix pair known source fed room = holding_kept number suffix pair known None source fed tt (λ other writes least most far promised. tt)
 
 pub given_keeps : (text : List ℕ) (number : ℕ) (suffix : Name) → Keeps number suffix (given text)
 given_keeps text number suffix pair known source fed room = by (is_later (copy_of pair.follower).cookie text) refl
@@ -157,3 +149,6 @@ given_keeps text number suffix pair known source fed room = by (is_later (copy_o
         holding_kept number suffix pair known (Some text) source fed
         (given_promised number source.first source.small pair.follower.consumer.spec pair.provider.directory.writes known.entries
         (held_cookie (copy_of pair.follower).cookie) (held_cookie (Some text)) fed.promised is)
+        (λ other writes least most far promised.
+        given_promised other least most pair.follower.consumer.spec writes known.entries (held_cookie known.cookie) (held_cookie (Some text)) promised
+        (ap (λ held. is_later held text) (sym fed.cookie) ∙ is))

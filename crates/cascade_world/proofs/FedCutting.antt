@@ -1,5 +1,5 @@
 -- A cut leaves a consumer at rest, with its entries.
-use Rattle.std.proofs.Common.{◌≡◌, ℕ, Bool, true, false, cond, Option, Some, None, List, [], ◌∷◌, length, refl, ap, sym, ◌∙◌, inl, arith, eqb-true, subst}
+use Rattle.std.proofs.Common.{◌≡◌, ℕ, Bool, true, false, cond, Option, Some, None, List, [], ◌∷◌, length, refl, sym, ◌∙◌, inl, arith, eqb-true, subst}
 use Rattle.std.specs.Prelude.{◌||◌, ◌==◌, not, is_some, Ok}
 use Rattle.directory_writes.specs.Directory.{DirectoryState}
 use Rattle.directory_writes.proofs.Keyed.{closed-other}
@@ -8,12 +8,13 @@ use Rattle.sync_provider.specs.HandingOut as handing
 use Rattle.sync_provider.specs.Machine.{ProviderState}
 use Rattle.cascade_world.specs.declared.node.Follower.{Follower}
 use Rattle.cascade_world.specs.Cookies.{held_cookie}
-use Rattle.cascade_world.specs.Exchange.{Pair, Outcome, pair_of, copy_of, closed, emptied, given_up, is_busy, cut, name_of}
-use Rattle.cascade_world.specs.Headline.{Known, text_of_kept}
+use Rattle.cascade_world.specs.Exchange.{Pair, Outcome, pair_of, copy_of, closed, emptied, given_up, is_busy, cut, idle, name_of}
+use Rattle.cascade_world.specs.Headline.{Known}
+use Rattle.cascade_world.specs.Origins.{Lineage}
 use Rattle.cascade_world.specs.Report.{Told as told}
-use Rattle.cascade_world.proofs.Composing.{IsKeptIn, Keeps, kept-still, kept-told, owns-still}
+use Rattle.cascade_world.proofs.Composing.{IsKeptIn, Keeps, promises-still, kept-still, kept-told, owns-still}
 use Rattle.cascade_world.proofs.Distinct.{AreDistinct, closed-same, distinct-closed}
-use Rattle.cascade_world.proofs.Feeding.{IsSource, IsPromised, IsWithinWrites, IsAtRest, IsFed, IsKept}
+use Rattle.cascade_world.proofs.Feeding.{IsSource, IsPromised, IsAtRest, IsFed, IsKept}
 use Rattle.cascade_world.proofs.Sharing.{Searches, with_searches, others-none, others-changed, owns-changed}
 
 abbrev Name : Type 0
@@ -26,6 +27,8 @@ source-searches number suffix p searches apart source = record {
   small = source.small;
   directory = source.directory;
   rises = source.rises;
+  ranged = source.ranged;
+  good = source.good;
   accepted = source.accepted;
   few = source.few;
   apart = apart;
@@ -43,8 +46,7 @@ pub fed-rest : (number : ℕ) (p q : ProviderState) (f g : Follower) (known : Kn
 fed-rest number p q f g known same fed is rest = record {
   held = is.held ∙ fed.held;
   ascending = fed.ascending;
-  cookie = is.cookie ∙ fed.cookie ∙ ap (λ (d : DirectoryState). text_of_kept number d.writes known.kept) (sym same);
-  prefix = subst (λ (d : DirectoryState). IsWithinWrites (length d.writes) known.kept) (sym same) fed.prefix;
+  cookie = is.cookie ∙ fed.cookie;
   promised =
       subst (λ (d : DirectoryState). IsPromised number g.consumer.spec d.writes known.entries (held_cookie g.consumer.copy.cookie)) (sym same)
       (subst (λ s. IsPromised number s p.directory.writes known.entries (held_cookie g.consumer.copy.cookie)) (sym is.spec)
@@ -53,12 +55,12 @@ fed-rest number p q f g known same fed is rest = record {
   state = inl rest;
 }
 
-emptied_rests : (f : Follower) → IsAtRest (emptied f (copy_of f))
+pub emptied_rests : (f : Follower) → IsAtRest (emptied f (copy_of f))
 emptied_rests f = record { search = refl; running = refl; link = refl }
 
-pub given_up_kept : (number : ℕ) (suffix : Name) (p : ProviderState) (f : Follower) (known : Known) → IsSource number suffix p → IsFed number p f known
-    → IsKept number suffix (pair_of p f) (given_up (pair_of p f) (copy_of f)) [] known
-given_up_kept number suffix p f known source fed = by f.search refl
+pub given_up_kept : (lin : Lineage) (number : ℕ) (suffix : Name) (p : ProviderState) (f : Follower) (known : Known) → IsSource number suffix p → IsFed number p f known
+    → IsKept number suffix (pair_of p f lin) (given_up (pair_of p f lin) (copy_of f)) [] known
+given_up_kept lin number suffix p f known source fed = by f.search refl
   where
     after : Follower
     after = emptied f (copy_of f)
@@ -66,14 +68,15 @@ given_up_kept number suffix p f known source fed = by f.search refl
     fed_after : (q : ProviderState) → q.directory ≡ p.directory → IsFed number q after known
     fed_after q same = fed-rest number p q f after known same fed (record { held = refl; cookie = refl; spec = refl }) (emptied_rests f)
 
-    by : (own : Option ℕ) → f.search ≡ own → IsKept number suffix (pair_of p f) (pair_of (closed p own) after) [] known
+    by : (own : Option ℕ) → f.search ≡ own → IsKept number suffix (pair_of p f lin) (pair_of (closed p own) after lin) [] known
     by None is = record {
       source = source;
       fed = fed_after p refl;
       right = tt;
       same = refl;
-      others = others-none number p f after is;
-      owns = owns-still p f after (λ at mine. let bad : None ≡ Some at = sym is ∙ mine in let never : ⊥ = cc in absurd never);
+      others = others-none lin number p f after is;
+      owns = owns-still lin p f after (λ at mine. let bad : None ≡ Some at = sym is ∙ mine in let never : ⊥ = cc in absurd never);
+      elsewhere = promises-still number f.consumer.spec known;
     }
     by (Some at) is = record {
       source = source-searches number suffix p (handing.closed p.searches at) (distinct-closed p.searches at source.apart) source;
@@ -81,18 +84,19 @@ given_up_kept number suffix p f known source fed = by f.search refl
       right = tt;
       same = refl;
       others =
-          others-changed number p (handing.closed p.searches at) f after at is (λ k far. closed-other p.searches at k far)
+          others-changed lin number p (handing.closed p.searches at) f after at is (λ k far. closed-other p.searches at k far)
           (λ k mine. let never : ⊥ = cc in absurd never);
       owns =
-          owns-changed p (handing.closed p.searches at) f after at is (λ k far. closed-other p.searches at k far)
+          owns-changed lin p (handing.closed p.searches at) f after at is (λ k far. closed-other p.searches at k far)
           (λ s found. let bad : None ≡ Some s = sym (closed-same p.searches at source.apart) ∙ found in let never : ⊥ = cc in absurd never);
+      elsewhere = promises-still number f.consumer.spec known;
     }
 
 pub cut_kept : (number : ℕ) (suffix : Name) (pair : Pair) (known : Known) → IsSource number suffix pair.provider → IsFed number pair.provider pair.follower known
     → IsKept number suffix pair (given_up pair (copy_of pair.follower)) (told.Cut (name_of pair) ∷ []) known
 cut_kept number suffix pair known source fed =
     kept-told number suffix pair (given_up pair (copy_of pair.follower)) (told.Cut (name_of pair)) known (λ name k. refl) tt
-    (given_up_kept number suffix pair.provider pair.follower known source fed)
+    (given_up_kept pair.lineage number suffix pair.provider pair.follower known source fed)
 
 pub nothing_kept : (number : ℕ) (suffix : Name) (pair : Pair) (name : List ℕ) (known : Known) → IsSource number suffix pair.provider → IsFed number pair.provider pair.follower known
     → IsKept number suffix pair pair (told.Nothing name ∷ []) known
@@ -111,6 +115,13 @@ cut_keeps number suffix pair known source fed room = by (is_busy pair.follower)
     by : (busy : Bool) → IsKeptIn number suffix pair known (cond busy done nothing)
     by true = cut_kept number suffix pair known source fed
     by false = nothing_kept number suffix pair (name_of pair) known source fed
+
+pub idle_keeps : (number : ℕ) (suffix : Name) → Keeps number suffix idle
+idle_keeps number suffix pair known source fed room = by (is_busy pair.follower)
+  where
+    by : (busy : Bool) → IsKeptIn number suffix pair known (cond busy (cut pair) (Ok (pair, [])))
+    by true = cut_keeps number suffix pair known source fed room
+    by false = kept-still number suffix pair known source fed
 
 -- ---- a consumer that is not busy is at rest
 

@@ -30,13 +30,14 @@ use Rattle.sync_provider.specs.declared.searches.Accepted.TheVariants as accepte
 use Rattle.cascade_world.specs.declared.node.Follower.{Follower}
 use Rattle.cascade_world.specs.Cookies.{held_cookie}
 use Rattle.cascade_world.specs.Exchange.{Pair, Outcome, pair_of, copy_of, with_copy, name_of, is_busy, given_up, after_lines, and_then, idle, asking, request_from, start_of, answer_of, is_required, refused_copy, opened_by, opened_idle, opens, asked_again, opens_anew}
-use Rattle.cascade_world.specs.Headline.{Opening, Known, NoCookie, known_after, text_of_kept, IsServed, IsUnserved, BeginsFrom, session_over, stream_over}
+use Rattle.cascade_world.specs.Headline.{Opening, Known, known_after, IsServed, IsUnserved, BeginsFrom, session_over, stream_over}
 use Rattle.cascade_world.specs.Opening.{message_id, answer_to_request, with_opened}
+use Rattle.cascade_world.specs.Origins.{Lineage}
 use Rattle.cascade_world.specs.Report.{Told}
 use Rattle.cascade_world.specs.Report.{Told as told}
-use Rattle.cascade_world.proofs.Composing.{IsKeptIn, Keeps, known_by_lines, room_after, kept-still, kept-then, kept-lines, owns-still}
+use Rattle.cascade_world.proofs.Composing.{IsKeptIn, Keeps, known_by_lines, room_after, promises-still, kept-still, kept-then, kept-lines, owns-still}
 use Rattle.cascade_world.proofs.Distinct.{distinct-opened}
-use Rattle.cascade_world.proofs.Feeding.{HasNext, IsSource, IsPromised, HasRoom, GoesOn, IsAtRest, IsFed, Frame, IsKept}
+use Rattle.cascade_world.proofs.Feeding.{HasNext, IsSource, IsPromised, HasRoom, GoesOn, IsAtRest, IsFed, Frame, KeepsPromises, IsKept}
 use Rattle.cascade_world.proofs.FedCutting.{source-searches, cut_kept, idle_rests}
 use Rattle.cascade_world.proofs.FedTaking.{where_running}
 use Rattle.cascade_world.proofs.Refreshes.{no_messages, part, last, refresh_is}
@@ -117,15 +118,15 @@ abbrev with_search : Follower → Bool → ℕ → Follower
 with_search f persists at = record (with_copy f (asking persists (copy_of f))) { search = Some at }
 
 abbrev opening_of : Known → Bool → ℕ → Opening
-opening_of known persists count = record { writes = count; persists = persists; kept = known.kept; sent = [] }
+opening_of known persists count = record { writes = count; persists = persists; cookie = known.cookie; sent = [] }
 
-module _ (number : ℕ) (suffix : Name) (p : ProviderState) (f : Follower) (known : Known) (persists : Bool) (at count : ℕ) (source : IsSource number suffix p) (fed : IsFed number p f known) (rest : IsAtRest f)
+module _ (lin : Lineage) (number : ℕ) (suffix : Name) (p : ProviderState) (f : Follower) (known : Known) (persists : Bool) (at count : ℕ) (source : IsSource number suffix p) (fed : IsFed number p f known) (rest : IsAtRest f)
     (counted : count ≡ length p.directory.writes) where
   abbrev writes : List Write
   writes = p.directory.writes
 
   abbrev start : Start
-  start = start_of (pair_of p f)
+  start = start_of (pair_of p f lin)
 
   abbrev opened : Opening
   opened = opening_of known persists count
@@ -144,9 +145,9 @@ module _ (number : ℕ) (suffix : Name) (p : ProviderState) (f : Follower) (know
       subst (λ n. Begins session start n known.entries) (sym counted)
       (start_begins p.directory number (sids_of number suffix p source) (histories_of number suffix p source) source.rises persists f.consumer.spec known.entries fed.ascending f.consumer.copy.cookie fed.promised)
 
-  from : BeginsFrom number (take count writes) (text_of_kept number (take count writes) known.kept) (number_of start)
+  from : BeginsFrom number (take count writes) known.cookie (number_of start)
   from =
-      subst (λ ws. BeginsFrom number ws (text_of_kept number ws known.kept) (number_of start)) (sym all_taken)
+      subst (λ ws. BeginsFrom number ws known.cookie (number_of start)) (sym all_taken)
       (subst (λ text. BeginsFrom number writes text (number_of start)) fed.cookie
       (start_from p.directory number (sids_of number suffix p source) (histories_of number suffix p source) f.consumer.copy.cookie))
 
@@ -202,8 +203,8 @@ module _ (number : ℕ) (suffix : Name) (p : ProviderState) (f : Follower) (know
   own_opening : known_after f.name known (told.Opened f.name persists count) ≡ record known { opening = Some opened }
   own_opening = ap (λ same. cond same (record known { opening = Some opened }) known) ((bytes_eq-Decides f.name f.name).1 refl)
 
-  pub opened_kept : search_at p.searches at ≡ None → IsServed f.consumer.reload number writes (text_of_kept number writes known.kept)
-      → IsKept number suffix (pair_of p f) (pair_of after (with_search f persists at)) (told.Opened f.name persists count ∷ []) known
+  pub opened_kept : search_at p.searches at ≡ None → IsServed f.consumer.reload number writes known.cookie
+      → IsKept number suffix (pair_of p f lin) (pair_of after (with_search f persists at) lin) (told.Opened f.name persists count ∷ []) known
   opened_kept free served = record {
     source = source-searches number suffix p (insert_entry nat_cmp p.searches at (opening p.directory message_id f.consumer.spec start persists)) (distinct-opened p.searches at (opening p.directory message_id f.consumer.spec start persists) free source.apart) source;
     fed =
@@ -212,15 +213,15 @@ module _ (number : ℕ) (suffix : Name) (p : ProviderState) (f : Follower) (know
           held = fed.held;
           ascending = fed.ascending;
           cookie = fed.cookie;
-          prefix = fed.prefix;
           promised = fed.promised;
           below = fed.below;
           state = inr (record { opening = opened; latest = refl; goes = opened_goes });
         });
     right = ((refl, (counted, served)), tt);
     same = refl;
-    others = others-opened number p f (with_search f persists at) at (opening p.directory message_id f.consumer.spec start persists) free refl;
-    owns = owns-opened p f (with_search f persists at) at (opening p.directory message_id f.consumer.spec start persists) rest.search refl;
+    others = others-opened lin number p f (with_search f persists at) at (opening p.directory message_id f.consumer.spec start persists) free refl;
+    owns = owns-opened lin p f (with_search f persists at) at (opening p.directory message_id f.consumer.spec start persists) rest.search refl;
+    elsewhere = subst (KeepsPromises number f.consumer.spec known) (sym own_opening) (promises-still number f.consumer.spec known);
   }
 
 -- ---- a search that is refused
@@ -228,30 +229,30 @@ module _ (number : ℕ) (suffix : Name) (p : ProviderState) (f : Follower) (know
 abbrev with_refusal : Follower → Bool → ℕ → Follower
 with_refusal f persists code = with_copy f (refused_copy (asking persists (copy_of f)) code)
 
-own_refusal : (name : List ℕ) (known : Known) (persists : Bool) (code : ℕ) → known_after name known (told.Refused name persists code) ≡ cond (code == 4096) (record known { kept = NoCookie }) known
-own_refusal name known persists code = ap (λ same. cond (same && code == 4096) (record known { kept = NoCookie }) known) ((bytes_eq-Decides name name).1 refl)
+own_refusal : (name : List ℕ) (known : Known) (persists : Bool) (code : ℕ) → known_after name known (told.Refused name persists code) ≡ cond (code == 4096) (record known { cookie = None }) known
+own_refusal name known persists code = ap (λ same. cond (same && code == 4096) (record known { cookie = None }) known) ((bytes_eq-Decides name name).1 refl)
 
 -- a search that is refused for the cookie leaves the consumer at rest, without one
-refused_kept : (number : ℕ) (suffix : Name) (p : ProviderState) (f : Follower) (known : Known) (persists : Bool) (code : ℕ) → IsSource number suffix p → IsFed number p f known
-    → IsAtRest f → code ≡ 4096 → IsUnserved f.consumer.reload number p.directory.writes (text_of_kept number p.directory.writes known.kept)
-    → IsKept number suffix (pair_of p f) (pair_of p (with_refusal f persists code)) (told.Refused f.name persists code ∷ []) known
-refused_kept number suffix p f known persists code source fed rest required unserved = record {
+refused_kept : (lin : Lineage) (number : ℕ) (suffix : Name) (p : ProviderState) (f : Follower) (known : Known) (persists : Bool) (code : ℕ) → IsSource number suffix p → IsFed number p f known
+    → IsAtRest f → code ≡ 4096 → IsUnserved f.consumer.reload number p.directory.writes known.cookie
+    → IsKept number suffix (pair_of p f lin) (pair_of p (with_refusal f persists code) lin) (told.Refused f.name persists code ∷ []) known
+refused_kept lin number suffix p f known persists code source fed rest required unserved = record {
   source = source;
   fed =
-      subst (IsFed number p (with_refusal f persists code)) (sym (own_refusal f.name known persists code ∙ ap (λ b. cond b (record known { kept = NoCookie }) known) lost))
+      subst (IsFed number p (with_refusal f persists code)) (sym refusal_is)
       (record {
         held = now.held ∙ fed.held;
         ascending = fed.ascending;
         cookie = none;
-        prefix = tt;
         promised = subst (λ c. IsPromised number f.consumer.spec p.directory.writes known.entries (held_cookie c)) (sym none) tt;
         below = fed.below;
         state = inl (record { search = rest.search; running = now.running; link = rest.link });
       });
   right = ((refl, required, unserved), tt);
   same = refl;
-  others = others-none number p f (with_refusal f persists code) refl;
-  owns = owns-still p f (with_refusal f persists code) (λ at mine. mine);
+  others = others-none lin number p f (with_refusal f persists code) refl;
+  owns = owns-still lin p f (with_refusal f persists code) (λ at mine. mine);
+  elsewhere = subst (KeepsPromises number f.consumer.spec known) (sym refusal_is) (λ other writes least most far promised. tt);
 }
   where
     now : IsOver f.consumer.copy (code == 4096) (refused_copy (asking persists (copy_of f)) code)
@@ -259,6 +260,9 @@ refused_kept number suffix p f known persists code source fed rest required unse
 
     lost : (code == 4096) ≡ true
     lost = eq-eqb code 4096 required
+
+    refusal_is : known_after f.name known (told.Refused f.name persists code) ≡ record known { cookie = None }
+    refusal_is = own_refusal f.name known persists code ∙ ap (λ b. cond b (record known { cookie = None }) known) lost
 
     none : (refused_copy (asking persists (copy_of f)) code).cookie ≡ None
     none = now.cookie ∙ ap (λ b. cond b None f.consumer.copy.cookie) lost
@@ -301,44 +305,44 @@ open_search number p f opening entries goes rest = let is = where_running (sessi
     let never : ⊥ = cc in
     never
 
-module _ (number : ℕ) (suffix : Name) (mode : Mode) (p : ProviderState) (f : Follower) (known : Known) (source : IsSource number suffix p) (fed : IsFed number p f known) (rest : IsAtRest f)
+module _ (lin : Lineage) (number : ℕ) (suffix : Name) (mode : Mode) (p : ProviderState) (f : Follower) (known : Known) (source : IsSource number suffix p) (fed : IsFed number p f known) (rest : IsAtRest f)
     (room : HasRoom p f) where
   abbrev text : Option (List ℕ)
-  text = text_of_kept number p.directory.writes known.kept
+  text = known.cookie
 
   free_one : (n : ℕ) × (free_number p.searches ≡ Some n)
   free_one = number_free p f rest.search room
 
-  says : Says number p.directory.writes f.consumer.reload (answer_of mode (pair_of p f)) text
-  says = subst (Says number p.directory.writes f.consumer.reload (answer_of mode (pair_of p f))) fed.cookie
+  says : Says number p.directory.writes f.consumer.reload (answer_of mode (pair_of p f lin)) text
+  says = subst (Says number p.directory.writes f.consumer.reload (answer_of mode (pair_of p f lin))) fed.cookie
       (answer_says p.directory number (sids_of number suffix p source) (histories_of number suffix p source) p f.consumer.spec mode f.consumer.copy.cookie f.consumer.reload free_one.0 refl fed.below free_one.1)
 
   -- a search that is accepted is open then
-  opened_now : (at count : ℕ) → answer_of mode (pair_of p f) ≡ accepted.Opened at count
-      → IsOpened number (with_opened p at f.consumer.spec (start_of (pair_of p f)) (persists mode)) (with_search f (persists mode) at) (known_after f.name known (told.Opened f.name (persists mode) count)) (persists mode)
+  opened_now : (at count : ℕ) → answer_of mode (pair_of p f lin) ≡ accepted.Opened at count
+      → IsOpened number (with_opened p at f.consumer.spec (start_of (pair_of p f lin)) (persists mode)) (with_search f (persists mode) at) (known_after f.name known (told.Opened f.name (persists mode) count)) (persists mode)
   opened_now at count is =
-      let free = opened_free p f.consumer.spec (request_from mode (pair_of p f)) at count is in
-      let same = own_opening number suffix p f known (persists mode) at count source fed rest free.counted in
+      let free = opened_free p f.consumer.spec (request_from mode (pair_of p f lin)) at count is in
+      let same = own_opening lin number suffix p f known (persists mode) at count source fed rest free.counted in
       record {
         opening = opening_of known (persists mode) count;
         latest = ap (λ (k : Known). k.opening) same;
         all = free.counted;
         mode = refl;
         goes =
-            subst (λ (k : Known). GoesOn number (with_opened p at f.consumer.spec (start_of (pair_of p f)) (persists mode)) (with_search f (persists mode) at) (opening_of known (persists mode) count) k.entries)
-            (sym same) (opened_goes number suffix p f known (persists mode) at count source fed rest free.counted);
+            subst (λ (k : Known). GoesOn number (with_opened p at f.consumer.spec (start_of (pair_of p f lin)) (persists mode)) (with_search f (persists mode) at) (opening_of known (persists mode) count) k.entries)
+            (sym same) (opened_goes lin number suffix p f known (persists mode) at count source fed rest free.counted);
         link = rest.link;
       }
 
-  pub rest_opens : AskedIn number suffix (pair_of p f) known (persists mode) (opened_idle mode (pair_of p f))
-  rest_opens = by (answer_of mode (pair_of p f)) refl
+  pub rest_opens : AskedIn number suffix (pair_of p f lin) known (persists mode) (opened_idle mode (pair_of p f lin))
+  rest_opens = by (answer_of mode (pair_of p f lin)) refl
     where
-      by : (answer : Accepted) → answer_of mode (pair_of p f) ≡ answer → AskedIn number suffix (pair_of p f) known (persists mode) (opened_by mode (pair_of p f) answer)
+      by : (answer : Accepted) → answer_of mode (pair_of p f lin) ≡ answer → AskedIn number suffix (pair_of p f lin) known (persists mode) (opened_by mode (pair_of p f lin) answer)
       by (accepted.Opened at count) is =
-          let free = opened_free p f.consumer.spec (request_from mode (pair_of p f)) at count is in
+          let free = opened_free p f.consumer.spec (request_from mode (pair_of p f lin)) at count is in
           record {
             kept =
-                opened_kept number suffix p f known (persists mode) at count source fed rest free.counted free.free
+                opened_kept lin number suffix p f known (persists mode) at count source fed rest free.counted free.free
                 (subst (λ a. Says number p.directory.writes f.consumer.reload a text) is says);
             state = inl (opened_now at count is);
           }
@@ -346,7 +350,7 @@ module _ (number : ℕ) (suffix : Name) (mode : Mode) (p : ProviderState) (f : F
           let why = subst (λ a. Says number p.directory.writes f.consumer.reload a text) is says in
           let now = refused_over (persists mode) f.consumer.copy code in
           record {
-            kept = refused_kept number suffix p f known (persists mode) code source fed rest why.0 why.1;
+            kept = refused_kept lin number suffix p f known (persists mode) code source fed rest why.0 why.1;
             state = inr (record {
               rest = record { search = rest.search; running = now.running; link = rest.link };
               cookie = now.cookie ∙ ap (λ b. cond b None f.consumer.copy.cookie) (eq-eqb code 4096 why.0);
@@ -355,13 +359,13 @@ module _ (number : ℕ) (suffix : Name) (mode : Mode) (p : ProviderState) (f : F
       by accepted.NoMemory is = absurd (subst (λ a. Says number p.directory.writes f.consumer.reload a text) is says)
 
   -- without a cookie nothing is in the way
-  pub bare_opens : f.consumer.copy.cookie ≡ None → OpenedIn number suffix (pair_of p f) known (persists mode) (opened_idle mode (pair_of p f))
-  bare_opens none = by (answer_of mode (pair_of p f)) refl
+  pub bare_opens : f.consumer.copy.cookie ≡ None → OpenedIn number suffix (pair_of p f lin) known (persists mode) (opened_idle mode (pair_of p f lin))
+  bare_opens none = by (answer_of mode (pair_of p f lin)) refl
     where
-      by : (answer : Accepted) → answer_of mode (pair_of p f) ≡ answer → OpenedIn number suffix (pair_of p f) known (persists mode) (opened_by mode (pair_of p f) answer)
+      by : (answer : Accepted) → answer_of mode (pair_of p f lin) ≡ answer → OpenedIn number suffix (pair_of p f lin) known (persists mode) (opened_by mode (pair_of p f lin) answer)
       by (accepted.Opened at count) is =
-          let free = opened_free p f.consumer.spec (request_from mode (pair_of p f)) at count is in (
-            opened_kept number suffix p f known (persists mode) at count source fed rest free.counted free.free
+          let free = opened_free p f.consumer.spec (request_from mode (pair_of p f lin)) at count is in (
+            opened_kept lin number suffix p f known (persists mode) at count source fed rest free.counted free.free
                 (subst (λ a. Says number p.directory.writes f.consumer.reload a text) is says),
             opened_now at count is,
           )
@@ -381,22 +385,22 @@ kept_opened number suffix one two lines known mode (Ok next) first then = (
       (ap (λ n. known_by_lines n (known_by_lines one.follower.name known lines) next.1) (ap (λ (frame : Frame). frame.name) first.same) ∙ sym (fold-append (known_after one.follower.name) known lines next.1)) then.1,
 )
 
-rest_again : (number : ℕ) (suffix : Name) (p : ProviderState) (f : Follower) (known : Known) → IsSource number suffix p → IsFed number p f known → IsAtRest f → HasRoom p f
-    → OpenedIn number suffix (pair_of p f) known false (asked_again (pair_of p f))
-rest_again number suffix p f known source fed rest room = by (answer_of RefreshOnly (pair_of p f)) refl (rest_opens number suffix RefreshOnly p f known source fed rest room)
+rest_again : (lin : Lineage) (number : ℕ) (suffix : Name) (p : ProviderState) (f : Follower) (known : Known) → IsSource number suffix p → IsFed number p f known → IsAtRest f → HasRoom p f
+    → OpenedIn number suffix (pair_of p f lin) known false (asked_again (pair_of p f lin))
+rest_again lin number suffix p f known source fed rest room = by (answer_of RefreshOnly (pair_of p f lin)) refl (rest_opens lin number suffix RefreshOnly p f known source fed rest room)
   where
     pair : Pair
-    pair = pair_of p f
+    pair = pair_of p f lin
 
     Opened' : Outcome → Type 0
     Opened' outcome = OpenedIn number suffix pair known false outcome
 
-    second : (code : ℕ) → IsAsked number suffix pair (pair_of p (with_refusal f false code)) (told.Refused f.name false code ∷ []) known false
-        → Opened' (after_lines (told.Refused f.name false code ∷ []) (opened_idle RefreshOnly (pair_of p (with_refusal f false code))))
+    second : (code : ℕ) → IsAsked number suffix pair (pair_of p (with_refusal f false code) lin) (told.Refused f.name false code ∷ []) known false
+        → Opened' (after_lines (told.Refused f.name false code ∷ []) (opened_idle RefreshOnly (pair_of p (with_refusal f false code) lin)))
     second code asked =
-        kept_opened number suffix pair (pair_of p (with_refusal f false code)) (told.Refused f.name false code ∷ []) known false (opened_idle RefreshOnly (pair_of p (with_refusal f false code))) asked.kept
-        (bare_opens number suffix RefreshOnly p (with_refusal f false code) (known_after f.name known (told.Refused f.name false code)) asked.kept.source asked.kept.fed over'.rest
-        (room_after pair (pair_of p (with_refusal f false code)) asked.kept.owns room) over'.cookie)
+        kept_opened number suffix pair (pair_of p (with_refusal f false code) lin) (told.Refused f.name false code ∷ []) known false (opened_idle RefreshOnly (pair_of p (with_refusal f false code) lin)) asked.kept
+        (bare_opens lin number suffix RefreshOnly p (with_refusal f false code) (known_after f.name known (told.Refused f.name false code)) asked.kept.source asked.kept.fed over'.rest
+        (room_after pair (pair_of p (with_refusal f false code) lin) asked.kept.owns room) over'.cookie)
       where
         not_open : IsOpened number p (with_refusal f false code) (known_after f.name known (told.Refused f.name false code)) false → ⊥
         not_open opened' = open_search number p (with_refusal f false code) opened'.opening _ opened'.goes (record { search = rest.search; running = (refused_over false f.consumer.copy code).running; link = rest.link })
@@ -412,7 +416,7 @@ rest_again number suffix p f known source fed rest room = by (answer_of RefreshO
         → Opened' (cond (is_required (answer_of RefreshOnly pair)) (and_then (opened_by RefreshOnly pair (answer_of RefreshOnly pair)) (opened_idle RefreshOnly)) (opened_by RefreshOnly pair (answer_of RefreshOnly pair)))
     by (accepted.Opened at count) is asked =
         subst (λ a. Opened' (cond (is_required a) (and_then (opened_by RefreshOnly pair a) (opened_idle RefreshOnly)) (opened_by RefreshOnly pair a))) (sym is)
-        (now.kept, opened_now number suffix RefreshOnly p f known source fed rest room at count is)
+        (now.kept, opened_now lin number suffix RefreshOnly p f known source fed rest room at count is)
       where
         now : AskedIn number suffix pair known false (opened_by RefreshOnly pair (accepted.Opened at count))
         now = subst (λ a. AskedIn number suffix pair known false (opened_by RefreshOnly pair a)) is asked
@@ -426,8 +430,8 @@ rest_again number suffix p f known source fed rest room = by (answer_of RefreshO
         required : (code == 4096) ≡ true
         required = eq-eqb code 4096 now.kept.right.0.1
     by accepted.NoMemory is asked =
-        let now = subst (λ a. Says number p.directory.writes f.consumer.reload a (text_of_kept number p.directory.writes known.kept)) is
-        (says number suffix RefreshOnly p f known source fed rest room) in
+        let now = subst (λ a. Says number p.directory.writes f.consumer.reload a known.cookie) is
+        (says lin number suffix RefreshOnly p f known source fed rest room) in
         absurd now
 
 -- ---- a consumer that is busy is cut before it asks
@@ -435,7 +439,7 @@ rest_again number suffix p f known source fed rest room = by (answer_of RefreshO
 -- the consumer is at rest then
 idle_then : (number : ℕ) (suffix : Name) (asks : Pair → Outcome) (Good : Pair → Known → Outcome → Type 0) (pair : Pair) (known : Known)
     → ((lines : List Told) (two : Pair) (outcome : Outcome) → IsKept number suffix pair two lines known → Good two (known_by_lines pair.follower.name known lines) outcome → Good pair known (after_lines lines outcome))
-    → ((p : ProviderState) (f : Follower) (k : Known) → IsSource number suffix p → IsFed number p f k → IsAtRest f → HasRoom p f → Good (pair_of p f) k (asks (pair_of p f)))
+    → ((lin : Lineage) (p : ProviderState) (f : Follower) (k : Known) → IsSource number suffix p → IsFed number p f k → IsAtRest f → HasRoom p f → Good (pair_of p f lin) k (asks (pair_of p f lin)))
     → IsSource number suffix pair.provider → IsFed number pair.provider pair.follower known → HasRoom pair.provider pair.follower
     → Good pair known (and_then (idle pair) asks)
 idle_then number suffix asks Good pair known joins rests source fed room = by (is_busy pair.follower) refl
@@ -459,10 +463,10 @@ idle_then number suffix asks Good pair known joins rests source fed room = by (i
     by true is =
         subst (λ b. Good pair known (and_then (cond b cut_off nothing) asks)) (sym is)
         (joins (told.Cut (name_of pair) ∷ []) after (asks after) cut
-        (rests after.provider after.follower known cut.source cut.fed (record { search = refl; running = refl; link = refl }) (room_after pair after cut.owns room)))
+        (rests after.lineage after.provider after.follower known cut.source cut.fed (record { search = refl; running = refl; link = refl }) (room_after pair after cut.owns room)))
     by false is =
         joins [] pair (asks pair) (kept-still number suffix pair known source fed)
-        (rests pair.provider pair.follower known source fed (idle_rests pair.follower is) room)
+        (rests pair.lineage pair.provider pair.follower known source fed (idle_rests pair.follower is) room)
 
 asked_kept : (number : ℕ) (suffix : Name) (pair : Pair) (known : Known) (mode : Bool) (outcome : Outcome) → AskedIn number suffix pair known mode outcome → IsKeptIn number suffix pair known outcome
 asked_kept number suffix pair known mode (Ok next) asked = asked.kept
@@ -472,7 +476,7 @@ pub opens_keeps : (mode : Mode) (number : ℕ) (suffix : Name) → Keeps number 
 opens_keeps mode number suffix pair known source fed room =
     idle_then number suffix (opened_idle mode) (IsKeptIn number suffix) pair known
     (λ lines two outcome first then. kept-lines number suffix pair two lines known outcome first then)
-    (λ p f k source' fed' rest room'. asked_kept number suffix (pair_of p f) k (persists mode) (opened_idle mode (pair_of p f)) (rest_opens number suffix mode p f k source' fed' rest room'))
+    (λ lin p f k source' fed' rest room'. asked_kept number suffix (pair_of p f lin) k (persists mode) (opened_idle mode (pair_of p f lin)) (rest_opens lin number suffix mode p f k source' fed' rest room'))
     source fed room
 
 -- a search that ends with its refresh is open then
@@ -481,5 +485,5 @@ pub opens_anew_opens : (number : ℕ) (suffix : Name) (pair : Pair) (known : Kno
 opens_anew_opens number suffix pair known source fed room =
     idle_then number suffix asked_again (λ one k outcome. OpenedIn number suffix one k false outcome) pair known
     (λ lines two outcome first then. kept_opened number suffix pair two lines known false outcome first then)
-    (λ p f k source' fed' rest room'. rest_again number suffix p f k source' fed' rest room')
+    (λ lin p f k source' fed' rest room'. rest_again lin number suffix p f k source' fed' rest room')
     source fed room

@@ -24,11 +24,13 @@ use Rattle.sync_provider.specs.Machine.{ProviderState}
 use Rattle.sync_provider.specs.Search.{SearchState, whole_walk, busy_end, pending, advanced}
 use Rattle.cascade_world.specs.declared.node.Follower.{Follower}
 use Rattle.cascade_world.specs.Exchange.{Pair, pair_of, Sending, Sends, Rests, Overflows, turn_of, handed, linked, fits, sends, sending_by, sending, name_of}
-use Rattle.cascade_world.specs.Headline.{Opening, Known, with_sent, known_after, text_of_kept, BeginsFrom, session_over, refresh_over, stream_over, octets_of, busy, Follows, TellsChange, IsNextOf}
+use Rattle.cascade_world.specs.Headline.{Opening, Known, with_sent, known_after, BeginsFrom, session_over, refresh_over, stream_over, octets_of, busy, Follows, TellsChange, IsNextOf}
 use Rattle.cascade_world.specs.Opening.{message_id}
+use Rattle.cascade_world.specs.Origins.{Lineage}
 use Rattle.cascade_world.specs.Report.{Told as told}
+use Rattle.cascade_world.proofs.Composing.{promises-still}
 use Rattle.cascade_world.proofs.Distinct.{AreDistinct, closed-same, distinct-closed, distinct-put_on}
-use Rattle.cascade_world.proofs.Feeding.{HasNext, Remains, waits, cut_waits, IsSource, IsPending, HasPending, GoesOn, IsAtRest, IsGoing, IsFed, IsKept}
+use Rattle.cascade_world.proofs.Feeding.{HasNext, Remains, waits, cut_waits, IsSource, IsPending, HasPending, GoesOn, IsAtRest, IsGoing, IsFed, KeepsPromises, IsKept}
 use Rattle.cascade_world.proofs.FedCutting.{source-searches}
 use Rattle.cascade_world.proofs.Groups.{heads, tails}
 use Rattle.cascade_world.proofs.Sharing.{Searches, with_searches, others-changed, owns-changed}
@@ -184,7 +186,7 @@ prefix_within number writes None (Some n) a from is = absurd from
 prefix_within number writes (Some text) None a from is = let never : ⊥ = cc in absurd never
 prefix_within number writes (Some text) (Some n) a from is = let same : n ≡ a = cc in omega (arith, same, from.counted, upto_low writes from.serves.cookie.csn)
 
-module _ (number : ℕ) (suffix : Name) (p : ProviderState) (f : Follower) (opening : Opening) (entries : List Entry) (goes : GoesOn number p f opening entries) (first : SyncMessage) (rest : List SyncMessage)
+module _ (lin : Lineage) (number : ℕ) (suffix : Name) (p : ProviderState) (f : Follower) (opening : Opening) (entries : List Entry) (goes : GoesOn number p f opening entries) (first : SyncMessage) (rest : List SyncMessage)
     (some : goes.pending ≡ first ∷ rest) where
   abbrev writes : List Write
   writes = p.directory.writes
@@ -232,7 +234,7 @@ module _ (number : ℕ) (suffix : Name) (p : ProviderState) (f : Follower) (open
       within =
           omega (
             arith,
-            prefix_within number (take opening.writes writes) (text_of_kept number (take opening.writes writes) opening.kept) (number_of goes.start) a goes.from from,
+            prefix_within number (take opening.writes writes) opening.cookie (number_of goes.start) a goes.from from,
             length-take opening.writes writes,
           )
 
@@ -286,12 +288,12 @@ module _ (number : ℕ) (suffix : Name) (p : ProviderState) (f : Follower) (open
 
   -- the message went into the link, and the search goes on
   pub record IsLinked (known : Known) (after : Pair) (message : List ℕ) : Type 0 where
-    pub kept : IsKept number suffix (pair_of p f) after (told.Sent f.name message ∷ []) known
+    pub kept : IsKept number suffix (pair_of p f lin) after (told.Sent f.name message ∷ []) known
     pub now : GoesOn number after.provider after.follower (with_sent message opening) entries
 
   module _ (known : Known) (latest : known.opening ≡ Some opening) (held : known.entries ≡ entries) (source : IsSource number suffix p) (fed : IsFed number p f known) where
     linked_is : (later : Searches) (at : ℕ) (own : Option ℕ) → f.search ≡ Some at → IsAfter p.searches later f.consumer.spec opening.persists goes.cut at own rest
-        → IsLinked known (pair_of (with_searches p later) (linked f own (octets_of first))) (octets_of first)
+        → IsLinked known (pair_of (with_searches p later) (linked f own (octets_of first)) lin) (octets_of first)
     linked_is later at own is now = record {
       kept = record {
         source = source-searches number suffix p later now.apart source;
@@ -299,7 +301,6 @@ module _ (number : ℕ) (suffix : Name) (p : ProviderState) (f : Follower) (open
           held = fed.held;
           ascending = fed.ascending;
           cookie = fed.cookie;
-          prefix = fed.prefix;
           promised = fed.promised;
           below = fed.below;
           state = inr (record {
@@ -310,8 +311,9 @@ module _ (number : ℕ) (suffix : Name) (p : ProviderState) (f : Follower) (open
         });
         right = ((refl, record { opening = opening; latest = latest; next = next_is }), tt);
         same = refl;
-        others = others-changed number p later f (linked f own (octets_of first)) at is now.elsewhere now.only;
-        owns = owns-changed p later f (linked f own (octets_of first)) at is now.elsewhere now.here;
+        others = others-changed lin number p later f (linked f own (octets_of first)) at is now.elsewhere now.only;
+        owns = owns-changed lin p later f (linked f own (octets_of first)) at is now.elsewhere now.here;
+        elsewhere = subst (KeepsPromises number f.consumer.spec known) (sym (own_sent f.name (octets_of first) known)) (promises-still number f.consumer.spec known);
       };
       now = goes';
     }
@@ -326,25 +328,25 @@ module _ (number : ℕ) (suffix : Name) (p : ProviderState) (f : Follower) (open
 
     -- a message is sent where the link has room for it
     sends_kept : (at : ℕ) (own : Option ℕ) → f.search ≡ Some at → IsAfter p.searches (after_turn p.searches at (turn_at p.searches at)) f.consumer.spec opening.persists goes.cut at own rest
-        → IsSentOut (sends (pair_of p f) own (octets_of first))
+        → IsSentOut (sends (pair_of p f lin) own (octets_of first))
     sends_kept at own is now = by (fits f (octets_of first))
       where
         after : Option ℕ → Pair
-        after ours = pair_of (handed p ours) (linked f own (octets_of first))
+        after ours = pair_of (handed p ours) (linked f own (octets_of first)) lin
 
         by : (room : Bool) → IsSentOut (cond room (Sends (after f.search) (octets_of first)) Overflows)
         by true = subst (λ ours. IsLinked known (after ours) (octets_of first)) (sym is) (linked_is (after_turn p.searches at (turn_at p.searches at)) at own is now)
         by false = tt
 
     goes_out : (at : ℕ) → f.search ≡ Some at → turn_at p.searches at ≡ Hands (wire.sent message_id first)
-        → IsAfter p.searches (after_turn p.searches at (turn_at p.searches at)) f.consumer.spec opening.persists goes.cut at (Some at) rest → IsSentOut (sending_by (pair_of p f) (turn_at p.searches at))
+        → IsAfter p.searches (after_turn p.searches at (turn_at p.searches at)) f.consumer.spec opening.persists goes.cut at (Some at) rest → IsSentOut (sending_by (pair_of p f lin) (turn_at p.searches at))
     goes_out at is turn now =
-        subst (λ t. IsSentOut (sending_by (pair_of p f) t)) (sym turn)
-        (subst (λ own. IsSentOut (sends (pair_of p f) own (octets_of first))) (sym is) (sends_kept at (Some at) is now))
+        subst (λ t. IsSentOut (sending_by (pair_of p f lin) t)) (sym turn)
+        (subst (λ own. IsSentOut (sends (pair_of p f lin) own (octets_of first))) (sym is) (sends_kept at (Some at) is now))
 
     comes_last : (at : ℕ) (code : ℕ) → f.search ≡ Some at → turn_at p.searches at ≡ Closes (pos code) (wire.sent message_id first)
-        → IsAfter p.searches (after_turn p.searches at (turn_at p.searches at)) f.consumer.spec opening.persists goes.cut at None rest → IsSentOut (sending_by (pair_of p f) (turn_at p.searches at))
-    comes_last at code is turn now = subst (λ t. IsSentOut (sending_by (pair_of p f) t)) (sym turn) (sends_kept at None is now)
+        → IsAfter p.searches (after_turn p.searches at (turn_at p.searches at)) f.consumer.spec opening.persists goes.cut at None rest → IsSentOut (sending_by (pair_of p f lin) (turn_at p.searches at))
+    comes_last at code is turn now = subst (λ t. IsSentOut (sending_by (pair_of p f lin) t)) (sym turn) (sends_kept at None is now)
 
     abbrev After : Option ℕ → ℕ → Bool → Type 0
     After own at cut = IsAfter p.searches (after_turn p.searches at (turn_at p.searches at)) f.consumer.spec opening.persists cut at own rest
@@ -353,7 +355,7 @@ module _ (number : ℕ) (suffix : Name) (p : ProviderState) (f : Follower) (open
     cut_is own at cut same now = subst (After own at) (sym same) now
 
     turn_now : (at : ℕ) → f.search ≡ Some at → (cut : Bool) → goes.cut ≡ cut → Remains cut goes.ahead (goes.linked ++ goes.pending) → IsPending p.searches f.consumer.spec opening.persists cut at goes.pending
-        → IsSentOut (sending_by (pair_of p f) (turn_at p.searches at))
+        → IsSentOut (sending_by (pair_of p f lin) (turn_at p.searches at))
     turn_now at is false open' left has = by (stream_turn session goes.start opening.writes goes.count before rest first whole)
       where
         whole : before ++ first ∷ rest ≡ Stream
@@ -366,7 +368,7 @@ module _ (number : ℕ) (suffix : Name) (p : ProviderState) (f : Follower) (open
         no_wait true bad = absurd (true≢false bad)
         no_wait false good = refl
 
-        by : IsHanded session.persists first rest ⊎ IsClosing session.persists first rest → IsSentOut (sending_by (pair_of p f) (turn_at p.searches at))
+        by : IsHanded session.persists first rest ⊎ IsClosing session.persists first rest → IsSentOut (sending_by (pair_of p f lin) (turn_at p.searches at))
         by (inl hands) =
             let now = turn ∙ hands.turn in
             goes_out at is now
@@ -395,7 +397,7 @@ module _ (number : ℕ) (suffix : Name) (p : ProviderState) (f : Follower) (open
             ∙ ap (turn_of_message message_id) last
             ∙ ap (λ m. Closes (pos 51) (wire.sent message_id m)) (sym last)
 
-    pub pending_kept : (at : ℕ) → f.search ≡ Some at → IsPending p.searches f.consumer.spec opening.persists goes.cut at goes.pending → IsSentOut (sending_by (pair_of p f) (turn_at p.searches at))
+    pub pending_kept : (at : ℕ) → f.search ≡ Some at → IsPending p.searches f.consumer.spec opening.persists goes.cut at goes.pending → IsSentOut (sending_by (pair_of p f lin) (turn_at p.searches at))
     pending_kept at is has = turn_now at is goes.cut refl goes.left has
 
 -- what a consumer whose search goes on is sent
@@ -405,31 +407,31 @@ GoingSent number suffix pair known opening (Sends after message) =
 GoingSent number suffix pair known opening Rests = Unit {0}
 GoingSent number suffix pair known opening Overflows = Unit {0}
 
-pub going_sent : (number : ℕ) (suffix : Name) (p : ProviderState) (f : Follower) (known : Known) (opening : Opening) → known.opening ≡ Some opening → IsSource number suffix p → IsFed number p f known
-    → GoesOn number p f opening known.entries → GoingSent number suffix (pair_of p f) known opening (sending (pair_of p f))
-going_sent number suffix p f known opening latest source fed goes = by f.search refl goes.search
+pub going_sent : (lin : Lineage) (number : ℕ) (suffix : Name) (p : ProviderState) (f : Follower) (known : Known) (opening : Opening) → known.opening ≡ Some opening → IsSource number suffix p → IsFed number p f known
+    → GoesOn number p f opening known.entries → GoingSent number suffix (pair_of p f lin) known opening (sending (pair_of p f lin))
+going_sent lin number suffix p f known opening latest source fed goes = by f.search refl goes.search
   where
     Good : Sending → Type 0
-    Good s = GoingSent number suffix (pair_of p f) known opening s
+    Good s = GoingSent number suffix (pair_of p f lin) known opening s
 
     some_sent : (at : ℕ) → f.search ≡ Some at → IsPending p.searches f.consumer.spec opening.persists goes.cut at goes.pending → (first : SyncMessage) (rest : List SyncMessage) → goes.pending ≡ first ∷ rest
-        → Good (sending_by (pair_of p f) (turn_at p.searches at))
-    some_sent at is has first rest some = both (sending_by (pair_of p f) (turn_at p.searches at)) (pending_kept number suffix p f opening known.entries goes first rest some known latest refl source fed at is has)
+        → Good (sending_by (pair_of p f lin) (turn_at p.searches at))
+    some_sent at is has first rest some = both (sending_by (pair_of p f lin) (turn_at p.searches at)) (pending_kept lin number suffix p f opening known.entries goes first rest some known latest refl source fed at is has)
       where
-        both : (s : Sending) → IsSentOut number suffix p f opening known.entries goes first rest some known latest refl source fed s → Good s
+        both : (s : Sending) → IsSentOut lin number suffix p f opening known.entries goes first rest some known latest refl source fed s → Good s
         both (Sends after message) is' = (is'.kept, is'.now)
         both Rests is' = absurd is'
         both Overflows is' = tt
 
-    none_sent : (at : ℕ) → IsPending p.searches f.consumer.spec opening.persists goes.cut at goes.pending → goes.pending ≡ [] → Good (sending_by (pair_of p f) (turn_at p.searches at))
+    none_sent : (at : ℕ) → IsPending p.searches f.consumer.spec opening.persists goes.cut at goes.pending → goes.pending ≡ [] → Good (sending_by (pair_of p f lin) (turn_at p.searches at))
     none_sent at has none =
-        subst (λ t. Good (sending_by (pair_of p f) t)) (sym (ap turn_of_found has.found ∙ ap (turn_of_pending has.search.id) (has.same ∙ none))) tt
+        subst (λ t. Good (sending_by (pair_of p f lin) t)) (sym (ap turn_of_found has.found ∙ ap (turn_of_pending has.search.id) (has.same ∙ none))) tt
 
-    by : (own : Option ℕ) → f.search ≡ own → HasPending p.searches f.consumer.spec opening.persists goes.cut own goes.pending → Good (sending_by (pair_of p f) (turn_of p own))
+    by : (own : Option ℕ) → f.search ≡ own → HasPending p.searches f.consumer.spec opening.persists goes.cut own goes.pending → Good (sending_by (pair_of p f lin) (turn_of p own))
     by None is has = tt
     by (Some at) is has = pend goes.pending refl
       where
-        pend : (messages : List SyncMessage) → goes.pending ≡ messages → Good (sending_by (pair_of p f) (turn_at p.searches at))
+        pend : (messages : List SyncMessage) → goes.pending ≡ messages → Good (sending_by (pair_of p f lin) (turn_at p.searches at))
         pend [] none = none_sent at has none
         pend (first ∷ rest) some = some_sent at is has first rest some
 
@@ -450,4 +452,4 @@ sending_kept number suffix pair known source fed = by fed.state
 
     by : IsAtRest pair.follower ⊎ IsGoing number pair.provider pair.follower known → SendingKept number suffix pair known (sending pair)
     by (inl rest) = subst (λ own. SendingKept number suffix pair known (sending_by pair (turn_of pair.provider own))) (sym rest.search) tt
-    by (inr going) = kept going.opening (sending pair) (going_sent number suffix pair.provider pair.follower known going.opening going.latest source fed going.goes)
+    by (inr going) = kept going.opening (sending pair) (going_sent pair.lineage number suffix pair.provider pair.follower known going.opening going.latest source fed going.goes)

@@ -6,14 +6,10 @@ use Rattle.std.specs.Ordering.{int_eq}
 use Rattle.std.proofs.lemmas.Bool.{true≢false}
 use Rattle.std.proofs.lemmas.Slice.Eq.{bytes_eq-Decides}
 use Rattle.csn_cookie.specs.Cookie.{cookie_text}
-use Rattle.csn_cookie.specs.Csn.{IsCsn, start}
+use Rattle.csn_cookie.specs.Csn.{start}
 use Rattle.csn_cookie.specs.declared.cookie.Cookie.{Cookie}
 use Rattle.csn_cookie.proofs.CookieLemmas.{cookie_of_text-cookie_text}
 use Rattle.csn_cookie.proofs.OrderLemmas.{is_upto-itself}
-use Rattle.directory_laws.specs.Accepted.{WereAccepted}
-use Rattle.directory_laws.proofs.Histories.{accepted-take, sent-state_of}
-use Rattle.directory_laws.proofs.Stamps.{IsCsn-start}
-use Rattle.directory_laws.proofs.States.{IsWithin-state_of}
 use Rattle.directory_writes.specs.Directory.{cookie_at, entries_after, last_stamp, stamps}
 use Rattle.directory_writes.proofs.Stamps.{upto_stamp}
 use Rattle.dn_names.specs.Names.{TypeAndValue}
@@ -38,18 +34,18 @@ use Rattle.sync_provider.specs.Machine.{ProviderState}
 use Rattle.sync_provider.specs.Search.{cookie_after}
 use Rattle.cascade_world.specs.declared.node.Follower.{Follower}
 use Rattle.cascade_world.specs.Cookies.{held_cookie}
-use Rattle.cascade_world.specs.Exchange.{Pair, pair_of, copy_of, with_copy, number_of_cookie, stored_number, taken_as, taken_from, taking}
-use Rattle.cascade_world.specs.Headline.{Opening, Known, OfPrefix, known_after, session_over, stream_over, octets_of, busy}
+use Rattle.cascade_world.specs.Exchange.{Pair, pair_of, copy_of, with_copy, number_of_cookie, stored_number, storing, taken_as, taken_from, taking}
+use Rattle.cascade_world.specs.Headline.{Opening, Known, known_after, session_over, stream_over, octets_of, busy}
 use Rattle.cascade_world.specs.Hearing.{Came, came_of, heard}
-use Rattle.cascade_world.specs.Report.{Told}
+use Rattle.cascade_world.specs.Origins.{Lineage}
+use Rattle.cascade_world.specs.Report.{Storing, Told}
 use Rattle.cascade_world.specs.Report.{Told as told}
 use Rattle.cascade_world.proofs.Carried.{IsOfSearch, heard_sent}
 use Rattle.cascade_world.proofs.Coming.{StagesOne, IsOver, StoresOne, TakesOne, one_comes}
-use Rattle.cascade_world.proofs.Composing.{kept-told, owns-still}
-use Rattle.cascade_world.proofs.Feeding.{Remains, waits, cut_waits, IsSource, IsPromised, HasPending, AtWhole, InGroup, IsPast, IsWhere, GoesOn, IsAtRest, IsGoing, IsFed, IsRightOf, IsKept, frame_of, content_at}
+use Rattle.cascade_world.proofs.Composing.{promises-still, kept-told, owns-still}
+use Rattle.cascade_world.proofs.Feeding.{Remains, waits, cut_waits, IsSource, IsPromised, HasPending, AtWhole, InGroup, IsPast, IsWhere, GoesOn, IsAtRest, IsGoing, IsFed, IsRightOf, KeepsPromises, IsKept, frame_of, content_at}
 use Rattle.cascade_world.proofs.Groups.{heads, tails}
 use Rattle.cascade_world.proofs.Sharing.{Searches, others-none}
-use Rattle.cascade_world.proofs.Sources.{last_in_range}
 
 abbrev Name : Type 0
 Name = List (List TypeAndValue)
@@ -59,11 +55,6 @@ Name = List (List TypeAndValue)
 abbrev cookie_of_number : ℕ → List Write → ℕ → Cookie
 cookie_of_number number writes count = cookie_at number number (last_stamp (start number) (take count writes))
 
-stamp_in_range : (number : ℕ) (suffix : Name) (writes : List Write) (count : ℕ) → number ≤ 16 → WereAccepted suffix number writes → IsCsn (last_stamp (start number) (take count writes))
-stamp_in_range number suffix writes count small accepted =
-    last_in_range (start number) (take count writes) (IsCsn-start number (omega (arith, small)))
-    (λ n other low. (accepted-take suffix number writes count accepted n other low).stamp)
-
 -- it is read again
 cookie_read : (number : ℕ) (suffix : Name) (p : ProviderState) (count : ℕ) → IsSource number suffix p
     → held_cookie (Some (cookie_after number number p.directory.writes count)) ≡ Some (cookie_of_number number p.directory.writes count)
@@ -72,7 +63,7 @@ cookie_read number suffix p count source =
     (record {
       rid = omega arith;
       sid = omega (arith, source.small);
-      csn = stamp_in_range number suffix p.directory.writes count source.small source.accepted;
+      csn = source.ranged count;
       history = omega (arith, source.small);
     })
 
@@ -83,10 +74,9 @@ cookie_numbers number suffix p count source within =
     ap (number_of_cookie (stamps p.directory.writes)) (cookie_read number suffix p count source)
     ∙ upto_stamp number p.directory.writes source.rises count within
 
-own_stored : (name : List ℕ) (known : Known) (entries : List Entry) (number : ℕ) (root : List ℕ) (origin : ℕ)
-    → known_after name known (told.Stored name number entries root origin) ≡ record known { entries = entries; kept = OfPrefix number }
-own_stored name known entries number root origin =
-    ap (λ same. cond same (record known { entries = entries; kept = OfPrefix number }) known) ((bytes_eq-Decides name name).1 refl)
+own_stored : (name : List ℕ) (known : Known) (stored : Storing) → known_after name known (told.Stored name stored) ≡ record known { entries = stored.entries; cookie = stored.commit.cookie }
+own_stored name known stored =
+    ap (λ same. cond same (record known { entries = stored.entries; cookie = stored.commit.cookie }) known) ((bytes_eq-Decides name name).1 refl)
 
 -- ---- what is left behind the first message
 
@@ -159,7 +149,7 @@ abbrev pub TakingKept : ℕ → Name → Pair → Known → Option (Pair × Told
 TakingKept number suffix pair known None = Unit {0}
 TakingKept number suffix pair known (Some next) = IsKept number suffix pair next.0 (next.1 ∷ []) known
 
-module _ (number : ℕ) (suffix : Name) (p : ProviderState) (f : Follower) (known : Known) (opening : Opening) (latest : known.opening ≡ Some opening) (source : IsSource number suffix p)
+module _ (lin : Lineage) (number : ℕ) (suffix : Name) (p : ProviderState) (f : Follower) (known : Known) (opening : Opening) (latest : known.opening ≡ Some opening) (source : IsSource number suffix p)
     (fed : IsFed number p f known) (goes : GoesOn number p f opening known.entries) where
   abbrev writes : List Write
   writes = p.directory.writes
@@ -171,10 +161,10 @@ module _ (number : ℕ) (suffix : Name) (p : ProviderState) (f : Follower) (know
   ascending count = ascends-state_of number writes count
 
   within : (count : ℕ) → IsWithin (session.states count)
-  within count = IsWithin-state_of suffix number writes source.accepted (omega (arith, source.few)) count
+  within count = (source.good count).within
 
   sent : (count : ℕ) → All CanBeSent (session.states count)
-  sent count = sent-state_of suffix number writes count source.accepted
+  sent count = (source.good count).sent
 
   texts : (count : ℕ) → (cookie : Cookie) × (session.cookies count ≡ cookie_text cookie)
   texts count = (cookie_of_number number writes count, refl)
@@ -184,7 +174,7 @@ module _ (number : ℕ) (suffix : Name) (p : ProviderState) (f : Follower) (know
 
   -- what a taking leaves: the search goes on, or what is held is the content after some writes not before the opening
   pub record IsTaken (after : Pair) (line : Told) : Type 0 where
-    pub kept : IsKept number suffix (pair_of p f) after (line ∷ []) known
+    pub kept : IsKept number suffix (pair_of p f lin) after (line ∷ []) known
     pub then : GoesOn number after.provider after.follower opening (known_after f.name known line).entries
         ⊎ (IsAtRest after.follower × ((opening.persists ≡ true)
         ⊎ ((known_after f.name known line).entries ≡ content_at number f.consumer.spec writes opening.writes)))
@@ -211,7 +201,7 @@ module _ (number : ℕ) (suffix : Name) (p : ProviderState) (f : Follower) (know
     heard_is can = heard_sent held is_running.running m is_running.runs is_running.id can
 
     abbrev Is : Copy → Came → Type 0
-    Is copy came = IsTaken (taken_as (pair_of p f) left copy came).0 (taken_as (pair_of p f) left copy came).1
+    Is copy came = IsTaken (taken_as (pair_of p f lin) left copy came).0 (taken_as (pair_of p f lin) left copy came).1
 
     -- ---- the next message of the Stream
 
@@ -246,27 +236,27 @@ module _ (number : ℕ) (suffix : Name) (p : ProviderState) (f : Follower) (know
 
       takes : TakesOne session ascending within sent texts goes.start opening.writes goes.count known.entries held goes.taken m is.behind
       takes =
-          one_comes session ascending within sent texts goes.start opening.writes goes.count known.entries held goes.taken is.behind m
+          one_comes session ascending within sent texts goes.start opening.writes goes.count known.entries held goes.taken is.behind m fed.ascending
           (subst (IsWhere session goes.start opening.writes goes.count known.entries held goes.taken) is.next goes.place)
 
       staged_is : StagesOne session ascending within sent texts goes.start opening.writes goes.count known.entries held (goes.taken ++ m ∷ []) is.behind outcome → Is outcome.0 (came_of outcome.1)
       staged_is now =
           subst (λ a. Is outcome.0 (came_of a)) (sym now.answer) (record {
-            kept = kept-told number suffix (pair_of p f) (pair_of p (after outcome.0)) (told.Taken f.name) known (λ name k. refl) tt (record {
+            kept = kept-told number suffix (pair_of p f lin) (pair_of p (after outcome.0) lin) (told.Taken f.name) known (λ name k. refl) tt (record {
               source = source;
               fed = record {
                 held = now.same;
                 ascending = fed.ascending;
                 cookie = now.cookie ∙ fed.cookie;
-                prefix = fed.prefix;
                 promised = subst (λ c. IsPromised number f.consumer.spec writes known.entries (held_cookie c)) (sym now.cookie) fed.promised;
                 below = fed.below;
                 state = inr (record { opening = opening; latest = latest; goes = goes_now outcome.0 known.entries now.place });
               };
               right = tt;
               same = refl;
-              others = others-none number p f (after outcome.0) refl;
-              owns = owns-still p f (after outcome.0) (λ at mine. mine);
+              others = others-none lin number p f (after outcome.0) refl;
+              owns = owns-still lin p f (after outcome.0) (λ at mine. mine);
+              elsewhere = promises-still number f.consumer.spec known;
             });
             then = inl (goes_now outcome.0 known.entries now.place);
             still = refl;
@@ -274,18 +264,21 @@ module _ (number : ℕ) (suffix : Name) (p : ProviderState) (f : Follower) (know
 
       -- ---- a content is stored
 
-      module _ (now : StoresOne session ascending within sent texts goes.start opening.writes goes.count is.behind outcome) where
+      module _ (now : StoresOne session ascending within sent texts goes.start opening.writes goes.count known.entries is.behind outcome) where
         abbrev content : List Entry
         content = content_at number f.consumer.spec writes now.number
 
         abbrev n : ℕ
         n = stored_number p.directory outcome.0.cookie
 
+        abbrev stored : Storing
+        stored = storing (pair_of p f lin) outcome.0 now.commit
+
         abbrev line : Told
-        line = told.Stored f.name n outcome.0.held f.source n
+        line = told.Stored f.name stored
 
         abbrev then_known : Known
-        then_known = record known { entries = outcome.0.held; kept = OfPrefix n }
+        then_known = record known { entries = outcome.0.held; cookie = now.commit.cookie }
 
         low : now.number ≤ length writes
         low = omega (arith, now.upto, goes.upto)
@@ -293,16 +286,28 @@ module _ (number : ℕ) (suffix : Name) (p : ProviderState) (f : Follower) (know
         right_number : n ≡ now.number
         right_number = ap (stored_number p.directory) now.cookie ∙ cookie_numbers number suffix p now.number source low
 
-        right_entries : IsRightOf number (frame_of p f) known n outcome.0.held f.source n
+        -- its cookie is that of the content
+        text_is : now.commit.cookie ≡ Some (cookie_after number number writes n)
+        text_is = now.text ∙ ap (λ k. Some (cookie_after number number writes k)) (sym right_number)
+
+        right_entries : IsRightOf number (frame_of (pair_of p f lin)) known stored
         right_entries = record {
           prefix = omega (arith, right_number, low);
           opening = opening;
           latest = latest;
           no_shorter = omega (arith, right_number, now.from);
           exactly = now.held ∙ ap (λ k. select f.consumer.spec (entries_after number (take k writes))) (sym right_number);
-          from_root = refl;
-          from_prefix = refl;
+          cookie = text_is;
+          staged = now.staged ∙ sym now.held;
+          wanted = refl;
+          from = refl;
         }
+
+        -- and promises nothing of what another history has
+        promises_elsewhere : KeepsPromises number f.consumer.spec known then_known
+        promises_elsewhere other later least most far promised =
+            subst (λ c. IsPromised other f.consumer.spec later outcome.0.held (held_cookie c)) (sym now.text)
+            (subst (IsPromised other f.consumer.spec later outcome.0.held) (sym (cookie_read number suffix p now.number source)) (λ own. absurd (far (sym own))))
 
         content_ascends : ascends content ≡ true
         content_ascends = ascends_filter (is_selected f.consumer.spec) (state_of number writes now.number) (ascends-state_of number writes now.number)
@@ -341,8 +346,7 @@ module _ (number : ℕ) (suffix : Name) (p : ProviderState) (f : Follower) (know
         fed_now state = record {
           held = refl;
           ascending = ap ascends now.held ∙ content_ascends;
-          cookie = now.cookie ∙ ap (λ k. Some (cookie_after number number writes k)) (sym right_number);
-          prefix = omega (arith, right_number, low);
+          cookie = now.cookie ∙ sym now.text;
           promised = promised_now;
           below = fed.below;
           state = by state;
@@ -360,8 +364,9 @@ module _ (number : ℕ) (suffix : Name) (p : ProviderState) (f : Follower) (know
             fed = subst (IsFed number p (after outcome.0)) (sym known_is) (fed_now (state_now now.then));
             right = ((refl, right_entries), tt);
             same = refl;
-            others = others-none number p f (after outcome.0) refl;
-            owns = owns-still p f (after outcome.0) (λ at mine. mine);
+            others = others-none lin number p f (after outcome.0) refl;
+            owns = owns-still lin p f (after outcome.0) (λ at mine. mine);
+            elsewhere = subst (KeepsPromises number f.consumer.spec known) (sym known_is) promises_elsewhere;
           };
           then =
               subst
@@ -372,13 +377,13 @@ module _ (number : ℕ) (suffix : Name) (p : ProviderState) (f : Follower) (know
         })
           where
             known_is : known_after f.name known line ≡ then_known
-            known_is = own_stored f.name known outcome.0.held n f.source n
+            known_is = own_stored f.name known stored
 
-      first_is : IsTaken (taken_as (pair_of p f) left (heard held (octets_of m)).0 (heard held (octets_of m)).1).0 (taken_as (pair_of p f) left (heard held (octets_of m)).0 (heard held (octets_of m)).1).1
+      first_is : IsTaken (taken_as (pair_of p f lin) left (heard held (octets_of m)).0 (heard held (octets_of m)).1).0 (taken_as (pair_of p f lin) left (heard held (octets_of m)).0 (heard held (octets_of m)).1).1
       first_is = subst (λ (h : Copy × Came). Is h.0 h.1) (sym (heard_is takes.can)) (by takes.comes)
         where
           by : StagesOne session ascending within sent texts goes.start opening.writes goes.count known.entries held (goes.taken ++ m ∷ []) is.behind outcome
-              ⊎ StoresOne session ascending within sent texts goes.start opening.writes goes.count is.behind outcome → Is outcome.0 (came_of outcome.1)
+              ⊎ StoresOne session ascending within sent texts goes.start opening.writes goes.count known.entries is.behind outcome → Is outcome.0 (came_of outcome.1)
           by (inl now) = staged_is now
           by (inr now) = stored_is now
 
@@ -406,65 +411,65 @@ module _ (number : ℕ) (suffix : Name) (p : ProviderState) (f : Follower) (know
 
       ended_is : Is ended (came_of (Over (pos 51)))
       ended_is = record {
-        kept = kept-told number suffix (pair_of p f) (pair_of p (after ended)) (told.Ended f.name (pos 51)) known (λ name k. refl) refl (record {
+        kept = kept-told number suffix (pair_of p f lin) (pair_of p (after ended) lin) (told.Ended f.name (pos 51)) known (λ name k. refl) refl (record {
           source = source;
           fed = record {
             held = fed.held;
             ascending = fed.ascending;
             cookie = fed.cookie;
-            prefix = fed.prefix;
             promised = fed.promised;
             below = fed.below;
             state = inl rests_now;
           };
           right = tt;
           same = refl;
-          others = others-none number p f (after ended) refl;
-          owns = owns-still p f (after ended) (λ at mine. mine);
+          others = others-none lin number p f (after ended) refl;
+          owns = owns-still lin p f (after ended) (λ at mine. mine);
+          elsewhere = promises-still number f.consumer.spec known;
         });
         then = inr (rests_now, inl goes_past);
         still = refl;
       }
 
-      busy_is : IsTaken (taken_as (pair_of p f) left (heard held (octets_of m)).0 (heard held (octets_of m)).1).0 (taken_as (pair_of p f) left (heard held (octets_of m)).0 (heard held (octets_of m)).1).1
+      busy_is : IsTaken (taken_as (pair_of p f lin) left (heard held (octets_of m)).0 (heard held (octets_of m)).1).0 (taken_as (pair_of p f lin) left (heard held (octets_of m)).0 (heard held (octets_of m)).1).1
       busy_is =
           subst (λ (h : Copy × Came). Is h.0 h.1) (sym (heard_is (subst IsOfSearch (sym is.message) (inr (refl, refl)))))
           (subst (λ (o : Copy × Answer). Is o.0 (came_of o.1)) (sym outcome_is) ended_is)
 
-    pub one_taken : IsTaken (taken_as (pair_of p f) left (heard held (octets_of m)).0 (heard held (octets_of m)).1).0 (taken_as (pair_of p f) left (heard held (octets_of m)).0 (heard held (octets_of m)).1).1
+    pub one_taken : IsTaken (taken_as (pair_of p f lin) left (heard held (octets_of m)).0 (heard held (octets_of m)).1).0 (taken_as (pair_of p f lin) left (heard held (octets_of m)).0 (heard held (octets_of m)).1).1
     one_taken = by (first_left goes.cut goes.ahead m (rest ++ goes.pending) remains)
       where
         by : IsFirst goes.cut goes.ahead m (rest ++ goes.pending) ⊎ IsBusy goes.cut m (rest ++ goes.pending)
-            → IsTaken (taken_as (pair_of p f) left (heard held (octets_of m)).0 (heard held (octets_of m)).1).0 (taken_as (pair_of p f) left (heard held (octets_of m)).0 (heard held (octets_of m)).1).1
+            → IsTaken (taken_as (pair_of p f lin) left (heard held (octets_of m)).0 (heard held (octets_of m)).1).0 (taken_as (pair_of p f lin) left (heard held (octets_of m)).0 (heard held (octets_of m)).1).1
         by (inl is) = first_is is
         by (inr is) = busy_is is
 
 -- what a consumer whose search goes on takes
-abbrev pub GoingTaken : (number : ℕ) (suffix : Name) (p : ProviderState) (f : Follower) (known : Known) (opening : Opening) → known.opening ≡ Some opening → IsSource number suffix p → IsFed number p f known
+abbrev pub GoingTaken : (lin : Lineage) (number : ℕ) (suffix : Name) (p : ProviderState) (f : Follower) (known : Known) (opening : Opening) → known.opening ≡ Some opening → IsSource number suffix p → IsFed number p f known
     → GoesOn number p f opening known.entries → Option (Pair × Told) → Type 0
-GoingTaken number suffix p f known opening latest source fed goes None = f.link ≡ []
-GoingTaken number suffix p f known opening latest source fed goes (Some next) = IsTaken number suffix p f known opening latest source fed goes next.0 next.1
+GoingTaken lin number suffix p f known opening latest source fed goes None = f.link ≡ []
+GoingTaken lin number suffix p f known opening latest source fed goes (Some next) = IsTaken lin number suffix p f known opening latest source fed goes next.0 next.1
 
-pub going_taken : (number : ℕ) (suffix : Name) (p : ProviderState) (f : Follower) (known : Known) (opening : Opening) (latest : known.opening ≡ Some opening) (source : IsSource number suffix p)
-    (fed : IsFed number p f known) (goes : GoesOn number p f opening known.entries) → GoingTaken number suffix p f known opening latest source fed goes (taking (pair_of p f))
-going_taken number suffix p f known opening latest source fed goes = by goes.linked refl
+pub going_taken : (lin : Lineage) (number : ℕ) (suffix : Name) (p : ProviderState) (f : Follower) (known : Known) (opening : Opening) (latest : known.opening ≡ Some opening) (source : IsSource number suffix p)
+    (fed : IsFed number p f known) (goes : GoesOn number p f opening known.entries) → GoingTaken lin number suffix p f known opening latest source fed goes (taking (pair_of p f lin))
+going_taken lin number suffix p f known opening latest source fed goes = by goes.linked refl
   where
     Good : List (List ℕ) → Type 0
-    Good link = GoingTaken number suffix p f known opening latest source fed goes (taken_from (pair_of p f) link)
+    Good link = GoingTaken lin number suffix p f known opening latest source fed goes (taken_from (pair_of p f lin) link)
 
     by : (linked : List SyncMessage) → goes.linked ≡ linked → Good f.link
     by [] none = subst Good (sym (goes.link ∙ ap (map octets_of) none)) (goes.link ∙ ap (map octets_of) none)
-    by (m ∷ rest) some = subst Good (sym (goes.link ∙ ap (map octets_of) some)) (one_taken number suffix p f known opening latest source fed goes m rest some)
+    by (m ∷ rest) some = subst Good (sym (goes.link ∙ ap (map octets_of) some)) (one_taken lin number suffix p f known opening latest source fed goes m rest some)
 
 pub taking_kept : (number : ℕ) (suffix : Name) (pair : Pair) (known : Known) → IsSource number suffix pair.provider → IsFed number pair.provider pair.follower known
     → TakingKept number suffix pair known (taking pair)
 taking_kept number suffix pair known source fed = by fed.state
   where
     going : (is : IsGoing number pair.provider pair.follower known) (next : Option (Pair × Told))
-        → GoingTaken number suffix pair.provider pair.follower known is.opening is.latest source fed is.goes next → TakingKept number suffix pair known next
+        → GoingTaken pair.lineage number suffix pair.provider pair.follower known is.opening is.latest source fed is.goes next → TakingKept number suffix pair known next
     going is None taken = tt
     going is (Some next) taken = taken.kept
 
     by : IsAtRest pair.follower ⊎ IsGoing number pair.provider pair.follower known → TakingKept number suffix pair known (taking pair)
     by (inl rest) = subst (λ link. TakingKept number suffix pair known (taken_from pair link)) (sym rest.link) tt
-    by (inr is) = going is (taking pair) (going_taken number suffix pair.provider pair.follower known is.opening is.latest source fed is.goes)
+    by (inr is) = going is (taking pair) (going_taken pair.lineage number suffix pair.provider pair.follower known is.opening is.latest source fed is.goes)

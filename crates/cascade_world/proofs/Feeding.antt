@@ -1,49 +1,69 @@
 -- What holds of a provider of a script and of each of its consumers at every moment of a run, and what each part of an
 -- event keeps of that.
 use Rattle.std.proofs.Common.{refl}
-use Rattle.std.specs.Prelude.{◌≡◌, ◌⊎◌, ℕ, pos, ◌+◌, ◌≤◌, Bool, true, false, cond, ◌&&◌, not, Option, Some, None, Ok, List, [], ◌∷◌, ◌++◌, length, map, take, fold}
-use Rattle.csn_cookie.specs.Csn.{Stamp, start, is_upto}
+use Rattle.std.specs.Prelude.{◌≡◌, ◌≢◌, ◌⊎◌, ℕ, pos, ◌+◌, ◌≤◌, Bool, true, false, cond, ◌&&◌, not, Option, Some, None, Ok, List, [], ◌∷◌, ◌++◌, length, map, take, fold, All}
+use Rattle.csn_cookie.specs.Csn.{Stamp, IsCsn, start, is_upto}
+use Rattle.csn_cookie.specs.CsnMaker.{next_csn}
 use Rattle.csn_cookie.specs.declared.cookie.Cookie.{Cookie}
 use Rattle.dn_names.specs.Names.{TypeAndValue, is_at_or_below}
 use Rattle.directory_laws.specs.Accepted.{WereAccepted}
-use Rattle.directory_writes.specs.Directory.{StampsRise, entries_after, last_stamp}
+use Rattle.directory_writes.specs.Directory.{StampsRise, entries_after, entries_of, last_stamp}
+use Rattle.entry_tree.specs.Effects.{committed}
+use Rattle.entry_tree.specs.History.{state_of}
 use Rattle.entry_tree.specs.Selection.{Search, select}
 use Rattle.entry_tree.specs.State.{ascends}
 use Rattle.entry_tree.specs.Touched.{touched}
 use Rattle.entry_tree.specs.declared.entry.Entry.{Entry}
+use Rattle.entry_tree.specs.declared.op.Op.TheVariants.{Commit}
 use Rattle.entry_tree.specs.declared.op.Write.{Write}
 use Rattle.entry_tree.specs.declared.touched.Touch.{Touch}
 use Rattle.sync_model.specs.Copy.{Copy}
 use Rattle.sync_model.specs.Incremental.{number_of}
-use Rattle.sync_model.specs.Law.{Begins, settled}
+use Rattle.sync_model.specs.Law.{Begins, IsWithin, settled}
 use Rattle.sync_model.specs.Message.{SyncMessage}
 use Rattle.sync_model.specs.Stream.{Session, Start, content_after, among, told_all, later}
 use Rattle.sync_model.proofs.Later.{stepping, staged_all}
+use Rattle.sync_provider.specs.Committing.{commit_refusal}
 use Rattle.sync_provider.specs.HandingOut.{search_at}
+use Rattle.sync_provider.specs.Machine as machine
 use Rattle.sync_provider.specs.Machine.{ProviderState, fresh, log_limited, queue_limited}
-use Rattle.sync_provider.specs.declared.provider.Kind.TheVariants.{Root}
-use Rattle.sync_provider.specs.Search.{SearchState, session_of, refresh_from, pending}
+use Rattle.sync_provider.specs.Search.{SearchState, cookie_after, session_of, refresh_from, pending}
+use Rattle.sync_provider.specs.declared.provider.Kind.{Kind}
+use Rattle.sync_provider.specs.declared.provider.Kind.TheVariants.{Root, Replica}
+use Rattle.sync_provider.specs.declared.writing.CommitFault.{CommitFault}
+use Rattle.sync_provider.specs.declared.writing.CommitFault.TheVariants as fault
+use Rattle.sync_wire.specs.CanBeSent.{CanBeSent}
 use Rattle.schema_rules.specs.declared.raw.Change.{Change}
 use Rattle.cascade_world.specs.declared.exchange.Exchange.{Exchange}
+use Rattle.cascade_world.specs.declared.exchange.Exchange.TheVariants as goes
 use Rattle.cascade_world.specs.declared.node.Follower.{Follower}
 use Rattle.cascade_world.specs.Cookies.{held_cookie}
 use Rattle.cascade_world.specs.Directory.{logged_directory, wrote_change}
-use Rattle.cascade_world.specs.Exchange.{Pair, part_of}
-use Rattle.cascade_world.specs.Headline.{Kept, NoCookie, OfPrefix, Given, Opening, Known, nothing_known, known_after, text_of_kept, IsUnserved, IsOpenedAt, BeginsFrom, session_over, stream_over, octets_of, busy, IsNextOf}
+use Rattle.cascade_world.specs.Exchange.{Pair, part_of, idle, respecs}
+use Rattle.cascade_world.specs.Headline.{Opening, Known, nothing_known, known_after, IsUnserved, IsOpenedAt, BeginsFrom, session_over, stream_over, octets_of, busy, IsNextOf}
 use Rattle.cascade_world.specs.Opening.{message_id}
-use Rattle.cascade_world.specs.Report.{Told}
-use Rattle.cascade_world.specs.Report.Told.{Opened, Refused, Sent, Stored, Ended, Faulted, Settled, Shown}
+use Rattle.cascade_world.specs.Origins.{Lineage, origin_of}
+use Rattle.cascade_world.specs.Report.{Storing, Told}
+use Rattle.cascade_world.specs.Report.Told.{Opened, Refused, Sent, Stored, Ended, Faulted, Settled, Clocked, Shown}
 use Rattle.cascade_world.proofs.Distinct.{AreDistinct}
 use Rattle.cascade_world.proofs.Refreshes.{staging}
 
--- a provider: its stamps carry the number of its node, which is that of its history too, and its writes were accepted
--- one after another, each with a stamp above those before it; and its searches have numbers of their own
+-- entries that a provider can serve: each can be sent, and all are within the limits of a directory
+pub record CanBeServed (entries : List Entry) : Type 0 where
+  pub sent : All CanBeSent entries
+  pub within : IsWithin entries
+
+-- a provider: its stamps carry the number of its node, which is that of its history too, and each is above those before
+-- it; what each prefix of its writes leaves can be served; those of a root were accepted one after another; and its
+-- searches have numbers of their own
 pub record IsSource (number : ℕ) (suffix : List (List TypeAndValue)) (p : ProviderState) : Type 0 where
   pub first : 1 ≤ number
   pub small : number ≤ 16
   pub directory : p.directory ≡ logged_directory number suffix p.directory.writes p.directory.log
   pub rises : StampsRise number p.directory.writes
-  pub accepted : WereAccepted suffix number p.directory.writes
+  pub ranged : (count : ℕ) → IsCsn (last_stamp (start number) (take count p.directory.writes))
+  pub good : (count : ℕ) → CanBeServed (state_of number p.directory.writes count)
+  pub accepted : p.kind ≡ Root → WereAccepted suffix number p.directory.writes
   pub few : length p.directory.writes ≤ 1000000
   pub apart : AreDistinct p.searches
 
@@ -69,11 +89,9 @@ abbrev pub IsPromised : ℕ → Search → List Write → List Entry → Option 
 IsPromised number search writes entries None = Unit {0}
 IsPromised number search writes entries (Some cookie) = cookie.history ≡ number → IsContent number search writes entries cookie.csn
 
--- a prefix whose cookie is held is one of the writes
-abbrev pub IsWithinWrites : ℕ → Kept → Type 0
-IsWithinWrites most NoCookie = Unit {0}
-IsWithinWrites most (OfPrefix count) = count ≤ most
-IsWithinWrites most (Given text) = Unit {0}
+-- what is known of a consumer that wants this promises so
+abbrev pub Promises : ℕ → Search → List Write → Known → Type 0
+Promises number search writes known = IsPromised number search writes known.entries (held_cookie known.cookie)
 
 -- ---- a search that goes on
 
@@ -164,7 +182,7 @@ pub record GoesOn (number : ℕ) (p : ProviderState) (f : Follower) (opening : O
   pub count : ℕ
   pub upto : opening.writes + count ≤ length p.directory.writes
   pub start : Start
-  pub from : BeginsFrom number (take opening.writes p.directory.writes) (text_of_kept number (take opening.writes p.directory.writes) opening.kept) (number_of start)
+  pub from : BeginsFrom number (take opening.writes p.directory.writes) opening.cookie (number_of start)
   pub taken : List SyncMessage
   pub ahead : List SyncMessage
   pub whole : taken ++ ahead ≡ stream_over number f.consumer.spec p.directory.writes opening start count
@@ -196,8 +214,7 @@ pub record IsGoing (number : ℕ) (p : ProviderState) (f : Follower) (known : Kn
 pub record IsFed (number : ℕ) (p : ProviderState) (f : Follower) (known : Known) : Type 0 where
   pub held : f.consumer.copy.held ≡ known.entries
   pub ascending : ascends known.entries ≡ true
-  pub cookie : f.consumer.copy.cookie ≡ text_of_kept number p.directory.writes known.kept
-  pub prefix : IsWithinWrites (length p.directory.writes) known.kept
+  pub cookie : f.consumer.copy.cookie ≡ known.cookie
   pub promised : IsPromised number f.consumer.spec p.directory.writes known.entries (held_cookie f.consumer.copy.cookie)
   pub below : is_at_or_below f.consumer.spec.base p.directory.suffix ≡ true
   pub state : IsAtRest f ⊎ IsGoing number p f known
@@ -208,26 +225,38 @@ AreApart f g = (at : ℕ) → f.search ≡ Some at → g.search ≡ Some at → 
 
 -- ---- what each part keeps and tells
 
--- what no part changes: the writes of the provider, and what the consumer is
+-- what no part changes: the writes of the provider and where its content is from, and what the consumer is
 pub record Frame : Type 0 where
   pub writes : List Write
+  pub kind : Kind
+  pub lineage : Lineage
   pub name : List ℕ
   pub source : List ℕ
   pub spec : Search
   pub reload : Bool
 
-abbrev pub frame_of : ProviderState → Follower → Frame
-frame_of p f = record { writes = p.directory.writes; name = f.name; source = f.source; spec = f.consumer.spec; reload = f.consumer.reload }
+abbrev pub frame_of : Pair → Frame
+frame_of pair = record {
+  writes = pair.provider.directory.writes;
+  kind = pair.provider.kind;
+  lineage = pair.lineage;
+  name = pair.follower.name;
+  source = pair.follower.source;
+  spec = pair.follower.consumer.spec;
+  reload = pair.follower.consumer.reload;
+}
 
--- a `stored` line of the consumer after the latest `opened` line told this number
-pub record IsRightOf (number : ℕ) (frame : Frame) (known : Known) (n : ℕ) (entries : List Entry) (root : List ℕ) (origin : ℕ) : Type 0 where
-  pub prefix : n ≤ length frame.writes
+-- a `stored` line of the consumer after the latest `opened` line told this
+pub record IsRightOf (number : ℕ) (frame : Frame) (known : Known) (stored : Storing) : Type 0 where
+  pub prefix : stored.number ≤ length frame.writes
   pub opening : Opening
   pub latest : known.opening ≡ Some opening
-  pub no_shorter : opening.writes ≤ n
-  pub exactly : entries ≡ select frame.spec (entries_after number (take n frame.writes))
-  pub from_root : root ≡ frame.source
-  pub from_prefix : origin ≡ n
+  pub no_shorter : opening.writes ≤ stored.number
+  pub cookie : stored.commit.cookie ≡ Some (cookie_after number number frame.writes stored.number)
+  pub exactly : stored.entries ≡ select frame.spec (entries_after number (take stored.number frame.writes))
+  pub staged : committed known.entries stored.commit.puts stored.commit.drops ≡ stored.entries
+  pub wanted : stored.search ≡ frame.spec
+  pub from : stored.origin ≡ origin_of frame.kind frame.lineage frame.spec stored.number
 
 -- a `sent` line after the latest `opened` line
 pub record IsSentOf (number : ℕ) (frame : Frame) (known : Known) (octets : List ℕ) : Type 0 where
@@ -240,19 +269,17 @@ pub record IsSettledOf (number : ℕ) (frame : Frame) (known : Known) (n : ℕ) 
   pub all : n ≡ length frame.writes
   pub exactly : known.entries ≡ select frame.spec (entries_after number frame.writes)
 
--- the text of the cookie that is held
-abbrev pub text_held : ℕ → Frame → Known → Option (List ℕ)
-text_held number frame known = text_of_kept number frame.writes known.kept
-
+-- no part shows entries or sets a clock
 abbrev pub LineIsRightOf : ℕ → Frame → Known → Told → Type 0
-LineIsRightOf number frame known (Stored name n entries root origin) = (name ≡ frame.name) × IsRightOf number frame known n entries root origin
-LineIsRightOf number frame known (Opened name persists n) = (name ≡ frame.name) × IsOpenedAt n frame.reload number frame.writes (text_held number frame known)
+LineIsRightOf number frame known (Stored name stored) = (name ≡ frame.name) × IsRightOf number frame known stored
+LineIsRightOf number frame known (Opened name persists n) = (name ≡ frame.name) × IsOpenedAt n frame.reload number frame.writes known.cookie
 LineIsRightOf number frame known (Refused name persists code) =
-    (name ≡ frame.name) × (code ≡ 4096) × IsUnserved frame.reload number frame.writes (text_held number frame known)
+    (name ≡ frame.name) × (code ≡ 4096) × IsUnserved frame.reload number frame.writes known.cookie
 LineIsRightOf number frame known (Sent name octets) = (name ≡ frame.name) × IsSentOf number frame known octets
 LineIsRightOf number frame known (Ended name code) = code ≡ pos 51
-LineIsRightOf number frame known (Faulted name fault) = ⊥
+LineIsRightOf number frame known (Faulted name why) = ⊥
 LineIsRightOf number frame known (Settled name n) = (name ≡ frame.name) × IsSettledOf number frame known n
+LineIsRightOf number frame known (Clocked time) = ⊥
 LineIsRightOf number frame known (Shown name entries) = ⊥
 LineIsRightOf number frame known _ = Unit {0}
 
@@ -261,14 +288,11 @@ LinesAreRightOf number frame known [] = Unit {0}
 LinesAreRightOf number frame known (line ∷ lines) =
     LineIsRightOf number frame known line × LinesAreRightOf number frame (known_after frame.name known line) lines
 
-abbrev pub IsRight : ℕ → ProviderState → Follower → Known → ℕ → List Entry → List ℕ → ℕ → Type 0
-IsRight number p f known n entries root origin = IsRightOf number (frame_of p f) known n entries root origin
+abbrev pub LineIsRight : ℕ → Pair → Known → Told → Type 0
+LineIsRight number pair known line = LineIsRightOf number (frame_of pair) known line
 
-abbrev pub LineIsRight : ℕ → ProviderState → Follower → Known → Told → Type 0
-LineIsRight number p f known line = LineIsRightOf number (frame_of p f) known line
-
-abbrev pub LinesAreRight : ℕ → ProviderState → Follower → Known → List Told → Type 0
-LinesAreRight number p f known lines = LinesAreRightOf number (frame_of p f) known lines
+abbrev pub LinesAreRight : ℕ → Pair → Known → List Told → Type 0
+LinesAreRight number pair known lines = LinesAreRightOf number (frame_of pair) known lines
 
 -- the other consumers of a provider are fed as before
 abbrev pub KeepsOthers : ℕ → Pair → Pair → Type 0
@@ -289,20 +313,65 @@ pub record HasRoom (p : ProviderState) (f : Follower) : Type 0 where
   pub few : length others ≤ 16
   pub each : (at : ℕ) (s : SearchState) → search_at p.searches at ≡ Some s → (f.search ≡ Some at) ⊎ (among at others ≡ true)
 
+-- what is known promises of the content of any other node what it did
+abbrev pub KeepsPromises : ℕ → Search → Known → Known → Type 0
+KeepsPromises number search before after =
+    (other : ℕ) (writes : List Write) → 1 ≤ other → other ≤ 16 → other ≢ number → Promises other search writes before → Promises other search writes after
+
+-- what these lines leave known of the consumer
+abbrev pub known_then : Pair → Known → List Told → Known
+known_then pair known lines = fold (known_after pair.follower.name) known lines
+
 -- what holds after a part of an event that a consumer goes through
 pub record IsKept (number : ℕ) (suffix : List (List TypeAndValue)) (before after : Pair) (lines : List Told) (known : Known) : Type 0 where
   pub source : IsSource number suffix after.provider
-  pub fed : IsFed number after.provider after.follower (fold (known_after before.follower.name) known lines)
-  pub right : LinesAreRight number before.provider before.follower known lines
-  pub same : frame_of after.provider after.follower ≡ frame_of before.provider before.follower
+  pub fed : IsFed number after.provider after.follower (known_then before known lines)
+  pub right : LinesAreRight number before known lines
+  pub same : frame_of after ≡ frame_of before
   pub others : KeepsOthers number before after
   pub owns : OwnsNew before after
+  pub elsewhere : KeepsPromises number before.follower.consumer.spec known (known_then before known lines)
+
+-- all parts but that after which something else is wanted
+abbrev pub WantsTheSame : Exchange → Type 0
+WantsTheSame (goes.Want spec) = ⊥
+WantsTheSame _ = Unit {0}
 
 abbrev pub PartsAreKept : Type 0
 PartsAreKept =
     (number : ℕ) (suffix : List (List TypeAndValue)) (before after : Pair) (lines : List Told) (known : Known) (exchange : Exchange)
-    → IsSource number suffix before.provider → IsFed number before.provider before.follower known → HasRoom before.provider before.follower
-    → part_of exchange before ≡ Ok (after, lines) → IsKept number suffix before after lines known
+    → WantsTheSame exchange → IsSource number suffix before.provider → IsFed number before.provider before.follower known
+    → HasRoom before.provider before.follower → part_of exchange before ≡ Ok (after, lines) → IsKept number suffix before after lines known
+
+-- a consumer that wants something else is at rest then, without a cookie and with the entries that it held
+pub record IsRespecced (number : ℕ) (suffix : List (List TypeAndValue)) (search : Search) (before after : Pair) (lines : List Told) (known : Known) : Type 0 where
+  pub source : IsSource number suffix after.provider
+  pub fed : IsFed number after.provider after.follower (known_then before known lines)
+  pub right : LinesAreRight number before known lines
+  pub same : frame_of after ≡ record (frame_of before) { spec = search }
+  pub others : KeepsOthers number before after
+  pub owns : OwnsNew before after
+  pub rest : IsAtRest after.follower
+  pub none : (known_then before known lines).cookie ≡ None
+  pub entries : (known_then before known lines).entries ≡ known.entries
+
+abbrev pub RespecsAreKept : Type 0
+RespecsAreKept =
+    (number : ℕ) (suffix : List (List TypeAndValue)) (search : Search) (before after : Pair) (lines : List Told) (known : Known)
+    → is_at_or_below search.base before.provider.directory.suffix ≡ true → IsSource number suffix before.provider
+    → IsFed number before.provider before.follower known → HasRoom before.provider before.follower
+    → respecs search before ≡ Ok (after, lines) → IsRespecced number suffix search before after lines known
+
+-- a consumer that was cut where it was busy is at rest
+abbrev pub IdlesRest : Type 0
+IdlesRest = (before after : Pair) (lines : List Told) → idle before ≡ Ok (after, lines) → IsAtRest after.follower
+
+-- one that is at rest is fed by any provider, where its cookie promises content of that one's writes
+abbrev pub RestsAreFed : Type 0
+RestsAreFed =
+    (number other : ℕ) (p q : ProviderState) (f g : Follower) (known : Known) → IsFed number p f known → IsAtRest g → g.consumer ≡ f.consumer
+    → IsPromised other f.consumer.spec q.directory.writes known.entries (held_cookie known.cookie)
+    → is_at_or_below f.consumer.spec.base q.directory.suffix ≡ true → IsFed other q g known
 
 -- a new consumer is at rest; a provider without writes is a source
 abbrev pub RestIsFed : Type 0
@@ -311,7 +380,17 @@ RestIsFed =
     → f.consumer.copy.cookie ≡ None → is_at_or_below f.consumer.spec.base p.directory.suffix ≡ true → IsFed number p f nothing_known
 
 abbrev pub FreshIsSource : Type 0
-FreshIsSource = (number : ℕ) (suffix : List (List TypeAndValue)) → 1 ≤ number → number ≤ 16 → IsSource number suffix (fresh suffix number number Root)
+FreshIsSource = (number : ℕ) (suffix : List (List TypeAndValue)) (kind : Kind) → 1 ≤ number → number ≤ 16 → IsSource number suffix (fresh suffix number number kind)
+
+-- what is promised of some writes is promised where more follow; and without writes of what is empty
+abbrev pub PromisesLast : Type 0
+PromisesLast =
+    (number : ℕ) (search : Search) (writes more : List Write) (entries : List Entry) (cookie : Option Cookie)
+    → IsPromised number search writes entries cookie → IsPromised number search (writes ++ more) entries cookie
+
+-- what is selected of entries that can be served can be served
+abbrev pub SelectedCanBeServed : Type 0
+SelectedCanBeServed = (search : Search) (entries : List Entry) → CanBeServed entries → CanBeServed (select search entries)
 
 -- each search that is open was open before
 abbrev pub OpensNone : ProviderState → ProviderState → Type 0
@@ -322,6 +401,9 @@ pub record KeepsAll (number : ℕ) (suffix : List (List TypeAndValue)) (p q : Pr
   pub source : IsSource number suffix q
   pub fed : (g : Follower) (known : Known) → IsFed number p g known → IsFed number q g known
   pub opens : OpensNone p q
+  pub kind : q.kind ≡ p.kind
+  pub later : List Write
+  pub grown : q.directory.writes ≡ p.directory.writes ++ later
 
 abbrev pub WritesAreKept : Type 0
 WritesAreKept =
@@ -336,3 +418,27 @@ LimitsAreKept =
 abbrev pub QueuesAreKept : Type 0
 QueuesAreKept =
     (number : ℕ) (suffix : List (List TypeAndValue)) (p : ProviderState) (limit : ℕ) → IsSource number suffix p → KeepsAll number suffix p (queue_limited p limit)
+
+-- ---- commits
+
+-- one write more, with the next stamp, which puts these entries and drops these identities
+pub record IsCommitted (number : ℕ) (suffix : List (List TypeAndValue)) (p q : ProviderState) (puts : List Entry) (drops : List ℕ) (now : ℕ) : Type 0 where
+  pub keeps : KeepsAll number suffix p q
+  pub csn : Stamp
+  pub drawn : next_csn now (last_stamp (start number) p.directory.writes) ≡ Some csn
+  pub one : q.directory.writes ≡ p.directory.writes ++ record { csn = csn; op = Commit puts drops } ∷ []
+  pub entries : entries_of q.directory ≡ committed (entries_of p.directory) puts drops
+
+-- a replica commits, where a limit is not in the way
+abbrev pub CommitIs : ℕ → List (List TypeAndValue) → ProviderState → List Entry → List ℕ → ℕ → Option CommitFault → Type 0
+CommitIs number suffix p puts drops now None = IsCommitted number suffix p (machine.committed p puts drops now) puts drops now
+CommitIs number suffix p puts drops now (Some (fault.LimitReached limit)) = Unit {0}
+CommitIs number suffix p puts drops now (Some (fault.DuplicateName one other)) = ⊥
+CommitIs number suffix p puts drops now (Some fault.NoMemory) = ⊥
+CommitIs number suffix p puts drops now (Some fault.NotAReplica) = ⊥
+
+abbrev pub CommitsAreKept : Type 0
+CommitsAreKept =
+    (number : ℕ) (suffix : List (List TypeAndValue)) (p : ProviderState) (puts : List Entry) (drops : List ℕ) (now : ℕ)
+    → IsSource number suffix p → p.kind ≡ Replica → CanBeServed (committed (entries_of p.directory) puts drops)
+    → CommitIs number suffix p puts drops now (commit_refusal p.kind p.directory puts drops now)

@@ -1,13 +1,14 @@
 -- Nodes by their names, where one more is declared or one is changed.
 use Rattle.std.proofs.Common.{◌≡◌, ◌⊎◌, ℕ, Bool, true, false, Option, Some, None, List, [], ◌∷◌, ◌++◌, length, suc, refl, ap, sym, ◌∙◌, inl, inr}
 use Rattle.std.proofs.lemmas.Bool.{cases_Bool}
-use Rattle.std.specs.Prelude.{find}
+use Rattle.std.specs.List.{list_any}
+use Rattle.std.specs.Prelude.{find, is_some}
 use Rattle.std.specs.Str.{bytes_eq}
 use Rattle.sync_provider.specs.Machine.{ProviderState}
-use Rattle.cascade_world.specs.declared.node.Root.{Root}
+use Rattle.cascade_world.specs.declared.node.Supplier.{Supplier}
 use Rattle.cascade_world.specs.declared.node.Follower.{Follower}
-use Rattle.cascade_world.specs.World.{is_root, is_follower, first_changed, with_follower, with_provider}
-use Rattle.cascade_world.proofs.Traces.{same_name, itself}
+use Rattle.cascade_world.specs.World.{is_supplier, is_follower, first_changed, with_follower, with_provider, with_supplier}
+use Rattle.cascade_world.proofs.Traces.{same_name, itself, or_parts, pointed_at}
 
 -- ---- any list
 
@@ -97,30 +98,30 @@ found_after old new name now changed other x e =
       | inr miss ↦ inr (miss, sym (changed.others other miss) ∙ e)
     ]
 
--- the roots and the followers by their names
-abbrev pub roots_by : List Root → List ℕ → Option Root
-roots_by roots name = find (is_root name) roots
+-- the suppliers and the followers by their names
+abbrev pub suppliers_by : List Supplier → List ℕ → Option Supplier
+suppliers_by suppliers name = find (is_supplier name) suppliers
 
 abbrev pub followers_by : List Follower → List ℕ → Option Follower
 followers_by followers name = find (is_follower name) followers
 
-pub root_name : (roots : List Root) (name : List ℕ) (root : Root) → roots_by roots name ≡ Some root → name ≡ root.name
-root_name roots name root e = same_name name root.name (found (is_root name) roots root e)
+pub supplier_name : (suppliers : List Supplier) (name : List ℕ) (supplier : Supplier) → suppliers_by suppliers name ≡ Some supplier → name ≡ supplier.name
+supplier_name suppliers name supplier e = same_name name supplier.name (found (is_supplier name) suppliers supplier e)
 
--- one name, one root
-pub same_root : (roots : List Root) (name other : List ℕ) (root there : Root) → roots_by roots name ≡ Some root → roots_by roots other ≡ Some there → name ≡ other → root ≡ there
-same_root roots name other root there e e' same = let both : Some root ≡ Some there = sym e ∙ ap (roots_by roots) same ∙ e' in cc
+-- one name, one supplier
+pub same_supplier : (suppliers : List Supplier) (name other : List ℕ) (supplier there : Supplier) → suppliers_by suppliers name ≡ Some supplier → suppliers_by suppliers other ≡ Some there → name ≡ other → supplier ≡ there
+same_supplier suppliers name other supplier there e e' same = let both : Some supplier ≡ Some there = sym e ∙ ap (suppliers_by suppliers) same ∙ e' in cc
 
 pub follower_name : (followers : List Follower) (name : List ℕ) (f : Follower) → followers_by followers name ≡ Some f → name ≡ f.name
 follower_name followers name f e = same_name name f.name (found (is_follower name) followers f e)
 
-pub provider_changed : (roots : List Root) (name : List ℕ) (root : Root) (provider : ProviderState) → roots_by roots name ≡ Some root
-    → IsChanged (roots_by roots) (roots_by (with_provider name provider roots)) name (record root { provider = provider })
-provider_changed roots name root provider e = record {
-  here = find-changed (is_root name) (λ (r : Root). record r { provider = provider }) roots root e (found (is_root name) roots root e);
+pub provider_changed : (suppliers : List Supplier) (name : List ℕ) (supplier : Supplier) (provider : ProviderState) → suppliers_by suppliers name ≡ Some supplier
+    → IsChanged (suppliers_by suppliers) (suppliers_by (with_provider name provider suppliers)) name (record supplier { provider = provider })
+provider_changed suppliers name supplier provider e = record {
+  here = find-changed (is_supplier name) (λ (r : Supplier). record r { provider = provider }) suppliers supplier e (found (is_supplier name) suppliers supplier e);
   others =
-      λ other miss. find-unchanged (is_root name) (is_root other) (λ (r : Root). record r { provider = provider }) roots
-      (λ r hit. let apart : is_root other r ≡ false = ap (bytes_eq other) (sym (same_name name r.name hit)) ∙ miss in (apart, apart));
+      λ other miss. find-unchanged (is_supplier name) (is_supplier other) (λ (r : Supplier). record r { provider = provider }) suppliers
+      (λ r hit. let apart : is_supplier other r ≡ false = ap (bytes_eq other) (sym (same_name name r.name hit)) ∙ miss in (apart, apart));
 }
 
 pub follower_changed : (followers : List Follower) (name : List ℕ) (f after : Follower) → followers_by followers name ≡ Some f → after.name ≡ name
@@ -131,3 +132,63 @@ follower_changed followers name f after e same = record {
       λ other miss. find-unchanged (is_follower name) (is_follower other) (λ (g : Follower). after) followers
       (λ g hit. (ap (bytes_eq other) (sym (same_name name g.name hit)) ∙ miss, ap (bytes_eq other) same ∙ miss));
 }
+
+pub supplier_changed : (suppliers : List Supplier) (name : List ℕ) (supplier after : Supplier) → suppliers_by suppliers name ≡ Some supplier → after.name ≡ name
+    → IsChanged (suppliers_by suppliers) (suppliers_by (with_supplier name after suppliers)) name after
+supplier_changed suppliers name supplier after e same = record {
+  here = find-changed (is_supplier name) (λ (r : Supplier). after) suppliers supplier e (ap (bytes_eq name) same ∙ itself name);
+  others =
+      λ other miss. find-unchanged (is_supplier name) (is_supplier other) (λ (r : Supplier). after) suppliers
+      (λ r hit. (ap (bytes_eq other) (sym (same_name name r.name hit)) ∙ miss, ap (bytes_eq other) same ∙ miss));
+}
+
+-- a consumer with another provider
+pub pointed_changed : (followers : List Follower) (name source : List ℕ) (f : Follower) → followers_by followers name ≡ Some f
+    → IsChanged (followers_by followers) (followers_by (first_changed (is_follower name) (pointed_at source) followers)) name (pointed_at source f)
+pointed_changed followers name source f e = record {
+  here = find-changed (is_follower name) (pointed_at source) followers f e (found (is_follower name) followers f e);
+  others =
+      λ other miss. find-unchanged (is_follower name) (is_follower other) (pointed_at source) followers
+      (λ g hit. let apart : is_follower other g ≡ false = ap (bytes_eq other) (sym (same_name name g.name hit)) ∙ miss in (apart, apart));
+}
+
+-- what is changed is found where it was found before
+pub found_still : {X : Type 0} (old new : List ℕ → Option X) (name : List ℕ) (was now : X) → old name ≡ Some was → IsChanged old new name now → (other : List ℕ) → is_some (new other) ≡ is_some (old other)
+found_still old new name was now e changed other =
+    elim (cases_Bool (bytes_eq other name)) [
+      | inl hit ↦
+          let same : other ≡ name = same_name other name hit in
+          ap (λ n. is_some (new n)) same ∙ ap is_some (changed.here) ∙ sym (ap (λ n. is_some (old n)) same ∙ ap is_some e)
+      | inr miss ↦ ap is_some (changed.others other miss)
+    ]
+
+-- what is at the end of a longer list is found where nothing was found before
+pub find-last : {X : Type 0} (test : X → Bool) (xs : List X) (y : X) → find test xs ≡ None → test y ≡ true → find test (xs ++ y ∷ []) ≡ Some y
+find-last test [] y none hit = rw hit refl
+find-last test (z ∷ zs) y none hit =
+    elim (cases_Bool (test z)) [
+      | inl picked ↦ let bad : Some z ≡ None = rw picked at none in let never : ⊥ = cc in absurd never
+      | inr passed ↦ let none' : find test zs ≡ None = rw passed at none in rw passed (find-last test zs y none' hit)
+    ]
+
+-- and nothing else
+pub find-passed : {X : Type 0} (test : X → Bool) (xs : List X) (y : X) → test y ≡ false → find test (xs ++ y ∷ []) ≡ find test xs
+find-passed test [] y miss = rw miss refl
+find-passed test (z ∷ zs) y miss =
+    elim (cases_Bool (test z)) [
+      | inl picked ↦ rw picked refl
+      | inr passed ↦ rw passed (find-passed test zs y miss)
+    ]
+
+pub find-nowhere : {X : Type 0} (test : X → Bool) (xs : List X) → list_any test xs ≡ false → find test xs ≡ None
+find-nowhere test [] none = refl
+find-nowhere test (z ∷ zs) none =
+    let parts = or_parts (test z) (list_any test zs) none in
+    rw parts.0 (find-nowhere test zs parts.1)
+
+-- one more node of a new name
+pub supplier_pushed : (suppliers : List Supplier) (s : Supplier) → suppliers_by suppliers s.name ≡ None → IsChanged (suppliers_by suppliers) (suppliers_by (suppliers ++ s ∷ [])) s.name s
+supplier_pushed suppliers s none = record { here = find-last (is_supplier s.name) suppliers s none (itself s.name); others = λ other miss. find-passed (is_supplier other) suppliers s miss }
+
+pub follower_pushed : (followers : List Follower) (f : Follower) → followers_by followers f.name ≡ None → IsChanged (followers_by followers) (followers_by (followers ++ f ∷ [])) f.name f
+follower_pushed followers f none = record { here = find-last (is_follower f.name) followers f none (itself f.name); others = λ other miss. find-passed (is_follower other) followers f miss }

@@ -1,23 +1,31 @@
--- What holds of the nodes after one more order and its lines.
-use Rattle.std.proofs.Common.{◌≡◌, ◌+◌, ℕ, Bool, true, false, Some, None, List, [], ◌∷◌, ◌++◌, refl, ap, sym, subst, ◌∙◌, inl, inr, add-zero}
+-- What holds of the nodes where providers have more writes, or more is told.
+use Rattle.std.proofs.Common.{◌≡◌, ◌+◌, ◌≤◌, ℕ, zero, suc, Bool, true, false, Option, Some, None, List, [], ◌∷◌, ◌++◌, length, take, refl, ap, sym, subst, ◌∙◌, inl, inr, arith, append-nil, append_assoc, length-append, add-zero}
+use Rattle.std.proofs.lemmas.Bool.{cases_Bool}
 use Rattle.std.proofs.lemmas.List.Sums.{sum_by-append}
-use Rattle.std.specs.Prelude.{count_by}
+use Rattle.std.specs.Prelude.{count_by, is_some, IfSome, map, slice_get}
 use Rattle.std.specs.Str.{bytes_eq}
 use Rattle.dn_names.specs.Names.{TypeAndValue}
+use Rattle.entry_tree.specs.Selection.{Search, select}
+use Rattle.entry_tree.specs.declared.entry.Entry.{Entry}
+use Rattle.entry_tree.specs.declared.op.Write.{Write}
+use Rattle.directory_writes.specs.Directory.{DirectoryState, entries_after}
 use Rattle.sync_provider.specs.Machine.{ProviderState}
-use Rattle.cascade_world.specs.declared.node.Root.{Root}
+use Rattle.sync_provider.specs.declared.provider.Kind.{Kind}
+use Rattle.sync_provider.specs.declared.provider.Kind.TheVariants.{Root, Replica}
+use Rattle.cascade_world.specs.declared.node.Supplier.{Supplier}
 use Rattle.cascade_world.specs.declared.node.Follower.{Follower}
-use Rattle.cascade_world.specs.Headline.{Known, time_from, accepted_from, known_of}
-use Rattle.cascade_world.specs.Orders.{Order}
-use Rattle.cascade_world.specs.Orders.{Order as asks}
-use Rattle.cascade_world.specs.Report.{Told}
-use Rattle.cascade_world.specs.World.{is_root, is_follower}
-use Rattle.cascade_world.proofs.Accepted.{accepted_from-push, Untouched, with_accepted-untouched, declared-push}
-use Rattle.cascade_world.proofs.Feeding.{IsSource, IsFed}
-use Rattle.cascade_world.proofs.Finding.{find-push, IsChanged, found_after, roots_by, root_name, same_root}
-use Rattle.cascade_world.proofs.Saying.{IsLeft, known_still}
-use Rattle.cascade_world.proofs.Traces.{other_way}
-use Rattle.cascade_world.proofs.Tracking.{IsProvider, IsRoot, IsFollower, AreRoots, AreFollowers, AllApart}
+use Rattle.cascade_world.specs.declared.notes.Origin.{Origin}
+use Rattle.cascade_world.specs.Cookies.{held_cookie}
+use Rattle.cascade_world.specs.Headline.{Known, known_of, stored_of}
+use Rattle.cascade_world.specs.Origins.{Note}
+use Rattle.cascade_world.specs.Report.{Storing, Told}
+use Rattle.cascade_world.specs.World.{State, supplier_named}
+use Rattle.cascade_world.proofs.Feeding.{IsSource, IsFed, Promises, KeepsAll, PromisesLast}
+use Rattle.cascade_world.proofs.Finding.{IsChanged, found_after, suppliers_by, same_supplier, followers_by}
+use Rattle.cascade_world.proofs.Owning.{owned_changed}
+use Rattle.cascade_world.proofs.Saying.{IsLeft, known_still, stored_still, commits_still, clock_told}
+use Rattle.cascade_world.proofs.Traces.{same_name}
+use Rattle.cascade_world.proofs.Tracking.{HasCommitted, CommittedBy, IsCommitter, AreCommitters, AreCommittersBut, AreSources, AreNumbered, noted, IsFollower, IsManned, AreManned, IsRooted, AreRooted, Feeds}
 
 -- ---- orders are counted
 
@@ -27,109 +35,299 @@ count_more test xs x hit = sum_by-append _ xs (x ∷ []) ∙ rw hit refl
 pub count_same : {X : Type 0} (test : X → Bool) (xs : List X) (x : X) → test x ≡ false → count_by test (xs ++ x ∷ []) ≡ count_by test xs
 count_same test xs x miss = sum_by-append _ xs (x ∷ []) ∙ rw miss (add-zero (count_by test xs))
 
--- ---- providers
+-- ---- providers with more writes
 
--- the accepted writes stay where the order is no write to them
-accepted_kept : (number : ℕ) (suffix : List (List TypeAndValue)) (name : List ℕ) (time : ℕ) (later : List Order) (order : Order) → Untouched order name
-    → accepted_from number suffix name time [] (later ++ order ∷ []) ≡ accepted_from number suffix name time [] later
-accepted_kept number suffix name time later order quiet =
-    accepted_from-push number suffix name time [] later order
-    ∙ with_accepted-untouched number suffix name (time_from time later) (accepted_from number suffix name time [] later) order quiet
+pub take_front : {X : Type 0} (n : ℕ) (xs ys : List X) → n ≤ length xs → take n (xs ++ ys) ≡ take n xs
+take_front zero xs ys low = refl
+take_front (suc n) [] ys low = absurd (omega (arith, low))
+take_front (suc n) (x ∷ xs) ys low = ap (λ l. x ∷ l) (take_front n xs ys (omega (arith, low)))
 
--- a provider with the same writes after the order
-pub provider_kept : (before : List Order) (order : Order) (name : List ℕ) (number : ℕ) (suffix : List (List TypeAndValue)) (p after : ProviderState) → Untouched order name
-    → after.directory ≡ p.directory → IsSource number suffix after → IsProvider before name number suffix p → IsProvider (before ++ order ∷ []) name number suffix after
-provider_kept before order name number suffix p after quiet same source is = record {
-  later = is.later ++ order ∷ [];
-  declared = declared-push before number (asks.Provider name suffix) is.later order is.declared;
-  accepted = ap (λ d. d.writes) same ∙ is.accepted ∙ sym (accepted_kept number suffix name (time_from 0 is.declared.earlier) is.later order quiet);
-  source = source;
+-- the same node, with the writes that it had and maybe more
+pub record Grows (r s : Supplier) : Type 0 where
+  pub name : s.name ≡ r.name
+  pub kind : s.provider.kind ≡ r.provider.kind
+  pub history : s.provider.directory.history ≡ r.provider.directory.history
+  pub suffix : s.provider.directory.suffix ≡ r.provider.directory.suffix
+  pub later : List Write
+  pub grown : s.provider.directory.writes ≡ r.provider.directory.writes ++ later
+
+pub grows_itself : (r : Supplier) → Grows r r
+grows_itself r = record { name = refl; kind = refl; history = refl; suffix = refl; later = []; grown = sym (append-nil r.provider.directory.writes) }
+
+-- by a change that keeps all
+pub grows_kept : (r s : Supplier) → s.name ≡ r.name → KeepsAll r.provider.directory.history r.provider.directory.suffix r.provider s.provider → Grows r s
+grows_kept r s same kept = record {
+  name = same;
+  kind = kept.kind;
+  history = ap (λ (d : DirectoryState). d.history) kept.source.directory;
+  suffix = ap (λ (d : DirectoryState). d.suffix) kept.source.directory;
+  later = kept.later;
+  grown = kept.grown;
 }
 
--- its number and its suffix are those of its directory
-pub provider_now : (before : List Order) (name : List ℕ) (number : ℕ) (suffix : List (List TypeAndValue)) (p : ProviderState)
-    → IsProvider before name number suffix p → IsProvider before name p.directory.history p.directory.suffix p
-provider_now before name number suffix p is = subst (λ d. IsProvider before name d.history d.suffix p) (sym is.source.directory) is
+-- what a provider has become
+pub record HasBecome (new : List ℕ → Option Supplier) (name : List ℕ) (r : Supplier) : Type 0 where
+  pub now : Supplier
+  pub there : new name ≡ Some now
+  pub grows : Grows r now
 
-pub fed_now : (number : ℕ) (suffix : List (List TypeAndValue)) (p : ProviderState) (f : Follower) (known : Known)
-    → IsSource number suffix p → IsFed number p f known → IsFed p.directory.history p f known
-fed_now number suffix p f known source fed = subst (λ d. IsFed d.history p f known) (sym source.directory) fed
+-- what it was
+pub record HasBeen (old : List ℕ → Option Supplier) (name : List ℕ) (s : Supplier) : Type 0 where
+  pub was : Supplier
+  pub there : old name ≡ Some was
+  pub grows : Grows was s
 
-root_kept : (before : List Order) (order : Order) (root : Root) → Untouched order root.name → IsRoot before root → IsRoot (before ++ order ∷ []) root
-root_kept before order root quiet is =
-    provider_kept before order root.name root.provider.directory.history root.provider.directory.suffix root.provider root.provider quiet refl is.source is
+abbrev pub AllBecome : (old new : List ℕ → Option Supplier) → Type 0
+AllBecome old new = (name : List ℕ) (r : Supplier) → old name ≡ Some r → HasBecome new name r
 
-pub roots_kept : (before : List Order) (order : Order) (roots : List Root) → ((name : List ℕ) → Untouched order name) → AreRoots before roots → AreRoots (before ++ order ∷ []) roots
-roots_kept before order roots quiet is = λ name root e. root_kept before order root (quiet root.name) (is name root e)
+abbrev pub AllBeen : (old new : List ℕ → Option Supplier) → Type 0
+AllBeen old new = (name : List ℕ) (s : Supplier) → new name ≡ Some s → HasBeen old name s
 
--- one provider is changed, and the order is no write to another
-pub roots_changed : (before : List Order) (order : Order) (roots after : List Root) (name : List ℕ) (root : Root) → IsChanged (roots_by roots) (roots_by after) name root
-    → ((other : List ℕ) → bytes_eq name other ≡ false → Untouched order other) → IsRoot (before ++ order ∷ []) root → AreRoots before roots → AreRoots (before ++ order ∷ []) after
-roots_changed before order roots after name root changed quiet now is = λ other r e.
-    elim (found_after (roots_by roots) (roots_by after) name root changed other r e) [
-      | inl here ↦ subst (IsRoot (before ++ order ∷ [])) here.1 now
-      | inr else' ↦
-          let apart : bytes_eq name r.name ≡ false = ap (bytes_eq name) (sym (root_name roots other r else'.1)) ∙ other_way other name else'.0 in
-          root_kept before order r (quiet r.name apart) (is other r else'.1)
+pub become_changed : (old new : List ℕ → Option Supplier) (name : List ℕ) (r s : Supplier) → old name ≡ Some r → IsChanged old new name s → Grows r s → AllBecome old new
+become_changed old new name r s e changed grows other x e' =
+    elim (cases_Bool (bytes_eq other name)) [
+      | inl hit ↦
+          let same : other ≡ name = same_name other name hit in
+          let both : Some r ≡ Some x = sym e ∙ ap old (sym same) ∙ e' in
+          let is : r ≡ x = cc in
+          record { now = s; there = ap new same ∙ changed.here; grows = subst (λ y. Grows y s) is grows }
+      | inr miss ↦ record { now = x; there = changed.others other miss ∙ e'; grows = grows_itself x }
     ]
 
--- one more provider
-pub roots_pushed : (before : List Order) (order : Order) (roots : List Root) (root : Root) → ((name : List ℕ) → Untouched order name) → IsRoot (before ++ order ∷ []) root → AreRoots before roots
-    → AreRoots (before ++ order ∷ []) (roots ++ root ∷ [])
-roots_pushed before order roots root quiet now is = λ name r e.
-    elim (find-push (is_root name) roots root r e) [
-      | inl was ↦ root_kept before order r (quiet r.name) (is name r was)
-      | inr new ↦ subst (IsRoot (before ++ order ∷ [])) new now
+pub been_changed : (old new : List ℕ → Option Supplier) (name : List ℕ) (r s : Supplier) → old name ≡ Some r → IsChanged old new name s → Grows r s → AllBeen old new
+been_changed old new name r s e changed grows other x e' =
+    elim (found_after old new name s changed other x e') [
+      | inl here ↦ record { was = r; there = ap old here.0 ∙ e; grows = subst (Grows r) here.1 grows }
+      | inr there ↦ record { was = x; there = there.1; grows = grows_itself x }
     ]
 
--- ---- consumers
+grows_both : (a b c : Supplier) → Grows a b → Grows b c → Grows a c
+grows_both a b c first second = record {
+  name = second.name ∙ first.name;
+  kind = second.kind ∙ first.kind;
+  history = second.history ∙ first.history;
+  suffix = second.suffix ∙ first.suffix;
+  later = first.later ++ second.later;
+  grown = second.grown ∙ ap (λ ws. ws ++ second.later) first.grown ∙ append_assoc a.provider.directory.writes first.later second.later;
+}
 
--- the consumer is fed by the provider that is found
-pub fed_by : (before : List Order) (said : List Told) (roots : List Root) (name : List ℕ) (root : Root) (f : Follower) → roots_by roots name ≡ Some root → f.source ≡ name → IsFollower before said roots f
-    → IsFed root.provider.directory.history root.provider f (known_of f.name said)
-fed_by before said roots name root f e same is =
-    let one : is.root ≡ root = same_root roots f.source name is.root root is.there e same in
-    subst (λ (r : Root). IsFed r.provider.directory.history r.provider f (known_of f.name said)) one is.fed
+pub become_itself : (old : List ℕ → Option Supplier) → AllBecome old old
+become_itself old name r e = record { now = r; there = e; grows = grows_itself r }
 
--- a consumer that stays as it is, with lines of others
-pub follower_kept : (before : List Order) (order : Order) (said lines : List Told) (roots after : List Root) (root : Root) (f : Follower) → IsLeft f.name lines → roots_by after f.source ≡ Some root
-    → IsFed root.provider.directory.history root.provider f (known_of f.name said) → IsFollower before said roots f → IsFollower (before ++ order ∷ []) (said ++ lines) after f
-follower_kept before order said lines roots after root f left there fed is =
-    let number = root.provider.directory.history in
+pub been_itself : (old : List ℕ → Option Supplier) → AllBeen old old
+been_itself old name s e = record { was = s; there = e; grows = grows_itself s }
+
+pub become_through : (a b c : List ℕ → Option Supplier) → AllBecome a b → AllBecome b c → AllBecome a c
+become_through a b c first second name r e =
+    let one = first name r e in
+    let two = second name one.now one.there in
+    record { now = two.now; there = two.there; grows = grows_both r one.now two.now one.grows two.grows }
+
+-- ---- what that keeps
+
+pub source_now : (number : ℕ) (suffix : List (List TypeAndValue)) (q : ProviderState) → IsSource number suffix q → IsSource q.directory.history q.directory.suffix q
+source_now number suffix q source = subst (λ d. IsSource d.history d.suffix q) (sym source.directory) source
+
+pub sources_changed : (suppliers next : List Supplier) (name : List ℕ) (s : Supplier) → IsChanged (suppliers_by suppliers) (suppliers_by next) name s
+    → IsSource s.provider.directory.history s.provider.directory.suffix s.provider → AreSources suppliers → AreSources next
+sources_changed suppliers next name s changed source is other x e =
+    elim (found_after (suppliers_by suppliers) (suppliers_by next) name s changed other x e) [
+      | inl here ↦ subst (λ (y : Supplier). IsSource y.provider.directory.history y.provider.directory.suffix y.provider) here.1 source
+      | inr there ↦ is other x there.1
+    ]
+
+pub numbered_grown : (nodes : ℕ) (suppliers next : List Supplier) → AllBeen (suppliers_by suppliers) (suppliers_by next) → AreNumbered nodes suppliers → AreNumbered nodes next
+numbered_grown nodes suppliers next been is = record {
+  within = λ name s e. let b = been name s e in subst (λ n. n ≤ nodes) (sym b.grows.history) (is.within name b.was b.there);
+  apart =
+      λ name other r s e e' same. let b = been name r e in let c = been other s e' in
+      is.apart name other b.was c.was b.there c.there (sym b.grows.history ∙ same ∙ c.grows.history);
+}
+
+pub manned_grown : (suppliers next : List Supplier) (followers after : List Follower) → AllBeen (suppliers_by suppliers) (suppliers_by next)
+    → ((name : List ℕ) → is_some (followers_by after name) ≡ is_some (followers_by followers name)) → AreManned suppliers followers → AreManned next after
+manned_grown suppliers next followers after been same is name s e =
+    let b = been name s e in
+    let P : Kind → Type 0 = λ k. IsManned k (is_some (followers_by after name)) in
+    let Q : Bool → Type 0 = λ f. IsManned b.was.provider.kind f in
+    subst P (sym b.grows.kind) (subst Q (sym (same name)) (is name b.was b.there))
+
+pub rooted_one : (suppliers next : List Supplier) → AllBecome (suppliers_by suppliers) (suppliers_by next) → (search : Search) (entries : List Entry) (origin : Origin) → IsRooted suppliers search entries origin → IsRooted next search entries origin
+rooted_one suppliers next become search entries origin is =
+    let b = become origin.root is.supplier is.there in
+    let number = is.supplier.provider.directory.history in
+    let writes = is.supplier.provider.directory.writes in
+    let now = b.now.provider.directory.writes in
+    let same : take origin.number now ≡ take origin.number writes = ap (take origin.number) b.grows.grown ∙ take_front origin.number writes b.grows.later is.prefix in
+    let long : length now ≡ length writes + length b.grows.later = ap length b.grows.grown ∙ length-append writes b.grows.later in
     record {
-      place = is.place;
-      since = is.since ++ order ∷ [];
-      declared = declared-push before is.place (asks.Consumer f.name f.source f.consumer.spec f.consumer.reload) is.since order is.declared;
-      root = root;
-      there = there;
-      fed = subst (IsFed number root.provider f) (sym (known_still f.name said lines left)) fed;
+      supplier = b.now;
+      there = b.there;
+      root = b.grows.kind ∙ is.root;
+      prefix = omega (arith, long, is.prefix);
+      exactly =
+          is.exactly ∙ ap (λ ws. select search (entries_after number ws)) (sym same)
+          ∙ ap (λ n. select search (entries_after n (take origin.number now))) (sym b.grows.history);
     }
 
--- no consumer is changed, and each provider is still there
-pub followers_kept : (before : List Order) (order : Order) (said lines : List Told) (roots after : List Root) (followers : List Follower) → ((name : List ℕ) → IsLeft name lines)
-    → ((name : List ℕ) (root : Root) → roots_by roots name ≡ Some root → roots_by after name ≡ Some root) → AreFollowers before said roots followers
-    → AreFollowers (before ++ order ∷ []) (said ++ lines) after followers
-followers_kept before order said lines roots after followers left still is = λ name f e.
-    let was = is name f e in
-    follower_kept before order said lines roots after was.root f (left f.name) (still f.source was.root was.there) was.fed was
+pub rooted_grown : (suppliers next : List Supplier) → AllBecome (suppliers_by suppliers) (suppliers_by next) → (stored : List Storing) → AreRooted suppliers stored → AreRooted next stored
+rooted_grown suppliers next become [] is = tt
+rooted_grown suppliers next become (one ∷ more) is = (by one.origin is.0, rooted_grown suppliers next become more is.1)
+  where
+    by : (origin : Option Origin) → IfSome origin (IsRooted suppliers one.search one.entries) → IfSome origin (IsRooted next one.search one.entries)
+    by None h = h
+    by (Some origin) h = rooted_one suppliers next become one.search one.entries origin h
 
--- one more consumer
-pub followers_pushed : (before : List Order) (said : List Told) (roots : List Root) (followers : List Follower) (f : Follower) → IsFollower before said roots f → AreFollowers before said roots followers
-    → AreFollowers before said roots (followers ++ f ∷ [])
-followers_pushed before said roots followers f now is = λ name g e.
-    elim (find-push (is_follower name) followers f g e) [
-      | inl was ↦ is name g was
-      | inr new ↦ subst (IsFollower before said roots) new now
+-- what a cookie promises of each provider
+abbrev pub PromisesAll : List Supplier → Search → Known → Type 0
+PromisesAll suppliers search known =
+    (name : List ℕ) (r : Supplier) → suppliers_by suppliers name ≡ Some r → Promises r.provider.directory.history search r.provider.directory.writes known
+
+pub promises_grown : PromisesLast → (suppliers next : List Supplier) (search : Search) (known : Known) → AllBeen (suppliers_by suppliers) (suppliers_by next) → PromisesAll suppliers search known → PromisesAll next search known
+promises_grown lasts suppliers next search known been is name s e =
+    let b = been name s e in
+    let number = b.was.provider.directory.history in
+    let was = b.was.provider.directory.writes in
+    let more : Promises number search (was ++ b.grows.later) known = lasts number search was b.grows.later known.entries (held_cookie known.cookie) (is name b.was b.there) in
+    subst (λ n. Promises n search s.provider.directory.writes known) (sym b.grows.history) (subst (λ ws. Promises number search ws known) (sym b.grows.grown) more)
+
+-- ---- one provider is changed
+
+-- the consumer is fed by the provider that is found
+pub fed_by : (said : List Told) (nodes : ℕ) (suppliers : List Supplier) (name : List ℕ) (supplier : Supplier) (f : Follower) → suppliers_by suppliers name ≡ Some supplier → f.source ≡ name → IsFollower said nodes suppliers f
+    → IsFed supplier.provider.directory.history supplier.provider f (known_of f.name said)
+fed_by said nodes suppliers name supplier f e same is =
+    let one : is.supplier ≡ supplier = same_supplier suppliers f.source name is.supplier supplier is.there e same in
+    subst (λ (r : Supplier). IsFed r.provider.directory.history r.provider f (known_of f.name said)) one is.fed
+
+follower_left : PromisesLast → (said : List Told) (nodes : ℕ) (suppliers next : List Supplier) (name : List ℕ) (r s : Supplier) (f : Follower) → suppliers_by suppliers name ≡ Some r → IsChanged (suppliers_by suppliers) (suppliers_by next) name s
+    → Grows r s → KeepsAll r.provider.directory.history r.provider.directory.suffix r.provider s.provider → IsFollower said nodes suppliers f → IsFollower said nodes next f
+follower_left lasts said nodes suppliers next name r s f e changed grows kept is =
+    let known = known_of f.name said in
+    let promised = promises_grown lasts suppliers next f.consumer.spec known (been_changed (suppliers_by suppliers) (suppliers_by next) name r s e changed grows) is.promised in
+    elim (cases_Bool (bytes_eq f.source name)) [
+      | inl hit ↦
+          let same : f.source ≡ name = same_name f.source name hit in
+          let fed = kept.fed f known (fed_by said nodes suppliers name r f e same is) in
+          record {
+            supplier = s;
+            there = ap (suppliers_by next) same ∙ changed.here;
+            fed = subst (λ n. IsFed n s.provider f known) (sym grows.history) fed;
+            promised = promised;
+            undeclared = is.undeclared;
+          }
+      | inr miss ↦
+          record {
+            supplier = is.supplier;
+            there = changed.others f.source miss ∙ is.there;
+            fed = is.fed;
+            promised = promised;
+            undeclared = is.undeclared;
+          }
     ]
 
--- a consumer without a search is apart from all
-pub apart_pushed : (followers : List Follower) (f : Follower) → f.search ≡ None → AllApart followers → AllApart (followers ++ f ∷ [])
-apart_pushed followers f idle is = λ name other g h e e' apart same.
-    elim (find-push (is_follower name) followers f g e) [
-      | inl was ↦
-          elim (find-push (is_follower other) followers f h e') [
-            | inl was' ↦ is name other g h was was' apart same
-            | inr new ↦ λ at left right. let both : f.search ≡ Some at = ap (λ (x : Follower). x.search) new ∙ right in let bad : None ≡ Some at = sym idle ∙ both in cc
-          ]
-      | inr new ↦ λ at left right. let both : f.search ≡ Some at = ap (λ (x : Follower). x.search) new ∙ left in let bad : None ≡ Some at = sym idle ∙ both in cc
+pub feeds_changed : PromisesLast → (said : List Told) (state : State) (next : List Supplier) (name : List ℕ) (r s : Supplier) → supplier_named name state ≡ Some r → IsChanged (suppliers_by state.suppliers) (suppliers_by next) name s → s.name ≡ r.name
+    → KeepsAll r.provider.directory.history r.provider.directory.suffix r.provider s.provider → Feeds said state → Feeds said (record state { suppliers = next })
+feeds_changed lasts said state next name r s e changed same kept is =
+    let grows = grows_kept r s same kept in
+    let become = become_changed (suppliers_by state.suppliers) (suppliers_by next) name r s e changed grows in
+    let been = been_changed (suppliers_by state.suppliers) (suppliers_by next) name r s e changed grows in
+    record {
+      clock = is.clock;
+      few = is.few;
+      counted = is.counted;
+      sources = sources_changed state.suppliers next name s changed (source_now r.provider.directory.history r.provider.directory.suffix s.provider kept.source) is.sources;
+      numbered = numbered_grown state.nodes state.suppliers next been is.numbered;
+      followers = λ n f e'. follower_left lasts said state.nodes state.suppliers next name r s f e changed grows kept (is.followers n f e');
+      apart = is.apart;
+      owned = owned_changed state.suppliers next state.followers name r s e changed kept.opens is.owned;
+      manned = manned_grown state.suppliers next state.followers state.followers been (λ n. refl) is.manned;
+      climbs = is.climbs;
+      rooted = λ n. rooted_grown state.suppliers next become (stored_of n said) (is.rooted n);
+    }
+
+-- ---- more lines
+
+-- a consumer's own lines are not among them
+pub follower_still : (said lines : List Told) (nodes : ℕ) (suppliers : List Supplier) (f : Follower) → IsLeft f.name lines → IsFollower said nodes suppliers f → IsFollower (said ++ lines) nodes suppliers f
+follower_still said lines nodes suppliers f left is =
+    let same = sym (known_still f.name said lines left) in
+    record {
+      supplier = is.supplier;
+      there = is.there;
+      fed = subst (IsFed is.supplier.provider.directory.history is.supplier.provider f) same is.fed;
+      promised = λ name r e. subst (Promises r.provider.directory.history f.consumer.spec r.provider.directory.writes) same (is.promised name r e);
+      undeclared = λ number above low. subst (Promises number f.consumer.spec []) same (is.undeclared number above low);
+    }
+
+-- lines of no node's state, with which the clocks may change
+pub feeds_more : (said lines : List Told) (state : State) (time : ℕ) → ((name : List ℕ) → IsLeft name lines) → time ≡ clock_told (said ++ lines) → Feeds said state → Feeds (said ++ lines) (record state { clock = time })
+feeds_more said lines state time left clock is = record {
+  clock = clock;
+  few = is.few;
+  counted = is.counted;
+  sources = is.sources;
+  numbered = is.numbered;
+  followers = λ n f e. follower_still said lines state.nodes state.suppliers f (left f.name) (is.followers n f e);
+  apart = is.apart;
+  owned = is.owned;
+  manned = is.manned;
+  climbs = is.climbs;
+  rooted = λ n. subst (AreRooted state.suppliers) (sym (stored_still n said lines (left n))) (is.rooted n);
+}
+
+-- ---- what was committed
+
+-- with the lines of others
+has_still : (number : ℕ) (said lines : List Told) (name : List ℕ) (notes : List Note) (writes : List Write) → IsLeft name lines → HasCommitted number said name notes writes → HasCommitted number (said ++ lines) name notes writes
+has_still number said lines name notes writes left is =
+    let same = stored_still name said lines left in
+    record {
+      commits = is.commits ∙ sym (commits_still number name said lines left);
+      notes_are = is.notes_are ∙ ap (λ s. map noted s) (sym same);
+      held = is.held ∙ ap (λ (k : Known). k.entries) (sym (known_still name said lines left));
+      counted = is.counted ∙ ap length (sym same);
+      each = λ at stored e. is.each at stored (ap (λ s. slice_get s at) (sym same) ∙ e);
+    }
+
+pub committer_still : (said lines : List Told) (s : Supplier) → IsLeft s.name lines → IsCommitter said s → IsCommitter (said ++ lines) s
+committer_still said lines s left is = by s.provider.kind is
+  where
+    by : (kind : Kind) → CommittedBy said s kind → CommittedBy (said ++ lines) s kind
+    by Root h = tt
+    by Replica h = has_still s.provider.directory.history said lines s.name s.notes s.provider.directory.writes left h
+
+-- the same node with the same writes and notes
+pub record IsSameSupplier (r s : Supplier) : Type 0 where
+  pub name : s.name ≡ r.name
+  pub kind : s.provider.kind ≡ r.provider.kind
+  pub history : s.provider.directory.history ≡ r.provider.directory.history
+  pub suffix : s.provider.directory.suffix ≡ r.provider.directory.suffix
+  pub writes : s.provider.directory.writes ≡ r.provider.directory.writes
+  pub notes : s.notes ≡ r.notes
+
+pub committer_same : (said : List Told) (r s : Supplier) → IsSameSupplier r s → IsCommitter said r → IsCommitter said s
+committer_same said r s same is = subst (CommittedBy said s) (sym same.kind) (by r.provider.kind is)
+  where
+    by : (kind : Kind) → CommittedBy said r kind → CommittedBy said s kind
+    by Root h = tt
+    by Replica h =
+        subst (λ n. HasCommitted n said s.name s.notes s.provider.directory.writes) (sym same.history)
+        (subst (λ n. HasCommitted r.provider.directory.history said n s.notes s.provider.directory.writes) (sym same.name)
+        (subst (λ n. HasCommitted r.provider.directory.history said r.name n s.provider.directory.writes) (sym same.notes)
+        (subst (λ n. HasCommitted r.provider.directory.history said r.name r.notes n) (sym same.writes) h)))
+
+pub committers_more : (said lines : List Told) (suppliers : List Supplier) → ((name : List ℕ) → IsLeft name lines) → AreCommitters said suppliers → AreCommitters (said ++ lines) suppliers
+committers_more said lines suppliers left is name s e = committer_still said lines s (left s.name) (is name s e)
+
+-- one that commits is changed
+pub committers_changed : (said : List Told) (suppliers next : List Supplier) (name : List ℕ) (s : Supplier) → IsChanged (suppliers_by suppliers) (suppliers_by next) name s → IsCommitter said s → AreCommittersBut name said suppliers
+    → AreCommitters said next
+committers_changed said suppliers next name s changed now is other x e =
+    elim (found_after (suppliers_by suppliers) (suppliers_by next) name s changed other x e) [
+      | inl here ↦ subst (IsCommitter said) here.1 now
+      | inr there ↦ is other x there.1 there.0
     ]
+
+pub committers_but : (hole : List ℕ) (said : List Told) (suppliers : List Supplier) → AreCommitters said suppliers → AreCommittersBut hole said suppliers
+committers_but hole said suppliers is name s e apart = is name s e

@@ -1,5 +1,5 @@
 -- A script that passes a limit is not read to its end.
-use Rattle.std.proofs.Common.{◌≡◌, ◌+◌, ℕ, Bool, true, false, not, Option, Some, None, List, [], ◌∷◌, refl, ap, sym, subst, ◌∙◌, inl, inr}
+use Rattle.std.proofs.Common.{◌≡◌, ◌+◌, ℕ, not, Option, Some, None, List, [], ◌∷◌, refl, ap, sym, subst, ◌∙◌, inl, inr}
 use Rattle.std.proofs.lemmas.Bool.{cases_Bool}
 use Rattle.std.specs.List.{list_all}
 use Rattle.std.specs.Prelude.{Result, Ok, Err}
@@ -7,7 +7,7 @@ use Rattle.std.specs.Str.{is_utf8}
 use Rattle.ldif_text.specs.declared.fault.LdifFault.{LdifFault}
 use Rattle.ldif_text.specs.Reader.{Found}
 use Rattle.cascade_world.specs.Grammar.{Saying, saying}
-use Rattle.cascade_world.specs.Grammar.Saying.{Orders, Writes, Later}
+use Rattle.cascade_world.specs.Grammar.Saying.{Orders, Writes}
 use Rattle.cascade_world.specs.Orders.{Order}
 use Rattle.cascade_world.specs.Reader.{Reader, Next, behind, of_record, limit_before, whole_record, record_before, next_of, next_from, next_in, is_skipped, body_of, after_body}
 use Rattle.cascade_world.specs.Reader.Next.{Ended, Refused, Got}
@@ -43,7 +43,6 @@ record_keeps limit command name body rest =
 
 saying_keeps : (limit : Option ℕ) (line : ℕ) (said : Option Saying) (lines : List (List ℕ)) → KeepsLimit limit (next_of limit line said lines)
 saying_keeps limit line None lines = tt
-saying_keeps limit line (Some Later) lines = tt
 saying_keeps limit line (Some (Orders order)) lines = refl
 saying_keeps limit line (Some (Writes name)) lines = record_keeps limit line name (body_of lines) (after_body lines)
 

@@ -3,7 +3,7 @@ use Rattle.std.proofs.Common.{◌≡◌, ◌+◌, ◌<◌, ◌≤◌, ℕ, suc, 
 use Rattle.std.proofs.lemmas.Bool.{cases_Bool}
 use Rattle.std.proofs.lemmas.Bool.Decides.{nat_tests}
 use Rattle.std.specs.Prelude.{nat_lt}
-use Rattle.std.proofs.lemmas.List.{append-nil, append_assoc, nil_from_length, drop-drop, drop_all, take_all, take_at, length-take, length-drop}
+use Rattle.std.proofs.lemmas.List.{append_assoc, drop-drop, drop_all, take_all, take_at, length-drop}
 use Rattle.std.proofs.Math.Seq.{take-append-add, drop-append-add}
 use Rattle.std.specs.Str.Lines.{lines, strip_carriage_return}
 use Rattle.ldif_text.specs.Field.{cut}
@@ -82,19 +82,6 @@ one-last text l back =
     let last : lines text ≡ (cut 10 text).0 ∷ lines (drop (length text) text) = next-none text (cut 10 text).0 0 (length text) l refl back refl in
     ap (λ t. length (lines t)) (take_all (length text) text (omega arith)) ∙ ap length last ∙ ap (λ t. suc (length (lines t))) (drop_all (length text) text (omega arith))
 
-pub IsCut-all : (text : List ℕ) (at : ℕ) → length text ≤ at → IsCut text at
-IsCut-all text at l = record {
-  parts = λ n.
-      let all : take at text ≡ text = take_all at text l in
-      let more : take (at + n) text ≡ text = take_all (at + n) text (omega arith) in
-      let nothing : take n (drop at text) ≡ [] = nil_from_length (take n (drop at text)) (omega (arith, length-take n (drop at text), length-drop at text)) in
-      rw (more, all, nothing) (sym (append-nil (lines text)));
-}
-
--- the first place of a text is a cut
-pub IsCut-start : (text : List ℕ) → IsCut text 0
-IsCut-start text = record { parts = λ n. let s : 0 + n ≡ n = omega arith in rw s refl }
-
 -- a cut of what follows a cut
 pub IsCut-more : (text : List ℕ) (at more : ℕ) → IsCut text at → IsCut (drop at text) more → IsCut text (at + more)
 IsCut-more text at more c d = record {
@@ -133,12 +120,6 @@ more_lines text at count c l n =
     let left : 0 < length (lines (drop at text)) = some_lines (drop at text) (omega (arith, length-drop at text)) in
     let long : count < length (lines text) = omega (arith, ap length parts, length-append (lines (take at text)) (lines (drop at text))) in
     (sym (ap (take count) parts ∙ take_at (lines (take at text)) (lines (drop at text)) count n), grind (arith, nat_tests))
-
-pub no_more_lines : (text : List ℕ) (at count most : ℕ) → length text ≤ at → length (lines (take at text)) ≡ count → count ≤ most → nat_lt most (length (lines text)) ≡ false
-no_more_lines text at count most l n k =
-    let all : take at text ≡ text = take_all at text l in
-    let same : length (lines text) ≡ count = rw all at n in
-    rw same (grind (arith, nat_tests))
 
 -- ---- a record's lines
 

@@ -9,8 +9,8 @@ use Rattle.cascade_world.specs.Report.{Told}
 use Rattle.cascade_world.specs.Report.{Told as told}
 use Rattle.cascade_world.proofs.CatchingUp.{drains_drained, settles_from}
 use Rattle.cascade_world.proofs.Composing.{IsKeptIn, Keeps, known_by_lines, kept-then, kept-part, keeps-then, kept-still}
-use Rattle.cascade_world.proofs.Feeding.{IsSource, IsFed, IsKept, PartsAreKept}
-use Rattle.cascade_world.proofs.FedCutting.{nothing_kept, cut_keeps}
+use Rattle.cascade_world.proofs.Feeding.{IsSource, IsFed, IsKept, WantsTheSame, PartsAreKept}
+use Rattle.cascade_world.proofs.FedCutting.{nothing_kept, cut_keeps, idle_keeps}
 use Rattle.cascade_world.proofs.FedCookies.{lost_keeps, given_keeps}
 use Rattle.cascade_world.proofs.FedOpening.{opens_keeps}
 use Rattle.cascade_world.proofs.FedSending.{SendingKept, sending_kept}
@@ -94,15 +94,17 @@ settles_keeps number suffix pair known source fed room =
 
 -- ---- each part
 
-part_keeps : (exchange : Exchange) (number : ℕ) (suffix : Name) → Keeps number suffix (part_of exchange)
-part_keeps (goes.Open mode) number suffix = opens_keeps mode number suffix
-part_keeps (goes.Send count) number suffix = sent_keeps count number suffix
-part_keeps (goes.Take count) number suffix = takes_keeps count number suffix
-part_keeps goes.Cut number suffix = cut_keeps number suffix
-part_keeps goes.Settle number suffix = settles_keeps number suffix
-part_keeps goes.Lose number suffix = lost_keeps number suffix
-part_keeps (goes.Give text) number suffix = given_keeps text number suffix
+part_keeps : (exchange : Exchange) → WantsTheSame exchange → (number : ℕ) (suffix : Name) → Keeps number suffix (part_of exchange)
+part_keeps (goes.Open mode) same number suffix = opens_keeps mode number suffix
+part_keeps (goes.Send count) same number suffix = sent_keeps count number suffix
+part_keeps (goes.Take count) same number suffix = takes_keeps count number suffix
+part_keeps goes.Cut same number suffix = cut_keeps number suffix
+part_keeps goes.Settle same number suffix = settles_keeps number suffix
+part_keeps goes.Lose same number suffix = lost_keeps number suffix
+part_keeps (goes.Give text) same number suffix = given_keeps text number suffix
+part_keeps goes.Idle same number suffix = idle_keeps number suffix
+part_keeps (goes.Want spec) same number suffix = absurd same
 
 pub parts_are_kept : PartsAreKept
-parts_are_kept number suffix before after lines known exchange source fed room is =
-    subst (IsKeptIn number suffix before known) is (part_keeps exchange number suffix before known source fed room)
+parts_are_kept number suffix before after lines known exchange same source fed room is =
+    subst (IsKeptIn number suffix before known) is (part_keeps exchange same number suffix before known source fed room)

@@ -7,6 +7,7 @@ use Rattle.csn_cookie.specs.declared.cookie.Cookie as stamps
 use Rattle.dn_names.specs.Writing.{name_text}
 use Rattle.entry_tree.specs.declared.entry.Entry.{Entry}
 use Rattle.entry_tree.specs.declared.touched.Touch.{Touch}
+use Rattle.entry_tree.specs.Effects.{committed}
 use Rattle.entry_tree.specs.Selection.{is_selected}
 use Rattle.entry_tree.specs.State.{ascends, entry_at}
 use Rattle.entry_tree.specs.Touched.{identities, joined, touch_at, is_change, touched}
@@ -19,7 +20,7 @@ use Rattle.sync_model.specs.Message.SyncMessage.{Put, Gone}
 use Rattle.sync_model.specs.Stream.{Session, content_after, told, told_all, group, later}
 use Rattle.sync_model.specs.Within.{taken_within}
 use Rattle.sync_model.proofs.Gather.{Each}
-use Rattle.sync_model.proofs.Later.{IsStep, ToldOne, told_one, stepping, staged_all, effected-touched}
+use Rattle.sync_model.proofs.Later.{IsStep, ToldOne, told_one, stepping, staged_all, each-touched, effected-touched}
 use Rattle.sync_model.proofs.Limits.{within_filter}
 use Rattle.sync_model.proofs.Maps.{entry_at-uuid}
 use Rattle.sync_wire.specs.CanBeSent.{CanBeSent}
@@ -32,6 +33,7 @@ use Rattle.cascade_world.proofs.Feeding.{AtWhole, InGroup}
 use Rattle.cascade_world.proofs.Groups.{heads, tails, each_one, step_is, midway_staged, last_stored}
 use Rattle.cascade_world.proofs.Identities.{found_sent}
 use Rattle.cascade_world.proofs.Lengths.{IsText}
+use Rattle.cascade_world.proofs.Stages.{fine-none, fine-touched, stage_commits}
 
 -- ---- later writes from the first of them on
 
@@ -142,12 +144,14 @@ module _ (session : Session) (ascending : Ascending session) (within : (number :
     pub now : InGroup session opened count entries outcome.0 rest
 
   -- or it is the last of its write, after which the content is held, with its cookie
-  pub record IsDone (rest : List SyncMessage) (outcome : Copy × Answer) : Type 0 where
+  pub record IsDone (entries : List Entry) (rest : List SyncMessage) (outcome : Copy × Answer) : Type 0 where
     pub number : ℕ
     pub from : opened ≤ number
     pub upto : number ≤ opened + count
     pub commit : Commit
     pub answer : outcome.1 ≡ Stored commit
+    pub text : commit.cookie ≡ Some (session.cookies number)
+    pub staged : committed entries commit.puts commit.drops ≡ content_after session number
     pub held : outcome.0.held ≡ content_after session number
     pub cookie : outcome.0.cookie ≡ Some (session.cookies number)
     pub now : AtWhole session opened count (content_after session number) outcome.0 rest
@@ -156,7 +160,7 @@ module _ (session : Session) (ascending : Ascending session) (within : (number :
   pub record Comes (entries : List Entry) (held : Copy) (m : SyncMessage) (rest : List SyncMessage) : Type 0 where
     pub can : IsOfSearch m
     pub hands : turn_of_message 1 m ≡ Hands (wire.sent 1 m)
-    pub comes : IsMidway entries held rest (taken_within 1 held m) ⊎ IsDone rest (taken_within 1 held m)
+    pub comes : IsMidway entries held rest (taken_within 1 held m) ⊎ IsDone entries rest (taken_within 1 held m)
 
   module _ (entries : List Entry) (held : Copy) (m : SyncMessage) (rest : List SyncMessage) (is : InGroup session opened count entries held (m ∷ rest)) where
     abbrev old : List Entry
@@ -190,6 +194,13 @@ module _ (session : Session) (ascending : Ascending session) (within : (number :
         upto = omega (arith, is.sum);
         commit = commit_of (staged_all [] (is.before ++ is.touch ∷ [])) (Some text);
         answer = ap (λ (o : Copy × Answer). o.1) outcome;
+        text = refl;
+        staged =
+            ap (λ es. committed es now_staged.puts now_staged.drops) is.content
+            ∙ stage_commits old (staged_all [] (is.before ++ is.touch ∷ [])) (ascends_at is.number)
+            (fine-touched (is.before ++ is.touch ∷ []) [] (subst (Each IsStep) touched_is (each-touched old new)) fine-none)
+            ∙ ap (λ touches. effected old (staged_all [] touches)) (sym touched_is)
+            ∙ effected-touched old new (ascends_at is.number) (ascends_at (is.number + 1));
         held = ap (λ (o : Copy × Answer). o.0.held) outcome;
         cookie = ap (λ (o : Copy × Answer). o.0.cookie) outcome;
         now = record {
@@ -205,6 +216,12 @@ module _ (session : Session) (ascending : Ascending session) (within : (number :
       });
     }
       where
+        now_staged : Commit
+        now_staged = commit_of (staged_all [] (is.before ++ is.touch ∷ [])) (Some text)
+
+        touched_is : touched old new ≡ is.before ++ is.touch ∷ []
+        touched_is = is.at ∙ ap (λ touches. is.before ++ is.touch ∷ touches) none
+
         one : ToldOne (Some text) is.touch
         one = told_one (Some text) is.touch step
 
@@ -222,7 +239,7 @@ module _ (session : Session) (ascending : Ascending session) (within : (number :
             ap (λ c. taken_within 1 c m) same_copy
             ∙ ap (taken_within 1 (stepping 1 is.ended old held.cookie (staged_all [] is.before))) (sym here)
             ∙ last_stored old new (ascends_at is.number) (ascends_at (is.number + 1)) (within_at (is.number + 1)) is.before is.touch text one is.ended held.cookie
-            (is.at ∙ ap (λ touches. is.before ++ is.touch ∷ touches) none)
+            touched_is
 
     more_comes : (next : Touch) (after : List Touch) → is.after ≡ next ∷ after → Comes entries held m rest
     more_comes next after some = record {

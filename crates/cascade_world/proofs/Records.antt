@@ -1,11 +1,10 @@
 -- What stands behind the record of a write.
-use Rattle.std.proofs.Common.{◌≡◌, ℕ, ◌+◌, ◌<◌, ◌≤◌, true, Option, None, List, [], ◌∷◌, length, drop, refl, ap, sym, inl, inr, arith}
+use Rattle.std.proofs.Common.{◌≡◌, ℕ, ◌+◌, ◌<◌, ◌≤◌, true, Option, None, List, [], ◌∷◌, length, drop, refl, sym, inl, inr, arith}
 use Rattle.std.proofs.lemmas.Bool.{cases_Bool}
 use Rattle.std.proofs.lemmas.List.{length-drop}
 use Rattle.std.specs.List.{list_all}
 use Rattle.std.specs.Str.{is_utf8}
 use Rattle.std.specs.Str.Lines.{lines}
-use Rattle.ldif_text.proofs.TextLines.{no_lines}
 use Rattle.cascade_world.specs.Reader.{IsRefusalOf, after_body, limit_before, record_before, read_record}
 use Rattle.cascade_world.specs.declared.fault.Cause.{Cause}
 use Rattle.cascade_world.specs.Words.{is_empty}
@@ -18,10 +17,6 @@ after_body-short (line ∷ lines) =
       | inl empty ↦ rw empty (omega arith)
       | inr filled ↦ let less = after_body-short lines in rw filled (omega arith)
     ]
-
--- no line is left at the end of a text, and one at each place before it
-pub limit_before-end : (bytes : List ℕ) (at : ℕ) (limit : Option ℕ) → length bytes ≤ at → limit ≡ limit_before limit (lines (drop at bytes))
-limit_before-end bytes at limit l = sym (ap (limit_before limit) (no_lines bytes at l))
 
 before_some : (limit : Option ℕ) (rest : List (List ℕ)) → 0 < length rest → None ≡ limit_before limit rest
 before_some limit [] l = absurd (omega arith)

@@ -4,10 +4,11 @@ use Rattle.std.specs.Prelude.{◌⊎◌, All, flat_map, is_some}
 use Rattle.std.proofs.lemmas.List.{same_from_push}
 use Rattle.std.proofs.lemmas.List.Elements.{All-filter}
 use Rattle.entry_tree.specs.declared.entry.Entry.{Entry}
+use Rattle.entry_tree.specs.Effects.{committed}
 use Rattle.entry_tree.specs.History.{differing_over}
 use Rattle.entry_tree.specs.Selection.{is_selected}
-use Rattle.entry_tree.specs.State.{entry_at}
-use Rattle.sync_model.specs.Copy.{Copy, Commit, Answer, asked, taken, taken_all, answers, commit_of, ends_phase}
+use Rattle.entry_tree.specs.State.{ascends, entry_at}
+use Rattle.sync_model.specs.Copy.{Copy, Running, Commit, Answer, asked, effected, taken, taken_all, answers, commit_of, ends_phase}
 use Rattle.sync_model.specs.Copy.Answer.{Staged, Stored}
 use Rattle.sync_model.specs.Law.{Ascending, Begins, IsCut, IsWithin, settled}
 use Rattle.sync_model.specs.Message.{Cookie, SyncMessage}
@@ -16,6 +17,7 @@ use Rattle.sync_model.specs.Stream.Decision.{Sends, Names}
 use Rattle.sync_model.specs.Within.{taken_within, taken_all_within, answers_within}
 use Rattle.sync_model.proofs.Fitting.{front_fits}
 use Rattle.sync_model.proofs.Gather.{Each, EachD, IsPart, EachM, each-gathered, each-front}
+use Rattle.sync_model.proofs.Later.{taken_all-append}
 use Rattle.sync_model.proofs.Refresh.{Sent, Named, each-pieces, known, refresh_ends}
 use Rattle.sync_model.proofs.Steps.{over_none}
 use Rattle.sync_model.proofs.Taking.{refreshing, running_in, names_after, stage_after, taken-one, taken-part}
@@ -24,6 +26,7 @@ use Rattle.sync_wire.specs.CanBeSent.{CanBeSent}
 use Rattle.sync_wire.specs.Law.{IsIdentity}
 use Rattle.cascade_world.proofs.Carried.{IsOfSearch, of_part}
 use Rattle.cascade_world.proofs.Identities.{IsFew, walk_range, each_decided, few_gathered}
+use Rattle.cascade_world.proofs.Stages.{fine-none, fine-after, fine-ended, stage_commits}
 
 -- ---- the next message
 
@@ -111,9 +114,11 @@ pub record IsStaged (persists : Bool) (held : List Entry) (cookie : Option Cooki
   pub copy : outcome.0 ≡ staging persists held cookie taken
 
 -- and at the end the content is held, with its cookie, and the search goes on or is over
-pub record IsStored (persists : Bool) (content : List Entry) (cookie : Cookie) (outcome : Copy × Answer) : Type 0 where
+pub record IsStored (persists : Bool) (held content : List Entry) (cookie : Cookie) (outcome : Copy × Answer) : Type 0 where
   pub commit : Commit
   pub answer : outcome.1 ≡ Stored commit
+  pub text : commit.cookie ≡ Some cookie
+  pub staged : committed held commit.puts commit.drops ≡ content
   pub ended : Bool
   pub copy : outcome.0 ≡ settled 1 persists ended content (Some cookie)
 
@@ -257,18 +262,40 @@ module _ (session : Session) (start : Start) (opened : ℕ) where
     end_answer true true cookie front new = refl
     end_answer true false cookie front new = refl
 
+    end_held : (persists deletes : Bool) (cookie : Option Cookie) (front : List SyncMessage) (new : Cookie)
+        → (taken 1 (staging persists held cookie front) (end_of persists deletes new)).0.held
+        ≡ effected held (ends_phase held (running_in 1 persists false (names_after [] front) (stage_after [] front)) deletes).stage
+    end_held false true cookie front new = refl
+    end_held false false cookie front new = refl
+    end_held true true cookie front new = refl
+    end_held true false cookie front new = refl
+
     -- the end brings the content into effect, with its cookie
-    pub end_stored : (cookie : Option Cookie) (front rest : List SyncMessage) (m : SyncMessage) → front ++ m ∷ rest ≡ refresh_from session start opened → IsEnd part front last m rest
-        → IsStored session.persists (content_after session opened) (session.cookies opened) (taken_within 1 (staging session.persists held cookie front) m)
-    end_stored cookie front rest m whole is = record {
+    pub end_stored : (rises : ascends held ≡ true) (cookie : Option Cookie) (front rest : List SyncMessage) (m : SyncMessage) → front ++ m ∷ rest ≡ refresh_from session start opened
+        → IsEnd part front last m rest
+        → IsStored session.persists held (content_after session opened) (session.cookies opened) (taken_within 1 (staging session.persists held cookie front) m)
+    end_stored rises cookie front rest m whole is = record {
       commit = commit_of (ends_phase held (running_in 1 session.persists false (names_after [] front) (stage_after [] front)) covered).stage (Some (session.cookies opened));
       answer = now.answer ∙ ap (λ x. (taken 1 (staging session.persists held cookie front) x).1) is.message ∙ end_answer session.persists covered cookie front (session.cookies opened);
+      text = refl;
+      staged =
+          stage_commits held ended_stage.stage rises (fine-ended held (running_in 1 session.persists false (names_after [] front) (stage_after [] front)) covered (fine-after front [] fine-none))
+          ∙ sym (end_held session.persists covered cookie front (session.cookies opened))
+          ∙ ap (λ x. (taken 1 (staging session.persists held cookie front) x).0.held) (sym is.message)
+          ∙ ap (λ c. (taken 1 c m).0.held) (sym (front_taken cookie front [] (sym is.told ∙ sym (append-nil front))))
+          ∙ ap (λ (c : Copy). c.held) (sym (taken_all-append front (m ∷ []) 1 (before cookie)) ∙ all_taken);
       ended = ends.0;
-      copy = now.copy ∙ ap (taken_all 1 (before cookie)) (ap (λ ms. front ++ m ∷ ms) (sym is.none) ∙ whole) ∙ ends.1;
+      copy = now.copy ∙ all_taken;
     }
       where
+        ended_stage : Running
+        ended_stage = ends_phase held (running_in 1 session.persists false (names_after [] front) (stage_after [] front)) covered
+
         now : IsTaken cookie front m
         now = is_taken cookie front [] rest m (sym is.told ∙ sym (append-nil front)) whole
 
         ends : (ended : Bool) × (taken_all 1 (before cookie) (refresh_from session start opened) ≡ settled 1 session.persists ended (content_after session opened) (Some (session.cookies opened)))
         ends = refresh_ends session ascending 1 start opened pieces (record { held = held; cookie = cookie; running = None }) cut begins
+
+        all_taken : taken_all 1 (before cookie) (front ++ m ∷ []) ≡ settled 1 session.persists ends.0 (content_after session opened) (Some (session.cookies opened))
+        all_taken = ap (taken_all 1 (before cookie)) (ap (λ ms. front ++ m ∷ ms) (sym is.none) ∙ whole) ∙ ends.1

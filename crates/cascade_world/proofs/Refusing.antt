@@ -1,5 +1,5 @@
 -- The end of a search that is refused is taken at once: the search is over, and the entries stay.
-use Rattle.std.proofs.Common.{◌≡◌, ℕ, Bool, true, false, cond, List, Option, None, refl, ap, sym, ◌∙◌, eq-eqb, eqb-true, subst}
+use Rattle.std.proofs.Common.{◌≡◌, ℕ, Bool, true, false, cond, None, refl, ap, sym, ◌∙◌, eq-eqb, eqb-true, subst}
 use Rattle.std.specs.Prelude.{pos, not, ◌==◌}
 use Rattle.std.specs.Ordering.{int_eq}
 use Rattle.std.proofs.lemmas.Bool.Decides.{Decides-int_eq}

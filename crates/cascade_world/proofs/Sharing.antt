@@ -14,6 +14,7 @@ use Rattle.sync_provider.specs.Search.{SearchState}
 use Rattle.cascade_world.specs.declared.node.Follower.{Follower}
 use Rattle.cascade_world.specs.Exchange.{pair_of}
 use Rattle.cascade_world.specs.Headline.{Opening, Known}
+use Rattle.cascade_world.specs.Origins.{Lineage}
 use Rattle.cascade_world.proofs.Feeding.{HasPending, GoesOn, IsAtRest, IsGoing, IsFed, KeepsOthers, OwnsNew}
 
 abbrev pub Searches : Type 0
@@ -71,7 +72,6 @@ fed-other number p later g known stays fed = record {
   held = fed.held;
   ascending = fed.ascending;
   cookie = fed.cookie;
-  prefix = fed.prefix;
   promised = fed.promised;
   below = fed.below;
   state = by fed.state;
@@ -98,22 +98,22 @@ fed_search number p g known at is fed = by fed.state
 -- ---- what a change of one search keeps
 
 -- a consumer without a search keeps none
-pub others-none : (number : ℕ) (p : ProviderState) (before after : Follower) → before.search ≡ after.search → KeepsOthers number (pair_of p before) (pair_of p after)
-others-none number p before after same g known fed apart = (fed, λ at mine. apart at (same ∙ mine))
+pub others-none : (lin : Lineage) (number : ℕ) (p : ProviderState) (before after : Follower) → before.search ≡ after.search → KeepsOthers number (pair_of p before lin) (pair_of p after lin)
+others-none lin number p before after same g known fed apart = (fed, λ at mine. apart at (same ∙ mine))
 
 -- the search of a consumer changes, and is its own still or over
-pub others-changed : (number : ℕ) (p : ProviderState) (later : Searches) (before after : Follower) (at : ℕ) → before.search ≡ Some at
+pub others-changed : (lin : Lineage) (number : ℕ) (p : ProviderState) (later : Searches) (before after : Follower) (at : ℕ) → before.search ≡ Some at
     → ((k : ℕ) → k ≢ at → search_at later k ≡ search_at p.searches k) → ((k : ℕ) → after.search ≡ Some k → k ≡ at)
-    → KeepsOthers number (pair_of p before) (pair_of (with_searches p later) after)
-others-changed number p later before after at own elsewhere only g known fed apart = (
+    → KeepsOthers number (pair_of p before lin) (pair_of (with_searches p later) after lin)
+others-changed lin number p later before after at own elsewhere only g known fed apart = (
   fed-other number p later g known (λ k is s found. elsewhere k (λ same. apart k (own ∙ ap Some (sym same)) is) ∙ found) fed,
   λ k mine. apart k (own ∙ ap Some (sym (only k mine))),
 )
 
 -- a search with a number that was free is that of a consumer that had none
-pub others-opened : (number : ℕ) (p : ProviderState) (before after : Follower) (at : ℕ) (s : SearchState) → search_at p.searches at ≡ None → after.search ≡ Some at
-    → KeepsOthers number (pair_of p before) (pair_of (with_searches p (insert_entry nat_cmp p.searches at s)) after)
-others-opened number p before after at s free now g known fed apart = (
+pub others-opened : (lin : Lineage) (number : ℕ) (p : ProviderState) (before after : Follower) (at : ℕ) (s : SearchState) → search_at p.searches at ≡ None → after.search ≡ Some at
+    → KeepsOthers number (pair_of p before lin) (pair_of (with_searches p (insert_entry nat_cmp p.searches at s)) after lin)
+others-opened lin number p before after at s free now g known fed apart = (
   fed-other number p (insert_entry nat_cmp p.searches at s) g known (λ k is was found. opened-other p.searches at k s (taken k was found) ∙ found) fed,
   λ k mine yours.
       let there = fed_search number p g known k yours fed in
@@ -136,10 +136,10 @@ abbrev pub Owned : ProviderState → Follower → Option ℕ → ℕ → Type 0
 Owned p f own at = (own ≡ Some at) ⊎ ((was : SearchState) × (search_at p.searches at ≡ Some was) × (f.search ≡ Some at → ⊥))
 
 -- no other search is changed
-pub owns-changed : (p : ProviderState) (later : Searches) (before after : Follower) (at : ℕ) → before.search ≡ Some at
+pub owns-changed : (lin : Lineage) (p : ProviderState) (later : Searches) (before after : Follower) (at : ℕ) → before.search ≡ Some at
     → ((k : ℕ) → k ≢ at → search_at later k ≡ search_at p.searches k) → ((s : SearchState) → search_at later at ≡ Some s → after.search ≡ Some at)
-    → OwnsNew (pair_of p before) (pair_of (with_searches p later) after)
-owns-changed p later before after at own elsewhere here k s found = by (nat_eq k at) refl
+    → OwnsNew (pair_of p before lin) (pair_of (with_searches p later) after lin)
+owns-changed lin p later before after at own elsewhere here k s found = by (nat_eq k at) refl
   where
     by : (same : Bool) → nat_eq k at ≡ same → Owned p before after.search k
     by true is =
@@ -150,9 +150,9 @@ owns-changed p later before after at own elsewhere here k s found = by (nat_eq k
         inr (s, sym (elsewhere k far) ∙ found, λ mine. far (let same : Some k ≡ Some at = sym mine ∙ own in some_same k at same))
 
 -- the search that is new is the consumer's
-pub owns-opened : (p : ProviderState) (before after : Follower) (at : ℕ) (new : SearchState) → before.search ≡ None → after.search ≡ Some at
-    → OwnsNew (pair_of p before) (pair_of (with_searches p (insert_entry nat_cmp p.searches at new)) after)
-owns-opened p before after at new none now k s found = by (nat_eq k at) refl
+pub owns-opened : (lin : Lineage) (p : ProviderState) (before after : Follower) (at : ℕ) (new : SearchState) → before.search ≡ None → after.search ≡ Some at
+    → OwnsNew (pair_of p before lin) (pair_of (with_searches p (insert_entry nat_cmp p.searches at new)) after lin)
+owns-opened lin p before after at new none now k s found = by (nat_eq k at) refl
   where
     by : (same : Bool) → nat_eq k at ≡ same → Owned p before after.search k
     by true is = let one : k ≡ at = eqb-true k at is in inl (now ∙ ap Some (sym one))

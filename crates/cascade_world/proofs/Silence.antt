@@ -62,7 +62,7 @@ module _ (mode : Bool) where
   taken_as_silent : (pair : Pair) (rest : List (List ℕ)) (copy : Copy) (found : Came) → IsSilent (taken_as pair rest copy found).1
   taken_as_silent pair rest copy came.Staged = tt
   taken_as_silent pair rest copy came.Copied = tt
-  taken_as_silent pair rest copy came.Stored = tt
+  taken_as_silent pair rest copy (came.Stored commit) = tt
   taken_as_silent pair rest copy (came.Over code) = tt
   taken_as_silent pair rest copy (came.Refused fault) = tt
 
@@ -93,7 +93,7 @@ module _ (mode : Bool) where
   cut_silent pair =
       silent_if (is_busy pair.follower) (Ok (given_up pair (copy_of pair.follower), told.Cut (name_of pair) ∷ [])) (Ok (pair, told.Nothing (name_of pair) ∷ [])) (tt, tt) (tt, tt)
 
-  idle_silent : (pair : Pair) → SilentIn (idle pair)
+  pub idle_silent : (pair : Pair) → SilentIn (idle pair)
   idle_silent pair = silent_if (is_busy pair.follower) (cut pair) (Ok (pair, [])) (cut_silent pair) tt
 
   opened_by_silent : (asked : Mode) (pair : Pair) (answer : Accepted) → persists asked ≡ mode → SilentIn (opened_by asked pair answer)

@@ -1,71 +1,121 @@
 -- What a node's lines tell is right for the orders and the lines before them.
-use Rattle.std.proofs.Common.{◌≡◌, ℕ, Bool, Option, Some, List, [], ◌∷◌, ◌++◌, refl, sym, subst, inl, inr}
+use Rattle.std.proofs.Common.{◌≡◌, ◌≤◌, ℕ, Bool, false, Option, Some, List, [], ◌∷◌, ◌++◌, length, take, refl, ap, sym, subst, ◌∙◌, inl, inr}
 use Rattle.std.proofs.lemmas.List.Sums.{fold-append}
-use Rattle.std.specs.Prelude.{Ok, Err}
+use Rattle.std.specs.Prelude.{Ok, Err, IfSome, slice_get}
+use Rattle.std.specs.Str.{bytes_eq}
+use Rattle.entry_tree.specs.Selection.{Search, select}
 use Rattle.entry_tree.specs.declared.entry.Entry.{Entry}
 use Rattle.entry_tree.specs.declared.op.Write.{Write}
-use Rattle.directory_writes.specs.Directory.{entries_of}
-use Rattle.sync_provider.specs.Machine.{ProviderState}
-use Rattle.cascade_world.specs.declared.node.Root.{Root}
+use Rattle.directory_writes.specs.Directory.{entries_of, entries_after}
+use Rattle.cascade_world.specs.declared.node.Supplier.{Supplier}
 use Rattle.cascade_world.specs.declared.node.Follower.{Follower}
-use Rattle.cascade_world.specs.Exchange.{Outcome}
-use Rattle.cascade_world.specs.Headline.{AreAccepted, IsConsumer, nothing_known, known_after, known_of, text_of_kept, IsUnserved, IsAskedFor, IsOpenedAt, IsPrefixSelected, OfCookie, IsOfStream, IsSettled, IsGiven, IsShown, TellsRight, EachTellsRight}
+use Rattle.cascade_world.specs.declared.notes.Origin.{Origin}
+use Rattle.cascade_world.specs.Exchange.{Outcome, pair_of}
+use Rattle.cascade_world.specs.Headline.{AreAccepted, IsConsumer, nothing_known, known_after, known_of, told_origin, IsOrigin, IsOfRoot, IsUnserved, IsAskedFor, IsOpenedAt, IsPrefixSelected, OfCookie, IsOfStream, IsSettled, IsGiven, IsShown, TellsRight, EachTellsRight}
 use Rattle.cascade_world.specs.Orders.{Order}
-use Rattle.cascade_world.specs.Report.{Told}
-use Rattle.cascade_world.specs.Report.Told.{Wrote, Opened, Refused, Sent, Taken, Stored, Ended, Faulted, Cut, Nothing, Settled, Holds, Shown}
-use Rattle.cascade_world.proofs.Feeding.{IsSentOf, IsSettledOf, frame_of, IsRight, LineIsRight, LinesAreRight}
-use Rattle.cascade_world.proofs.Finding.{roots_by, root_name}
+use Rattle.cascade_world.specs.Origins.{origin_of}
+use Rattle.cascade_world.specs.Report.{Storing, Told}
+use Rattle.cascade_world.specs.Report.Told.{Wrote, Opened, Refused, Sent, Taken, Stored, Ended, Faulted, Cut, Nothing, Settled, Holds, Clocked, Shown}
+use Rattle.cascade_world.specs.Trace.{name_in}
+use Rattle.cascade_world.specs.World.{State, lineage_of}
+use Rattle.cascade_world.proofs.Exchanging.{EachOwn}
+use Rattle.cascade_world.proofs.Feeding.{Frame, frame_of, IsRightOf, IsSentOf, IsSettledOf, LineIsRightOf, LinesAreRightOf}
+use Rattle.cascade_world.proofs.Finding.{suppliers_by, followers_by, follower_name}
+use Rattle.cascade_world.proofs.Rooting.{origin_rooted, origin_is, accepted_at, of_root_some}
+use Rattle.cascade_world.proofs.Saying.{IsLeft, left_by_one, left_line, stored_still, commits_still}
 use Rattle.cascade_world.proofs.Silence.{IsSilent, AreSilent, SilentIn}
-use Rattle.cascade_world.proofs.Tracking.{IsRoot, IsFollower}
+use Rattle.cascade_world.proofs.Traces.{other_way}
+use Rattle.cascade_world.proofs.Tracking.{Tracks}
 
--- the accepted writes of a provider, as the headline says them
-pub accepted_of : (before : List Order) (root : Root) → IsRoot before root → AreAccepted before root.name root.provider.directory.history root.provider.directory.writes
-accepted_of before root is = record { suffix = root.provider.directory.suffix; later = is.later; declared = is.declared; accepted = is.accepted }
+-- ---- what a provider serves
 
--- those of a consumer's provider
-pub accepted_at : (before : List Order) (roots : List Root) (name : List ℕ) (root : Root) → roots_by roots name ≡ Some root → IsRoot before root
-    → AreAccepted before name root.provider.directory.history root.provider.directory.writes
-accepted_at before roots name root e is =
-    subst (λ n. AreAccepted before n root.provider.directory.history root.provider.directory.writes) (sym (root_name roots name root e)) (accepted_of before root is)
+-- its accepted writes and their origins, for whoever wants what the consumer of this frame wants
+pub record Serves (before : List Order) (said : List Told) (number : ℕ) (frame : Frame) : Type 0 where
+  pub accepted : AreAccepted before said frame.source number frame.writes
+  pub origins : (n : ℕ) → IsOrigin before said frame.source frame.spec n (origin_of frame.kind frame.lineage frame.spec n)
+  pub roots : (n : ℕ) → n ≤ length frame.writes
+      → IfSome (origin_of frame.kind frame.lineage frame.spec n) (IsOfRoot before frame.spec (select frame.spec (entries_after number (take n frame.writes))))
 
-pub consumer_of : (before : List Order) (said : List Told) (roots : List Root) (f : Follower) → IsFollower before said roots f → IsConsumer before f.name f.source f.consumer.spec f.consumer.reload
-consumer_of before said roots f is = record { place = is.place; since = is.since; declared = is.declared }
+accepted_still : (before : List Order) (said lines : List Told) (name : List ℕ) (number : ℕ) (writes : List Write) → IsLeft name lines → AreAccepted before said name number writes → AreAccepted before (said ++ lines) name number writes
+accepted_still before said lines name number writes left (inl is) = inl is
+accepted_still before said lines name number writes left (inr is) =
+    inr record { source = is.source; search = is.search; reload = is.reload; later = is.later; declared = is.declared; commits = is.commits ∙ sym (commits_still number name said lines left) }
+
+origin_still : (before : List Order) (said lines : List Told) (name : List ℕ) (search : Search) (n : ℕ) (origin : Option Origin) → IsLeft name lines → IsOrigin before said name search n origin → IsOrigin before (said ++ lines) name search n origin
+origin_still before said lines name search n origin left (inl is) = inl is
+origin_still before said lines name search n origin left (inr (inl is)) = inr (inl is)
+origin_still before said lines name search n origin left (inr (inr is)) =
+    inr (inr record {
+      by = is.by;
+      replica = is.replica;
+      earlier = is.earlier;
+      counted = is.counted;
+      passed = is.passed ∙ ap (λ s. told_origin search (slice_get s is.earlier)) (sym (stored_still name said lines left));
+    })
+
+serves_still : (before : List Order) (said lines : List Told) (number : ℕ) (frame : Frame) → IsLeft frame.source lines → Serves before said number frame → Serves before (said ++ lines) number frame
+serves_still before said lines number frame left is = record {
+  accepted = accepted_still before said lines frame.source number frame.writes left is.accepted;
+  origins = λ n. origin_still before said lines frame.source frame.spec n (origin_of frame.kind frame.lineage frame.spec n) left (is.origins n);
+  roots = is.roots;
+}
+
+-- the provider of a consumer
+pub serves_of : (before : List Order) (said : List Told) (state : State) (f : Follower) (r : Supplier) → suppliers_by state.suppliers f.source ≡ Some r → Tracks before said state
+    → Serves before said r.provider.directory.history (frame_of (pair_of r.provider f (lineage_of state r)))
+serves_of before said state f r e is = record {
+  accepted = accepted_at before said state f.source r is.orders is.commits e;
+  origins = λ n. origin_is before said state f.source r f.consumer.spec n is.orders is.feeds is.commits e;
+  roots =
+      λ n low. of_root_some before state f.consumer.spec (select f.consumer.spec (entries_after r.provider.directory.history (take n r.provider.directory.writes)))
+      (origin_of r.provider.kind (lineage_of state r) f.consumer.spec n) is.orders (origin_rooted said state f.source r f.consumer.spec n is.feeds is.commits e low);
+}
 
 -- ---- the lines of a part of an event
 
-stored_right : (before : List Order) (said : List Told) (number : ℕ) (p : ProviderState) (f : Follower) (n : ℕ) (entries : List Entry) (root : List ℕ) (origin : ℕ)
-    → IsConsumer before f.name f.source f.consumer.spec f.consumer.reload → AreAccepted before f.source number p.directory.writes → IsRight number p f (known_of f.name said) n entries root origin
-    → IsPrefixSelected before said f.name n entries root origin
-stored_right before said number p f n entries root origin follows accepted is = record {
-  provider = f.source;
-  search = f.consumer.spec;
-  reload = f.consumer.reload;
-  follows = follows;
-  history = number;
-  writes = p.directory.writes;
-  accepted = accepted;
-  prefix = is.prefix;
-  opening = is.opening;
-  latest = is.latest;
-  no_shorter = is.no_shorter;
-  exactly = is.exactly;
-  from_root = is.from_root;
-  from_prefix = is.from_prefix;
-}
+-- who is told of in a frame
+abbrev pub FollowsIn : List Order → Frame → Type 0
+FollowsIn before frame = IsConsumer before frame.name frame.source frame.spec frame.reload
 
--- a line of an opening or a refusal, by what is held
-cookie_right : (before : List Order) (said : List Told) (number : ℕ) (p : ProviderState) (f : Follower) (name : List ℕ) (Says : Bool → ℕ → List Write → Option (List ℕ) → Type 0)
-    → IsConsumer before f.name f.source f.consumer.spec f.consumer.reload → AreAccepted before f.source number p.directory.writes → name ≡ f.name
-    → Says f.consumer.reload number p.directory.writes (text_of_kept number p.directory.writes (known_of f.name said).kept) → OfCookie before said name Says
-cookie_right before said number p f name Says follows accepted same says =
-    subst (λ c. OfCookie before said c Says) (sym same) (record {
-      provider = f.source;
-      search = f.consumer.spec;
-      reload = f.consumer.reload;
+stored_right : (before : List Order) (said : List Told) (number : ℕ) (frame : Frame) (stored : Storing) → FollowsIn before frame → Serves before said number frame → IsRightOf number frame (known_of frame.name said) stored
+    → IsPrefixSelected before said frame.name stored
+stored_right before said number frame stored follows serves is =
+    let search = frame.spec in
+    let of = serves.roots stored.number is.prefix in
+    let P : List Entry → Type 0 = λ es. IfSome (origin_of frame.kind frame.lineage search stored.number) (IsOfRoot before search es) in
+    let Q : Option Origin → Type 0 = λ o. IfSome o (IsOfRoot before search stored.entries) in
+    record {
+      provider = frame.source;
+      search = search;
+      reload = frame.reload;
       follows = follows;
       history = number;
-      writes = p.directory.writes;
-      accepted = accepted;
+      writes = frame.writes;
+      accepted = serves.accepted;
+      prefix = is.prefix;
+      opening = is.opening;
+      latest = is.latest;
+      no_shorter = is.no_shorter;
+      cookie = is.cookie;
+      exactly = is.exactly;
+      staged = is.staged;
+      wanted = is.wanted;
+      from = subst (IsOrigin before said frame.source search stored.number) (sym is.from) (serves.origins stored.number);
+      of_root = subst Q (sym is.from) (subst P (sym is.exactly) of);
+    }
+
+-- a line of an opening or a refusal, by what is held
+cookie_right : (before : List Order) (said : List Told) (number : ℕ) (frame : Frame) (name : List ℕ) (Says : Bool → ℕ → List Write → Option (List ℕ) → Type 0) → FollowsIn before frame → Serves before said number frame → name ≡ frame.name
+    → Says frame.reload number frame.writes (known_of frame.name said).cookie → OfCookie before said name Says
+cookie_right before said number frame name Says follows serves same says =
+    subst (λ c. OfCookie before said c Says) (sym same) (record {
+      provider = frame.source;
+      search = frame.spec;
+      reload = frame.reload;
+      follows = follows;
+      history = number;
+      writes = frame.writes;
+      accepted = serves.accepted;
       says = says;
     })
 
@@ -91,15 +141,16 @@ silent_line order mode asked (Opened name persists writes) silent = subst (IsAsk
 silent_line order mode asked (Refused name persists code) silent = subst (IsAskedFor order) (sym silent) asked
 silent_line order mode asked (Sent name message) silent = tt
 silent_line order mode asked (Taken name) silent = tt
-silent_line order mode asked (Stored name n entries root origin) silent = tt
+silent_line order mode asked (Stored name stored) silent = tt
 silent_line order mode asked (Ended name code) silent = tt
 silent_line order mode asked (Faulted name fault) silent = tt
 silent_line order mode asked (Cut name) silent = tt
 silent_line order mode asked (Nothing name) silent = tt
 silent_line order mode asked (Settled name writes) silent = tt
+silent_line order mode asked (Clocked time) silent = tt
 silent_line order mode asked (Shown name entries) silent = tt
 
-silent_all : (order : Order) (mode : Bool) → IsAskedFor order mode → (lines : List Told) → AreSilent mode lines → GivenLines order lines
+pub silent_all : (order : Order) (mode : Bool) → IsAskedFor order mode → (lines : List Told) → AreSilent mode lines → GivenLines order lines
 silent_all order mode asked [] silent = tt
 silent_all order mode asked (line ∷ lines) silent = (silent_line order mode asked line silent.0, silent_all order mode asked lines silent.1)
 
@@ -107,83 +158,82 @@ pub silent_given : (order : Order) (mode : Bool) → IsAskedFor order mode → (
 silent_given order mode asked (Ok next) silent = silent_all order mode asked next.1 silent
 silent_given order mode asked (Err cause) silent = tt
 
-sent_right : (before : List Order) (said : List Told) (number : ℕ) (p : ProviderState) (f : Follower) (name octets : List ℕ)
-    → IsConsumer before f.name f.source f.consumer.spec f.consumer.reload → AreAccepted before f.source number p.directory.writes → name ≡ f.name
-    → IsSentOf number (frame_of p f) (known_of f.name said) octets → IsOfStream before said name octets
-sent_right before said number p f name octets follows accepted same is =
+sent_right : (before : List Order) (said : List Told) (number : ℕ) (frame : Frame) (name octets : List ℕ) → FollowsIn before frame → Serves before said number frame → name ≡ frame.name
+    → IsSentOf number frame (known_of frame.name said) octets → IsOfStream before said name octets
+sent_right before said number frame name octets follows serves same is =
     subst (λ c. IsOfStream before said c octets) (sym same) (record {
-      provider = f.source;
-      search = f.consumer.spec;
-      reload = f.consumer.reload;
+      provider = frame.source;
+      search = frame.spec;
+      reload = frame.reload;
       follows = follows;
       history = number;
-      writes = p.directory.writes;
-      accepted = accepted;
+      writes = frame.writes;
+      accepted = serves.accepted;
       opening = is.opening;
       latest = is.latest;
       next = is.next;
     })
 
-settled_right : (before : List Order) (said : List Told) (number : ℕ) (p : ProviderState) (f : Follower) (name : List ℕ) (n : ℕ)
-    → IsConsumer before f.name f.source f.consumer.spec f.consumer.reload → AreAccepted before f.source number p.directory.writes → name ≡ f.name
-    → IsSettledOf number (frame_of p f) (known_of f.name said) n → IsSettled before said name n
-settled_right before said number p f name n follows accepted same is =
+settled_right : (before : List Order) (said : List Told) (number : ℕ) (frame : Frame) (name : List ℕ) (n : ℕ) → FollowsIn before frame → Serves before said number frame → name ≡ frame.name
+    → IsSettledOf number frame (known_of frame.name said) n → IsSettled before said name n
+settled_right before said number frame name n follows serves same is =
     subst (λ c. IsSettled before said c n) (sym same) (record {
-      provider = f.source;
-      search = f.consumer.spec;
-      reload = f.consumer.reload;
+      provider = frame.source;
+      search = frame.spec;
+      reload = frame.reload;
       follows = follows;
       history = number;
-      writes = p.directory.writes;
-      accepted = accepted;
+      writes = frame.writes;
+      accepted = serves.accepted;
       all = is.all;
       exactly = is.exactly;
     })
 
-line_right : (before : List Order) (order : Order) (said : List Told) (number : ℕ) (p : ProviderState) (f : Follower) (line : Told) → IsGivenLine order line
-    → IsConsumer before f.name f.source f.consumer.spec f.consumer.reload → AreAccepted before f.source number p.directory.writes
-    → LineIsRight number p f (known_of f.name said) line → TellsRight before order said line
-line_right before order said number p f (Wrote name code writes) given follows accepted is = tt
-line_right before order said number p f (Opened name persists writes) given follows accepted is = (given, cookie_right before said number p f name (IsOpenedAt writes) follows accepted is.0 is.1)
-line_right before order said number p f (Refused name persists code) given follows accepted is = (given, is.1, cookie_right before said number p f name IsUnserved follows accepted is.0 is.2)
-line_right before order said number p f (Sent name message) given follows accepted is = sent_right before said number p f name message follows accepted is.0 is.1
-line_right before order said number p f (Taken name) given follows accepted is = tt
-line_right before order said number p f (Stored name n entries root origin) given follows accepted is =
-    subst (λ c. IsPrefixSelected before said c n entries root origin) (sym is.0) (stored_right before said number p f n entries root origin follows accepted is.1)
-line_right before order said number p f (Ended name code) given follows accepted is = is
-line_right before order said number p f (Faulted name fault) given follows accepted is = is
-line_right before order said number p f (Cut name) given follows accepted is = tt
-line_right before order said number p f (Nothing name) given follows accepted is = tt
-line_right before order said number p f (Settled name n) given follows accepted is = settled_right before said number p f name n follows accepted is.0 is.1
-line_right before order said number p f (Holds name cookie) given follows accepted is = given
-line_right before order said number p f (Shown name entries) given follows accepted is = absurd is
+line_right : (before : List Order) (order : Order) (said : List Told) (number : ℕ) (frame : Frame) (line : Told) → IsGivenLine order line → FollowsIn before frame → Serves before said number frame
+    → LineIsRightOf number frame (known_of frame.name said) line → TellsRight before order said line
+line_right before order said number frame (Wrote name code writes) given follows serves is = tt
+line_right before order said number frame (Opened name persists writes) given follows serves is = (given, cookie_right before said number frame name (IsOpenedAt writes) follows serves is.0 is.1)
+line_right before order said number frame (Refused name persists code) given follows serves is = (given, is.1, cookie_right before said number frame name IsUnserved follows serves is.0 is.2)
+line_right before order said number frame (Sent name message) given follows serves is = sent_right before said number frame name message follows serves is.0 is.1
+line_right before order said number frame (Taken name) given follows serves is = tt
+line_right before order said number frame (Stored name stored) given follows serves is =
+    subst (λ c. IsPrefixSelected before said c stored) (sym is.0) (stored_right before said number frame stored follows serves is.1)
+line_right before order said number frame (Ended name code) given follows serves is = is
+line_right before order said number frame (Faulted name fault) given follows serves is = is
+line_right before order said number frame (Cut name) given follows serves is = tt
+line_right before order said number frame (Nothing name) given follows serves is = tt
+line_right before order said number frame (Settled name n) given follows serves is = settled_right before said number frame name n follows serves is.0 is.1
+line_right before order said number frame (Holds name cookie) given follows serves is = given
+line_right before order said number frame (Clocked time) given follows serves is = absurd is
+line_right before order said number frame (Shown name entries) given follows serves is = absurd is
 
 -- the line that comes next, and what is known then
 known_next : (name : List ℕ) (said : List Told) (line : Told) → known_of name (said ++ line ∷ []) ≡ known_after name (known_of name said) line
 known_next name said line = fold-append (known_after name) nothing_known said (line ∷ [])
 
-pub lines_right : (before : List Order) (order : Order) (said : List Told) (number : ℕ) (p : ProviderState) (f : Follower) (lines : List Told) → GivenLines order lines
-    → IsConsumer before f.name f.source f.consumer.spec f.consumer.reload → AreAccepted before f.source number p.directory.writes
-    → LinesAreRight number p f (known_of f.name said) lines → EachTellsRight before order said lines
-lines_right before order said number p f [] given follows accepted is = tt
-lines_right before order said number p f (line ∷ lines) given follows accepted is =
-    let more : LinesAreRight number p f (known_of f.name (said ++ line ∷ [])) lines =
-    subst (λ k. LinesAreRight number p f k lines) (sym (known_next f.name said line)) is.1 in
-    (line_right before order said number p f line given.0 follows accepted is.0, lines_right before order (said ++ line ∷ []) number p f lines given.1 follows accepted more)
+pub lines_right : (before : List Order) (order : Order) (said : List Told) (number : ℕ) (frame : Frame) (lines : List Told) → bytes_eq frame.source frame.name ≡ false → GivenLines order lines → EachOwn frame.name lines
+    → FollowsIn before frame → Serves before said number frame → LinesAreRightOf number frame (known_of frame.name said) lines → EachTellsRight before order said lines
+lines_right before order said number frame [] apart given own follows serves is = tt
+lines_right before order said number frame (line ∷ lines) apart given own follows serves is =
+    let more : LinesAreRightOf number frame (known_of frame.name (said ++ line ∷ [])) lines =
+    subst (λ k. LinesAreRightOf number frame k lines) (sym (known_next frame.name said line)) is.1 in
+    let other : bytes_eq (name_in line) frame.source ≡ false = ap (λ n. bytes_eq n frame.source) own.0 ∙ other_way frame.source frame.name apart in
+    let serves' = serves_still before said (line ∷ []) number frame (left_by_one frame.source line (left_line frame.source line other)) serves in
+    (line_right before order said number frame line given.0 follows serves is.0, lines_right before order (said ++ line ∷ []) number frame lines apart given.1 own.1 follows serves' more)
 
 -- ---- what is shown
 
-pub root_shown : (before : List Order) (said : List Told) (roots : List Root) (name : List ℕ) (root : Root) → roots_by roots name ≡ Some root → IsRoot before root
-    → IsShown before said name (entries_of root.provider.directory)
-root_shown before said roots name root e is =
+pub supplier_shown : (before : List Order) (said : List Told) (state : State) (name : List ℕ) (r : Supplier) → suppliers_by state.suppliers name ≡ Some r → Tracks before said state → IsShown before said name (entries_of r.provider.directory)
+supplier_shown before said state name r e is =
     inl record {
-      history = root.provider.directory.history;
-      writes = root.provider.directory.writes;
-      accepted = accepted_at before roots name root e is;
+      history = r.provider.directory.history;
+      writes = r.provider.directory.writes;
+      accepted = accepted_at before said state name r is.orders is.commits e;
       exactly = refl;
     }
 
-pub copy_shown : (before : List Order) (said : List Told) (roots : List Root) (name : List ℕ) (f : Follower) → name ≡ f.name → IsFollower before said roots f
-    → IsShown before said name f.consumer.copy.held
-copy_shown before said roots name f here is =
-    subst (λ n. IsShown before said n f.consumer.copy.held) (sym here) (inr record { provider = f.source; search = f.consumer.spec; reload = f.consumer.reload; follows = consumer_of before said roots f is; exactly = is.fed.held })
+pub copy_shown : (before : List Order) (said : List Told) (state : State) (name : List ℕ) (f : Follower) → followers_by state.followers name ≡ Some f → Tracks before said state → IsShown before said name f.consumer.copy.held
+copy_shown before said state name f e is =
+    let fed = is.feeds.followers name f e in
+    let held : f.consumer.copy.held ≡ (known_of name said).entries = fed.fed.held ∙ ap (λ n. (known_of n said).entries) (sym (follower_name state.followers name f e)) in
+    inr record { provider = f.source; search = f.consumer.spec; reload = f.consumer.reload; follows = is.orders.consumers name f e; exactly = held }

@@ -1,6 +1,5 @@
--- What holds of the nodes after a write, or a limit of the log.
-use Rattle.std.proofs.Common.{◌≡◌, ◌+◌, ℕ, false, Option, Some, None, List, [], ◌∷◌, ◌++◌, length, refl, ap, sym, subst, ◌∙◌, inl, inr, arith}
-use Rattle.std.proofs.lemmas.Bool.{cases_Bool}
+-- What holds of the nodes after a write, or a limit.
+use Rattle.std.proofs.Common.{◌≡◌, ℕ, false, Option, Some, None, List, [], ◌∷◌, ◌++◌, length, refl, ap, sym, subst, ◌∙◌, inl, inr, append-nil}
 use Rattle.std.specs.Str.{bytes_eq}
 use Rattle.csn_cookie.specs.Csn.{Stamp}
 use Rattle.dn_names.specs.Names.{TypeAndValue}
@@ -9,27 +8,28 @@ use Rattle.entry_tree.specs.declared.op.Op.{Op}
 use Rattle.entry_tree.specs.declared.op.Write.{Write}
 use Rattle.entry_tree.specs.Reading.{read_change}
 use Rattle.std.specs.Prelude.{Result, Ok, Err, if◌then◌else◌}
-use Rattle.directory_writes.specs.Directory.{DirectoryState, has_room, next_stamp, judged_at, judged, with_judged}
-use Rattle.sync_provider.specs.Machine.{ProviderState, log_limited, queue_limited}
-use Rattle.cascade_world.specs.declared.node.Root.{Root}
-use Rattle.cascade_world.specs.declared.node.Follower.{Follower}
+use Rattle.directory_writes.specs.Directory.{DirectoryState, has_room, next_stamp, judged_at, judged, with_judged, written}
+use Rattle.sync_provider.specs.Machine.{ProviderState, judged_by, log_limited, queue_limited}
+use Rattle.sync_provider.specs.declared.provider.Kind.{Kind}
+use Rattle.sync_provider.specs.declared.provider.Kind.TheVariants.{Root, Replica}
+use Rattle.cascade_world.specs.declared.node.Supplier.{Supplier}
 use Rattle.session_log.specs.Log.{Log, fresh}
 use Rattle.cascade_world.specs.Directory.{logged_directory, directory_of, change_code, changed, written_read, wrote_read, wrote_change}
-use Rattle.cascade_world.specs.Headline.{time_after, time_from, with_accepted, accepted_from, is_declaration, IsDeclared, known_of}
+use Rattle.cascade_world.specs.Headline.{time_after, time_from, with_accepted, accepted_from, is_declaration, IsDeclared, Following, followed}
 use Rattle.cascade_world.specs.Orders.{Order}
 use Rattle.cascade_world.specs.Orders.{Order as asks}
 use Rattle.cascade_world.specs.Report.{Told}
 use Rattle.cascade_world.specs.Report.Told.{Wrote}
-use Rattle.cascade_world.specs.World.{State, is_root, root_named, with_provider, write_to, limited}
-use Rattle.cascade_world.proofs.Accepted.{time_from-append, accepted_from-push, Untouched, with_accepted-untouched, declared-push}
-use Rattle.cascade_world.proofs.Declarations.{After, time_still}
-use Rattle.cascade_world.proofs.Feeding.{IsSource, IsFed, KeepsAll, WritesAreKept, LimitsAreKept, QueuesAreKept}
-use Rattle.cascade_world.proofs.Finding.{IsChanged, roots_by, root_name, provider_changed, length-first_changed}
-use Rattle.cascade_world.proofs.Owning.{owned_changed}
-use Rattle.cascade_world.proofs.Growing.{count_same, provider_now, fed_now, fed_by, roots_changed, follower_kept}
-use Rattle.cascade_world.proofs.Saying.{IsLeft, left_by_none}
-use Rattle.cascade_world.proofs.Traces.{itself, same_name}
-use Rattle.cascade_world.proofs.Tracking.{IsProvider, IsRoot, IsFollower, Tracks}
+use Rattle.cascade_world.specs.World.{State, supplier_named, with_provider, write_to, limited}
+use Rattle.cascade_world.proofs.Accepted.{time_from-append, accepted_from-push, declared-push}
+use Rattle.cascade_world.proofs.Exchanges.{After}
+use Rattle.cascade_world.proofs.Feeding.{IsSource, KeepsAll, PromisesLast, WritesAreKept, LimitsAreKept, QueuesAreKept}
+use Rattle.cascade_world.proofs.Finding.{IsChanged, found_after, suppliers_by, supplier_name, provider_changed}
+use Rattle.cascade_world.proofs.Growing.{count_same, feeds_changed, feeds_more, committer_same, committers_changed, committers_but, committers_more}
+use Rattle.cascade_world.proofs.Ordered.{IsStill, still_changed, IsQuiet, time_still, supplier_kept, consumers_still, strangers_still, orders_quiet}
+use Rattle.cascade_world.proofs.Saying.{IsLeft, left_by_one, left_wrote, clock_more}
+use Rattle.cascade_world.proofs.Traces.{itself, other_way}
+use Rattle.cascade_world.proofs.Tracking.{IsRoot, IsReplica, IsOfKind, IsSupplier, AreSuppliers, CommittedBy, IsCommitter, Feeds, Tracks}
 
 -- the time at an order is that after those between a declaration and it
 time_since : (before : List Order) (number : ℕ) (declaration : Order) (later : List Order) (is : IsDeclared before number declaration later)
@@ -80,17 +80,99 @@ accepted_more number suffix name first time later change d is accepted clock =
     ∙ ap (λ t. (changed (directory_of number suffix writes) t change).writes) clock
     ∙ sym (accepted_from-push number suffix name first [] later order ∙ more)
 
--- the directory after what was read is that of the provider
-wrote_writes : (p : ProviderState) (now : ℕ) (read : Result Op ℕ) → (wrote_read p now read).directory ≡ written_read p.directory now read
-wrote_writes p now (Ok op) = refl
-wrote_writes p now (Err code) = refl
+-- ---- what a write leaves
 
-wrote_directory : (p : ProviderState) (now : ℕ) (change : Change) → (wrote_change p now change).directory ≡ changed p.directory now change
-wrote_directory p now change = wrote_writes p now (read_change change)
+-- the directory of a root
+root_by : (p : ProviderState) (op : Op) (now : ℕ) (kind : Kind) → kind ≡ Root → with_judged p.directory (judged_by kind p.directory op now) ≡ written p.directory op now
+root_by p op now Root is = refl
+root_by p op now Replica is = let never : ⊥ = cc in absurd never
 
-provider_written : (before : List Order) (name : List ℕ) (number : ℕ) (suffix : List (List TypeAndValue)) (p : ProviderState) (time : ℕ) (change : Change) → time ≡ time_from 0 before
-    → IsSource number suffix (wrote_change p time change) → IsProvider before name number suffix p → IsProvider (before ++ asks.Write name change ∷ []) name number suffix (wrote_change p time change)
-provider_written before name number suffix p time change clock source is =
+root_read : (p : ProviderState) (now : ℕ) (read : Result Op ℕ) → p.kind ≡ Root → (wrote_read p now read).directory ≡ written_read p.directory now read
+root_read p now (Ok op) is = root_by p op now p.kind is
+root_read p now (Err code) is = refl
+
+root_wrote : (p : ProviderState) (now : ℕ) (change : Change) → p.kind ≡ Root → (wrote_change p now change).directory ≡ changed p.directory now change
+root_wrote p now change is = root_read p now (read_change change) is
+
+-- a replica takes none
+replica_by : (p : ProviderState) (op : Op) (now : ℕ) (kind : Kind) → kind ≡ Replica → with_judged p.directory (judged_by kind p.directory op now) ≡ p.directory
+replica_by p op now Replica is = refl
+replica_by p op now Root is = let never : ⊥ = cc in absurd never
+
+replica_read : (p : ProviderState) (now : ℕ) (read : Result Op ℕ) → p.kind ≡ Replica → (wrote_read p now read).directory ≡ p.directory
+replica_read p now (Ok op) is = replica_by p op now p.kind is
+replica_read p now (Err code) is = refl
+
+replica_wrote : (p : ProviderState) (now : ℕ) (change : Change) → p.kind ≡ Replica → (wrote_change p now change).directory ≡ p.directory
+replica_wrote p now change is = replica_read p now (read_change change) is
+
+-- ---- a provider is changed alone
+
+-- what it has committed, where it is a replica
+committer_kept : (said : List Told) (r : Supplier) (p : ProviderState) → p.kind ≡ r.provider.kind → (r.provider.kind ≡ Replica → p.directory.writes ≡ r.provider.directory.writes) → p.directory.history ≡ r.provider.directory.history
+    → p.directory.suffix ≡ r.provider.directory.suffix → IsCommitter said r → IsCommitter said (record r { provider = p })
+committer_kept said r p kind writes history suffix is = by r.provider.kind refl
+  where
+    by : (k : Kind) → r.provider.kind ≡ k → IsCommitter said (record r { provider = p })
+    by Root e = subst (CommittedBy said (record r { provider = p })) (sym (kind ∙ e)) tt
+    by Replica e = committer_same said r (record r { provider = p }) (record { name = refl; kind = kind; history = history; suffix = suffix; writes = writes e; notes = refl }) is
+
+provider_feeds : PromisesLast → (said : List Told) (state : State) (name : List ℕ) (r : Supplier) (p : ProviderState) → supplier_named name state ≡ Some r
+    → KeepsAll r.provider.directory.history r.provider.directory.suffix r.provider p → Feeds said state → Feeds said (record state { suppliers = with_provider name p state.suppliers })
+provider_feeds lasts said state name r p e kept is =
+    feeds_changed lasts said state (with_provider name p state.suppliers) name r (record r { provider = p }) e (provider_changed state.suppliers name r p e) refl kept is
+
+-- ---- limits
+
+limited_tracked : PromisesLast → (before : List Order) (order : Order) (said : List Told) (state : State) (name : List ℕ) (r : Supplier) (p : ProviderState) → supplier_named name state ≡ Some r → IsQuiet order
+    → ((consumer : List ℕ) (now : Option Following) → followed consumer now order ≡ now) → p.directory.writes ≡ r.provider.directory.writes → KeepsAll r.provider.directory.history r.provider.directory.suffix r.provider p
+    → Tracks before said state → Tracks (before ++ order ∷ []) said (record state { suppliers = with_provider name p state.suppliers })
+limited_tracked lasts before order said state name r p e quiet same writes kept is =
+    let changed' = provider_changed state.suppliers name r p e in
+    let next = with_provider name p state.suppliers in
+    let history : p.directory.history ≡ r.provider.directory.history = ap (λ (d : DirectoryState). d.history) kept.source.directory in
+    let suffix : p.directory.suffix ≡ r.provider.directory.suffix = ap (λ (d : DirectoryState). d.suffix) kept.source.directory in
+    let still : IsStill r (record r { provider = p }) = record { name = refl; kind = kept.kind; history = history; suffix = suffix; writes = λ root. writes } in
+    record {
+      orders =
+          orders_quiet before order state (record state { suppliers = next }) quiet same refl refl refl
+          (still_changed (suppliers_by state.suppliers) (suppliers_by next) name r (record r { provider = p }) e changed' still) is.orders;
+      feeds = provider_feeds lasts said state name r p e kept is.feeds;
+      commits =
+          committers_changed said state.suppliers next name (record r { provider = p }) changed' (committer_kept said r p kept.kind (λ replica. writes) history suffix (is.commits name r e))
+          (committers_but name said state.suppliers is.commits);
+    }
+
+pub log_after : PromisesLast → LimitsAreKept → (before : List Order) (said : List Told) (state : State) (name : List ℕ) (limit : ℕ) (found : Option Supplier) → supplier_named name state ≡ found → Tracks before said state
+    → After before said (asks.Log name limit) (limited state name (λ provider. log_limited provider limit) found)
+log_after lasts kept before said state name limit None e is = tt
+log_after lasts kept before said state name limit (Some r) e is =
+    let order = asks.Log name limit in
+    let p = log_limited r.provider limit in
+    let all = kept r.provider.directory.history r.provider.directory.suffix r.provider limit (is.feeds.sources name r e) in (
+      subst (λ s. Tracks (before ++ order ∷ []) s (record state { suppliers = with_provider name p state.suppliers })) (sym (append-nil said))
+          (limited_tracked lasts before order said state name r p e (record { still = λ t. refl; undeclared = refl; untouched = λ other. tt }) (λ consumer now. refl) refl all is),
+      tt,
+    )
+
+pub queue_after : PromisesLast → QueuesAreKept → (before : List Order) (said : List Told) (state : State) (name : List ℕ) (limit : ℕ) (found : Option Supplier) → supplier_named name state ≡ found → Tracks before said state
+    → After before said (asks.Queue name limit) (limited state name (λ provider. queue_limited provider limit) found)
+queue_after lasts kept before said state name limit None e is = tt
+queue_after lasts kept before said state name limit (Some r) e is =
+    let order = asks.Queue name limit in
+    let p = queue_limited r.provider limit in
+    let all = kept r.provider.directory.history r.provider.directory.suffix r.provider limit (is.feeds.sources name r e) in (
+      subst (λ s. Tracks (before ++ order ∷ []) s (record state { suppliers = with_provider name p state.suppliers })) (sym (append-nil said))
+          (limited_tracked lasts before order said state name r p e (record { still = λ t. refl; undeclared = refl; untouched = λ other. tt }) (λ consumer now. refl) refl all is),
+      tt,
+    )
+
+-- ---- a write
+
+-- a root after a write
+root_written : (before : List Order) (name : List ℕ) (number : ℕ) (suffix : List (List TypeAndValue)) (p : ProviderState) (time : ℕ) (change : Change) → p.kind ≡ Root → p.directory ≡ logged_directory number suffix p.directory.writes p.directory.log
+    → time ≡ time_from 0 before → IsRoot before name number suffix p.directory.writes → IsRoot (before ++ asks.Write name change ∷ []) name number suffix (wrote_change p time change).directory.writes
+root_written before name number suffix p time change root logged clock is =
     let order = asks.Write name change in
     let declaration = asks.Provider name suffix in
     let first = time_from 0 is.declared.earlier in
@@ -98,120 +180,107 @@ provider_written before name number suffix p time change clock source is =
     record {
       later = is.later ++ order ∷ [];
       declared = declared-push before number declaration is.later order is.declared;
-      accepted =
-          ap (λ (d : DirectoryState). d.writes) (wrote_directory p time change)
-          ∙ accepted_more number suffix name first time is.later change p.directory is.source.directory is.accepted now;
-      source = source;
+      accepted = ap (λ (d : DirectoryState). d.writes) (root_wrote p time change root) ∙ accepted_more number suffix name first time is.later change p.directory logged is.accepted now;
     }
 
-root_written : WritesAreKept → (before : List Order) (root : Root) (time : ℕ) (change : Change) → time ≡ time_from 0 before → IsRoot before root
-    → IsRoot (before ++ asks.Write root.name change ∷ []) (record root { provider = wrote_change root.provider time change })
-root_written kept before root time change clock is =
-    let number = root.provider.directory.history in
-    let suffix = root.provider.directory.suffix in
-    let p = wrote_change root.provider time change in
-    let source : IsSource number suffix p = (kept number suffix root.provider time change is.source).source in
-    provider_now (before ++ asks.Write root.name change ∷ []) root.name number suffix p (provider_written before root.name number suffix root.provider time change clock source is)
+supplier_written : (before : List Order) (r : Supplier) (time : ℕ) (change : Change) → time ≡ time_from 0 before → IsSource r.provider.directory.history r.provider.directory.suffix r.provider
+    → KeepsAll r.provider.directory.history r.provider.directory.suffix r.provider (wrote_change r.provider time change) → IsSupplier before r
+    → IsSupplier (before ++ asks.Write r.name change ∷ []) (record r { provider = wrote_change r.provider time change })
+supplier_written before r time change clock source kept is = subst (IsOfKind (before ++ order ∷ []) r.name p.directory) (sym kept.kind) (by r.provider.kind refl is)
+  where
+    order : Order
+    order = asks.Write r.name change
 
--- ---- a provider is changed alone
+    p : ProviderState
+    p = wrote_change r.provider time change
 
--- a consumer is fed as before
-follower_left : (before : List Order) (order : Order) (said lines : List Told) (roots next : List Root) (name : List ℕ) (root : Root) (p : ProviderState) (f : Follower) → IsLeft f.name lines
-    → KeepsAll root.provider.directory.history root.provider.directory.suffix root.provider p
-    → roots_by roots name ≡ Some root → IsChanged (roots_by roots) (roots_by next) name (record root { provider = p })
-    → IsFollower before said roots f → IsFollower (before ++ order ∷ []) (said ++ lines) next f
-follower_left before order said lines roots next name root p f left kept e changed' is =
-    let number = root.provider.directory.history in
-    let suffix = root.provider.directory.suffix in
-    let known = known_of f.name said in
-    elim (cases_Bool (bytes_eq f.source name)) [
-      | inl hit ↦
-          let same : f.source ≡ name = same_name f.source name hit in
-          let fed : IsFed number root.provider f known = fed_by before said roots name root f e same is in
-          let now : IsFed p.directory.history p f known = fed_now number suffix p f known kept.source (kept.fed f known fed) in
-          follower_kept before order said lines roots next (record root { provider = p }) f left (ap (roots_by next) same ∙ changed'.here) now is
-      | inr miss ↦ follower_kept before order said lines roots next is.root f left (changed'.others f.source miss ∙ is.there) is.fed is
-    ]
+    number : ℕ
+    number = r.provider.directory.history
 
--- an order that declares nothing, sets no clock, and writes to no other provider
-record IsFor (order : Order) (name : List ℕ) : Type 0 where
-  still : (time : ℕ) → time_after time order ≡ time
-  undeclared : is_declaration order ≡ false
-  others : (other : List ℕ) → bytes_eq name other ≡ false → Untouched order other
+    suffix : List (List TypeAndValue)
+    suffix = r.provider.directory.suffix
 
-provider_tracked : (before : List Order) (order : Order) (said lines : List Told) (state : State) (name : List ℕ) (root : Root) (p : ProviderState) → root_named name state ≡ Some root → IsFor order name
-    → ((other : List ℕ) → IsLeft other lines) → KeepsAll root.provider.directory.history root.provider.directory.suffix root.provider p → IsRoot (before ++ order ∷ []) (record root { provider = p })
-    → Tracks before said state → Tracks (before ++ order ∷ []) (said ++ lines) (record state { roots = with_provider name p state.roots })
-provider_tracked before order said lines state name root p e quiet left kept now is =
-    let next = with_provider name p state.roots in
-    let changed' = provider_changed state.roots name root p e in
-    record {
-      time = time_still before order state.clock quiet.still is.time;
-      count = ap (λ n. n + length state.followers) (length-first_changed _ _ state.roots) ∙ is.count ∙ sym (count_same is_declaration before order quiet.undeclared);
-      roots = roots_changed before order state.roots next name (record root { provider = p }) changed' quiet.others now is.roots;
-      followers = λ n f found'. follower_left before order said lines state.roots next name root p f (left f.name) kept e changed' (is.followers n f found');
-      apart = is.apart;
-      few = omega (arith, length-first_changed (is_root name) (λ (r : Root). record r { provider = p }) state.roots, is.few);
-      owned = owned_changed state.roots next state.followers name root (record root { provider = p }) e changed' kept.opens is.owned;
-    }
+    history : p.directory.history ≡ number
+    history = ap (λ (d : DirectoryState). d.history) kept.source.directory
 
--- ---- a limit
+    suffixed : p.directory.suffix ≡ suffix
+    suffixed = ap (λ (d : DirectoryState). d.suffix) kept.source.directory
 
--- the provider with another limit, which leaves its writes
-limited_root : (before : List Order) (order : Order) (root : Root) (p : ProviderState) → Untouched order root.name → p.directory.writes ≡ root.provider.directory.writes
-    → p.directory.history ≡ root.provider.directory.history → p.directory.suffix ≡ root.provider.directory.suffix
-    → IsSource root.provider.directory.history root.provider.directory.suffix p → IsRoot before root → IsRoot (before ++ order ∷ []) (record root { provider = p })
-limited_root before order root p quiet writes history suffix source is =
-    provider_now (before ++ order ∷ []) root.name root.provider.directory.history root.provider.directory.suffix p (record {
-      later = is.later ++ order ∷ [];
-      declared = declared-push before root.provider.directory.history (asks.Provider root.name root.provider.directory.suffix) is.later order is.declared;
-      accepted =
-          writes ∙ is.accepted
-          ∙ sym (accepted_from-push root.provider.directory.history root.provider.directory.suffix root.name (time_from 0 is.declared.earlier) [] is.later order
-          ∙ with_accepted-untouched root.provider.directory.history root.provider.directory.suffix root.name (time_from (time_from 0 is.declared.earlier) is.later)
-          (accepted_from root.provider.directory.history root.provider.directory.suffix root.name (time_from 0 is.declared.earlier) [] is.later) order quiet);
-      source = source;
-    })
+    by : (kind : Kind) → r.provider.kind ≡ kind → IsOfKind before r.name r.provider.directory kind → IsOfKind (before ++ order ∷ []) r.name p.directory kind
+    by Root e h =
+        subst (λ n. IsRoot (before ++ order ∷ []) r.name n p.directory.suffix p.directory.writes) (sym history)
+        (subst (λ s. IsRoot (before ++ order ∷ []) r.name number s p.directory.writes) (sym suffixed) (root_written before r.name number suffix r.provider time change e source.directory clock h))
+    by Replica e h =
+        subst (λ n. IsReplica (before ++ order ∷ []) r.name n) (sym history) (record {
+          source = h.source;
+          search = h.search;
+          reload = h.reload;
+          later = h.later ++ order ∷ [];
+          declared = declared-push before number (asks.Replica r.name h.source h.search h.reload) h.later order h.declared;
+        })
 
-pub log_after : LimitsAreKept → (before : List Order) (said : List Told) (state : State) (name : List ℕ) (limit : ℕ) (root : Option Root) → root_named name state ≡ root → Tracks before said state
-    → After before said (asks.Log name limit) (limited state name (λ provider. log_limited provider limit) root)
-log_after kept before said state name limit None e is = tt
-log_after kept before said state name limit (Some root) e is =
-    let order = asks.Log name limit in
-    let p = log_limited root.provider limit in
-    let at : IsRoot before root = is.roots name root e in
-    let all = kept root.provider.directory.history root.provider.directory.suffix root.provider limit at.source in (
-      provider_tracked before order said [] state name root p e (record { still = λ t. refl; undeclared = refl; others = λ other apart. tt }) left_by_none all
-          (limited_root before order root p tt refl refl refl all.source at) is,
-      tt,
-    )
+write_tracked : PromisesLast → (before : List Order) (said : List Told) (state : State) (name : List ℕ) (change : Change) (r : Supplier) → supplier_named name state ≡ Some r
+    → KeepsAll r.provider.directory.history r.provider.directory.suffix r.provider (wrote_change r.provider state.clock change) → Tracks before said state
+    → Tracks (before ++ asks.Write name change ∷ []) said (record state { suppliers = with_provider name (wrote_change r.provider state.clock change) state.suppliers })
+write_tracked lasts before said state name change r e kept is = record {
+  orders = record {
+    time = time_still before order state.clock (λ t. refl) is.orders.time;
+    count = is.orders.count ∙ sym (count_same is_declaration before order refl);
+    suppliers = suppliers;
+    consumers = consumers_still before order state.followers (λ n f e'. refl) is.orders.consumers;
+    strangers = strangers_still before order state.followers (λ n e'. refl) is.orders.strangers;
+  };
+  feeds = provider_feeds lasts said state name r p e kept is.feeds;
+  commits =
+      committers_changed said state.suppliers next name s changed'
+      (committer_kept said r p kept.kind (λ replica. ap (λ (d : DirectoryState). d.writes) (replica_wrote r.provider state.clock change replica)) (ap (λ (d : DirectoryState). d.history) kept.source.directory)
+      (ap (λ (d : DirectoryState). d.suffix) kept.source.directory) (is.commits name r e))
+      (committers_but name said state.suppliers is.commits);
+}
+  where
+    order : Order
+    order = asks.Write name change
 
-pub queue_after : QueuesAreKept → (before : List Order) (said : List Told) (state : State) (name : List ℕ) (limit : ℕ) (root : Option Root) → root_named name state ≡ root → Tracks before said state
-    → After before said (asks.Queue name limit) (limited state name (λ provider. queue_limited provider limit) root)
-queue_after kept before said state name limit None e is = tt
-queue_after kept before said state name limit (Some root) e is =
-    let order = asks.Queue name limit in
-    let p = queue_limited root.provider limit in
-    let at : IsRoot before root = is.roots name root e in
-    let all = kept root.provider.directory.history root.provider.directory.suffix root.provider limit at.source in (
-      provider_tracked before order said [] state name root p e (record { still = λ t. refl; undeclared = refl; others = λ other apart. tt }) left_by_none all
-          (limited_root before order root p tt refl refl refl all.source at) is,
-      tt,
-    )
+    p : ProviderState
+    p = wrote_change r.provider state.clock change
 
--- ---- a write
+    s : Supplier
+    s = record r { provider = p }
 
-pub write_after : WritesAreKept → (before : List Order) (said : List Told) (state : State) (name : List ℕ) (change : Change) (root : Option Root) → root_named name state ≡ root → Tracks before said state
-    → After before said (asks.Write name change) (write_to state name change root)
-write_after kept before said state name change None e is = tt
-write_after kept before said state name change (Some root) e is =
-    let order = asks.Write name change in
-    let p = wrote_change root.provider state.clock change in
-    let line' = Wrote name (change_code root.provider.directory state.clock change) (length (changed root.provider.directory state.clock change).writes) in
-    let at : IsRoot before root = is.roots name root e in
-    let now : IsRoot (before ++ order ∷ []) (record root { provider = p }) =
-    subst (λ n. IsRoot (before ++ asks.Write n change ∷ []) (record root { provider = p })) (sym (root_name state.roots name root e)) (root_written kept before root state.clock change is.time at) in (
-      provider_tracked before order said (line' ∷ []) state name root p e (record { still = λ t. refl; undeclared = refl; others = λ other apart. apart }) (λ other. record { known = λ k. refl })
-          (kept root.provider.directory.history root.provider.directory.suffix root.provider state.clock change at.source) now is,
+    next : List Supplier
+    next = with_provider name p state.suppliers
+
+    changed' : IsChanged (suppliers_by state.suppliers) (suppliers_by next) name s
+    changed' = provider_changed state.suppliers name r p e
+
+    here : name ≡ r.name
+    here = supplier_name state.suppliers name r e
+
+    suppliers : AreSuppliers (before ++ order ∷ []) next
+    suppliers n x found =
+        elim (found_after (suppliers_by state.suppliers) (suppliers_by next) name s changed' n x found) [
+          | inl at ↦
+              subst (IsSupplier (before ++ order ∷ [])) at.1
+              (subst (λ m. IsSupplier (before ++ asks.Write m change ∷ []) s) (sym here) (supplier_written before r state.clock change is.orders.time (is.feeds.sources name r e) kept (is.orders.suppliers name r e)))
+          | inr was ↦
+              let apart : bytes_eq name x.name ≡ false = ap (bytes_eq name) (sym (supplier_name state.suppliers n x was.1)) ∙ other_way n name was.0 in
+              supplier_kept before order x apart (is.orders.suppliers n x was.1)
+        ]
+
+pub write_after : PromisesLast → WritesAreKept → (before : List Order) (said : List Told) (state : State) (name : List ℕ) (change : Change) (found : Option Supplier) → supplier_named name state ≡ found → Tracks before said state
+    → After before said (asks.Write name change) (write_to state name change found)
+write_after lasts kept before said state name change None e is = tt
+write_after lasts kept before said state name change (Some r) e is =
+    let p = wrote_change r.provider state.clock change in
+    let line' = Wrote name (change_code r.provider state.clock change) (length p.directory.writes) in
+    let all = kept r.provider.directory.history r.provider.directory.suffix r.provider state.clock change (is.feeds.sources name r e) in
+    let after : State = record state { suppliers = with_provider name p state.suppliers } in
+    let now = write_tracked lasts before said state name change r e all is in
+    let left : (other : List ℕ) → IsLeft other (line' ∷ []) = λ other. left_by_one other line' (left_wrote other name (change_code r.provider state.clock change) (length p.directory.writes)) in (
+      record {
+        orders = now.orders;
+        feeds = feeds_more said (line' ∷ []) after state.clock left (is.feeds.clock ∙ sym (clock_more said (line' ∷ []) (λ t. refl))) now.feeds;
+        commits = committers_more said (line' ∷ []) after.suppliers left now.commits;
+      },
       (tt, tt),
     )

@@ -5,13 +5,14 @@ use Rattle.csn_cookie.specs.Cookie.{cookie_of_text}
 use Rattle.csn_cookie.specs.Csn.{Stamp, upto}
 use Rattle.csn_cookie.specs.declared.cookie.Cookie.{Cookie}
 use Rattle.ldap_messages.specs.Whole.{Whole, message_octets}
+use Rattle.entry_tree.specs.Selection.{Search, search_of}
 use Rattle.sync_messages.specs.declared.request.Mode.{Mode}
 use Rattle.sync_messages.specs.declared.request.Mode.TheVariants.{RefreshOnly}
 use Rattle.sync_messages.specs.declared.request.SyncRequest.{SyncRequest}
-use Rattle.sync_model.specs.Copy.{Copy, asked}
+use Rattle.sync_model.specs.Copy.{Commit, Copy, asked}
 use Rattle.sync_model.specs.Message.SyncMessage.{Done}
 use Rattle.sync_model.specs.Stream.{Start}
-use Rattle.sync_consumer.specs.Taking.{Following, asked_of, is_persisting, without_search}
+use Rattle.sync_consumer.specs.Taking.{asked_of, is_persisting, wanting, without_search}
 use Rattle.sync_wire.specs.Requesting.{persists}
 use Rattle.sync_wire.specs.Sending as wire
 use Rattle.directory_writes.specs.Starting.{start_at, asked_prefix}
@@ -32,16 +33,18 @@ use Rattle.cascade_world.specs.Hearing.{Came, heard, heard_of}
 use Rattle.cascade_world.specs.Hearing.{Came as came}
 use Rattle.cascade_world.specs.Link.{most_link, link_size}
 use Rattle.cascade_world.specs.Opening.{message_id, answer_to_request, with_opened}
-use Rattle.cascade_world.specs.Report.{Told}
+use Rattle.cascade_world.specs.Origins.{Lineage, origin_of}
+use Rattle.cascade_world.specs.Report.{Storing, Told}
 use Rattle.cascade_world.specs.Report.{Told as told}
 
--- a provider and one of its consumers
+-- a provider and one of its consumers, and where the provider's content is from, which nothing between the two changes
 pub record Pair : Type 0 where
   pub provider : ProviderState
   pub follower : Follower
+  pub lineage : Lineage
 
-abbrev pub pair_of : ProviderState → Follower → Pair
-pair_of provider follower = record { provider = provider; follower = follower }
+abbrev pub pair_of : ProviderState → Follower → Lineage → Pair
+pair_of provider follower lineage = record { provider = provider; follower = follower; lineage = lineage }
 
 -- the two after a part of an event with the lines that it told, or why the event is refused
 abbrev pub Outcome : Type 0
@@ -92,7 +95,7 @@ fits follower message = nat_le (link_size follower.link + length message) most_l
 abbrev pub sends : Pair → Option ℕ → List ℕ → Sending
 sends pair search message =
     if fits pair.follower message
-    then Sends (record { provider = handed pair.provider pair.follower.search; follower = linked pair.follower search message }) message
+    then Sends (record pair { provider = handed pair.provider pair.follower.search; follower = linked pair.follower search message }) message
     else Overflows
 
 -- a message is sent in its canonical spelling; with the last one the search is closed
@@ -126,7 +129,7 @@ abbrev pub emptied : Follower → Copy → Follower
 emptied follower copy = record (with_copy follower (without_search copy)) { link = []; search = None }
 
 abbrev pub given_up : Pair → Copy → Pair
-given_up pair copy = record { provider = closed pair.provider pair.follower.search; follower = emptied pair.follower copy }
+given_up pair copy = record pair { provider = closed pair.provider pair.follower.search; follower = emptied pair.follower copy }
 
 abbrev pub with_heard : Pair → List (List ℕ) → Copy → Pair
 with_heard pair rest copy = record pair { follower = record (with_copy pair.follower copy) { link = rest } }
@@ -140,16 +143,26 @@ abbrev pub stored_number : DirectoryState → Option (List ℕ) → ℕ
 stored_number d None = 0
 stored_number d (Some text) = number_of_cookie (stamps d.writes) (cookie_of_text text)
 
--- the entries are those of a prefix of the provider's writes, and, as it is a root, of that prefix of its own
-abbrev pub stored_told : Pair → Copy → Told
-stored_told pair copy =
+-- the entries are those of a prefix of the provider's writes, which has its origin
+abbrev pub storing : Pair → Copy → Commit → Storing
+storing pair copy commit =
     let number = stored_number pair.provider.directory copy.cookie in
-    told.Stored (name_of pair) number copy.held pair.follower.source number
+    let search = pair.follower.consumer.spec in
+    record {
+      number = number;
+      entries = copy.held;
+      origin = origin_of pair.provider.kind pair.lineage search number;
+      commit = commit;
+      search = search;
+    }
+
+abbrev pub stored_told : Pair → Copy → Commit → Told
+stored_told pair copy commit = told.Stored (name_of pair) (storing pair copy commit)
 
 abbrev pub taken_as : Pair → List (List ℕ) → Copy → Came → Pair × Told
 taken_as pair rest copy came.Staged = (with_heard pair rest copy, told.Taken (name_of pair))
 taken_as pair rest copy came.Copied = (with_heard pair rest copy, told.Taken (name_of pair))
-taken_as pair rest copy came.Stored = (with_heard pair rest copy, stored_told pair copy)
+taken_as pair rest copy (came.Stored commit) = (with_heard pair rest copy, stored_told pair copy commit)
 taken_as pair rest copy (came.Over code) = (with_heard pair rest copy, told.Ended (name_of pair) code)
 taken_as pair rest copy (came.Refused fault) = (given_up pair copy, told.Faulted (name_of pair) fault)
 
@@ -213,7 +226,7 @@ start_of pair = start_at pair.provider.directory (asked_prefix pair.provider.dir
 abbrev pub opened_by : Mode → Pair → Accepted → Outcome
 opened_by mode pair (accepted.Opened number writes) =
     Ok (
-      record {
+      record pair {
         provider = with_opened pair.provider number pair.follower.consumer.spec (start_of pair) (persists mode);
         follower = record (with_copy pair.follower (asking (persists mode) (copy_of pair.follower))) { search = Some number };
       },
@@ -323,6 +336,20 @@ given text pair =
     if is_later (copy_of pair.follower).cookie text then Err (LaterCookie (copy_of pair.follower).cookie text)
     else holding pair (Some text)
 
+-- ---- other wishes
+
+-- the consumer wants this from now on; it keeps its entries, and loses its cookie
+abbrev pub wanted : Search → Pair → Outcome
+wanted search pair =
+    Ok (
+      record pair { follower = record pair.follower { consumer = wanting pair.follower.consumer search } },
+      told.Holds (name_of pair) None ∷ [],
+    )
+
+-- a busy consumer is cut first
+abbrev pub respecs : Search → Pair → Outcome
+respecs search pair = and_then (idle pair) (wanted search)
+
 -- ---- what goes on
 
 abbrev pub part_of : Exchange → Pair → Outcome
@@ -333,3 +360,5 @@ part_of goes.Cut = cut
 part_of goes.Settle = settles
 part_of goes.Lose = lost
 part_of (goes.Give text) = given text
+part_of goes.Idle = idle
+part_of (goes.Want spec) = respecs (search_of spec)

@@ -1,23 +1,21 @@
 -- The commands of the language.
-use Rattle.std.specs.Prelude.{ℕ, Bool, true, false, ◌||◌, nat_le, Option, Some, None, List, [], ◌∷◌, if◌then◌else◌, codes}
+use Rattle.std.specs.Prelude.{ℕ, Bool, true, false, nat_le, Option, Some, None, List, [], ◌∷◌, if◌then◌else◌, codes}
 use Rattle.std.specs.Str.{bytes_eq}
 use Rattle.entry_tree.specs.Selection.{Search}
 use Rattle.cascade_world.specs.declared.grammar.Heading.{Heading}
 use Rattle.cascade_world.specs.declared.grammar.Heading.TheVariants as heading
 use Rattle.cascade_world.specs.Orders.{Order, order_of}
-use Rattle.cascade_world.specs.Orders.Order.{Provider, Consumer, Clock, OpenOnce, OpenStay, Send, Take, Cut, Settle, Lose, Cookie, Log, Queue, Show}
+use Rattle.cascade_world.specs.Orders.Order.{Provider, Consumer, Replica, Clock, OpenOnce, OpenStay, Send, Take, Cut, Settle, Lose, Cookie, Repoint, Respec, Log, Queue, Show}
 use Rattle.cascade_world.specs.Words.{◌>>=◌, guarded, otherwise, until, stripped, node_name, named, number, greatest_number, quoted, at_end, name_in, search_in}
 
--- what a line says: an order, a write whose record follows, or a command that is of the language but is not done yet
+-- what a line says: an order, or a write whose record follows
 pub data Saying : Type 0 where
   Orders : Order → Saying
   Writes : List ℕ → Saying
-  Later : Saying
 
 abbrev pub saying_of : Heading → Saying
 saying_of (heading.Whole command) = Orders (order_of command)
 saying_of (heading.Writes name) = Writes name
-saying_of heading.Later = Later
 
 -- the most messages of one command, and the greatest limit of a log or a queue
 abbrev pub most_count : ℕ
@@ -61,7 +59,7 @@ unfoldable pub replica_line : List ℕ → Option Saying
 replica_line text = do
   x ← following text
   reload ← reload_at x.1.1
-  Some Later
+  Some (Orders (Replica x.0.0 x.0.1 x.1.0 reload))
 
 unfoldable pub clock_line : List ℕ → Option Saying
 clock_line text = do
@@ -82,12 +80,6 @@ unfoldable pub show_line : List ℕ → Option Saying
 show_line text = do
   name ← node_name text
   Some (Orders (Show name))
-
--- `C`, of a command that is not done yet
-unfoldable pub later_name : List ℕ → Option Saying
-later_name text = do
-  _ ← node_name text
-  Some Later
 
 -- `C once`, or `C stay` for a search that goes on after its refresh
 abbrev pub opening_of : List ℕ → List ℕ → Option Saying
@@ -163,7 +155,8 @@ cookie_line text = do
 unfoldable pub repoint_line : List ℕ → Option Saying
 repoint_line text = do
   node ← named text
-  later_name node.1
+  source ← node_name node.1
+  Some (Orders (Repoint node.0 source))
 
 -- `C SCOPE "BASE" "FILTER"`
 unfoldable pub respec_line : List ℕ → Option Saying
@@ -171,7 +164,7 @@ respec_line text = do
   node ← named text
   search ← search_in node.1
   _ ← at_end search.1
-  Some Later
+  Some (Orders (Respec node.0 search.0))
 
 -- ---- the words that a line may begin with
 

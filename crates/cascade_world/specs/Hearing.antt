@@ -8,10 +8,11 @@ use Rattle.ldap_messages.specs.Whole.{Whole}
 use Rattle.ldap_parts.specs.declared.control.Control.{Control}
 use Rattle.sync_model.specs.Message.{SyncMessage}
 use Rattle.sync_model.specs.Message.SyncMessage.{Done, Passed}
-use Rattle.sync_model.specs.Copy.{Copy, Running, Fault, Answer}
+use Rattle.sync_model.specs.Copy.{Commit, Copy, Running, Fault, Answer}
 use Rattle.sync_model.specs.Copy.{Answer as answer, Fault as fault}
 use Rattle.sync_model.specs.Within.{taken_within}
 use Rattle.sync_consumer.specs.Taking.{without_search}
+use Rattle.sync_consumer.specs.declared.commit.Commit as told
 use Rattle.sync_wire.specs.Hearing.{entry_said, response_said, control_said}
 use Rattle.sync_wire.specs.Refusals.{and_then, on_ok}
 use Rattle.sync_wire.specs.Values.{sync_state, sync_done}
@@ -48,12 +49,16 @@ pub data Came : Type 0 where
   -- it was staged, or changed nothing
   Staged : Came
   -- the stage took effect, with a cookie or without one
-  Stored : Came
+  Stored : (commit : Commit) → Came
   Copied : Came
   -- the search is over, with this result code
   Over : ℤ → Came
   -- the message is refused and the search given up, for the fault of this name
   Refused : List ℕ → Came
+
+-- a stage that took effect, as a consumer tells it
+abbrev pub commit_told : told.Commit → Commit
+commit_told commit = record { puts = commit.puts; drops = commit.drops; cookie = commit.cookie }
 
 abbrev pub fault_name : Fault → List ℕ
 fault_name fault.OutOfPlace = codes "OutOfPlace"
@@ -70,7 +75,7 @@ hearing_name hearing.NoMemory = codes "NoMemory"
 
 abbrev pub came_of : Answer → Came
 came_of answer.Staged = Staged
-came_of (answer.Stored commit) = Stored
+came_of (answer.Stored commit) = Stored commit
 came_of (answer.Copied commit) = Copied
 came_of (answer.Over code) = Over code
 came_of (answer.Refused found) = Refused (fault_name found)

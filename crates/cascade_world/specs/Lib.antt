@@ -1,3 +1,4 @@
+pub mod Commits
 pub mod Cookies
 pub mod Directory
 pub mod Exchange
@@ -9,8 +10,10 @@ pub mod Hearing
 pub mod Lines
 pub mod Link
 pub mod Naming
+pub mod Nodes
 pub mod Opening
 pub mod Orders
+pub mod Origins
 pub mod Ours
 pub mod Parts
 pub mod Places
@@ -18,6 +21,7 @@ pub mod Reader
 pub mod Reading
 pub mod Report
 pub mod Run
+pub mod Telling
 pub mod Trace
 pub mod Words
 pub mod World

@@ -9,6 +9,7 @@ use Rattle.cascade_world.specs.declared.event.Command.TheVariants as command
 pub data Order : Type 0 where
   Provider : List ℕ → List (List TypeAndValue) → Order
   Consumer : List ℕ → List ℕ → Search → Bool → Order
+  Replica : List ℕ → List ℕ → Search → Bool → Order
   Clock : ℕ → Order
   Write : List ℕ → Change → Order
   OpenOnce : List ℕ → Order
@@ -19,6 +20,8 @@ pub data Order : Type 0 where
   Settle : List ℕ → Order
   Lose : List ℕ → Order
   Cookie : List ℕ → List ℕ → Order
+  Repoint : List ℕ → List ℕ → Order
+  Respec : List ℕ → Search → Order
   Log : List ℕ → ℕ → Order
   Queue : List ℕ → ℕ → Order
   Show : List ℕ → Order
@@ -26,6 +29,7 @@ pub data Order : Type 0 where
 abbrev pub order_of : Command → Order
 order_of (command.Provider name suffix) = Provider name suffix
 order_of (command.Consumer name source spec reload) = Consumer name source (search_of spec) reload
+order_of (command.Replica name source spec reload) = Replica name source (search_of spec) reload
 order_of (command.Clock time) = Clock time
 order_of (command.Write name change) = Write name change
 order_of (command.OpenOnce name) = OpenOnce name
@@ -36,6 +40,8 @@ order_of (command.Cut name) = Cut name
 order_of (command.Settle name) = Settle name
 order_of (command.Lose name) = Lose name
 order_of (command.Cookie name text) = Cookie name text
+order_of (command.Repoint name source) = Repoint name source
+order_of (command.Respec name spec) = Respec name (search_of spec)
 order_of (command.Log name limit) = Log name limit
 order_of (command.Queue name limit) = Queue name limit
 order_of (command.Show name) = Show name

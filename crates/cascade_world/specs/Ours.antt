@@ -1,10 +1,8 @@
 -- Searches of a script, whose messages have one message ID and have spellings.
-use Rattle.std.specs.Prelude.{◌≡◌, ⊤, ℕ, List, Option, Some, None}
+use Rattle.std.specs.Prelude.{◌≡◌, ⊤, ℕ, List}
 use Rattle.ldap_messages.specs.Whole.{whole_of, HasSpelling}
 use Rattle.sync_provider.specs.Law.{EachSearch}
-use Rattle.sync_provider.specs.Machine.{ProviderState}
 use Rattle.sync_provider.specs.Search.{SearchState}
-use Rattle.sync_provider.specs.declared.provider.Kind.TheVariants.{Root}
 use Rattle.sync_provider.specs.declared.handed.Handed.{Handed}
 use Rattle.sync_provider.specs.declared.handed.Handed.TheVariants as handed
 use Rattle.cascade_world.specs.Opening.{message_id}
@@ -14,11 +12,6 @@ IsOurs s = s.id ≡ message_id
 
 abbrev pub AreOurs : List (ℕ × SearchState) → Type 0
 AreOurs searches = EachSearch IsOurs searches
-
--- a provider whose writes come from clients, and whose searches are ours
-pub record IsOurRoot (p : ProviderState) : Type 0 where
-  pub root : p.kind ≡ Root
-  pub searches : AreOurs p.searches
 
 -- a message that is handed out has a spelling
 abbrev pub IsSpelled : Handed → Type 0

@@ -9,10 +9,10 @@ use Rattle.ldif_text.specs.Reader.{Found, next_record}
 use Rattle.cascade_world.specs.declared.event.Event.{Event}
 use Rattle.cascade_world.specs.declared.fault.ScriptFault.{ScriptFault}
 use Rattle.cascade_world.specs.declared.fault.Cause.{Cause}
-use Rattle.cascade_world.specs.declared.fault.Cause.TheVariants.{BadCommand, BadRecord, LimitReached, NotYet, NoMemory}
+use Rattle.cascade_world.specs.declared.fault.Cause.TheVariants.{BadCommand, BadRecord, LimitReached, NoMemory}
 use Rattle.cascade_world.specs.Fault.{fault_at}
 use Rattle.cascade_world.specs.Grammar.{Saying, saying}
-use Rattle.cascade_world.specs.Grammar.Saying.{Orders, Writes, Later}
+use Rattle.cascade_world.specs.Grammar.Saying.{Orders, Writes}
 use Rattle.cascade_world.specs.Lines.{script_lines, limit_passed}
 use Rattle.cascade_world.specs.Orders.{Order, order_of}
 use Rattle.cascade_world.specs.Orders.Order.{Write}
@@ -89,7 +89,6 @@ record_before limit command name body lines =
 -- what the line of that number says, before these lines
 abbrev pub next_of : Option ℕ → ℕ → Option Saying → List (List ℕ) → Next
 next_of limit line None lines = Refused (fault_at line BadCommand)
-next_of limit line (Some Later) lines = Refused (fault_at line NotYet)
 next_of limit line (Some (Orders order)) lines = Got line order (record { lines = lines; read = line; limit = limit })
 next_of limit line (Some (Writes name)) lines = record_before limit line name (body_of lines) (after_body lines)
 

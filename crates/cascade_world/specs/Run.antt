@@ -4,7 +4,7 @@ use Rattle.cascade_world.specs.declared.fault.Cause.{Cause}
 use Rattle.cascade_world.specs.Fault.{fault_at}
 use Rattle.cascade_world.specs.Headline.{LinesAreRight}
 use Rattle.cascade_world.specs.Orders.{Order}
-use Rattle.cascade_world.specs.Reader.{Reader, Next, next_in, reader_of}
+use Rattle.cascade_world.specs.Reader.{Reader, next_in, reader_of}
 use Rattle.cascade_world.specs.Reader.Next.{Ended, Refused, Got}
 use Rattle.cascade_world.specs.Report.{Told}
 use Rattle.cascade_world.specs.Trace.{AreTraced, all_lines}

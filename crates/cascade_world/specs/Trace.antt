@@ -7,7 +7,7 @@ use Rattle.cascade_world.specs.declared.node.Follower.{Follower}
 use Rattle.cascade_world.specs.Exchange.{asking, refused_copy}
 use Rattle.cascade_world.specs.Hearing.{heard}
 use Rattle.cascade_world.specs.Report.{Told}
-use Rattle.cascade_world.specs.Report.Told.{Wrote, Opened, Refused, Sent, Taken, Stored, Ended, Faulted, Cut, Nothing, Settled, Holds, Shown}
+use Rattle.cascade_world.specs.Report.Told.{Wrote, Opened, Refused, Sent, Taken, Stored, Ended, Faulted, Cut, Nothing, Settled, Holds, Clocked, Shown}
 
 -- the messages in the link as bytes, and the copy
 pub record Seen : Type 0 where
@@ -34,7 +34,7 @@ with_cookie seen cookie = record seen { copy = record seen.copy { cookie = cooki
 abbrev pub after_own : Seen → Told → Seen
 after_own seen (Sent name message) = record seen { link = seen.link ++ message ∷ [] }
 after_own seen (Taken name) = took_first seen
-after_own seen (Stored name number entries root origin) = took_first seen
+after_own seen (Stored name stored) = took_first seen
 after_own seen (Ended name code) = took_first seen
 after_own seen (Faulted name fault) = dropped (took_first seen)
 after_own seen (Cut name) = dropped seen
@@ -44,22 +44,24 @@ after_own seen (Nothing name) = seen
 after_own seen (Settled name writes) = seen
 after_own seen (Holds name cookie) = with_cookie seen cookie
 after_own seen (Wrote name code writes) = seen
+after_own seen (Clocked time) = seen
 after_own seen (Shown name entries) = seen
 
--- whose line it is
+-- whose line it is; the time is nobody's
 abbrev pub name_in : Told → List ℕ
 name_in (Wrote name code writes) = name
 name_in (Opened name persists writes) = name
 name_in (Refused name persists code) = name
 name_in (Sent name message) = name
 name_in (Taken name) = name
-name_in (Stored name number entries root origin) = name
+name_in (Stored name stored) = name
 name_in (Ended name code) = name
 name_in (Faulted name fault) = name
 name_in (Cut name) = name
 name_in (Nothing name) = name
 name_in (Settled name writes) = name
 name_in (Holds name cookie) = name
+name_in (Clocked time) = []
 name_in (Shown name entries) = name
 
 abbrev pub after_line : List ℕ → Seen → Told → Seen

@@ -2,12 +2,13 @@
 ghost use Rattle.std.specs.Prelude.{◌≡◌, Some};
 ghost use Rattle.cascade_world.specs.Exchange as spec;
 ghost use Rattle.cascade_world.specs.Exchange.{pair_of};
+ghost use Rattle.cascade_world.specs.Origins.{Lineage};
 ghost use Rattle.cascade_world.specs.Parts.{Does};
 
 use crate::Cause;
 use crate::node::Follower;
-use crate::report::{push_cut, push_nothing};
 use crate::source::Source;
+use crate::told::Telling;
 
 /// Whether a search of the consumer is open or runs, or its link holds a message.
 pub fn is_busy(follower: &Follower) -> bool
@@ -18,7 +19,8 @@ pub fn is_busy(follower: &Follower) -> bool
 
 /// Drops the search, and what the link and the stage hold.
 pub fn drop_all(provider: &mut Source, follower: &mut Follower)
-    ensures does { pair_of provider.new follower.new ≡ spec.given_up (pair_of provider.old follower.old) follower.old.consumer.copy }
+    ensures does { (lineage : Lineage) → pair_of provider.new follower.new lineage
+        ≡ spec.given_up (pair_of provider.old follower.old lineage) follower.old.consumer.copy }
     ensures directory { provider.new.directory ≡ provider.old.directory }
     ensures queue_limit { provider.new.queue_limit ≡ provider.old.queue_limit }
     ensures kind { provider.new.kind ≡ provider.old.kind }
@@ -32,18 +34,18 @@ pub fn drop_all(provider: &mut Source, follower: &mut Follower)
 }
 
 /// Cuts a busy consumer.
-pub fn cut(provider: &mut Source, follower: &mut Follower, out: &mut Vec<u8>) -> Result<(), Cause>
-    ensures does { Does (spec.cut (pair_of provider.old follower.old))
-        out.old.items (pair_of provider.new follower.new) out.new.items result }
+pub fn cut(provider: &mut Source, follower: &mut Follower, out: &mut Telling) -> Result<(), Cause>
+    ensures does { Does (spec.cut (pair_of provider.old follower.old out.old.lineage))
+        out.old (pair_of provider.new follower.new out.old.lineage) out.new result }
     ensures directory { provider.new.directory ≡ provider.old.directory }
     ensures queue_limit { provider.new.queue_limit ≡ provider.old.queue_limit }
     ensures kind { provider.new.kind ≡ provider.old.kind }
 {
     if !is_busy(follower) {
-        push_nothing(out, follower.name.as_slice())?;
+        out.nothing(follower.name.as_slice())?;
         return Ok(());
     }
     drop_all(provider, follower);
-    push_cut(out, follower.name.as_slice())?;
+    out.cut(follower.name.as_slice())?;
     Ok(())
 }

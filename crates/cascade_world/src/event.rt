@@ -12,6 +12,8 @@ pub enum Command {
     /// A consumer with its provider's name, what it wants, and whether it takes a whole copy where
     /// its cookie does not serve (the reloadHint of RFC 4533, section 2.2).
     Consumer(Octets, Octets, Spec, bool),
+    /// A replica: a consumer of the provider, whose copy is a directory that others can follow.
+    Replica(Octets, Octets, Spec, bool),
     /// The time of all nodes, in microseconds from the first moment of 1970 on.
     Clock(u64),
     /// A write to a provider.
@@ -32,6 +34,10 @@ pub enum Command {
     Lose(Octets),
     /// A consumer gets this text as its cookie.
     Cookie(Octets, Octets),
+    /// A consumer follows another provider from now on.
+    Repoint(Octets, Octets),
+    /// A consumer wants this from now on.
+    Respec(Octets, Spec),
     /// The session log of a provider keeps so many touches at most.
     Log(Octets, u64),
     /// The queue of each search of a provider holds so many messages at most, from the next write on.

@@ -18,13 +18,13 @@ pub enum Cause {
     BadRecord,
     /// The script has more bytes, lines or nodes than this, or a link more bytes.
     LimitReached(u64),
+    /// A consumer would follow itself, or a node that gets its content from it.
+    Circle,
     /// The base of a consumer is not at or below its provider's suffix.
     OutsideSuffix,
     /// A consumer is given a cookie of a node's history that is later than what it holds: the text
     /// that it holds, where it holds one, and the text that it is given.
     LaterCookie(Option<Octets>, Octets),
-    /// The command is of the language, but is not done yet.
-    NotYet,
     NoMemory,
 }
 

@@ -28,8 +28,6 @@ pub enum Heading {
     Whole(Command),
     /// A write to the provider of that name, whose record follows.
     Writes(Octets),
-    /// A command of the language that is not done yet.
-    Later,
 }
 
 /// What a line says.
@@ -69,7 +67,7 @@ fn said_by(alloc: Global, word: &[u8], rest: &[u8], line: u64) -> Result<Heading
     said_of_search(alloc, word, rest, line)
 }
 
-/// What a line says whose word is that of a search or its messages, or a later one.
+/// What a line says whose word is that of a search or its messages, or one of those behind them.
 #[tactic(auto, unfolding(crate::specs::Grammar::search_keywords))]
 fn said_of_search(
     alloc: Global,
@@ -189,9 +187,10 @@ fn consumer_line(alloc: Global, text: &[u8], line: u64) -> Result<Heading, Scrip
 fn replica_line(alloc: Global, text: &[u8], line: u64) -> Result<Heading, ScriptFault>
     ensures { Gives line saying_of result (spec.replica_line text.now) }
 {
-    let rest = following(alloc, text, line)?.rest;
-    reload_at(rest, line)?;
-    Ok(Heading::Later)
+    let found = following(alloc, text, line)?;
+    let reload = reload_at(found.rest, line)?;
+    let command = Command::Replica(found.name, found.source, found.spec, reload);
+    Ok(Heading::Whole(command))
 }
 
 #[tactic(auto, unfolding(crate::specs::Grammar::clock_line))]
@@ -223,15 +222,6 @@ fn show_line(alloc: Global, text: &[u8], line: u64) -> Result<Heading, ScriptFau
 {
     let name = node_name(alloc, text, line)?;
     Ok(Heading::Whole(Command::Show(name)))
-}
-
-/// `C`, of a command that is not done yet.
-#[tactic(auto, unfolding(crate::specs::Grammar::later_name, crate::specs::Words::node_name))]
-fn later_name(text: &[u8], line: u64) -> Result<Heading, ScriptFault>
-    ensures { Gives line saying_of result (spec.later_name text.now) }
-{
-    only_if(spells_node_name(text), line)?;
-    Ok(Heading::Later)
 }
 
 /// `C once`, or `C stay` for a search that goes on after its refresh.
@@ -336,8 +326,9 @@ fn cookie_line(alloc: Global, text: &[u8], line: u64) -> Result<Heading, ScriptF
 fn repoint_line(alloc: Global, text: &[u8], line: u64) -> Result<Heading, ScriptFault>
     ensures { Gives line saying_of result (spec.repoint_line text.now) }
 {
-    let (_, source) = named(alloc, text, line)?;
-    later_name(source, line)
+    let (name, source) = named(alloc, text, line)?;
+    let source = node_name(alloc, source, line)?;
+    Ok(Heading::Whole(Command::Repoint(name, source)))
 }
 
 /// `C SCOPE "BASE" "FILTER"`.
@@ -345,8 +336,8 @@ fn repoint_line(alloc: Global, text: &[u8], line: u64) -> Result<Heading, Script
 fn respec_line(alloc: Global, text: &[u8], line: u64) -> Result<Heading, ScriptFault>
     ensures { Gives line saying_of result (spec.respec_line text.now) }
 {
-    let (_, rest) = named(alloc, text, line)?;
-    let (_, rest) = search_in(alloc, rest, line)?;
+    let (name, rest) = named(alloc, text, line)?;
+    let (wanted, rest) = search_in(alloc, rest, line)?;
     at_end(rest, line)?;
-    Ok(Heading::Later)
+    Ok(Heading::Whole(Command::Respec(name, wanted)))
 }

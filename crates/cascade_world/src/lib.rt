@@ -4,6 +4,7 @@
 //! out goes into the consumer's link as bytes, and the consumer takes what these bytes spell.
 #![tactic(auto)]
 
+mod committing;
 mod cookies;
 mod cutting;
 mod event;
@@ -13,15 +14,20 @@ mod grammar;
 mod laws;
 mod lines;
 mod link;
+mod narrating;
+mod new_nodes;
 mod node;
+mod notes;
 mod opening;
 mod receiving;
+mod repointing;
 mod report;
 mod script;
 mod sending;
 mod settling;
 mod source;
 mod taking;
+mod told;
 mod words;
 mod world;
 

@@ -1,17 +1,52 @@
 //! The nodes of a script.
-ghost use Rattle.std.specs.Prelude.{◌≡◌, [], None, IfOk};
+ghost use Rattle.std.specs.Prelude.{◌≡◌, ◌<◌, [], None, IfOk};
+ghost use Rattle.entry_tree.specs.Selection.{search_of};
+ghost use Rattle.sync_provider.specs.Machine.{fresh};
+ghost use Rattle.cascade_world.specs.World.{is_offered};
 
 use crate::link::Link;
+use crate::notes::Notes;
 use crate::source::Source;
+use dn_names::Dn;
+use entry_tree::Spec;
 use ldap_ber::{NoMemory, Octets};
 use std::alloc::Global;
 use sync_consumer::Consumer;
+use sync_provider::Kind;
 
-/// A provider.
+/// The directory of a root or of a replica, and notes of a replica's commits.
 #[derive(Drop)]
-pub struct Root {
+pub struct Supplier {
     pub name: Octets,
     pub provider: Source,
+    pub notes: Notes,
+}
+
+impl Supplier {
+    /// A node without writes. Its number is that of its history.
+    pub fn new(
+        alloc: Global,
+        name: Octets,
+        suffix: Dn,
+        number: u16,
+        kind: Kind,
+    ) -> Result<Supplier, NoMemory>
+        requires { number < 4096 }
+        ensures { IfOk result (λ supplier. supplier ≡ record { name = name; provider = fresh suffix number number kind; notes = [] }) }
+    {
+        Ok(Supplier {
+            name,
+            provider: Source::new(alloc, suffix, number, kind)?,
+            notes: Notes::new(alloc),
+        })
+    }
+
+    /// Whether the base of what is wanted is at or below the suffix.
+    pub fn offers(&self, wanted: &Spec) -> bool
+        ensures { result ≡ is_offered (search_of wanted.now) self.now }
+    {
+        wanted.base.is_at_or_below(self.provider.suffix())
+    }
 }
 
 /// A consumer with its provider's name, its copy, its link, and the number of the search that is
@@ -38,6 +73,7 @@ impl Follower {
             search: None,
         }
     }
+
     /// A consumer that goes on as this one does.
     pub fn copy(&self, alloc: Global) -> Result<Follower, NoMemory>
         ensures { IfOk result (λ copy. copy ≡ self.now) }

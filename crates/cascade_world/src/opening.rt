@@ -13,9 +13,9 @@ ghost use Rattle.cascade_world.specs.Parts.{Does, Opens, Refuses, first_value};
 use crate::Cause;
 use crate::cutting::{cut, is_busy};
 use crate::node::Follower;
-use crate::report::{push_opened, push_refused};
 use crate::sending::discard;
 use crate::source::{MESSAGE_ID, Source};
+use crate::told::Telling;
 use entry_tree::Spec;
 use ldap_ber::{NoMemory, Octets};
 use ldap_messages::Message;
@@ -34,10 +34,10 @@ pub fn open_search(
     provider: &mut Source,
     follower: &mut Follower,
     mode: Mode,
-    out: &mut Vec<u8>,
+    out: &mut Telling,
 ) -> Result<(), Cause>
-    ensures does { Does (spec.opens mode (pair_of provider.old follower.old))
-        out.old.items (pair_of provider.new follower.new) out.new.items result }
+    ensures does { Does (spec.opens mode (pair_of provider.old follower.old out.old.lineage))
+        out.old (pair_of provider.new follower.new out.old.lineage) out.new result }
     ensures directory { provider.new.directory ≡ provider.old.directory }
     ensures queue_limit { provider.new.queue_limit ≡ provider.old.queue_limit }
     ensures kind { provider.new.kind ≡ provider.old.kind }
@@ -53,10 +53,10 @@ pub fn open_anew(
     alloc: Global,
     provider: &mut Source,
     follower: &mut Follower,
-    out: &mut Vec<u8>,
+    out: &mut Telling,
 ) -> Result<(), Cause>
-    ensures does { Does (spec.opens_anew (pair_of provider.old follower.old))
-        out.old.items (pair_of provider.new follower.new) out.new.items result }
+    ensures does { Does (spec.opens_anew (pair_of provider.old follower.old out.old.lineage))
+        out.old (pair_of provider.new follower.new out.old.lineage) out.new result }
     ensures directory { provider.new.directory ≡ provider.old.directory }
     ensures queue_limit { provider.new.queue_limit ≡ provider.old.queue_limit }
     ensures kind { provider.new.kind ≡ provider.old.kind }
@@ -72,10 +72,10 @@ fn ask_once(
     provider: &mut Source,
     follower: &mut Follower,
     mode: Mode,
-    out: &mut Vec<u8>,
+    out: &mut Telling,
 ) -> Result<(), Cause>
-    ensures does { Does (spec.opened_idle mode (pair_of provider.old follower.old))
-        out.old.items (pair_of provider.new follower.new) out.new.items result }
+    ensures does { Does (spec.opened_idle mode (pair_of provider.old follower.old out.old.lineage))
+        out.old (pair_of provider.new follower.new out.old.lineage) out.new result }
     ensures directory { provider.new.directory ≡ provider.old.directory }
     ensures queue_limit { provider.new.queue_limit ≡ provider.old.queue_limit }
     ensures kind { provider.new.kind ≡ provider.old.kind }
@@ -90,10 +90,10 @@ fn ask_again(
     alloc: Global,
     provider: &mut Source,
     follower: &mut Follower,
-    out: &mut Vec<u8>,
+    out: &mut Telling,
 ) -> Result<(), Cause>
-    ensures does { Does (spec.asked_again (pair_of provider.old follower.old))
-        out.old.items (pair_of provider.new follower.new) out.new.items result }
+    ensures does { Does (spec.asked_again (pair_of provider.old follower.old out.old.lineage))
+        out.old (pair_of provider.new follower.new out.old.lineage) out.new result }
     ensures directory { provider.new.directory ≡ provider.old.directory }
     ensures queue_limit { provider.new.queue_limit ≡ provider.old.queue_limit }
     ensures kind { provider.new.kind ≡ provider.old.kind }
@@ -106,13 +106,13 @@ fn ask_again(
 
 /// Cuts a consumer that is busy.
 #[tactic(auto, using(crate::proofs::Openings::idle_cut, crate::proofs::Cuts::idle_free))]
-fn cut_if_busy(
+pub fn cut_if_busy(
     provider: &mut Source,
     follower: &mut Follower,
-    out: &mut Vec<u8>,
+    out: &mut Telling,
 ) -> Result<(), Cause>
-    ensures does { Does (spec.idle (pair_of provider.old follower.old))
-        out.old.items (pair_of provider.new follower.new) out.new.items result }
+    ensures does { Does (spec.idle (pair_of provider.old follower.old out.old.lineage))
+        out.old (pair_of provider.new follower.new out.old.lineage) out.new result }
     ensures directory { provider.new.directory ≡ provider.old.directory }
     ensures queue_limit { provider.new.queue_limit ≡ provider.old.queue_limit }
     ensures kind { provider.new.kind ≡ provider.old.kind }
@@ -130,10 +130,10 @@ fn open_idle(
     provider: &mut Source,
     follower: &mut Follower,
     mode: Mode,
-    out: &mut Vec<u8>,
+    out: &mut Telling,
 ) -> Result<bool, Cause>
-    ensures does { Opens mode (pair_of provider.old follower.old)
-        out.old.items (pair_of provider.new follower.new) out.new.items result }
+    ensures does { Opens mode (pair_of provider.old follower.old out.old.lineage)
+        out.old (pair_of provider.new follower.new out.old.lineage) out.new result }
     ensures directory { provider.new.directory ≡ provider.old.directory }
     ensures queue_limit { provider.new.queue_limit ≡ provider.old.queue_limit }
     ensures kind { provider.new.kind ≡ provider.old.kind }
@@ -143,7 +143,7 @@ fn open_idle(
     match provider.accept(alloc, wanted, control) {
         Accepted::Opened(number, writes) => {
             follower.search = Some(number);
-            push_opened(alloc, out, follower.name.as_slice(), writes)?;
+            out.opened(alloc, follower.name.as_slice(), writes)?;
             Ok(false)
         }
         Accepted::Refused(code) => refuse(alloc, follower, code, out),
@@ -165,20 +165,19 @@ fn asked(alloc: Global, follower: &mut Follower, mode: Mode) -> Result<Octets, N
 
 /// Tells that a search is refused, which its consumer takes at once. True where the cookie does not
 /// serve.
-#[tactic(auto, using(crate::proofs::Openings::refuses))]
 fn refuse(
     alloc: Global,
     follower: &mut Follower,
     code: u32,
-    out: &mut Vec<u8>,
+    out: &mut Telling,
 ) -> Result<bool, Cause>
-    ensures { Refuses follower.old code out.old.items follower.new out.new.items result }
+    ensures { Refuses follower.old code out.old follower.new out.new result }
 {
     let done = done_message(alloc, MESSAGE_ID, code)?;
     let taken = take_whatever(&mut follower.consumer, &done);
     discard(done);
     taken?;
-    push_refused(alloc, out, follower.name.as_slice(), code)?;
+    out.refused(alloc, follower.name.as_slice(), code)?;
     Ok(code == REFRESH_REQUIRED)
 }
 
@@ -196,7 +195,8 @@ fn take_whatever(consumer: &mut Consumer, message: &Message) -> Result<(), NoMem
     }
 }
 
-fn copy_of(wanted: &Spec) -> Result<Spec, NoMemory>
+/// What is wanted, a second time.
+pub fn copy_of(wanted: &Spec) -> Result<Spec, NoMemory>
     ensures { IfOk result (λ copy. search_of copy ≡ search_of wanted.now) }
 {
     Ok(Spec {

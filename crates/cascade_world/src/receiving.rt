@@ -1,23 +1,25 @@
 //! Messages that a consumer takes from its link, as what their bytes spell.
-ghost use Rattle.std.specs.Prelude.{◌≡◌, ◌++◌, Some, option_map, IfOk, OnOk};
+ghost use Rattle.std.specs.Prelude.{◌≡◌, ◌∷◌, [], Some, option_map, IfOk, OnOk};
 ghost use Rattle.ldap_messages.specs.Whole.{whole_of};
 ghost use Rattle.cascade_world.specs.Exchange as spec;
 ghost use Rattle.cascade_world.specs.Hearing as hearing;
 ghost use Rattle.cascade_world.specs.Exchange.{pair_of};
+ghost use Rattle.sync_consumer.specs.Taking.{AreFit};
 ghost use Rattle.cascade_world.specs.Parts.{Does, TakesOne, Heard};
-ghost use Rattle.cascade_world.specs.Report as report;
+ghost use Rattle.cascade_world.specs.Telling.{said};
+ghost use Rattle.cascade_world.specs.Report.{Told as told};
 
 use crate::Cause;
 use crate::cutting::drop_all;
 use crate::node::Follower;
-use crate::report::{push_ended, push_fault, push_nothing, push_stored, push_taken};
 use crate::sending::discard;
 use crate::source::Source;
 use crate::taking::{BAD_MESSAGE, fault_name, stored_number};
+use crate::told::Telling;
 use ldap_ber::NoMemory;
 use ldap_messages::{Message, MessageFault};
 use std::alloc::{AllocError, Global};
-use sync_consumer::Taken;
+use sync_consumer::{Commit, Taken};
 
 /// Takes so many messages from the link, up to where it is empty.
 #[tactic(auto, using(crate::proofs::Loops::begins, crate::proofs::Loops::took_one, crate::proofs::Loops::took_none, crate::proofs::Loops::took_all, crate::proofs::Pending::taking_starves))]
@@ -26,10 +28,10 @@ pub fn take(
     provider: &mut Source,
     follower: &mut Follower,
     count: u64,
-    out: &mut Vec<u8>,
+    out: &mut Telling,
 ) -> Result<(), Cause>
-    ensures does { Does (spec.takes count (pair_of provider.old follower.old))
-        out.old.items (pair_of provider.new follower.new) out.new.items result }
+    ensures does { Does (spec.takes count (pair_of provider.old follower.old out.old.lineage))
+        out.old (pair_of provider.new follower.new out.old.lineage) out.new result }
     ensures directory { provider.new.directory ≡ provider.old.directory }
     ensures queue_limit { provider.new.queue_limit ≡ provider.old.queue_limit }
     ensures kind { provider.new.kind ≡ provider.old.kind }
@@ -37,7 +39,7 @@ pub fn take(
     let mut left = count;
     while left > 0 {
         if !take_one(alloc, provider, follower, out)? {
-            push_nothing(out, follower.name.as_slice())?;
+            out.nothing(follower.name.as_slice())?;
             return Ok(());
         }
         left -= 1;
@@ -51,10 +53,10 @@ pub fn take_one(
     alloc: Global,
     provider: &mut Source,
     follower: &mut Follower,
-    out: &mut Vec<u8>,
+    out: &mut Telling,
 ) -> Result<bool, Cause>
-    ensures does { TakesOne (pair_of provider.old follower.old) (spec.taking (pair_of provider.old follower.old))
-        out.old.items (pair_of provider.new follower.new) out.new.items result }
+    ensures does { TakesOne (pair_of provider.old follower.old out.old.lineage) (spec.taking (pair_of provider.old follower.old out.old.lineage))
+        out.old (pair_of provider.new follower.new out.old.lineage) out.new result }
     ensures directory { provider.new.directory ≡ provider.old.directory }
     ensures queue_limit { provider.new.queue_limit ≡ provider.old.queue_limit }
     ensures kind { provider.new.kind ≡ provider.old.kind }
@@ -86,10 +88,10 @@ fn take_found(
     provider: &mut Source,
     follower: &mut Follower,
     found: Option<Message>,
-    out: &mut Vec<u8>,
+    out: &mut Telling,
 ) -> Result<(), Cause>
-    ensures does { Heard (pair_of provider.old follower.old) (option_map whole_of found)
-        out.old.items (pair_of provider.new follower.new) out.new.items result }
+    ensures does { Heard (pair_of provider.old follower.old out.old.lineage) (option_map whole_of found)
+        out.old (pair_of provider.new follower.new out.old.lineage) out.new result }
     ensures directory { provider.new.directory ≡ provider.old.directory }
     ensures queue_limit { provider.new.queue_limit ≡ provider.old.queue_limit }
     ensures kind { provider.new.kind ≡ provider.old.kind }
@@ -114,29 +116,29 @@ fn take_message(
     provider: &mut Source,
     follower: &mut Follower,
     message: &Message,
-    out: &mut Vec<u8>,
+    out: &mut Telling,
 ) -> Result<(), Cause>
-    ensures does { Heard (pair_of provider.old follower.old) (Some (whole_of message.now))
-        out.old.items (pair_of provider.new follower.new) out.new.items result }
+    ensures does { Heard (pair_of provider.old follower.old out.old.lineage) (Some (whole_of message.now))
+        out.old (pair_of provider.new follower.new out.old.lineage) out.new result }
     ensures directory { provider.new.directory ≡ provider.old.directory }
     ensures queue_limit { provider.new.queue_limit ≡ provider.old.queue_limit }
     ensures kind { provider.new.kind ≡ provider.old.kind }
 {
     match follower.consumer.take(message) {
         Taken::Staged => {
-            push_taken(out, follower.name.as_slice())?;
+            out.taken(follower.name.as_slice())?;
             Ok(())
         }
         Taken::Copied(_) => {
-            push_taken(out, follower.name.as_slice())?;
+            out.taken(follower.name.as_slice())?;
             Ok(())
         }
-        Taken::Stored(_) => {
-            tell_stored(alloc, provider, follower, out)?;
+        Taken::Stored(commit) => {
+            tell_stored(alloc, provider, follower, commit, out)?;
             Ok(())
         }
         Taken::Over(code) => {
-            push_ended(alloc, out, follower.name.as_slice(), code)?;
+            out.ended(alloc, follower.name.as_slice(), code)?;
             Ok(())
         }
         Taken::Fault(fault) => {
@@ -147,18 +149,22 @@ fn take_message(
     }
 }
 
-/// Tells what a consumer holds, with the prefix of its provider's writes that its cookie names.
+/// Tells what a consumer holds now that a stage took effect, with the prefix of its provider's writes
+/// that its cookie names.
 fn tell_stored(
     alloc: Global,
     provider: &Source,
     follower: &Follower,
-    out: &mut Vec<u8>,
+    commit: Commit,
+    out: &mut Telling,
 ) -> Result<(), NoMemory>
-    ensures { OnOk result (out.new.items ≡ out.old.items
-        ++ report.line_of (spec.stored_told (pair_of provider.now follower.now) follower.now.consumer.copy)) }
+    requires { AreFit commit.puts }
+    ensures { OnOk result (out.new ≡ said out.old (spec.stored_told (pair_of provider.now follower.now out.old.lineage)
+        follower.now.consumer.copy (hearing.commit_told commit) ∷ [])) }
 {
     let number = stored_number(provider, follower.consumer.cookie());
-    push_stored(alloc, out, follower, number)
+    let origin = out.origin(provider.kind(), follower.consumer.spec(), number)?;
+    out.stored(alloc, follower, number, origin, commit)
 }
 
 /// Gives a search up for a fault: the search is dropped, and the link is emptied.
@@ -166,14 +172,15 @@ fn give_up(
     provider: &mut Source,
     follower: &mut Follower,
     fault: &[u8],
-    out: &mut Vec<u8>,
+    out: &mut Telling,
 ) -> Result<(), NoMemory>
-    ensures pair { pair_of provider.new follower.new ≡ spec.given_up (pair_of provider.old follower.old) follower.old.consumer.copy }
-    ensures line { OnOk result (out.new.items ≡ out.old.items ++ report.fault_line follower.old.name fault.now) }
+    ensures pair { pair_of provider.new follower.new out.old.lineage
+        ≡ spec.given_up (pair_of provider.old follower.old out.old.lineage) follower.old.consumer.copy }
+    ensures line { OnOk result (out.new ≡ said out.old (told.Faulted follower.old.name fault.now ∷ [])) }
     ensures directory { provider.new.directory ≡ provider.old.directory }
     ensures queue_limit { provider.new.queue_limit ≡ provider.old.queue_limit }
     ensures kind { provider.new.kind ≡ provider.old.kind }
 {
     drop_all(provider, follower);
-    push_fault(out, follower.name.as_slice(), fault)
+    out.faulted(follower.name.as_slice(), fault)
 }

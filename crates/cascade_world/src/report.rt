@@ -1,5 +1,5 @@
 //! The lines of a report.
-ghost use Rattle.std.specs.Prelude.{◌≡◌, ◌++◌, take, IfOk, OnOk};
+ghost use Rattle.std.specs.Prelude.{◌≡◌, ◌++◌, take, Some, IfOk, OnOk};
 ghost use Rattle.std.specs.Fmt.{decimal};
 ghost use Rattle.std.specs.String.{string_bytes};
 ghost use Rattle.hex.specs.Hex.{encode_lower};
@@ -8,6 +8,7 @@ ghost use Rattle.cascade_world.specs.Report as spec;
 
 use crate::NoMemory;
 use crate::node::Follower;
+use crate::notes::Origin;
 use entry_tree::Entry;
 use ldif_text::write_entry;
 use sha2::{Digest, Sha256};
@@ -153,20 +154,21 @@ pub fn push_taken(out: &mut Vec<u8>, name: &[u8]) -> Result<(), NoMemory>
     push_named(out, b"taken", name)
 }
 
-/// `stored C N entries E sha256 H origin P N`.
+/// `stored C N entries E sha256 H origin P M`.
 pub fn push_stored(
     alloc: Global,
     out: &mut Vec<u8>,
     follower: &Follower,
     number: u64,
+    origin: &Option<Origin>,
 ) -> Result<(), NoMemory>
     ensures { OnOk result (out.new.items ≡ out.old.items
-        ++ spec.stored_line follower.now.name number follower.now.consumer.copy.held follower.now.source number) }
+        ++ spec.stored_line follower.now.name number follower.now.consumer.copy.held origin.now) }
 {
     let entries = follower.consumer.entries().list();
     push_front(out, b"stored", follower.name.as_slice())?;
     push_content(alloc, out, number, entries)?;
-    push_origin(alloc, out, follower.source.as_slice(), number)
+    push_origin(alloc, out, origin)
 }
 
 /// ` N entries E sha256 H`.
@@ -188,16 +190,26 @@ fn push_content(
     out.extend_from_slice(digest.as_bytes())
 }
 
-/// ` origin P N`, and the end of the line.
-fn push_origin(alloc: Global, out: &mut Vec<u8>, root: &[u8], number: u64) -> Result<(), NoMemory>
-    ensures { OnOk result (out.new.items ≡ out.old.items ++ spec.origin_text root.now number) }
+/// ` origin P M`, or ` origin -` where none is known, and the end of the line.
+fn push_origin(alloc: Global, out: &mut Vec<u8>, origin: &Option<Origin>) -> Result<(), NoMemory>
+    ensures { OnOk result (out.new.items ≡ out.old.items ++ spec.origin_text origin.now) }
 {
     out.extend_from_slice(b" origin ")?;
-    out.extend_from_slice(root)?;
-    out.push(b' ')?;
-    push_number(alloc, out, number)?;
+    match origin {
+        Some(origin) => push_prefix(alloc, out, origin)?,
+        None => out.push(b'-')?,
+    }
     out.push(b'\n')?;
     Ok(())
+}
+
+/// `P M`.
+fn push_prefix(alloc: Global, out: &mut Vec<u8>, origin: &Origin) -> Result<(), NoMemory>
+    ensures { OnOk result (out.new.items ≡ out.old.items ++ spec.origin_name (Some origin.now)) }
+{
+    out.extend_from_slice(origin.root.as_slice())?;
+    out.push(b' ')?;
+    push_number(alloc, out, origin.number)
 }
 
 /// `ended C CODE`.

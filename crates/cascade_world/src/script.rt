@@ -148,10 +148,6 @@ fn rest_of(
     match heading {
         Heading::Whole(command) => Ok((command, place)),
         Heading::Writes(name) => write_at(alloc, bytes, place, limit, name),
-        Heading::Later => Err(ScriptFault {
-            line: place.number,
-            cause: Cause::NotYet,
-        }),
     }
 }
 

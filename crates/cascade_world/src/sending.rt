@@ -3,12 +3,13 @@ ghost use Rattle.std.specs.Prelude.{◌≡◌, Some, IfOk, IfSome};
 ghost use Rattle.ldap_messages.specs.Whole.{HasSpelling, whole_of, message_octets};
 ghost use Rattle.cascade_world.specs.Exchange as spec;
 ghost use Rattle.cascade_world.specs.Exchange.{pair_of};
+ghost use Rattle.cascade_world.specs.Origins.{Lineage};
 ghost use Rattle.cascade_world.specs.Parts.{Does, SendsOne, HandsOut, Links};
 
 use crate::Cause;
 use crate::node::Follower;
-use crate::report::{push_nothing, push_sent};
 use crate::source::Source;
+use crate::told::Telling;
 use ldap_messages::Message;
 use std::alloc::Global;
 use sync_provider::Handed;
@@ -20,10 +21,10 @@ pub fn send(
     provider: &mut Source,
     follower: &mut Follower,
     count: u64,
-    out: &mut Vec<u8>,
+    out: &mut Telling,
 ) -> Result<(), Cause>
-    ensures does { Does (spec.sent count (pair_of provider.old follower.old))
-        out.old.items (pair_of provider.new follower.new) out.new.items result }
+    ensures does { Does (spec.sent count (pair_of provider.old follower.old out.old.lineage))
+        out.old (pair_of provider.new follower.new out.old.lineage) out.new result }
     ensures directory { provider.new.directory ≡ provider.old.directory }
     ensures queue_limit { provider.new.queue_limit ≡ provider.old.queue_limit }
     ensures kind { provider.new.kind ≡ provider.old.kind }
@@ -31,7 +32,7 @@ pub fn send(
     let mut left = count;
     while left > 0 {
         if !send_one(alloc, provider, follower, out)? {
-            push_nothing(out, follower.name.as_slice())?;
+            out.nothing(follower.name.as_slice())?;
             return Ok(());
         }
         left -= 1;
@@ -40,15 +41,14 @@ pub fn send(
 }
 
 /// Hands out one message into the link. False where nothing is pending.
-#[tactic(auto, using(crate::proofs::Sendings::sends_one, crate::proofs::Sendings::rests, crate::proofs::Sendings::overflows))]
 pub fn send_one(
     alloc: Global,
     provider: &mut Source,
     follower: &mut Follower,
-    out: &mut Vec<u8>,
+    out: &mut Telling,
 ) -> Result<bool, Cause>
-    ensures does { SendsOne (pair_of provider.old follower.old) (spec.sending (pair_of provider.old follower.old))
-        out.old.items (pair_of provider.new follower.new) out.new.items result }
+    ensures does { SendsOne (pair_of provider.old follower.old out.old.lineage) (spec.sending (pair_of provider.old follower.old out.old.lineage))
+        out.old (pair_of provider.new follower.new out.old.lineage) out.new result }
     ensures directory { provider.new.directory ≡ provider.old.directory }
     ensures queue_limit { provider.new.queue_limit ≡ provider.old.queue_limit }
     ensures kind { provider.new.kind ≡ provider.old.kind }
@@ -70,8 +70,8 @@ fn next_message(
     provider: &mut Source,
     follower: &mut Follower,
 ) -> Result<Option<Message>, Cause>
-    ensures exact { HandsOut (pair_of provider.old follower.old) (spec.turn_of provider.old follower.old.search)
-        (pair_of provider.new follower.new) result }
+    ensures exact { (lineage : Lineage) → HandsOut (pair_of provider.old follower.old lineage)
+        (spec.turn_of provider.old follower.old.search) (pair_of provider.new follower.new lineage) result }
     ensures spelled { IfOk result (λ found. IfSome found (λ message. HasSpelling (whole_of message))) }
     ensures directory { provider.new.directory ≡ provider.old.directory }
     ensures queue_limit { provider.new.queue_limit ≡ provider.old.queue_limit }
@@ -97,14 +97,14 @@ fn put_into_link(
     alloc: Global,
     follower: &mut Follower,
     message: &Message,
-    out: &mut Vec<u8>,
+    out: &mut Telling,
 ) -> Result<(), Cause>
     requires { HasSpelling (whole_of message.now) }
     ensures { Links follower.old (message_octets (whole_of message.now))
-        out.old.items follower.new out.new.items result }
+        out.old follower.new out.new result }
 {
     let bytes = message.write(alloc)?;
-    push_sent(alloc, out, follower.name.as_slice(), bytes.as_slice())?;
+    out.sent(alloc, follower.name.as_slice(), bytes.as_slice())?;
     follower.link.push(bytes)
 }
 

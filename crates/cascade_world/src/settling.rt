@@ -3,15 +3,16 @@ ghost use Rattle.std.specs.Prelude.{◌≡◌};
 ghost use Rattle.sync_provider.specs.Machine.{ProviderState};
 ghost use Rattle.cascade_world.specs.Exchange as spec;
 ghost use Rattle.cascade_world.specs.Exchange.{pair_of};
+ghost use Rattle.cascade_world.specs.Origins.{Lineage};
 ghost use Rattle.cascade_world.specs.Parts.{Does};
 
 use crate::Cause;
 use crate::node::Follower;
 use crate::opening::open_anew;
 use crate::receiving::take_one;
-use crate::report::push_settled;
 use crate::sending::send_one;
 use crate::source::Source;
+use crate::told::Telling;
 use std::alloc::Global;
 
 /// Brings the consumer up to its provider: it takes what its link holds, and what the search that is
@@ -22,10 +23,10 @@ pub fn settle(
     alloc: Global,
     provider: &mut Source,
     follower: &mut Follower,
-    out: &mut Vec<u8>,
+    out: &mut Telling,
 ) -> Result<(), Cause>
-    ensures does { Does (spec.settles (pair_of provider.old follower.old))
-        out.old.items (pair_of provider.new follower.new) out.new.items result }
+    ensures does { Does (spec.settles (pair_of provider.old follower.old out.old.lineage))
+        out.old (pair_of provider.new follower.new out.old.lineage) out.new result }
     ensures directory { provider.new.directory ≡ provider.old.directory }
     ensures queue_limit { provider.new.queue_limit ≡ provider.old.queue_limit }
     ensures kind { provider.new.kind ≡ provider.old.kind }
@@ -33,7 +34,7 @@ pub fn settle(
     take_all(alloc, provider, follower, out)?;
     run_search(alloc, provider, follower, out)?;
     catch_up(alloc, provider, follower, out)?;
-    push_settled(alloc, out, follower.name.as_slice(), provider.writes())?;
+    out.settled(alloc, follower.name.as_slice(), provider.writes())?;
     Ok(())
 }
 
@@ -43,10 +44,10 @@ fn catch_up(
     alloc: Global,
     provider: &mut Source,
     follower: &mut Follower,
-    out: &mut Vec<u8>,
+    out: &mut Telling,
 ) -> Result<(), Cause>
-    ensures does { Does (spec.catches_up (pair_of provider.old follower.old))
-        out.old.items (pair_of provider.new follower.new) out.new.items result }
+    ensures does { Does (spec.catches_up (pair_of provider.old follower.old out.old.lineage))
+        out.old (pair_of provider.new follower.new out.old.lineage) out.new result }
     ensures directory { provider.new.directory ≡ provider.old.directory }
     ensures queue_limit { provider.new.queue_limit ≡ provider.old.queue_limit }
     ensures kind { provider.new.kind ≡ provider.old.kind }
@@ -63,10 +64,10 @@ fn refresh(
     alloc: Global,
     provider: &mut Source,
     follower: &mut Follower,
-    out: &mut Vec<u8>,
+    out: &mut Telling,
 ) -> Result<(), Cause>
-    ensures does { Does (spec.refreshes (pair_of provider.old follower.old))
-        out.old.items (pair_of provider.new follower.new) out.new.items result }
+    ensures does { Does (spec.refreshes (pair_of provider.old follower.old out.old.lineage))
+        out.old (pair_of provider.new follower.new out.old.lineage) out.new result }
     ensures directory { provider.new.directory ≡ provider.old.directory }
     ensures queue_limit { provider.new.queue_limit ≡ provider.old.queue_limit }
     ensures kind { provider.new.kind ≡ provider.old.kind }
@@ -77,7 +78,7 @@ fn refresh(
 
 /// Whether a persistent search of the consumer is open, and its refresh is done.
 fn follows_on(follower: &Follower) -> bool
-    ensures { (provider : ProviderState) → result ≡ spec.follows_on (pair_of provider follower.now) }
+    ensures { (provider : ProviderState) → (lineage : Lineage) → result ≡ spec.follows_on (pair_of provider follower.now lineage) }
 {
     follower.search.is_some() && follower.consumer.is_persisting()
 }
@@ -88,10 +89,10 @@ fn take_all(
     alloc: Global,
     provider: &mut Source,
     follower: &mut Follower,
-    out: &mut Vec<u8>,
+    out: &mut Telling,
 ) -> Result<(), Cause>
-    ensures does { Does (spec.drains (pair_of provider.old follower.old))
-        out.old.items (pair_of provider.new follower.new) out.new.items result }
+    ensures does { Does (spec.drains (pair_of provider.old follower.old out.old.lineage))
+        out.old (pair_of provider.new follower.new out.old.lineage) out.new result }
     ensures directory { provider.new.directory ≡ provider.old.directory }
     ensures queue_limit { provider.new.queue_limit ≡ provider.old.queue_limit }
     ensures kind { provider.new.kind ≡ provider.old.kind }
@@ -106,10 +107,10 @@ fn run_search(
     alloc: Global,
     provider: &mut Source,
     follower: &mut Follower,
-    out: &mut Vec<u8>,
+    out: &mut Telling,
 ) -> Result<(), Cause>
-    ensures does { Does (spec.runs (pair_of provider.old follower.old))
-        out.old.items (pair_of provider.new follower.new) out.new.items result }
+    ensures does { Does (spec.runs (pair_of provider.old follower.old out.old.lineage))
+        out.old (pair_of provider.new follower.new out.old.lineage) out.new result }
     ensures directory { provider.new.directory ≡ provider.old.directory }
     ensures queue_limit { provider.new.queue_limit ≡ provider.old.queue_limit }
     ensures kind { provider.new.kind ≡ provider.old.kind }

@@ -1,23 +1,29 @@
 //! A provider of a script.
-ghost use Rattle.std.specs.Prelude.{◌≡◌, ◌≢◌, ◌<◌, ◌^◌, true, false, length, is_some, IfOk, IfSome};
+ghost use Rattle.std.specs.Prelude.{◌≡◌, ◌≢◌, ◌<◌, ◌^◌, true, false, length, is_some, None, IfOk, IfErr, IfSome, OnOk, OnErr};
 ghost use Rattle.csn_cookie.specs.Csn as csns;
 ghost use Rattle.entry_tree.specs.Selection.{search_of};
-ghost use Rattle.entry_tree.specs.Sound.{is_commit, is_sound_op};
+ghost use Rattle.directory_writes.specs.Moment.{IsMomentOf, back_at};
+ghost use Rattle.entry_tree.specs.Fitting.{is_light};
+ghost use Rattle.entry_tree.specs.Sound.{is_commit, is_sound_op, is_sound_put};
+ghost use Rattle.std.specs.List.{list_all};
+ghost use Rattle.sync_provider.specs.Committing.{commit_refusal, Opposes};
 ghost use Rattle.sync_provider.specs.Accepting as accepting;
 ghost use Rattle.directory_writes.specs.Directory as directory;
 ghost use Rattle.sync_provider.specs.HandingOut as handing;
 ghost use Rattle.sync_provider.specs.Machine as machine;
-ghost use Rattle.sync_provider.specs.declared.provider.Kind.TheVariants as kind;
 ghost use Rattle.cascade_world.specs.Opening.{answer_to, after_accepted};
 ghost use Rattle.cascade_world.specs.Ours.{AreOurs, IsSpelled};
 
 use csn_cookie::Csn;
 use dn_names::Dn;
-use entry_tree::{Entry, Op, Spec};
+use entry_tree::{Entry, EntryList, Op, Spec};
 use ldap_ber::{NoMemory, Octets};
 use std::alloc::Global;
 use std::marker::Model;
-use sync_provider::{Accepted, Handed, Kind, OpenSearches, Provider, Reply, SyncSearch};
+use sync_messages::IdList;
+use sync_provider::{
+    Accepted, CommitFault, Handed, Kind, OpenSearches, Provider, ProviderMoment, Reply, SyncSearch,
+};
 
 /// The message ID of each message of a script.
 pub const MESSAGE_ID: u32 = 1;
@@ -32,7 +38,7 @@ impl Model for Source {
     ghost use Rattle.std.specs.Coded.{codes};
     ghost use Rattle.entry_tree.specs.FilterCode.{tree_code};
     ghost use Rattle.sync_provider.specs.Machine.{ProviderState};
-    ghost use Rattle.cascade_world.specs.Ours.{IsOurRoot};
+    ghost use Rattle.cascade_world.specs.Ours.{AreOurs};
 
     ghost Value = { ProviderState };
 
@@ -40,18 +46,25 @@ impl Model for Source {
 
     ghost view = { λ s. s.provider };
 
-    ghost invariant = { λ s. IsOurRoot s.provider };
+    ghost invariant = { λ s. AreOurs s.provider.searches };
 }
 
 impl Source {
-    /// A root without writes and searches. Its number is that of its history too.
-    pub fn new(alloc: Global, suffix: Dn, number: u16) -> Result<Source, NoMemory>
+    /// A provider without writes and searches. Its number is that of its history too.
+    pub fn new(alloc: Global, suffix: Dn, number: u16, kind: Kind) -> Result<Source, NoMemory>
         requires { number < 4096 }
-        ensures { IfOk result (λ source. source ≡ machine.fresh suffix number number kind.Root) }
+        ensures { IfOk result (λ source. source ≡ machine.fresh suffix number number kind) }
     {
         let history = u128::from(number);
-        let provider = Provider::new(alloc, suffix, number, history, Kind::Root)?;
+        let provider = Provider::new(alloc, suffix, number, history, kind)?;
         Ok(Source { provider })
+    }
+
+    /// Where its writes come from.
+    pub fn kind(&self) -> Kind
+        ensures { result ≡ self.now.kind }
+    {
+        self.provider.kind()
     }
 
     pub fn suffix(&self) -> &Dn
@@ -87,12 +100,52 @@ impl Source {
     pub fn write(&mut self, alloc: Global, op: Op, now: u64) -> Reply
         requires sound { is_sound_op op ≡ true }
         requires asked { is_commit op ≡ false }
-        ensures code { result.code ≢ 80 → result.code ≡ directory.write_code self.old.directory op now }
-        ensures state { result.code ≢ 80 → self.new ≡ machine.after_judged self.old (directory.judged self.old.directory op now) }
+        ensures code { result.code ≢ 80 → result.code ≡ machine.write_code self.old op now }
+        ensures state { result.code ≢ 80 → self.new ≡ machine.wrote self.old op now }
         ensures err { result.code ≡ 80 → self.new ≡ self.old }
         ensures number { result.number ≡ length self.new.directory.writes }
     {
         self.provider.write(alloc, op, now)
+    }
+
+    /// Adds one write that puts these entries and drops these identities, where the clock shows `now`.
+    #[tactic(auto, using(crate::proofs::Asked::committed_ours))]
+    pub fn commit(
+        &mut self,
+        alloc: Global,
+        puts: EntryList,
+        drops: IdList,
+        now: u64,
+    ) -> Result<u64, CommitFault>
+        requires sound { list_all is_sound_put puts ≡ true }
+        requires light { list_all is_light puts ≡ true }
+        ensures accepted { OnOk result (commit_refusal self.old.kind self.old.directory puts drops now ≡ None) }
+        ensures refused { IfErr result (Opposes (commit_refusal self.old.kind self.old.directory puts drops now)) }
+        ensures state { OnOk result (self.new ≡ machine.committed self.old puts drops now) }
+        ensures err { OnErr result (self.new ≡ self.old) }
+    {
+        self.provider.commit(alloc, puts, drops, now)
+    }
+
+    /// This moment.
+    pub fn moment(&self, alloc: Global) -> Result<ProviderMoment, NoMemory>
+        ensures directory { IfOk result (λ moment. IsMomentOf self.now.directory moment.directory) }
+        ensures searches { IfOk result (λ moment. moment.searches ≡ self.now.searches) }
+        ensures ours { IfOk result (λ moment. AreOurs moment.searches) }
+    {
+        self.provider.moment(alloc)
+    }
+
+    /// Returns to a moment since which only writes came.
+    pub fn return_to_moment(&mut self, moment: ProviderMoment)
+        requires moment { IsMomentOf (back_at moment.directory self.old.directory) moment.directory }
+        requires ours { AreOurs moment.searches }
+        ensures { self.new ≡ record self.old {
+          directory = back_at moment.directory self.old.directory;
+          searches = moment.searches;
+        } }
+    {
+        self.provider.return_to_moment(moment);
     }
 
     /// The session log keeps so many touches at most from now on.

@@ -51,11 +51,11 @@ pub struct Directory {
     suffix: Dn,
     sid: u16,
     history: u128,
-    accepted: Vec<Write>,
+    pub(crate) accepted: Vec<Write>,
     /// What the accepted writes weigh.
-    weight: u64,
-    stamps: CsnMaker,
-    held: Held,
+    pub(crate) weight: u64,
+    pub(crate) stamps: CsnMaker,
+    pub(crate) held: Held,
 }
 
 impl Model for Directory {

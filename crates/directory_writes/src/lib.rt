@@ -6,6 +6,7 @@
 mod commit;
 mod directory;
 mod held;
+mod moment;
 mod preview;
 mod start;
 mod touches;
@@ -14,5 +15,6 @@ mod weights;
 pub use commit::CommitFault;
 pub use directory::{ADMIN_LIMIT_EXCEEDED, Directory};
 pub use ldap_ber::NoMemory;
+pub use moment::DirectoryMoment;
 pub use preview::Preview;
 pub use start::Start;

@@ -43,6 +43,17 @@ impl Touches {
         }
     }
 
+    /// The same once more.
+    pub(crate) fn copy(&self, alloc: Global) -> Result<Touches, NoMemory>
+        ensures log { IfOk result (λ copy. copy.log ≡ self.now.log) }
+        ensures numbers { IfOk result (λ copy. copy.numbers ≡ self.now.numbers) }
+    {
+        Ok(Touches {
+            log: self.log.copy(alloc)?,
+            numbers: self.numbers.clone()?,
+        })
+    }
+
     /// Makes room for so many notes.
     pub(crate) fn make_room(&mut self, notes: usize) -> Result<(), NoMemory>
         ensures log { self.new.log ≡ self.old.log }

@@ -8,6 +8,7 @@ mod bytes;
 mod changing;
 mod checks;
 mod commit;
+mod copying;
 mod delete;
 mod edit;
 mod entry;

@@ -303,6 +303,13 @@ fn touched_since_first(directory: &Directory) -> Result<Vec<u128>, Fail> {
     }
 }
 
+/// Returns at once to the moment that was taken.
+fn return_at_once(alloc: Global, directory: &mut Directory) -> Result<(), NoMemory> {
+    let moment = directory.moment(alloc)?;
+    directory.return_to_moment(moment);
+    Ok(())
+}
+
 #[test]
 fn commits_are_kept_or_refused(rt: HostRuntime) -> Result<(), Fail> {
     let alloc = rt.alloc();
@@ -313,6 +320,7 @@ fn commits_are_kept_or_refused(rt: HostRuntime) -> Result<(), Fail> {
     for (puts, drops, outcome) in COMMITS {
         assert!(rt; commits(alloc, &mut directory, puts, drops, outcome)?);
     }
+    return_at_once(alloc, &mut directory)?;
     assert_eq!(rt; directory.accepted().len(), 5);
     assert_eq!(rt; directory.tree().len(), 2);
     let touched = touched_since_first(&directory)?;

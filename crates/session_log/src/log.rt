@@ -49,6 +49,21 @@ impl SessionLog {
         }
     }
 
+    /// A log that goes on as this one does.
+    pub fn copy(&self, alloc: Global) -> Result<SessionLog, NoMemory>
+        ensures { IfOk result (λ copy. copy.log ≡ self.now.log) }
+    {
+        let mut notes = VecDeque::new(alloc);
+        for note in &self.notes {
+            notes.push_back(*note)?;
+        }
+        Ok(SessionLog {
+            notes,
+            limit: self.limit,
+            floor: self.floor,
+        })
+    }
+
     /// Makes room for so many notes beyond those that are kept.
     pub fn reserve(&mut self, extra: usize) -> Result<(), NoMemory>
         ensures log { self.new.log ≡ self.old.log }

@@ -4,7 +4,7 @@ pub mod Fits
 pub mod Heeding
 pub mod Keyed
 pub mod Merging
-pub mod Naming
+pub mod Opposing
 pub mod Outcomes
 pub mod Phases
 pub mod Rising

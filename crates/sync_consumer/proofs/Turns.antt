@@ -1,7 +1,7 @@
 -- What one more element adds to what a loop made of a list so far.
-use Rattle.std.proofs.Common.{◌≡◌, ◌<◌, ℕ, zero, suc, Bool, true, false, cond, List, [], ◌∷◌, ◌++◌, Bor, length, map, reverse, take, get_or, Some, None, refl, sym, ap, ◌∙◌, arith}
+use Rattle.std.proofs.Common.{◌≡◌, ◌<◌, ℕ, zero, suc, Bool, true, false, cond, List, [], ◌∷◌, ◌++◌, length, map, reverse, take, get_or, Some, None, refl, sym, ap, ◌∙◌, arith}
 use Rattle.std.specs.List.{filter, find}
-use Rattle.std.proofs.lemmas.List.{map_push, reverse-append, reverse-reverse}
+use Rattle.std.proofs.lemmas.List.{map_push, reverse-append}
 use Rattle.entry_tree.specs.declared.entry.Entry.{Entry}
 use Rattle.entry_tree.specs.Touched.{identities}
 use Rattle.sync_model.specs.Copy.{puts_of, drops_of}
@@ -60,9 +60,6 @@ drops_more (Gone u ∷ stage) (suc i) s low is = ap (λ us. u ∷ us) (drops_mor
 
 -- ---- entries from the last one on
 
-pub noted_more : {A : Type 0} (entry : A → Entry) (xs : List A) (x : A) → reverse (map entry (xs ++ x ∷ [])) ≡ entry x ∷ reverse (map entry xs)
-noted_more entry xs x = ap reverse (map_push entry xs x) ∙ reverse-append (map entry xs) (entry x ∷ [])
-
 map-reverse : {A B : Type 0} (f : A → B) (xs : List A) → map f (reverse xs) ≡ reverse (map f xs)
 map-reverse f [] = refl
 map-reverse f (x ∷ xs) =
@@ -70,11 +67,3 @@ map-reverse f (x ∷ xs) =
     ∙ map_push f (reverse xs) x
     ∙ ap (λ ys. ys ++ f x ∷ []) (map-reverse f xs)
     ∙ sym (reverse-append (f x ∷ []) (map f xs))
-
-pub noted_all : {A : Type 0} (entry : A → Entry) (ys : List (Bor A)) (xs : List A) → map (λ (y : Bor A). y.now) ys ≡ reverse xs → reverse (map (λ (y : Bor A). entry y.now) ys) ≡ map entry xs
-noted_all {A} entry ys xs all =
-    ap reverse (each ys ∙ ap (map entry) all ∙ map-reverse entry xs) ∙ reverse-reverse (map entry xs)
-  where
-    each : (ys : List (Bor A)) → map (λ (y : Bor A). entry y.now) ys ≡ map entry (map (λ (y : Bor A). y.now) ys)
-    each [] = refl
-    each (y ∷ ys) = ap (λ es. entry y.now ∷ es) (each ys)

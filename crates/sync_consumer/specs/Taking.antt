@@ -4,6 +4,8 @@ use Rattle.std.specs.List.{list_all}
 use Rattle.entry_tree.specs.Fitting.{is_light}
 use Rattle.entry_tree.specs.Selection.{Search}
 use Rattle.entry_tree.specs.Sound.{is_sound_put}
+use Rattle.entry_tree.specs.declared.commit.CommitRefusal.{CommitRefusal}
+use Rattle.entry_tree.specs.declared.commit.CommitRefusal.TheVariants as opposing
 use Rattle.entry_tree.specs.declared.entry.Entry.{Entry}
 use Rattle.ldap_messages.specs.declared.message.Message.{Message}
 use Rattle.ldap_messages.specs.Whole.{Whole}
@@ -75,6 +77,13 @@ refusal_of hearing.BadValue = refusal.Fault peer.BadValue
 refusal_of (hearing.UuidDiffers uuid other) = refusal.Fault (peer.UuidDiffers uuid other)
 refusal_of (hearing.BadEntry code) = refusal.Fault (peer.BadEntry code)
 refusal_of hearing.NoMemory = refusal.NoMemory
+
+-- what is told of entries that a directory may not have
+abbrev pub refusal_against : CommitRefusal → Refusal
+refusal_against opposing.TooMany = refusal.Fault peer.StageFull
+refusal_against opposing.TooHeavy = refusal.Fault peer.StageFull
+refusal_against (opposing.SameName one other) = refusal.Fault (peer.DuplicateName one other)
+refusal_against opposing.NoMemory = refusal.NoMemory
 
 abbrev pub told_refusal : ℕ → Refusal → Taken
 told_refusal tag refusal.OutOfPlace = Fault (peer.OutOfPlace tag)

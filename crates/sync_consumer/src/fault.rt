@@ -1,9 +1,10 @@
 //! Why a message is refused.
 
 ghost use Rattle.std.specs.Prelude.{◌≡◌};
-ghost use Rattle.sync_consumer.specs.Taking.{refusal_of};
+ghost use Rattle.sync_consumer.specs.Taking.{refusal_of, refusal_against};
 ghost use Rattle.sync_consumer.specs.declared.fault.Refusal.TheVariants.{NoMemory};
 
+use entry_tree::CommitRefusal;
 use std::alloc::AllocError;
 use sync_wire::HearingFault;
 
@@ -56,6 +57,22 @@ impl From<HearingFault> for Refusal {
             }
             HearingFault::BadEntry(code) => Refusal::Fault(PeerFault::BadEntry(code)),
             HearingFault::NoMemory => Refusal::NoMemory,
+        }
+    }
+}
+
+impl From<CommitRefusal> for Refusal {
+    ghost from_gives = { λ found refusal. refusal ≡ refusal_against found };
+
+    fn from(found: CommitRefusal) -> Refusal {
+        match found {
+            CommitRefusal::TooMany | CommitRefusal::TooHeavy => {
+                Refusal::Fault(PeerFault::StageFull)
+            }
+            CommitRefusal::SameName(one, other) => {
+                Refusal::Fault(PeerFault::DuplicateName(one, other))
+            }
+            CommitRefusal::NoMemory => Refusal::NoMemory,
         }
     }
 }

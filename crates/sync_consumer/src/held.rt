@@ -10,10 +10,10 @@ ghost use Rattle.sync_consumer.specs.Taking.{told_commit};
 use crate::commit::Commit;
 use crate::entry_map::EntryMap;
 use crate::fault::Refusal;
-use crate::limits::check_entries;
 use crate::merge::effected;
 use crate::named::Named;
 use crate::stage::Stage;
+use entry_tree::check_held;
 use ldap_ber::{NoMemory, Octets};
 use std::alloc::Global;
 
@@ -70,7 +70,8 @@ impl Held {
         Ok(commit)
     }
 
-    /// How many entries there would be with the stage in effect, where they may be held.
+    /// How many entries there would be with the stage in effect, where a directory may have them.
+    #[tactic(auto, using(crate::proofs::Opposing::opposed, crate::proofs::Opposing::unopposed))]
     fn checked_len(&self, stage: &Stage) -> Result<usize, Refusal>
         ensures len { IfOk result (λ len. len ≡ length (model.effected self.now.entries stage.now)) }
         ensures within { OnOk result (against (model.effected self.now.entries stage.now) ≡ None) }
@@ -78,7 +79,7 @@ impl Held {
     {
         let alloc = self.entries.allocator();
         let after = effected(alloc, self.entries.list(), stage.changes())?;
-        check_entries(alloc, &after)?;
+        check_held(alloc, &after)?;
         Ok(after.len())
     }
 

@@ -12,7 +12,6 @@ mod consumer;
 mod entry_map;
 mod fault;
 mod held;
-mod limits;
 mod merge;
 mod named;
 mod phase;

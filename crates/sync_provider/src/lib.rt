@@ -20,6 +20,7 @@ mod gathering;
 mod handed;
 mod later;
 mod laws;
+mod moment;
 mod open_search;
 mod open_searches;
 mod parts;
@@ -39,6 +40,7 @@ pub use laws::{
     searches_tell_their_streams, writes_were_accepted,
 };
 pub use ldap_ber::NoMemory;
+pub use moment::ProviderMoment;
 pub use open_search::OpenSearch;
 pub use open_searches::OpenSearches;
 pub use provider::{Kind, Provider};

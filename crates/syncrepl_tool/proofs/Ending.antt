@@ -8,7 +8,7 @@ use Rattle.std.specs.Io.KnownBytes.{Keeps, IsAtEnd}
 use Rattle.std.specs.Prelude.{IfSome, nat_lt}
 use Rattle.sync_io.specs.Faults.{Rose}
 use Rattle.cascade_world.specs.declared.fault.Cause.{Cause}
-use Rattle.cascade_world.specs.declared.fault.Cause.TheVariants.{BadCommand, UnknownNode, NameTaken, BadRecord, LimitReached, OutsideSuffix, LaterCookie, NotYet, NoMemory}
+use Rattle.cascade_world.specs.declared.fault.Cause.TheVariants.{BadCommand, UnknownNode, NameTaken, BadRecord, LimitReached, OutsideSuffix, LaterCookie, Circle, NoMemory}
 use Rattle.cascade_world.specs.Lines.{kept_bytes, most_bytes, most_lines, text_lines, up_to_last, has_more, limit_passed}
 use Rattle.cascade_world.specs.Reader.{Reader, reader_of}
 use Rattle.cascade_world.specs.Run.{IsScript}
@@ -36,17 +36,8 @@ front_kept {script} {a} {b} f c k = record {
 report_kept : {script : Reader} {a b : Option (List ℕ)} {end : State} {rest : Reader} → WritesReport script a b end rest → (c : Option (List ℕ)) → Keeps b c → WritesReport script a c end rest
 report_kept {script} {a} {b} w c k = record { orders = w.orders; report = w.report; run = w.run; right = w.right; traced = w.traced; written = Appends-kept a b c _ w.written k }
 
-pub whole_kept : {script : Reader} {a b : Option (List ℕ)} {end : State} → WritesWhole script a b end → (c : Option (List ℕ)) → Keeps b c → WritesWhole script a c end
-whole_kept w c k = record { rest = w.rest; report = report_kept w.report c k; ended = w.ended }
-
 pub up_to_kept : {script : Reader} {a b : Option (List ℕ)} {end : State} {line : ℕ} {cause : Cause} → WritesUpTo script a b end line cause → (c : Option (List ℕ)) → Keeps b c → WritesUpTo script a c end line cause
 up_to_kept w c k = record { rest = w.rest; report = report_kept w.report c k; refusal = w.refusal }
-
-pub rose_before : (a b c : ℕ) → a ≤ b → Rose b c → Rose a c
-rose_before a b c l r = omega arith
-
-pub rose_after : (a b c : ℕ) → b ≤ c → Rose a b → Rose a c
-rose_after a b c l r = omega arith
 
 -- ---- the script of a text that was read is that of the bytes that were left
 
@@ -168,7 +159,7 @@ status_is BadRecord = inl refl
 status_is (LimitReached number) = inr refl
 status_is OutsideSuffix = inl refl
 status_is (LaterCookie held given) = inl refl
-status_is NotYet = inl refl
+status_is Circle = inl refl
 status_is NoMemory = inl refl
 
 pub refused_ends : {script : Reader} {a b : Option (List ℕ)} {end : State} (before now : ℕ) {unsaid said : Option (List ℕ)} {f t code line : ℕ} {cause : Cause}

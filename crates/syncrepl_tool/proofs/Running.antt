@@ -6,7 +6,7 @@ use Rattle.std.specs.Io.KnownBytes.{Appends}
 use Rattle.std.specs.Prelude.{Result, Ok, Err}
 use Rattle.sync_io.specs.Sink.{AppendsFront}
 use Rattle.cascade_world.specs.declared.fault.Cause.{Cause}
-use Rattle.cascade_world.specs.declared.fault.Cause.TheVariants.{NoMemory, BadCommand, UnknownNode, NameTaken, BadRecord, LimitReached, OutsideSuffix, LaterCookie, NotYet}
+use Rattle.cascade_world.specs.declared.fault.Cause.TheVariants.{NoMemory, BadCommand, UnknownNode, NameTaken, BadRecord, LimitReached, OutsideSuffix, LaterCookie, Circle}
 use Rattle.cascade_world.specs.declared.fault.ScriptFault.{ScriptFault}
 use Rattle.cascade_world.specs.Fault.{fault_at, RefusedAt}
 use Rattle.cascade_world.specs.Orders.{Order}
@@ -107,7 +107,7 @@ refused_reading n line BadRecord known h = h
 refused_reading n line (LimitReached number) known h = h
 refused_reading n line OutsideSuffix known h = h
 refused_reading n line (LaterCookie held given) known h = h
-refused_reading n line NotYet known h = h
+refused_reading n line Circle known h = h
 refused_reading n line NoMemory known h = absurd (known refl)
 
 -- a refusal in reading
@@ -123,7 +123,7 @@ refused_answer line at BadRecord answer known h = h
 refused_answer line at (LimitReached number) answer known h = h
 refused_answer line at OutsideSuffix answer known h = h
 refused_answer line at (LaterCookie held given) answer known h = h
-refused_answer line at NotYet answer known h = h
+refused_answer line at Circle answer known h = h
 refused_answer line at NoMemory answer known h = absurd (known refl)
 
 -- a refusal by the nodes

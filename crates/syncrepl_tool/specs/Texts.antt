@@ -3,7 +3,7 @@ use Rattle.std.specs.Prelude.{ℕ, Option, Some, None, List, ◌++◌, codes}
 use Rattle.std.specs.Fmt.{decimal}
 use Rattle.std.specs.Io.KnownBytes.{Appends}
 use Rattle.cascade_world.specs.declared.fault.Cause.{Cause}
-use Rattle.cascade_world.specs.declared.fault.Cause.TheVariants.{BadCommand, UnknownNode, NameTaken, BadRecord, LimitReached, OutsideSuffix, LaterCookie, NotYet, NoMemory}
+use Rattle.cascade_world.specs.declared.fault.Cause.TheVariants.{BadCommand, UnknownNode, NameTaken, BadRecord, LimitReached, OutsideSuffix, LaterCookie, Circle, NoMemory}
 use Rattle.sync_io.specs.Faults.{Rose}
 use Rattle.sync_io.specs.Sink.{AppendsFront}
 
@@ -38,7 +38,7 @@ cause_text BadRecord = codes "BadRecord"
 cause_text (LimitReached number) = limit_text number
 cause_text OutsideSuffix = codes "OutsideSuffix"
 cause_text (LaterCookie held given) = later_cookie_text held given
-cause_text NotYet = codes "NotYet"
+cause_text Circle = codes "Circle"
 cause_text NoMemory = codes "NoMemory"
 
 -- the place of a refusal and its cause

@@ -2,6 +2,8 @@
 #![tactic(auto)]
 
 #[cfg(test)]
+mod cascade_tests;
+#[cfg(test)]
 mod cookie_tests;
 #[cfg(test)]
 mod link_tests;

@@ -255,9 +255,9 @@ fn cause_text(alloc: Global, cause: &Cause) -> Result<Vec<u8>, NoMemory>
         Cause::NameTaken => b"NameTaken".to_vec(alloc),
         Cause::BadRecord => b"BadRecord".to_vec(alloc),
         Cause::LimitReached(number) => limit_text(alloc, *number),
+        Cause::Circle => b"Circle".to_vec(alloc),
         Cause::OutsideSuffix => b"OutsideSuffix".to_vec(alloc),
         Cause::LaterCookie(held, given) => later_cookie_text(alloc, held, given),
-        Cause::NotYet => b"NotYet".to_vec(alloc),
         Cause::NoMemory => b"NoMemory".to_vec(alloc),
     }
 }

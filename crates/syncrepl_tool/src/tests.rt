@@ -519,8 +519,10 @@ queue p 1000001 => BadCommand
 repoint c => BadCommand
 respec c sub \"dc=x\" => BadCommand
 respec c sub \"dc=x\" \"(cn=)(\" => BadCommand
-replica r from p sub \"dc=x\" \"(objectClass=*)\" => NotYet
-replica r from p sub \"dc=x\" \"(objectClass=*)\" reload => NotYet
+replica r from p sub \"dc=x\" \"(objectClass=*)\" now => BadCommand
+replica r of p sub \"dc=x\" \"(objectClass=*)\" => BadCommand
+repoint c p p => BadCommand
+respec c sub \"dc=x\" \"(cn=a)\" reload => BadCommand
 consumer d from p sub \"dc=x\" \"(objectClass=*)\" reload now => BadCommand
 send c 1000001 => BadCommand
 send c 01 => BadCommand
@@ -547,8 +549,14 @@ cookie nobody \"\" => UnknownNode
 cookie p \"\" => UnknownNode
 cookie c rid=000 => BadCommand
 cookie c \"\"\" => BadCommand
-repoint c p => NotYet
-respec c one \"dc=x\" \"(cn=a)\" => NotYet
+repoint p p => UnknownNode
+repoint c c => UnknownNode
+repoint c q => UnknownNode
+repoint q p => UnknownNode
+respec p one \"dc=x\" \"(cn=a)\" => UnknownNode
+respec q one \"dc=y\" \"(cn=a)\" => UnknownNode
+respec c one \"dc=y\" \"(cn=a)\" => OutsideSuffix
+respec c one \"\" \"(cn=a)\" => OutsideSuffix
 log c 0 => UnknownNode
 log nobody 0 => UnknownNode
 log p 1000001 => BadCommand
@@ -567,7 +575,14 @@ provider p \"dc=z\" => NameTaken
 provider c \"dc=z\" => NameTaken
 consumer p from q sub \"dc=x\" \"(objectClass=*)\" => NameTaken
 consumer d from p sub \"dc=y\" \"(objectClass=*)\" => OutsideSuffix
-consumer d from p sub \"\" \"(objectClass=*)\" => OutsideSuffix";
+consumer d from p sub \"\" \"(objectClass=*)\" => OutsideSuffix
+replica p from q sub \"dc=x\" \"(objectClass=*)\" => NameTaken
+replica c from p sub \"dc=x\" \"(objectClass=*)\" => NameTaken
+replica r from q sub \"dc=x\" \"(objectClass=*)\" => UnknownNode
+replica r from c sub \"dc=x\" \"(objectClass=*)\" => UnknownNode
+replica r from r sub \"dc=x\" \"(objectClass=*)\" => UnknownNode
+replica r from p sub \"dc=y\" \"(objectClass=*)\" => OutsideSuffix
+replica r from p sub \"\" \"(objectClass=*)\" reload => OutsideSuffix";
 
 /// Each line is refused, and what stands before it is done and told.
 #[test]

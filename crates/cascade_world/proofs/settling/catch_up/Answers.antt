@@ -4,9 +4,9 @@ use Rattle.cascade_world.proofs.settling.catch_up.Goals as goal
 
 pub returns-then-follows_on-clause-does : goal.returns-then-follows_on-clause-does
 returns-then-follows_on-clause-does c =
-    followed (pair_of c.args.provider.now c.args.follower.now) c.args.out.now.items c.follows_on.result (c.follows_on.ensures c.args.provider.now) c.if-follows_on.true
+    followed (pair_of c.args.provider.now c.args.follower.now c.args.out.now.lineage) c.args.out.now c.follows_on.result (c.follows_on.ensures c.args.provider.now c.args.out.now.lineage) c.if-follows_on.true
 
 pub returns-clause-does : goal.returns-clause-does
 returns-clause-does c =
-    not_followed (pair_of c.args.provider.now c.args.follower.now) (pair_of c.refresh.new.provider c.refresh.new.follower) c.args.out.now.items c.refresh.new.out.items c.follows_on.result c.refresh.result
-    (c.follows_on.ensures c.args.provider.now) c.if-follows_on.false c.refresh.ensures.does
+    not_followed (pair_of c.args.provider.now c.args.follower.now c.args.out.now.lineage) (pair_of c.refresh.new.provider c.refresh.new.follower c.args.out.now.lineage) c.args.out.now c.refresh.new.out c.follows_on.result c.refresh.result
+    (c.follows_on.ensures c.args.provider.now c.args.out.now.lineage) c.if-follows_on.false c.refresh.ensures.does

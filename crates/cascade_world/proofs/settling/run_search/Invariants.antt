@@ -6,11 +6,11 @@ use Rattle.cascade_world.proofs.settling.run_search.Given as goal
 -- what the search still has pending is left
 abbrev pub invariant-loop-provider : goal.invariant-loop-provider
 invariant-loop-provider l = record {
-  left : Runs (runs (pair_of l.fn.provider l.fn.follower)) (pair_of l.provider l.follower) l.fn.out.items l.out.items;
+  left : Runs (runs (pair_of l.fn.provider l.fn.follower l.fn.out.lineage)) (pair_of l.provider l.follower l.fn.out.lineage) l.fn.out l.out;
   directory : l.provider.directory ≡ l.fn.provider.directory;
   queue_limit : l.provider.queue_limit ≡ l.fn.provider.queue_limit;
   kind : l.provider.kind ≡ l.fn.provider.kind;
 }
 
 abbrev pub decreases-loop-provider : goal.decreases-loop-provider
-decreases-loop-provider l = left_to_send (pair_of l.provider l.follower) l.follower.search
+decreases-loop-provider l = left_to_send (pair_of l.provider l.follower l.fn.out.lineage) l.follower.search

@@ -1,4 +1,3 @@
-use Rattle.std.proofs.Common.{inl, inr}
 use Rattle.std.proofs.lemmas.Result.{IfOk-weaker}
 use Rattle.syncrepl_tool.proofs.Ending.{front_kept, up_to_kept, refused_ends}
 use Rattle.syncrepl_tool.proofs.run.run_text.Goals as goal

@@ -6,10 +6,10 @@ use Rattle.cascade_world.proofs.world.World.places.Goals as goal
 pub returns-in_default-clause-fault : goal.returns-in_default-clause-fault
 returns-in_default-clause-fault c = (refl, no_follower c.args.self.now c.args.name.now (sym c.in_default.ensures))
 
-pub returns-in-Some-root_place-clause-ok : goal.returns-in-Some-root_place-clause-ok
-returns-in-Some-root_place-clause-ok c =
+pub returns-in-Some-supplier_place-clause-ok : goal.returns-in-Some-supplier_place-clause-ok
+returns-in-Some-supplier_place-clause-ok c =
     let is = c.index.ensures ∙ ap (λ (s : State). get_or s.followers c.in-Some.follower c.index.result.now) c.self.view_is in
-    are_places c.args.self.now c.args.name.now c.in-Some-root_place.root c.in-Some.follower c.index.result.now (sym c.in-Some.ensures) is (sym c.in-Some-root_place.ensures)
+    are_places c.args.self.now c.args.name.now c.in-Some-supplier_place.supplier c.in-Some.follower c.index.result.now (sym c.in-Some.ensures) is (sym c.in-Some-supplier_place.ensures)
 
 pub returns-in-None-clause-fault : goal.returns-in-None-clause-fault
 returns-in-None-clause-fault c =

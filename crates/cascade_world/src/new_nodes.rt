@@ -1,0 +1,109 @@
+//! Declarations of nodes.
+ghost use Rattle.std.specs.Prelude.{◌≡◌, ◌+◌, ◌<◌, ◌≤◌, [], OnErr, IfOk, IfErr, Ok, Err};
+ghost use Rattle.entry_tree.specs.Selection.{search_of};
+ghost use Rattle.cascade_world.specs.Cookies.{most_nodes};
+ghost use Rattle.cascade_world.specs.Orders.{Order as order};
+ghost use Rattle.cascade_world.specs.World as spec;
+ghost use Rattle.cascade_world.specs.World.{Does};
+
+use crate::Cause;
+use crate::cookies::MOST_NODES;
+use crate::node::{Follower, Supplier};
+use crate::world::{Lines, World, no_lines};
+use dn_names::Dn;
+use entry_tree::Spec;
+use ldap_ber::Octets;
+use sync_consumer::Consumer;
+use sync_provider::Kind;
+
+impl World {
+    /// The number of the next node, where there is room for one.
+    fn next_number(&self) -> Result<u16, Cause>
+        ensures ok { IfOk result (λ number. (number ≡ self.now.nodes + 1) × (self.now.nodes < most_nodes)) }
+        ensures fault { IfErr result (λ cause. (cause ≡ Cause.LimitReached most_nodes) × (most_nodes ≤ self.now.nodes)) }
+    {
+        if usize::from(self.nodes) >= MOST_NODES {
+            return Err(Cause::LimitReached(MOST_NODES as u64));
+        }
+        Ok(self.nodes + 1)
+    }
+
+    /// Declares a root.
+    pub(crate) fn declare_root(&mut self, name: Octets, suffix: Dn) -> Result<Lines, Cause>
+        ensures steps { Does (spec.step self.old (order.Provider name suffix)) self.new result }
+        ensures err { OnErr result (self.new ≡ self.old) }
+    {
+        if self.has_node(&name) {
+            return Err(Cause::NameTaken);
+        }
+        let number = self.next_number()?;
+        let root = Supplier::new(self.alloc, name, suffix, number, Kind::Root)?;
+        self.suppliers.push(root)?;
+        self.nodes = number;
+        Ok(no_lines(self.alloc))
+    }
+
+    /// Whether a name is free, its provider is there and offers what is wanted, and there is room for
+    /// a node. The answer is its number.
+    #[tactic(auto, using(crate::proofs::Declaring::taken, crate::proofs::Declaring::no_source, crate::proofs::Declaring::outside, crate::proofs::Declaring::no_room, crate::proofs::Declaring::followed))]
+    fn next_follower(&self, name: &Octets, source: &Octets, wanted: &Spec) -> Result<u16, Cause>
+        ensures ok { IfOk result (λ number. (number ≡ self.now.nodes + 1) × (self.now.nodes < most_nodes)
+            × ((after : spec.State) → spec.declare_follower self.now name.now source.now (search_of wanted.now) after ≡ Ok (after, []))) }
+        ensures fault { IfErr result (λ cause.
+            (after : spec.State) → spec.declare_follower self.now name.now source.now (search_of wanted.now) after ≡ Err cause) }
+    {
+        if self.has_node(name) {
+            return Err(Cause::NameTaken);
+        }
+        let Some(place) = self.supplier_place(source) else {
+            return Err(Cause::UnknownNode);
+        };
+        if !self.suppliers[place].offers(wanted) {
+            return Err(Cause::OutsideSuffix);
+        }
+        self.next_number()
+    }
+
+    /// Declares a consumer of a provider.
+    pub(crate) fn declare_consumer(
+        &mut self,
+        name: Octets,
+        source: Octets,
+        wanted: Spec,
+        reload: bool,
+    ) -> Result<Lines, Cause>
+        ensures steps { Does (spec.step self.old (order.Consumer name source (search_of wanted) reload)) self.new result }
+        ensures err { OnErr result (self.new ≡ self.old) }
+    {
+        let number = self.next_follower(&name, &source, &wanted)?;
+        let consumer = Consumer::new(self.alloc, wanted, reload)?;
+        let follower = Follower::new(self.alloc, name, source, consumer);
+        self.followers.push(follower)?;
+        self.nodes = number;
+        Ok(no_lines(self.alloc))
+    }
+
+    /// Declares a replica: a consumer of a provider, and a directory with the empty suffix, which
+    /// holds what the consumer takes.
+    pub(crate) fn declare_replica(
+        &mut self,
+        name: Octets,
+        source: Octets,
+        wanted: Spec,
+        reload: bool,
+    ) -> Result<Lines, Cause>
+        ensures steps { Does (spec.step self.old (order.Replica name source (search_of wanted) reload)) self.new result }
+        ensures err { OnErr result (self.new ≡ self.old) }
+    {
+        let number = self.next_follower(&name, &source, &wanted)?;
+        let suffix = Dn::empty(self.alloc);
+        let own = Supplier::new(self.alloc, name.copy()?, suffix, number, Kind::Replica)?;
+        let consumer = Consumer::new(self.alloc, wanted, reload)?;
+        let follower = Follower::new(self.alloc, name, source, consumer);
+        self.suppliers.reserve(1)?;
+        self.followers.push(follower)?;
+        self.suppliers.push_reserved(own);
+        self.nodes = number;
+        Ok(no_lines(self.alloc))
+    }
+}

@@ -1,0 +1,124 @@
+//! Consumers that follow another provider, or want something else.
+ghost use Rattle.std.specs.Prelude.{◌≡◌, OnErr, IfOk};
+ghost use Rattle.std.specs.Option.{option_copied};
+ghost use Rattle.entry_tree.specs.Selection.{search_of};
+ghost use Rattle.cascade_world.specs.Exchange as exchange;
+ghost use Rattle.cascade_world.specs.Exchange.{pair_of};
+ghost use Rattle.cascade_world.specs.Nodes as nodes;
+ghost use Rattle.cascade_world.specs.Orders.{Order as order};
+ghost use Rattle.cascade_world.specs.Parts as parts;
+ghost use Rattle.cascade_world.specs.World as spec;
+ghost use Rattle.cascade_world.specs.World.{Does};
+
+use crate::Cause;
+use crate::exchange::Exchange;
+use crate::node::Follower;
+use crate::opening::cut_if_busy;
+use crate::source::Source;
+use crate::told::Telling;
+use crate::world::{Lines, World};
+use entry_tree::Spec;
+use ldap_ber::{NoMemory, Octets};
+
+impl World {
+    /// A consumer follows another provider from now on: a busy one is cut, and keeps its cookie and
+    /// its entries.
+    pub(crate) fn repoint(&mut self, name: Octets, source: Octets) -> Result<Lines, Cause>
+        ensures steps { Does (spec.step self.old (order.Repoint name source)) self.new result }
+        ensures err { OnErr result (self.new ≡ self.old) }
+    {
+        let Some(follower) = self.follower_place(&name) else {
+            return Err(Cause::UnknownNode);
+        };
+        let Some(supplier) = self.supplier_place(&source) else {
+            return Err(Cause::UnknownNode);
+        };
+        if self.is_fed(&name, &source) {
+            return Err(Cause::Circle);
+        }
+        if !self.suppliers[supplier].offers(self.followers[follower].consumer.spec()) {
+            return Err(Cause::OutsideSuffix);
+        }
+        let lines = self.exchange(name, Exchange::Idle)?;
+        self.followers[follower].source = source;
+        Ok(lines)
+    }
+
+    /// A consumer wants this from now on: a busy one is cut, loses its cookie, and keeps its entries.
+    pub(crate) fn respec(&mut self, name: Octets, wanted: Spec) -> Result<Lines, Cause>
+        ensures steps { Does (spec.step self.old (order.Respec name (search_of wanted))) self.new result }
+        ensures err { OnErr result (self.new ≡ self.old) }
+    {
+        let (supplier, _) = self.places(&name)?;
+        if !self.suppliers[supplier].offers(&wanted) {
+            return Err(Cause::OutsideSuffix);
+        }
+        self.exchange(name, Exchange::Want(wanted))
+    }
+
+    /// The place of the name that the node of this name follows.
+    #[tactic(auto, using(crate::proofs::Upwards::source_at, crate::proofs::Upwards::source_nowhere))]
+    fn source_of(&self, name: &Octets) -> Option<&Octets>
+        ensures { option_copied result ≡ nodes.source_of self.now.followers name.now }
+    {
+        match self.follower_place(name) {
+            Some(place) => Some(&self.followers[place].source),
+            None => None,
+        }
+    }
+
+    /// Whether the node is the other one, or gets its content from it, directly or not.
+    #[tactic(auto, using(crate::proofs::Upwards::fed_here, crate::proofs::Upwards::fed_nowhere, crate::proofs::Upwards::fed_up))]
+    fn is_fed(&self, other: &Octets, name: &Octets) -> bool
+        ensures { result ≡ spec.is_fed self.now other.now name.now }
+    {
+        let mut at = name;
+        let mut left = self.followers.len();
+        while left > 0 {
+            if *at == *other {
+                return true;
+            }
+            match self.source_of(at) {
+                Some(source) => at = source,
+                None => return false,
+            }
+            left -= 1;
+        }
+        *at == *other
+    }
+
+    /// The root at the top of the providers of this node.
+    #[tactic(auto, using(crate::proofs::Upwards::top_is, crate::proofs::Upwards::top_up))]
+    pub(crate) fn top_of(&self, name: &Octets) -> Result<Octets, NoMemory>
+        ensures { IfOk result (λ top. top ≡ spec.top_of self.now name.now) }
+    {
+        let mut at = name;
+        let mut left = self.followers.len();
+        while left > 0 {
+            match self.source_of(at) {
+                Some(source) => at = source,
+                None => return at.copy(),
+            }
+            left -= 1;
+        }
+        at.copy()
+    }
+}
+
+/// A busy consumer is cut, and wants this from now on.
+pub fn want(
+    provider: &mut Source,
+    follower: &mut Follower,
+    wanted: Spec,
+    out: &mut Telling,
+) -> Result<(), Cause>
+    ensures does { parts.Does (exchange.respecs (search_of wanted) (pair_of provider.old follower.old out.old.lineage))
+        out.old (pair_of provider.new follower.new out.old.lineage) out.new result }
+    ensures directory { provider.new.directory ≡ provider.old.directory }
+    ensures queue_limit { provider.new.queue_limit ≡ provider.old.queue_limit }
+    ensures kind { provider.new.kind ≡ provider.old.kind }
+{
+    cut_if_busy(provider, follower, out)?;
+    follower.consumer.respec(wanted);
+    Ok(())
+}

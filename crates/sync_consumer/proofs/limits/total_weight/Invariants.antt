@@ -1,7 +1,0 @@
-use Rattle.std.proofs.Common.{◌≡◌, ◌-◌, ◌^◌, min, map, take}
-use Rattle.entry_tree.specs.State.{total_weight}
-use Rattle.sync_consumer.proofs.limits.total_weight.Given as goal
-
--- the entries so far are weighed
-abbrev pub invariant-loop-entry : goal.invariant-loop-entry
-invariant-loop-entry l = l.total ≡ min (total_weight (map (λ e. e.now) (take l.entry-index l.entries))) (2 ^ 64 - 1)
