@@ -7,8 +7,8 @@ use Rattle.std.proofs.Math.ListN.{length-set}
 use Rattle.std.proofs.lemmas.Option.{slice_get-get_or}
 use Rattle.sync_provider.specs.Machine.{ProviderState}
 use Rattle.cascade_world.specs.declared.exchange.Performed.{Performed}
-use Rattle.cascade_world.specs.declared.fault.Cause.{Cause}
-use Rattle.cascade_world.specs.declared.fault.Cause.TheVariants.{NoMemory}
+use Rattle.cascade_script.specs.declared.fault.Cause.{Cause}
+use Rattle.cascade_script.specs.declared.fault.Cause.TheVariants.{NoMemory}
 use Rattle.cascade_world.specs.declared.node.Supplier.{Supplier}
 use Rattle.cascade_world.specs.declared.node.Follower.{Follower}
 use Rattle.cascade_world.specs.Commits.{Leaves}

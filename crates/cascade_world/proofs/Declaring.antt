@@ -7,7 +7,7 @@ use Rattle.entry_tree.specs.Selection.{Search}
 use Rattle.sync_consumer.specs.Taking.{Following, nothing}
 use Rattle.sync_provider.specs.Machine.{fresh}
 use Rattle.sync_provider.specs.declared.provider.Kind.TheVariants.{Replica}
-use Rattle.cascade_world.specs.declared.fault.Cause.TheVariants.{NameTaken, UnknownNode, OutsideSuffix, LimitReached}
+use Rattle.cascade_script.specs.declared.fault.Cause.TheVariants.{NameTaken, UnknownNode, OutsideSuffix, LimitReached}
 use Rattle.cascade_world.specs.declared.node.Supplier.{Supplier}
 use Rattle.cascade_world.specs.declared.node.Follower.{Follower}
 use Rattle.cascade_world.specs.Cookies.{most_nodes}

@@ -8,7 +8,7 @@ use Rattle.sync_provider.specs.Machine.{ProviderState}
 use Rattle.cascade_world.specs.declared.node.Supplier.{Supplier}
 use Rattle.cascade_world.specs.declared.node.Follower.{Follower}
 use Rattle.cascade_world.specs.World.{is_supplier, is_follower, first_changed, with_follower, with_provider, with_supplier}
-use Rattle.cascade_world.proofs.Traces.{same_name, itself, or_parts, pointed_at}
+use Rattle.cascade_world.proofs.SameNames.{same_name, itself, or_parts, pointed_at}
 
 -- ---- any list
 

@@ -4,8 +4,8 @@ use Rattle.std.specs.Prelude.{Ok, Err, Result}
 use Rattle.entry_tree.specs.Selection.{Search}
 use Rattle.sync_consumer.specs.Taking.{Following, wanting}
 use Rattle.sync_provider.specs.Machine.{ProviderState}
-use Rattle.cascade_world.specs.declared.fault.Cause.{Cause}
-use Rattle.cascade_world.specs.declared.fault.Cause.TheVariants.{BadCommand, UnknownNode, NameTaken, BadRecord, LimitReached, OutsideSuffix, LaterCookie, Circle, NoMemory}
+use Rattle.cascade_script.specs.declared.fault.Cause.{Cause}
+use Rattle.cascade_script.specs.declared.fault.Cause.TheVariants.{BadCommand, UnknownNode, NameTaken, BadRecord, LimitReached, OutsideSuffix, LaterCookie, Circle, NoMemory}
 use Rattle.cascade_world.specs.declared.node.Follower.{Follower}
 use Rattle.cascade_world.specs.Cookies.{is_later}
 use Rattle.cascade_world.specs.Exchange.{pair_of, with_text, holding, lost, given, wanted}

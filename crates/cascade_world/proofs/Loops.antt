@@ -3,7 +3,7 @@ use Rattle.std.proofs.Common.{◌≡◌, ◌+◌, ◌-◌, ◌<◌, ◌≤◌, �
 use Rattle.std.specs.Prelude.{Ok, Err, Result}
 use Rattle.sync_provider.specs.Machine.{ProviderState}
 use Rattle.cascade_world.specs.declared.node.Follower.{Follower}
-use Rattle.cascade_world.specs.declared.fault.Cause.{Cause}
+use Rattle.cascade_script.specs.declared.fault.Cause.{Cause}
 use Rattle.cascade_world.specs.Exchange.{Pair, Outcome, pair_of, after_lines, name_of, copy_of, sending, sent_before, sent, taken_as, taken_from, taking, taken_before, taken_some, takes, drains}
 use Rattle.cascade_world.specs.Exchange.Sending.{Sends}
 use Rattle.cascade_world.specs.Going.{GoesOn, Drains}

@@ -7,7 +7,7 @@ use Rattle.entry_tree.specs.Selection.{Search}
 use Rattle.sync_provider.specs.Committing.{commit_refusal}
 use Rattle.sync_provider.specs.declared.writing.CommitFault.{CommitFault}
 use Rattle.sync_provider.specs.declared.writing.CommitFault.TheVariants as fault
-use Rattle.cascade_world.specs.declared.fault.Cause.{Cause}
+use Rattle.cascade_script.specs.declared.fault.Cause.{Cause}
 use Rattle.cascade_world.specs.declared.node.Supplier.{Supplier}
 use Rattle.cascade_world.specs.declared.node.Follower.{Follower}
 use Rattle.cascade_world.specs.Commits.{commits_by, commits, commits_after, commits_all}

@@ -10,8 +10,8 @@ use Rattle.sync_provider.specs.HandingOut.Turn.{Hands, Closes, Waits, Unknown}
 use Rattle.sync_provider.specs.Machine.{ProviderState}
 use Rattle.sync_provider.specs.Search.{SearchState, busy_end, pending}
 use Rattle.directory_writes.proofs.Keyed.{put_on-same}
-use Rattle.cascade_world.specs.declared.fault.Cause.{Cause}
-use Rattle.cascade_world.specs.declared.fault.Cause.TheVariants.{BadCommand, UnknownNode, NameTaken, BadRecord, LimitReached, OutsideSuffix, LaterCookie, Circle, NoMemory}
+use Rattle.cascade_script.specs.declared.fault.Cause.{Cause}
+use Rattle.cascade_script.specs.declared.fault.Cause.TheVariants.{BadCommand, UnknownNode, NameTaken, BadRecord, LimitReached, OutsideSuffix, LaterCookie, Circle, NoMemory}
 use Rattle.cascade_world.specs.declared.node.Follower.{Follower}
 use Rattle.cascade_world.specs.Exchange.{Pair, pair_of, Outcome, after_lines, name_of, copy_of, fits, linked, Sending, turn_of, handed, sends, sending_by, sending, taken_as, taken_from, taking, taken_before, taken_some, pending_count, left_to_send, ran_before, ran_some, runs}
 use Rattle.cascade_world.specs.Exchange.Sending.{Sends, Rests, Overflows}

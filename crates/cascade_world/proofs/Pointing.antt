@@ -8,8 +8,8 @@ use Rattle.std.proofs.lemmas.Slice.Eq.{bytes_eq-Decides}
 use Rattle.entry_tree.specs.Selection.{Search}
 use Rattle.cascade_world.specs.declared.exchange.Exchange.{Exchange}
 use Rattle.cascade_world.specs.declared.exchange.Exchange.TheVariants as goes
-use Rattle.cascade_world.specs.declared.fault.Cause.{Cause}
-use Rattle.cascade_world.specs.declared.fault.Cause.TheVariants.{BadCommand, UnknownNode, NameTaken, BadRecord, LimitReached, OutsideSuffix, LaterCookie, Circle, NoMemory}
+use Rattle.cascade_script.specs.declared.fault.Cause.{Cause}
+use Rattle.cascade_script.specs.declared.fault.Cause.TheVariants.{BadCommand, UnknownNode, NameTaken, BadRecord, LimitReached, OutsideSuffix, LaterCookie, Circle, NoMemory}
 use Rattle.cascade_world.specs.declared.node.Supplier.{Supplier}
 use Rattle.cascade_world.specs.declared.node.Follower.{Follower}
 use Rattle.cascade_world.specs.Commits.{commits_all}
@@ -21,7 +21,7 @@ use Rattle.cascade_world.proofs.AtPlaces.{element}
 use Rattle.cascade_world.proofs.Finding.{length-first_changed}
 use Rattle.cascade_world.proofs.Names.{NamedIn, part_named}
 use Rattle.cascade_world.proofs.Places.{position_is, found_at, found_nowhere, changed_at}
-use Rattle.cascade_world.proofs.Traces.{found_name}
+use Rattle.cascade_world.proofs.SameNames.{found_name}
 
 -- ---- what an order for another provider comes to
 

@@ -1,7 +1,7 @@
 -- A consumer that is brought up to its provider, part by part.
 use Rattle.std.proofs.Common.{◌≡◌, Bool, true, false, [], ◌∷◌, length, refl, sym, subst, ◌∙◌}
 use Rattle.std.specs.Prelude.{Ok, Err, Result}
-use Rattle.cascade_world.specs.declared.fault.Cause.{Cause}
+use Rattle.cascade_script.specs.declared.fault.Cause.{Cause}
 use Rattle.sync_provider.specs.Machine.{ProviderState}
 use Rattle.cascade_world.specs.declared.node.Follower.{Follower}
 use Rattle.cascade_world.specs.Exchange.{Pair, Outcome, pair_of, and_then, name_of, drains, runs, follows_on, refreshes, catches_up, settled_told, settles}

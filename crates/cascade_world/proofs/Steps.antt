@@ -5,15 +5,15 @@ use Rattle.std.proofs.lemmas.Option.{slice_get-get_or}
 use Rattle.std.proofs.lemmas.List.{set-get_or}
 use Rattle.schema_rules.specs.declared.raw.Change.{Change}
 use Rattle.sync_provider.specs.Machine.{ProviderState, log_limited, queue_limited}
-use Rattle.cascade_world.specs.declared.fault.Cause.{Cause}
-use Rattle.cascade_world.specs.declared.fault.Cause.TheVariants.{BadCommand, UnknownNode, NameTaken, BadRecord, LimitReached, OutsideSuffix, LaterCookie, Circle, NoMemory}
+use Rattle.cascade_script.specs.declared.fault.Cause.{Cause}
+use Rattle.cascade_script.specs.declared.fault.Cause.TheVariants.{BadCommand, UnknownNode, NameTaken, BadRecord, LimitReached, OutsideSuffix, LaterCookie, Circle, NoMemory}
 use Rattle.cascade_world.specs.declared.node.Supplier.{Supplier}
 use Rattle.cascade_world.specs.declared.node.Follower.{Follower}
 use Rattle.cascade_world.specs.declared.exchange.Exchange.{Exchange}
 use Rattle.cascade_world.specs.declared.exchange.Performed.{Performed}
 use Rattle.cascade_world.specs.Exchange.{Pair, Outcome, pair_of, part_of}
 use Rattle.cascade_world.specs.Commits.{Leaves}
-use Rattle.cascade_world.specs.Fault.{RefusedAt}
+use Rattle.cascade_script.specs.Fault.{RefusedAt}
 use Rattle.cascade_world.specs.Parts.{Performs}
 use Rattle.cascade_world.specs.Origins.{Lineage}
 use Rattle.cascade_world.specs.Places.{ArePlaces, placed, PerformsAt, Writes}
@@ -22,7 +22,7 @@ use Rattle.cascade_world.specs.World.{State, Step, Does, IsStep, is_supplier, is
 use Rattle.cascade_world.proofs.Names.{SameNames, NamedIn, part_named}
 use Rattle.cascade_world.proofs.Owns.{commits_none}
 use Rattle.cascade_world.proofs.Places.{position_is, found_at, found_nowhere, changed_at}
-use Rattle.cascade_world.proofs.Traces.{found_name}
+use Rattle.cascade_world.proofs.SameNames.{found_name}
 
 -- ---- places
 

@@ -23,8 +23,8 @@ use Rattle.sync_provider.specs.Machine.{ProviderState, handed_out, dropped}
 use Rattle.sync_provider.specs.Search.{SearchState, pending}
 use Rattle.sync_provider.specs.declared.searches.Accepted.{Accepted}
 use Rattle.sync_provider.specs.declared.searches.Accepted.TheVariants as accepted
-use Rattle.cascade_world.specs.declared.fault.Cause.{Cause}
-use Rattle.cascade_world.specs.declared.fault.Cause.TheVariants.{LaterCookie, LimitReached}
+use Rattle.cascade_script.specs.declared.fault.Cause.{Cause}
+use Rattle.cascade_script.specs.declared.fault.Cause.TheVariants.{LaterCookie, LimitReached}
 use Rattle.cascade_world.specs.declared.exchange.Exchange.{Exchange}
 use Rattle.cascade_world.specs.declared.exchange.Exchange.TheVariants as goes
 use Rattle.cascade_world.specs.declared.node.Follower.{Follower}

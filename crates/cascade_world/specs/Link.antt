@@ -1,7 +1,7 @@
 -- What a link may hold.
 use Rattle.std.specs.Prelude.{◌≡◌, ℕ, ◌<◌, List, length, sum_by}
-use Rattle.cascade_world.specs.declared.fault.Cause.{Cause}
-use Rattle.cascade_world.specs.declared.fault.Cause.TheVariants.{LimitReached, NoMemory}
+use Rattle.cascade_script.specs.declared.fault.Cause.{Cause}
+use Rattle.cascade_script.specs.declared.fault.Cause.TheVariants.{LimitReached, NoMemory}
 
 -- the most bytes of a link
 abbrev pub most_link : ℕ

@@ -1,8 +1,8 @@
 -- What the parts of an event answer, and the lines that they put behind those before them.
 use Rattle.std.specs.Prelude.{◌≡◌, ◌==◌, ℕ, Bool, true, false, Option, Some, None, Result, Ok, Err, List, [], ◌∷◌}
 use Rattle.sync_messages.specs.declared.request.Mode.{Mode}
-use Rattle.cascade_world.specs.declared.fault.Cause.{Cause}
-use Rattle.cascade_world.specs.declared.fault.Cause.TheVariants.{LaterCookie, LimitReached, NoMemory}
+use Rattle.cascade_script.specs.declared.fault.Cause.{Cause}
+use Rattle.cascade_script.specs.declared.fault.Cause.TheVariants.{LaterCookie, LimitReached, NoMemory}
 use Rattle.ldap_messages.specs.Whole.{Whole, whole_of}
 use Rattle.ldap_messages.specs.declared.message.Message.{Message}
 use Rattle.sync_provider.specs.HandingOut.{Turn}

@@ -2,8 +2,8 @@
 use Rattle.std.specs.Prelude.{◌≡◌, ℕ, Some, position, List, [], ◌∷◌, length, Result, Ok, Err, IfOk, set, slice_get}
 use Rattle.schema_rules.specs.declared.raw.Change.{Change}
 use Rattle.sync_provider.specs.Machine.{ProviderState}
-use Rattle.cascade_world.specs.declared.fault.Cause.{Cause}
-use Rattle.cascade_world.specs.declared.fault.Cause.TheVariants.{NoMemory}
+use Rattle.cascade_script.specs.declared.fault.Cause.{Cause}
+use Rattle.cascade_script.specs.declared.fault.Cause.TheVariants.{NoMemory}
 use Rattle.cascade_world.specs.declared.node.Supplier.{Supplier}
 use Rattle.cascade_world.specs.declared.node.Follower.{Follower}
 use Rattle.cascade_world.specs.declared.exchange.Performed.{Performed}

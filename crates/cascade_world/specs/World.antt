@@ -11,20 +11,20 @@ use Rattle.directory_writes.specs.Directory.{entries_of}
 use Rattle.sync_provider.specs.Machine.{ProviderState, fresh, log_limited, queue_limited}
 use Rattle.sync_provider.specs.declared.provider.Kind.{Kind}
 use Rattle.sync_provider.specs.declared.provider.Kind.TheVariants.{Root, Replica}
-use Rattle.cascade_world.specs.declared.fault.ScriptFault.{ScriptFault}
-use Rattle.cascade_world.specs.declared.fault.Cause.{Cause}
-use Rattle.cascade_world.specs.declared.fault.Cause.TheVariants.{NameTaken, UnknownNode, Circle, OutsideSuffix, LimitReached, NoMemory}
+use Rattle.cascade_script.specs.declared.fault.ScriptFault.{ScriptFault}
+use Rattle.cascade_script.specs.declared.fault.Cause.{Cause}
+use Rattle.cascade_script.specs.declared.fault.Cause.TheVariants.{NameTaken, UnknownNode, Circle, OutsideSuffix, LimitReached, NoMemory}
 use Rattle.cascade_world.specs.declared.node.Supplier.{Supplier}
 use Rattle.cascade_world.specs.declared.node.Follower.{Follower}
 use Rattle.cascade_world.specs.Cookies.{most_nodes}
 use Rattle.cascade_world.specs.Commits.{commits_all}
 use Rattle.cascade_world.specs.Directory.{change_code, wrote_change}
 use Rattle.cascade_world.specs.Exchange.{Pair, Outcome, sent, takes, cut, idle, opens, settles, lost, given, respecs}
-use Rattle.cascade_world.specs.Fault.{RefusedAt}
+use Rattle.cascade_script.specs.Fault.{RefusedAt}
 use Rattle.cascade_world.specs.Nodes.{is_fed_within, top_within}
 pub use Rattle.cascade_world.specs.Nodes.{is_supplier, is_follower}
-use Rattle.cascade_world.specs.Orders.{Order}
-use Rattle.cascade_world.specs.Orders.{Order as asks}
+use Rattle.cascade_script.specs.Orders.{Order}
+use Rattle.cascade_script.specs.Orders.{Order as asks}
 use Rattle.cascade_world.specs.Origins.{Lineage}
 use Rattle.cascade_world.specs.Report.{Stage, Told, lines_text, stages_of}
 use Rattle.cascade_world.specs.Report.Told.{Wrote, Clocked, Shown}

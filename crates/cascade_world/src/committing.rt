@@ -7,12 +7,12 @@ ghost use Rattle.cascade_world.specs.Commits.{HasGrown, Leaves};
 ghost use Rattle.cascade_world.specs.Ours.{AreOurs};
 ghost use Rattle.cascade_world.specs.World as world;
 
-use crate::Cause;
 use crate::node::Supplier;
 use crate::notes::Note;
 use crate::opening::copy_of;
 use crate::told::Stage;
 use crate::world::World;
+use cascade_script::Cause;
 use entry_tree::Spec;
 use ldap_ber::NoMemory;
 use std::alloc::Global;

@@ -5,8 +5,8 @@ ghost use Rattle.cascade_world.specs.Cookies as spec;
 ghost use Rattle.cascade_world.specs.Exchange.{with_text};
 ghost use Rattle.cascade_world.specs.Parts.{Gives};
 
-use crate::Cause;
 use crate::node::Follower;
+use cascade_script::Cause;
 use csn_cookie::Cookie;
 use ldap_ber::{NoMemory, Octets};
 use std::alloc::Global;

@@ -5,10 +5,10 @@ ghost use Rattle.cascade_world.specs.Exchange.{pair_of};
 ghost use Rattle.cascade_world.specs.Origins.{Lineage};
 ghost use Rattle.cascade_world.specs.Parts.{Does};
 
-use crate::Cause;
 use crate::node::Follower;
 use crate::source::Source;
 use crate::told::Telling;
+use cascade_script::Cause;
 
 /// Whether a search of the consumer is open or runs, or its link holds a message.
 pub fn is_busy(follower: &Follower) -> bool

@@ -8,7 +8,6 @@ ghost use Rattle.cascade_world.specs.Places.{PerformsAt};
 ghost use Rattle.cascade_world.specs.World as spec;
 ghost use Rattle.cascade_world.specs.World.{Does};
 
-use crate::Cause;
 use crate::cookies::{give, lose};
 use crate::cutting::cut;
 use crate::node::{Follower, Supplier};
@@ -20,6 +19,7 @@ use crate::settling::settle;
 use crate::source::Source;
 use crate::told::{Stage, Telling};
 use crate::world::{Lines, World};
+use cascade_script::Cause;
 use entry_tree::Spec;
 use ldap_ber::{NoMemory, Octets};
 use std::alloc::Global;

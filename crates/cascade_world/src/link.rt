@@ -2,7 +2,7 @@
 ghost use Rattle.std.specs.Prelude.{◌≡◌, ◌+◌, ◌≤◌, ◌∷◌, ◌++◌, [], ◌==◌, length, IfOk, IfSome, IfNone, IfErr, OnOk, OnErr};
 ghost use Rattle.cascade_world.specs.Link.{link_size, most_link, RefusesLink};
 
-use crate::Cause;
+use cascade_script::Cause;
 use ldap_ber::{NoMemory, Octets};
 use std::alloc::Global;
 use std::collections::VecDeque;

@@ -2,14 +2,14 @@
 ghost use Rattle.std.specs.Prelude.{◌≡◌, ◌+◌, ◌<◌, ◌≤◌, [], OnErr, IfOk, IfErr, Ok, Err};
 ghost use Rattle.entry_tree.specs.Selection.{search_of};
 ghost use Rattle.cascade_world.specs.Cookies.{most_nodes};
-ghost use Rattle.cascade_world.specs.Orders.{Order as order};
+ghost use Rattle.cascade_script.specs.Orders.{Order as order};
 ghost use Rattle.cascade_world.specs.World as spec;
 ghost use Rattle.cascade_world.specs.World.{Does};
 
-use crate::Cause;
 use crate::cookies::MOST_NODES;
 use crate::node::{Follower, Supplier};
 use crate::world::{Lines, World, no_lines};
+use cascade_script::Cause;
 use dn_names::Dn;
 use entry_tree::Spec;
 use ldap_ber::Octets;

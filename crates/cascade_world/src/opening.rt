@@ -10,12 +10,12 @@ ghost use Rattle.cascade_world.specs.Hearing as hearing;
 ghost use Rattle.cascade_world.specs.Exchange.{pair_of};
 ghost use Rattle.cascade_world.specs.Parts.{Does, Opens, Refuses, first_value};
 
-use crate::Cause;
 use crate::cutting::{cut, is_busy};
 use crate::node::Follower;
 use crate::sending::discard;
 use crate::source::{MESSAGE_ID, Source};
 use crate::told::Telling;
+use cascade_script::Cause;
 use entry_tree::Spec;
 use ldap_ber::{NoMemory, Octets};
 use ldap_messages::Message;

@@ -9,13 +9,13 @@ ghost use Rattle.cascade_world.specs.Parts.{Does, TakesOne, Heard};
 ghost use Rattle.cascade_world.specs.Telling.{said};
 ghost use Rattle.cascade_world.specs.Report.{Told as told};
 
-use crate::Cause;
 use crate::cutting::drop_all;
 use crate::node::Follower;
 use crate::sending::discard;
 use crate::source::Source;
 use crate::taking::{BAD_MESSAGE, fault_name, stored_number};
 use crate::told::Telling;
+use cascade_script::Cause;
 use ldap_ber::NoMemory;
 use ldap_messages::{Message, MessageFault};
 use std::alloc::{AllocError, Global};

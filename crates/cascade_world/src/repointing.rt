@@ -5,18 +5,18 @@ ghost use Rattle.entry_tree.specs.Selection.{search_of};
 ghost use Rattle.cascade_world.specs.Exchange as exchange;
 ghost use Rattle.cascade_world.specs.Exchange.{pair_of};
 ghost use Rattle.cascade_world.specs.Nodes as nodes;
-ghost use Rattle.cascade_world.specs.Orders.{Order as order};
+ghost use Rattle.cascade_script.specs.Orders.{Order as order};
 ghost use Rattle.cascade_world.specs.Parts as parts;
 ghost use Rattle.cascade_world.specs.World as spec;
 ghost use Rattle.cascade_world.specs.World.{Does};
 
-use crate::Cause;
 use crate::exchange::Exchange;
 use crate::node::Follower;
 use crate::opening::cut_if_busy;
 use crate::source::Source;
 use crate::told::Telling;
 use crate::world::{Lines, World};
+use cascade_script::Cause;
 use entry_tree::Spec;
 use ldap_ber::{NoMemory, Octets};
 

@@ -6,10 +6,10 @@ ghost use Rattle.cascade_world.specs.Exchange.{pair_of};
 ghost use Rattle.cascade_world.specs.Origins.{Lineage};
 ghost use Rattle.cascade_world.specs.Parts.{Does, SendsOne, HandsOut, Links};
 
-use crate::Cause;
 use crate::node::Follower;
 use crate::source::Source;
 use crate::told::Telling;
+use cascade_script::Cause;
 use ldap_messages::Message;
 use std::alloc::Global;
 use sync_provider::Handed;

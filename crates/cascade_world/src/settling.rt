@@ -6,13 +6,13 @@ ghost use Rattle.cascade_world.specs.Exchange.{pair_of};
 ghost use Rattle.cascade_world.specs.Origins.{Lineage};
 ghost use Rattle.cascade_world.specs.Parts.{Does};
 
-use crate::Cause;
 use crate::node::Follower;
 use crate::opening::open_anew;
 use crate::receiving::take_one;
 use crate::sending::send_one;
 use crate::source::Source;
 use crate::told::Telling;
+use cascade_script::Cause;
 use std::alloc::Global;
 
 /// Brings the consumer up to its provider: it takes what its link holds, and what the search that is

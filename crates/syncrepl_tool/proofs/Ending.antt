@@ -1,5 +1,5 @@
 -- From how a run ended to what is said of the text that was left to read.
-use Rattle.std.proofs.Common.{◌≡◌, ◌⊎◌, ◌≤◌, ℕ, true, Option, Some, None, List, [], ◌++◌, length, take, refl, ap, sym, subst, ◌∙◌, inl, inr, arith, append-nil, length-append}
+use Rattle.std.proofs.Common.{◌≡◌, ◌≤◌, ℕ, true, Option, Some, None, List, [], ◌++◌, length, take, refl, ap, sym, subst, ◌∙◌, inl, inr, arith, append-nil, length-append}
 use Rattle.std.proofs.lemmas.Bool.{cases_Bool}
 use Rattle.std.proofs.lemmas.Bool.Decides.{nat_tests}
 use Rattle.std.proofs.lemmas.List.{take-append-le}
@@ -7,14 +7,14 @@ use Rattle.std.proofs.KnownBytes.{Appends-kept}
 use Rattle.std.specs.Io.KnownBytes.{Keeps, IsAtEnd}
 use Rattle.std.specs.Prelude.{IfSome, nat_lt}
 use Rattle.sync_io.specs.Faults.{Rose}
-use Rattle.cascade_world.specs.declared.fault.Cause.{Cause}
-use Rattle.cascade_world.specs.declared.fault.Cause.TheVariants.{BadCommand, UnknownNode, NameTaken, BadRecord, LimitReached, OutsideSuffix, LaterCookie, Circle, NoMemory}
-use Rattle.cascade_world.specs.Lines.{kept_bytes, most_bytes, most_lines, text_lines, up_to_last, has_more, limit_passed}
-use Rattle.cascade_world.specs.Reader.{Reader, reader_of}
-use Rattle.cascade_world.specs.Run.{IsScript}
+use Rattle.cascade_script.specs.declared.fault.Cause.{Cause}
+use Rattle.cascade_script.specs.declared.fault.Cause.TheVariants.{BadCommand, UnknownNode, NameTaken, BadRecord, LimitReached, OutsideSuffix, LaterCookie, Circle, NoMemory}
+use Rattle.cascade_script.specs.Lines.{kept_bytes, most_bytes, most_lines, text_lines, up_to_last, has_more, limit_passed}
+use Rattle.cascade_script.specs.Reader.{Reader, reader_of}
+use Rattle.cascade_laws.specs.Run.{IsScript}
 use Rattle.cascade_world.specs.World.{State, no_nodes}
-use Rattle.cascade_world.proofs.Limits.{runs_limit}
-use Rattle.cascade_world.proofs.Runs.{refused_not_whole}
+use Rattle.cascade_laws.proofs.Limits.{runs_limit}
+use Rattle.cascade_laws.proofs.Runs.{refused_not_whole}
 use Rattle.syncrepl_tool.proofs.Running.{nothing_written}
 use Rattle.syncrepl_tool.specs.Texts.{Says, refusal_text}
 use Rattle.syncrepl_tool.specs.Cascade.{WritesFront, WritesReport, WritesWhole, WritesUpTo, IsRefused, IsRefusedStatus, status_of, RunEnds, IsFrontOf, Decides}

@@ -3,21 +3,21 @@ use Rattle.std.proofs.Common.{◌≡◌, ◌≢◌, ◌≤◌, ℕ, Option, List
 use Rattle.std.proofs.lemmas.List.{flat_map_more}
 use Rattle.std.proofs.KnownBytes.{Appends-nil, Appends-trans}
 use Rattle.std.specs.Io.KnownBytes.{Appends}
-use Rattle.std.specs.Prelude.{Result, Ok, Err}
+use Rattle.std.specs.Prelude.{Result, Err}
 use Rattle.sync_io.specs.Sink.{AppendsFront}
-use Rattle.cascade_world.specs.declared.fault.Cause.{Cause}
-use Rattle.cascade_world.specs.declared.fault.Cause.TheVariants.{NoMemory, BadCommand, UnknownNode, NameTaken, BadRecord, LimitReached, OutsideSuffix, LaterCookie, Circle}
-use Rattle.cascade_world.specs.declared.fault.ScriptFault.{ScriptFault}
-use Rattle.cascade_world.specs.Fault.{fault_at, RefusedAt}
-use Rattle.cascade_world.specs.Orders.{Order}
-use Rattle.cascade_world.specs.Reader.{Reader, Next, next_in, IsRefusalOf}
-use Rattle.cascade_world.specs.Reader.Next.{Ended, Refused, Got}
+use Rattle.cascade_script.specs.declared.fault.Cause.{Cause}
+use Rattle.cascade_script.specs.declared.fault.Cause.TheVariants.{NoMemory, BadCommand, UnknownNode, NameTaken, BadRecord, LimitReached, OutsideSuffix, LaterCookie, Circle}
+use Rattle.cascade_script.specs.declared.fault.ScriptFault.{ScriptFault}
+use Rattle.cascade_script.specs.Fault.{fault_at, RefusedAt}
+use Rattle.cascade_script.specs.Orders.{Order}
+use Rattle.cascade_script.specs.Reader.{Reader, Next, next_in, IsRefusalOf}
+use Rattle.cascade_script.specs.Reader.Next.{Ended, Refused, Got}
 use Rattle.cascade_world.specs.Report.{Told, lines_text, report_text}
-use Rattle.cascade_world.specs.Run.{Runs, IsRefusal}
+use Rattle.cascade_laws.specs.Run.{Runs}
 use Rattle.cascade_world.specs.World.{State, no_nodes, step, IsStep}
-use Rattle.cascade_world.proofs.HeadlineHolds.{runs_lines_right}
-use Rattle.cascade_world.proofs.Runs.{runs-more, step_told}
-use Rattle.cascade_world.proofs.Traces.{runs_traced}
+use Rattle.cascade_laws.proofs.HeadlineHolds.{runs_lines_right}
+use Rattle.cascade_laws.proofs.Runs.{runs-more, step_told}
+use Rattle.cascade_laws.proofs.Traces.{runs_traced}
 use Rattle.syncrepl_tool.specs.declared.run.Outcome.{Outcome}
 use Rattle.syncrepl_tool.specs.declared.run.Outcome.TheVariants as outcome
 use Rattle.syncrepl_tool.specs.Cascade.{WritesFront, WritesReport, WritesWhole, WritesUpTo, Ends}

@@ -6,15 +6,15 @@ use Rattle.std.specs.String.{string_bytes}
 use Rattle.std.specs.Io.KnownBytes.{Appends, Keeps, IsAtEnd}
 use Rattle.sync_io.specs.Faults.{Rose}
 use Rattle.sync_io.specs.Sink.{AppendsFront}
-use Rattle.cascade_world.specs.declared.fault.Cause.{Cause}
-use Rattle.cascade_world.specs.declared.fault.Cause.TheVariants.{LimitReached}
-use Rattle.cascade_world.specs.Headline.{LinesAreRight}
-use Rattle.cascade_world.specs.Lines.{most_bytes}
-use Rattle.cascade_world.specs.Orders.{Order}
-use Rattle.cascade_world.specs.Reader.{Reader, next_in}
-use Rattle.cascade_world.specs.Reader.Next.{Ended}
+use Rattle.cascade_script.specs.declared.fault.Cause.{Cause}
+use Rattle.cascade_script.specs.declared.fault.Cause.TheVariants.{LimitReached}
+use Rattle.cascade_laws.specs.Headline.{LinesAreRight}
+use Rattle.cascade_script.specs.Lines.{most_bytes}
+use Rattle.cascade_script.specs.Orders.{Order}
+use Rattle.cascade_script.specs.Reader.{Reader, next_in}
+use Rattle.cascade_script.specs.Reader.Next.{Ended}
 use Rattle.cascade_world.specs.Report.{Told, report_text}
-use Rattle.cascade_world.specs.Run.{Runs, IsRefusal, IsScript}
+use Rattle.cascade_laws.specs.Run.{Runs, IsRefusal, IsScript}
 use Rattle.cascade_world.specs.Trace.{AreTraced, all_lines}
 use Rattle.cascade_world.specs.World.{State, no_nodes}
 use Rattle.syncrepl_tool.specs.Texts.{Says, refusal_text, write_fault_text}

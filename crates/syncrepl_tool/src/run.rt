@@ -1,11 +1,11 @@
 ghost use Rattle.std.specs.Prelude.{◌≡◌, ◌↔◌, ◌≢◌, ◌≤◌, false, IfOk, IfSome, IsTrue, ℕ, []};
 ghost use Rattle.std.specs.Io.KnownBytes.{IsAtEnd, Keeps};
 ghost use Rattle.sync_io.specs.Faults.{Rose};
-ghost use Rattle.cascade_world.specs.Reader.{reader_of};
-ghost use Rattle.cascade_world.specs.Run.{IsScript};
+ghost use Rattle.cascade_script.specs.Reader.{reader_of};
+ghost use Rattle.cascade_laws.specs.Run.{IsScript};
 ghost use Rattle.cascade_world.specs.World.{no_nodes};
 ghost use Rattle.std.specs.String.{string_bytes};
-ghost use Rattle.cascade_world.specs.declared.fault.Cause.TheVariants.{NoMemory};
+ghost use Rattle.cascade_script.specs.declared.fault.Cause.TheVariants.{NoMemory};
 ghost use Rattle.syncrepl_tool.specs.Texts.{Says, usage_text, read_fault_text, write_fault_text, refusal_text, cause_text, limit_text, later_cookie_text};
 ghost use Rattle.syncrepl_tool.specs.Cascade.{WritesFront, WritesWhole, IsRefused, IsRefusedStatus, status_of, Ends, RunEnds, IsInput, OnCode, Decides, IsCascade, IsStatus, IsCascadeStatus};
 

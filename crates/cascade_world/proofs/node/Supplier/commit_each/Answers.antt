@@ -6,7 +6,7 @@ use Rattle.std.proofs.lemmas.Iterator.Consumers.{YieldsList-turn}
 use Rattle.std.proofs.lemmas.List.{length_push}
 use Rattle.entry_tree.specs.Selection.{Search, search_of}
 use Rattle.cascade_world.specs.Commits.{commits, commits_after, commits_all, Leaves}
-use Rattle.cascade_world.specs.declared.fault.Cause.{Cause}
+use Rattle.cascade_script.specs.declared.fault.Cause.{Cause}
 use Rattle.cascade_world.specs.declared.node.Supplier.{Supplier}
 use Rattle.cascade_world.specs.Report.{Stage}
 use Rattle.cascade_world.proofs.Commits.{grown_both, commit_grown, next_commit, refused_all}

@@ -1,0 +1,286 @@
+-- What holds of a replica's directory after the commits of an event.
+use Rattle.std.proofs.Common.{◌≡◌, ◌⊎◌, ◌+◌, ◌≤◌, ℕ, zero, suc, Bool, true, false, Option, Some, None, List, [], ◌∷◌, ◌++◌, length, take, refl, ap, sym, subst, ◌∙◌, inl, inr, arith, append-nil, append_assoc, length-append}
+use Rattle.std.proofs.lemmas.Bool.{cases_Bool}
+use Rattle.std.proofs.lemmas.List.Concat.{flat_map-cons}
+use Rattle.std.proofs.lemmas.List.Sums.{fold-append}
+use Rattle.std.proofs.lemmas.Option.{slice_get_within}
+use Rattle.std.specs.List.{fold}
+use Rattle.std.specs.Prelude.{Result, Ok, Err, map, slice_get, cond, ◌&&◌, ◌==◌}
+use Rattle.std.specs.Str.{bytes_eq}
+use Rattle.csn_cookie.specs.Csn.{Stamp, start}
+use Rattle.csn_cookie.specs.CsnMaker.{next_csn}
+use Rattle.dn_names.specs.Names.{TypeAndValue}
+use Rattle.entry_tree.specs.Effects.{committed}
+use Rattle.entry_tree.specs.Selection.{Search}
+use Rattle.entry_tree.specs.declared.op.Op.TheVariants.{Commit}
+use Rattle.entry_tree.specs.declared.op.Write.{Write}
+use Rattle.directory_writes.specs.Directory.{DirectoryState, entries_after, entries_of, last_stamp}
+use Rattle.sync_provider.specs.Committing.{commit_refusal}
+use Rattle.sync_provider.specs.Machine as machine
+use Rattle.sync_provider.specs.Machine.{ProviderState}
+use Rattle.sync_provider.specs.declared.provider.Kind.TheVariants.{Replica}
+use Rattle.sync_provider.specs.declared.writing.CommitFault.{CommitFault}
+use Rattle.sync_provider.specs.declared.writing.CommitFault.TheVariants as fault
+use Rattle.cascade_script.specs.declared.fault.Cause.{Cause}
+use Rattle.cascade_world.specs.declared.node.Supplier.{Supplier}
+use Rattle.cascade_world.specs.Commits.{commits_by, commits, commits_after, commits_all}
+use Rattle.cascade_laws.specs.Headline.{Known, nothing_known, known_after, known_of, Committed, with_stored, with_stamp, committed_after, stored_by, stored_of}
+use Rattle.cascade_world.specs.Origins.{Note}
+use Rattle.cascade_world.specs.Report.{Storing, Told, Stage, stage_of, stages_in, stages_of}
+use Rattle.cascade_world.specs.Report.Told.{Wrote, Opened, Refused, Sent, Taken, Stored, Ended, Faulted, Cut, Nothing, Settled, Holds, Clocked, Shown}
+use Rattle.cascade_laws.proofs.Exchanged.{no_time}
+use Rattle.cascade_laws.proofs.Feeding.{IsSource, CanBeServed, Frame, IsRightOf, LineIsRightOf, LinesAreRightOf, KeepsAll, CommitIs, CommitsAreKept, SelectedCanBeServed}
+use Rattle.cascade_laws.proofs.Growing.{take_front}
+use Rattle.cascade_laws.proofs.Saying.{stored_more, commits_more, committed_of, committed_time, clock_told, clock_more}
+use Rattle.cascade_world.proofs.SameNames.{itself}
+use Rattle.cascade_laws.proofs.Tracking.{noted, HasCommitted}
+
+-- ---- changes one after another
+
+pub keeps_through : (number : ℕ) (suffix : List (List TypeAndValue)) (p q r : ProviderState) → KeepsAll number suffix p q → KeepsAll number suffix q r → KeepsAll number suffix p r
+keeps_through number suffix p q r first second = record {
+  source = second.source;
+  fed = λ g known fed. second.fed g known (first.fed g known fed);
+  opens = λ at s found. let was = second.opens at s found in first.opens at was.0 was.1;
+  kind = second.kind ∙ first.kind;
+  later = first.later ++ second.later;
+  grown = second.grown ∙ ap (λ ws. ws ++ second.later) first.grown ∙ append_assoc p.directory.writes first.later second.later;
+}
+
+-- ---- a line that stores nothing
+
+record StoresNone (name : List ℕ) (line : Told) : Type 0 where
+  entries : (found : Known) → (known_after name found line).entries ≡ found.entries
+  stored : stored_by name line ≡ []
+  writes : (history : ℕ) (found : Committed) → (committed_after history name found line).writes ≡ found.writes
+  stages : stages_in line ≡ []
+
+-- each other line is one
+abbrev IsStoring : Told → Type 0
+IsStoring line = (name : List ℕ) × (stored : Storing) × (line ≡ Stored name stored)
+
+either : (name : List ℕ) (line : Told) → IsStoring line ⊎ StoresNone name line
+either name (Stored other stored) = inl (other, stored, refl)
+either name (Wrote other code writes) = inr record { entries = λ found. refl; stored = refl; writes = λ history found. refl; stages = refl }
+either name (Opened other persists writes) =
+    inr record {
+      entries = λ found. elim (cases_Bool (bytes_eq other name)) [ inl hit ↦ rw hit refl | inr miss ↦ rw miss refl ];
+      stored = refl;
+      writes = λ history found. refl;
+      stages = refl;
+    }
+either name (Refused other persists code) = inr record { entries = λ found. refused found; stored = refl; writes = λ history found. refl; stages = refl }
+  where
+    refused : (found : Known) → (known_after name found (Refused other persists code)).entries ≡ found.entries
+    refused found = by (bytes_eq other name && code == 4096)
+      where
+        by : (b : Bool) → (cond b (record found { cookie = None }) found).entries ≡ found.entries
+        by true = refl
+        by false = refl
+either name (Sent other message) =
+    inr record {
+      entries = λ found. elim (cases_Bool (bytes_eq other name)) [ inl hit ↦ rw hit refl | inr miss ↦ rw miss refl ];
+      stored = refl;
+      writes = λ history found. refl;
+      stages = refl;
+    }
+either name (Taken other) = inr record { entries = λ found. refl; stored = refl; writes = λ history found. refl; stages = refl }
+either name (Ended other code) = inr record { entries = λ found. refl; stored = refl; writes = λ history found. refl; stages = refl }
+either name (Faulted other why) = inr record { entries = λ found. refl; stored = refl; writes = λ history found. refl; stages = refl }
+either name (Cut other) = inr record { entries = λ found. refl; stored = refl; writes = λ history found. refl; stages = refl }
+either name (Nothing other) = inr record { entries = λ found. refl; stored = refl; writes = λ history found. refl; stages = refl }
+either name (Settled other writes) = inr record { entries = λ found. refl; stored = refl; writes = λ history found. refl; stages = refl }
+either name (Holds other cookie) =
+    inr record {
+      entries = λ found. elim (cases_Bool (bytes_eq other name)) [ inl hit ↦ rw hit refl | inr miss ↦ rw miss refl ];
+      stored = refl;
+      writes = λ history found. refl;
+      stages = refl;
+    }
+either name (Clocked time) = inr record { entries = λ found. refl; stored = refl; writes = λ history found. refl; stages = refl }
+either name (Shown other entries) = inr record { entries = λ found. refl; stored = refl; writes = λ history found. refl; stages = refl }
+
+stored_one : (name : List ℕ) (said : List Told) (line : Told) → stored_of name (said ++ line ∷ []) ≡ stored_of name said ++ stored_by name line
+stored_one name said line =
+    stored_more name said (line ∷ []) ∙ ap (λ s. stored_of name said ++ s) (flat_map-cons (stored_by name) line [] ∙ append-nil (stored_by name line))
+
+known_one : (name : List ℕ) (said : List Told) (line : Told) → known_of name (said ++ line ∷ []) ≡ known_after name (known_of name said) line
+known_one name said line = fold-append (known_after name) nothing_known said (line ∷ [])
+
+stages_one : (line : Told) (lines : List Told) → stages_of (line ∷ lines) ≡ stages_in line ++ stages_of lines
+stages_one line lines = flat_map-cons stages_in line lines
+
+-- ---- a replica that commits
+
+-- it is the one of that name, which has committed what was told so far
+pub record IsCommitting (number : ℕ) (suffix : List (List TypeAndValue)) (first : ProviderState) (name : List ℕ) (said : List Told) (own : Supplier) : Type 0 where
+  pub named : own.name ≡ name
+  pub keeps : KeepsAll number suffix first own.provider
+  pub has : HasCommitted number said name own.notes own.provider.directory.writes
+
+abbrev pub CommittingIn : ℕ → List (List TypeAndValue) → ProviderState → List ℕ → List Told → Result Supplier Cause → Type 0
+CommittingIn number suffix first name said (Ok own) = IsCommitting number suffix first name said own
+CommittingIn number suffix first name said (Err cause) = Unit {0}
+
+-- with a line that stores nothing
+none_more : (number : ℕ) (name : List ℕ) (said : List Told) (line : Told) (notes : List Note) (writes : List Write) → StoresNone name line → HasCommitted number said name notes writes → HasCommitted number (said ++ line ∷ []) name notes writes
+none_more number name said line notes writes none is =
+    let same : stored_of name (said ++ line ∷ []) ≡ stored_of name said = stored_one name said line ∙ ap (λ s. stored_of name said ++ s) none.stored ∙ append-nil (stored_of name said) in
+    record {
+      commits = is.commits ∙ sym (commits_more number name said (line ∷ []) ∙ none.writes number (committed_of number name said));
+      notes_are = is.notes_are ∙ ap (λ s. map noted s) (sym same);
+      held = is.held ∙ sym (ap (λ (k : Known). k.entries) (known_one name said line) ∙ none.entries (known_of name said));
+      counted = is.counted ∙ ap length (sym same);
+      each = λ at stored e. is.each at stored (ap (λ s. slice_get s at) (sym same) ∙ e);
+    }
+
+-- the last of one more
+last_or_before : (all : List Storing) (last one : Storing) (at : ℕ) → slice_get (all ++ last ∷ []) at ≡ Some one → (slice_get all at ≡ Some one) ⊎ ((at ≡ length all) × (last ≡ one))
+last_or_before [] last one zero e = let same : last ≡ one = cc in inr (refl, same)
+last_or_before [] last one (suc at) e = let bad : None ≡ Some one = e in let never : ⊥ = cc in absurd never
+last_or_before (s ∷ all) last one zero e = inl e
+last_or_before (s ∷ all) last one (suc at) e =
+    elim (last_or_before all last one at e) [
+      | inl was ↦ inl was
+      | inr new ↦ inr (ap suc new.0, new.1)
+    ]
+
+take_all : {X : Type 0} (n : ℕ) (xs : List X) → length xs ≤ n → take n xs ≡ xs
+take_all zero [] low = refl
+take_all (suc n) [] low = refl
+take_all zero (x ∷ xs) low = absurd (omega (arith, low))
+take_all (suc n) (x ∷ xs) low = ap (λ l. x ∷ l) (take_all n xs (omega (arith, low)))
+
+map-last : (all : List Storing) (last : Storing) → map noted (all ++ last ∷ []) ≡ map noted all ++ noted last ∷ []
+map-last [] last = refl
+map-last (s ∷ all) last = ap (λ l. noted s ∷ l) (map-last all last)
+
+-- with one that stores something
+one_more : (number : ℕ) (name : List ℕ) (said : List Told) (stored : Storing) (search : Search) (now : ℕ) (csn : Stamp) (notes : List Note) (writes next : List Write) → stored.search ≡ search → now ≡ clock_told said
+    → next_csn now (last_stamp (start number) writes) ≡ Some csn → next ≡ writes ++ record { csn = csn; op = Commit stored.commit.puts stored.commit.drops } ∷ []
+    → entries_after number next ≡ stored.entries → HasCommitted number said name notes writes
+    → HasCommitted number (said ++ Stored name stored ∷ []) name (notes ++ record { search = search; origin = stored.origin } ∷ []) next
+one_more number name said stored search now csn notes writes next wanted clock drawn one left is =
+    let line' = Stored name stored in
+    let all = stored_of name said in
+    let hit = itself name in
+    let own : stored_by name line' ≡ stored ∷ [] = rw hit refl in
+    let same : stored_of name (said ++ line' ∷ []) ≡ all ++ stored ∷ [] = stored_one name said line' ∙ ap (λ s. all ++ s) own in
+    let known = committed_of number name said in
+    let time : known.time ≡ now = committed_time number name said ∙ sym clock in
+    let stamped : with_stored number known.time known.writes stored.commit ≡ next =
+    ap (λ t. with_stored number t known.writes stored.commit) time ∙ ap (λ ws. with_stored number now ws stored.commit) (sym is.commits) ∙ ap (with_stamp writes stored.commit) drawn ∙ sym one in
+    let after : (committed_after number name known line').writes ≡ with_stored number known.time known.writes stored.commit = rw hit refl in
+    let held' : (known_after name (known_of name said) line').entries ≡ stored.entries = rw hit refl in
+    let long : length next ≡ length writes + 1 = ap length one ∙ length-append writes _ in
+    let counted = is.counted in
+    record {
+      commits = sym (commits_more number name said (line' ∷ []) ∙ after ∙ stamped);
+      notes_are =
+          ap (λ ns. ns ++ record { search = search; origin = stored.origin } ∷ []) is.notes_are
+          ∙ ap (λ s. map noted all ++ record { search = s; origin = stored.origin } ∷ []) (sym wanted) ∙ sym (map-last all stored) ∙ ap (λ s. map noted s) (sym same);
+      held = left ∙ sym (ap (λ (k : Known). k.entries) (known_one name said line') ∙ held');
+      counted = long ∙ ap (λ n. n + 1) counted ∙ sym (ap length same ∙ length-append all (stored ∷ []));
+      each =
+          λ at other e. by at other (last_or_before all stored other at (ap (λ s. slice_get s at) (sym same) ∙ e));
+    }
+  where
+    by : (at : ℕ) (other : Storing) → (slice_get (stored_of name said) at ≡ Some other) ⊎ ((at ≡ length (stored_of name said)) × (stored ≡ other)) → entries_after number (take (at + 1) next) ≡ other.entries
+    by at other (inl was) =
+        let low = slice_get_within (stored_of name said) at other was in
+        let counted = is.counted in
+        let short : at + 1 ≤ length writes = omega (arith, low, counted) in
+        ap (λ ws. entries_after number (take (at + 1) ws)) one ∙ ap (entries_after number) (take_front (at + 1) writes _ short) ∙ is.each at other was
+    by at other (inr new) =
+        let counted = is.counted in
+        let long : length next ≡ length writes + 1 = ap length one ∙ length-append writes _ in
+        let whole : length next ≤ at + 1 = omega (arith, long, counted, new.0) in
+        ap (entries_after number) (take_all (at + 1) next whole) ∙ left ∙ ap (λ (s : Storing). s.entries) new.1
+
+module _ (kept : CommitsAreKept) (selected : SelectedCanBeServed) (number : ℕ) (suffix : List (List TypeAndValue)) (first : ProviderState) (replica : first.kind ≡ Replica) (name : List ℕ) (now : ℕ) (search : Search)
+    (from : ℕ) (frame : Frame) (good : (count : ℕ) → CanBeServed (entries_after from (take count frame.writes))) (named : frame.name ≡ name) (wants : frame.spec ≡ search) where
+  -- what is stored can be kept
+  served : (known : Known) (stored : Storing) → IsRightOf from frame known stored → CanBeServed stored.entries
+  served known stored is = subst CanBeServed (sym is.exactly) (selected frame.spec (entries_after from (take stored.number frame.writes)) (good stored.number))
+
+  -- one stage
+  stage_commits : (said : List Told) (own : Supplier) (stored : Storing) → now ≡ clock_told said → IsRightOf from frame (known_of name said) stored → IsCommitting number suffix first name said own
+      → CommittingIn number suffix first name (said ++ Stored name stored ∷ []) (commits now search own (stage_of stored))
+  stage_commits said own stored clock is committing =
+      by (commit_refusal p.kind p.directory stored.commit.puts stored.commit.drops now) (kept number suffix p stored.commit.puts stored.commit.drops now committing.keeps.source kind can)
+    where
+      p : ProviderState
+      p = own.provider
+
+      kind : p.kind ≡ Replica
+      kind = committing.keeps.kind ∙ replica
+
+      -- what is in the directory is what the lines told
+      here : (q : ProviderState) → IsSource number suffix q → entries_of q.directory ≡ entries_after number q.directory.writes
+      here q source = ap (λ n. entries_after n q.directory.writes) (ap (λ (d : DirectoryState). d.history) source.directory)
+
+      left : committed (entries_of p.directory) stored.commit.puts stored.commit.drops ≡ stored.entries
+      left = ap (λ es. committed es stored.commit.puts stored.commit.drops) (here p committing.keeps.source ∙ committing.has.held) ∙ is.staged
+
+      can : CanBeServed (committed (entries_of p.directory) stored.commit.puts stored.commit.drops)
+      can = subst CanBeServed (sym left) (served (known_of name said) stored is)
+
+      by : (refusal : Option CommitFault) → CommitIs number suffix p stored.commit.puts stored.commit.drops now refusal
+          → CommittingIn number suffix first name (said ++ Stored name stored ∷ []) (commits_by now search own (stage_of stored) refusal)
+      by None done =
+          let q = machine.committed p stored.commit.puts stored.commit.drops now in
+          record {
+            named = committing.named;
+            keeps = keeps_through number suffix first p q committing.keeps done.keeps;
+            has =
+                one_more number name said stored search now done.csn own.notes p.directory.writes q.directory.writes (is.wanted ∙ wants) clock done.drawn done.one
+                (sym (here q done.keeps.source) ∙ done.entries ∙ left) committing.has;
+          }
+      by (Some (fault.LimitReached limit)) done = tt
+      by (Some (fault.DuplicateName one other)) done = absurd done
+      by (Some fault.NoMemory) done = absurd done
+      by (Some fault.NotAReplica) done = absurd done
+
+  -- a refusal stays one
+  refused_still : (cause : Cause) (stages : List Stage) → fold (commits_after now search) (Err cause) stages ≡ Err cause
+  refused_still cause [] = refl
+  refused_still cause (stage ∷ stages) = refused_still cause stages
+
+  -- one line
+  line_commits : (said : List Told) (own : Supplier) (line : Told) → now ≡ clock_told said → LineIsRightOf from frame (known_of name said) line → IsCommitting number suffix first name said own
+      → CommittingIn number suffix first name (said ++ line ∷ []) (commits_all now search own (stages_in line))
+  line_commits said own line clock is committing = by (either name line)
+    where
+      by : IsStoring line ⊎ StoresNone name line → CommittingIn number suffix first name (said ++ line ∷ []) (commits_all now search own (stages_in line))
+      by (inl storing) =
+          let is' : LineIsRightOf from frame (known_of name said) (Stored storing.0 storing.1) = subst (LineIsRightOf from frame (known_of name said)) storing.2 is in
+          let same : Stored storing.0 storing.1 ≡ Stored name storing.1 = ap (λ n. Stored n storing.1) (is'.0 ∙ named) in
+          subst (λ l. CommittingIn number suffix first name (said ++ l ∷ []) (commits_all now search own (stages_in l))) (sym (storing.2 ∙ same))
+          (stage_commits said own storing.1 clock is'.1 committing)
+      by (inr none) =
+          subst (λ s. CommittingIn number suffix first name (said ++ line ∷ []) (commits_all now search own s)) (sym none.stages)
+          (record { named = committing.named; keeps = committing.keeps; has = none_more number name said line own.notes own.provider.directory.writes none committing.has })
+
+  -- the lines of an event
+  pub lines_commit : (lines said : List Told) (own : Supplier) → now ≡ clock_told said → LinesAreRightOf from frame (known_of name said) lines → IsCommitting number suffix first name said own
+      → CommittingIn number suffix first name (said ++ lines) (commits_all now search own (stages_of lines))
+  lines_commit [] said own clock is committing = subst (λ s. IsCommitting number suffix first name s own) (sym (append-nil said)) committing
+  lines_commit (line ∷ lines) said own clock is committing =
+      let whole : commits_all now search own (stages_of (line ∷ lines)) ≡ fold (commits_after now search) (commits_all now search own (stages_in line)) (stages_of lines) =
+      ap (commits_all now search own) (stages_one line lines) ∙ fold-append (commits_after now search) (Ok own) (stages_in line) (stages_of lines) in
+      subst (CommittingIn number suffix first name (said ++ line ∷ lines)) (sym whole)
+      (by (commits_all now search own (stages_in line)) (line_commits said own line clock is.0 committing)
+      (λ own' done. subst (λ s. CommittingIn number suffix first name s (commits_all now search own' (stages_of lines))) (append_assoc said (line ∷ []) lines)
+      (lines_commit lines (said ++ line ∷ []) own' clock' (subst (λ k. LinesAreRightOf from frame k lines) next is.1) done)))
+    where
+      clock' : now ≡ clock_told (said ++ line ∷ [])
+      clock' = clock ∙ sym (clock_more said (line ∷ []) (λ time. no_time from frame (known_of name said) line is.0 time))
+
+      next : known_after frame.name (known_of name said) line ≡ known_of name (said ++ line ∷ [])
+      next = ap (λ n. known_after n (known_of name said) line) named ∙ sym (known_one name said line)
+
+      by : (one : Result Supplier Cause) → CommittingIn number suffix first name (said ++ line ∷ []) one
+          → ((own' : Supplier) → IsCommitting number suffix first name (said ++ line ∷ []) own' → CommittingIn number suffix first name (said ++ line ∷ lines) (commits_all now search own' (stages_of lines)))
+          → CommittingIn number suffix first name (said ++ line ∷ lines) (fold (commits_after now search) one (stages_of lines))
+      by (Err cause) done later = subst (CommittingIn number suffix first name (said ++ line ∷ lines)) (sym (refused_still cause (stages_of lines))) tt
+      by (Ok own') done later = later own' done

@@ -1,0 +1,654 @@
+-- A provider without writes is a source, a new consumer is fed by it, and a write and a commit keep both.
+use Rattle.std.proofs.Common.{◌≡◌, ◌+◌, ◌<◌, ◌≤◌, ℕ, zero, suc, Bool, true, false, cond, List, [], ◌∷◌, ◌++◌, length, take, Option, Some, None, refl, ap, sym, ◌∙◌, inl, inr, arith, append_assoc, append-nil, subst}
+use Rattle.std.specs.Prelude.{◌⊎◌, ◌&&◌, not, Result, Ok, Err, IfSome, option_map, is_none, nat_lt, nat_le}
+use Rattle.std.specs.Option.{option_or}
+use Rattle.std.proofs.Math.Seq.{take-length}
+use Rattle.std.proofs.lemmas.Bool.{cases_lt, and_parts, le-ltb, ltb-true, false≢true}
+use Rattle.std.proofs.lemmas.List.{take-append-le, take_all, length-append}
+use Rattle.std.proofs.lemmas.List.Elements.{All-filter}
+use Rattle.csn_cookie.specs.Csn.{Stamp, IsCsn, start, is_before, is_upto}
+use Rattle.csn_cookie.specs.CsnMaker.{greatest_count}
+use Rattle.csn_cookie.specs.declared.cookie.Cookie.{Cookie}
+use Rattle.dn_names.specs.Names.{TypeAndValue, is_at_or_below}
+use Rattle.directory_laws.specs.Accepted.{IsWellFormed, IsAccepted, WereAccepted}
+use Rattle.directory_laws.proofs.Histories.{WereAccepted-push, sent-state_of}
+use Rattle.directory_laws.proofs.ReadWrites.{gives-change}
+use Rattle.directory_laws.proofs.Stamps.{IsCsn-start, IsCsn-next_csn}
+use Rattle.directory_laws.proofs.States.{IsWithin-state_of}
+use Rattle.directory_writes.specs.Commits as commits
+use Rattle.directory_writes.specs.Directory.{DirectoryState, entries_after, entries_of, last_stamp, has_room, judged, judged_at, next_stamp, with_write, with_log_limit, most_writes, most_writes_weight}
+use Rattle.directory_writes.specs.Weights.{kept_weight, op_weight}
+use Rattle.directory_writes.specs.declared.commit.CommitFault as causes
+use Rattle.directory_writes.specs.declared.commit.CommitFault.TheVariants as cause
+use Rattle.directory_writes.proofs.Commits.{commit_open}
+use Rattle.directory_writes.proofs.Judged.{IsJudged, judged_is}
+use Rattle.directory_writes.proofs.Stamps.{rises-none, rises-push, next_rises}
+use Rattle.directory_writes.proofs.Writes.{entries_after-push, last_stamp-push}
+use Rattle.entry_tree.specs.Codes.{code_of}
+use Rattle.entry_tree.specs.Effects.{committed, effect}
+use Rattle.entry_tree.specs.History.{identity, state_of}
+use Rattle.entry_tree.specs.Reading.{read_change}
+use Rattle.entry_tree.specs.Selection.{Search, is_selected, select}
+use Rattle.entry_tree.specs.Sound.{is_sound_op}
+use Rattle.entry_tree.specs.State.{most_entries, most_weight, total_weight, same_named}
+use Rattle.entry_tree.specs.declared.entry.Entry.{Entry}
+use Rattle.entry_tree.specs.declared.op.Op.{Op}
+use Rattle.entry_tree.specs.declared.op.Op.TheVariants.{Commit}
+use Rattle.entry_tree.specs.declared.op.Write.{Write}
+use Rattle.sync_consumer.specs.Taking.{Following}
+use Rattle.sync_model.specs.Incremental.{number_of}
+use Rattle.sync_model.specs.Law.{IsWithin}
+use Rattle.sync_model.specs.Message.{SyncMessage}
+use Rattle.sync_model.specs.Stream.{Session, group, later}
+use Rattle.sync_model.proofs.Limits.{within_filter}
+use Rattle.sync_provider.specs.Committing.{fault_of, commit_refusal}
+use Rattle.sync_provider.specs.HandingOut.{search_at}
+use Rattle.sync_provider.specs.Machine.{ProviderState, each_informed, after_judged, judged_by, after_commit, log_limited, queue_limited}
+use Rattle.sync_provider.specs.Queueing.{group_of, pushed, informed}
+use Rattle.sync_provider.specs.Search.{SearchState, session_of, refresh_from, pending}
+use Rattle.sync_provider.specs.declared.provider.Kind.{Kind}
+use Rattle.sync_provider.specs.declared.provider.Kind.TheVariants.{Root, Replica}
+use Rattle.sync_provider.specs.declared.writing.CommitFault.{CommitFault}
+use Rattle.sync_provider.specs.declared.writing.CommitFault.TheVariants as fault
+use Rattle.sync_provider.proofs.Commits.{unopposed}
+use Rattle.sync_wire.specs.CanBeSent.{CanBeSent}
+use Rattle.cascade_world.specs.declared.node.Follower.{Follower}
+use Rattle.cascade_world.specs.Cookies.{held_cookie}
+use Rattle.cascade_world.specs.Directory.{logged_directory, wrote_read}
+use Rattle.cascade_laws.specs.Headline.{Opening, Known, BeginsFrom, session_over, stream_over, busy}
+use Rattle.cascade_laws.proofs.Distinct.{changed-at, changed-was, distinct-changed}
+use Rattle.cascade_laws.proofs.Feeding.{HasNext, Remains, waits, cut_waits, CanBeServed, IsSource, IsContent, IsPromised, IsPending, HasPending, IsWhere, GoesOn, IsAtRest, IsGoing, IsFed, RestIsFed, RestsAreFed, FreshIsSource, PromisesLast, SelectedCanBeServed, KeepsAll, WritesAreKept, LimitsAreKept, QueuesAreKept, IsCommitted, CommitIs, CommitsAreKept}
+use Rattle.cascade_laws.proofs.Informed.{Grows, Ends, IsPushed, pushed_is}
+use Rattle.cascade_laws.proofs.Longer.{new, stream_same, place_longer, place_grows}
+
+abbrev Name : Type 0
+Name = List (List TypeAndValue)
+
+pub rest_is_fed : RestIsFed
+rest_is_fed number p f search link running held cookie below = record {
+  held = held;
+  ascending = refl;
+  cookie = cookie;
+  promised = subst (λ c. IsPromised number f.consumer.spec p.directory.writes [] (held_cookie c)) (sym cookie) tt;
+  below = below;
+  state = inl (record { search = search; running = running; link = link });
+}
+
+-- one that is at rest may be fed by any
+pub rests_are_fed : RestsAreFed
+rests_are_fed number other p q f g known fed rest same promised below = record {
+  held = ap (λ (c : Following). c.copy.held) same ∙ fed.held;
+  ascending = fed.ascending;
+  cookie = ap (λ (c : Following). c.copy.cookie) same ∙ fed.cookie;
+  promised =
+      subst (λ (c : Following). IsPromised other c.spec q.directory.writes known.entries (held_cookie c.copy.cookie)) (sym same)
+      (subst (λ text. IsPromised other f.consumer.spec q.directory.writes known.entries (held_cookie text)) (sym fed.cookie) promised);
+  below = ap (λ (c : Following). is_at_or_below c.spec.base q.directory.suffix) same ∙ below;
+  state = inl rest;
+}
+
+pub fresh_is_source : FreshIsSource
+fresh_is_source number suffix kind first small = record {
+  first = first;
+  small = small;
+  directory = refl;
+  rises = rises-none number;
+  ranged = λ count. none_ranged count;
+  good = λ count. none_good count;
+  accepted = λ root. none_accepted;
+  few = omega arith;
+  apart = tt;
+}
+  where
+    none_accepted : WereAccepted suffix number []
+    none_accepted n other low = absurd (omega (arith, low))
+
+    none_ranged : (count : ℕ) → IsCsn (last_stamp (start number) (take count []))
+    none_ranged zero = IsCsn-start number (omega (arith, small))
+    none_ranged (suc count) = IsCsn-start number (omega (arith, small))
+
+    none_good : (count : ℕ) → CanBeServed (state_of number [] count)
+    none_good count = record { sent = sent-state_of suffix number [] count none_accepted; within = IsWithin-state_of suffix number [] none_accepted (omega arith) count }
+
+-- what is selected of entries that can be served can be too
+pub selected_can_be_served : SelectedCanBeServed
+selected_can_be_served search entries good = record {
+  sent = All-filter (is_selected search) CanBeSent entries good.sent;
+  within = within_filter (is_selected search) entries good.within;
+}
+
+-- ---- one more write
+
+-- the first writes are as they were
+front-push : (writes : List Write) (w : Write) (count : ℕ) → count ≤ length writes → take count (writes ++ w ∷ []) ≡ take count writes
+front-push writes w count within = take-append-le count writes (w ∷ []) within
+
+-- a write that is accepted next: its stamp is in range and above the others, and what it leaves can be served; at a root
+-- nothing was against it
+pub record IsNext (number : ℕ) (suffix : Name) (kind : Kind) (writes : List Write) (w : Write) : Type 0 where
+  pub ranged : IsCsn w.csn
+  pub good : CanBeServed (entries_after number (writes ++ w ∷ []))
+  pub accepted : kind ≡ Root → IsAccepted suffix (state_of number writes (length writes)) w
+  pub later : is_before (last_stamp (start number) writes) w.csn ≡ true
+  pub room : length writes < 1000000
+
+-- a provider after one more write
+abbrev written_once : ProviderState → Write → ProviderState
+written_once p w = record p { directory = with_write p.directory w; searches = each_informed p.queue_limit p.directory w p.searches }
+
+-- what holds of the fronts of some writes, and of all with one more, holds of all fronts then
+fronts-push : (P : List Write → Type 0) (writes : List Write) (w : Write) → ((count : ℕ) → P (take count writes)) → P (writes ++ w ∷ []) → (count : ℕ) → P (take count (writes ++ w ∷ []))
+fronts-push P writes w each whole count = elim (cases_lt (length writes) count) [
+  | inl beyond ↦ subst P (sym (take_all count (writes ++ w ∷ []) (omega (arith, beyond, length-append writes (w ∷ []))))) whole
+  | inr within ↦ subst P (sym (front-push writes w count within)) (each count)
+]
+
+-- what a source keeps with one more write
+source-push : (number : ℕ) (suffix : Name) (p : ProviderState) (w : Write) → IsSource number suffix p → IsNext number suffix p.kind p.directory.writes w → IsSource number suffix (written_once p w)
+source-push number suffix p w source next = record {
+  first = source.first;
+  small = source.small;
+  directory = λ i. record (source.directory i) { writes = p.directory.writes ++ w ∷ []; log = (with_write p.directory w).log };
+  rises = rises-push number p.directory.writes w next.later source.rises;
+  ranged = fronts-push (λ writes. IsCsn (last_stamp (start number) writes)) p.directory.writes w source.ranged (subst IsCsn (sym (last_stamp-push (start number) p.directory.writes w)) next.ranged);
+  good = fronts-push (λ writes. CanBeServed (entries_after number writes)) p.directory.writes w source.good next.good;
+  accepted = λ root. WereAccepted-push suffix number p.directory.writes w (source.accepted root) (next.accepted root);
+  few = omega (arith, length-append p.directory.writes (w ∷ []), next.room);
+  apart = distinct-changed (informed p.queue_limit p.directory w) p.searches source.apart;
+}
+
+-- cookies promise what they promised
+content-push : (number : ℕ) (search : Search) (writes : List Write) (w : Write) (entries : List Entry) (csn : Stamp) → IsContent number search writes entries csn → IsContent number search (writes ++ w ∷ []) entries csn
+content-push number search writes w entries csn is = record {
+  count = is.count;
+  within = omega (arith, is.within, length-append writes (w ∷ []));
+  not_below = ap (λ (front : List Write). is_upto csn (last_stamp (start number) front)) (front-push writes w is.count is.within) ∙ is.not_below;
+  same = is.same ∙ ap (λ (front : List Write). select search (entries_after number front)) (sym (front-push writes w is.count is.within));
+}
+
+promised-push : (number : ℕ) (search : Search) (writes : List Write) (w : Write) (entries : List Entry) (cookie : Option Cookie) → IsPromised number search writes entries cookie
+    → IsPromised number search (writes ++ w ∷ []) entries cookie
+promised-push number search writes w entries None promised = tt
+promised-push number search writes w entries (Some cookie) promised = λ own. content-push number search writes w entries cookie.csn (promised own)
+
+promised-more : (number : ℕ) (search : Search) (writes more : List Write) (entries : List Entry) (cookie : Option Cookie) → IsPromised number search writes entries cookie
+    → IsPromised number search (writes ++ more) entries cookie
+promised-more number search writes [] entries cookie promised = subst (λ ws. IsPromised number search ws entries cookie) (sym (append-nil writes)) promised
+promised-more number search writes (w ∷ more) entries cookie promised =
+    subst (λ ws. IsPromised number search ws entries cookie) (append_assoc writes (w ∷ []) more)
+    (promised-more number search (writes ++ w ∷ []) more entries cookie (promised-push number search writes w entries cookie promised))
+
+pub promises_last : PromisesLast
+promises_last = promised-more
+
+-- ---- a search that goes on
+
+module _ (number : ℕ) (suffix : Name) (p : ProviderState) (w : Write) (source : IsSource number suffix p) (g : Follower) (opening : Opening) (entries : List Entry) (goes : GoesOn number p g opening entries) where
+  abbrev writes : List Write
+  writes = p.directory.writes
+
+  abbrev after : ProviderState
+  after = written_once p w
+
+  abbrev longer : Session
+  longer = new number opening.persists g.consumer.spec writes w
+
+  abbrev change : SearchState → SearchState
+  change s = informed p.queue_limit p.directory w s
+
+  abbrev more : List SyncMessage
+  more = group longer (length writes)
+
+  grown : length (writes ++ w ∷ []) ≡ length writes + 1
+  grown = length-append writes (w ∷ [])
+
+  from_now : BeginsFrom number (take opening.writes (writes ++ w ∷ [])) opening.cookie (number_of goes.start)
+  from_now =
+      subst (λ ws. BeginsFrom number ws opening.cookie (number_of goes.start)) (sym (front-push writes w opening.writes (omega (arith, goes.upto)))) goes.from
+
+  whole_now : goes.taken ++ goes.ahead ≡ stream_over number g.consumer.spec (writes ++ w ∷ []) opening goes.start goes.count
+  whole_now = goes.whole ∙ sym (stream_same number opening.persists g.consumer.spec writes w goes.start opening.writes goes.count goes.upto)
+
+  place_now : IsWhere longer goes.start opening.writes goes.count entries g.consumer.copy goes.taken goes.ahead
+  place_now = place_longer number opening.persists g.consumer.spec writes w goes.start opening.writes goes.count goes.upto entries g.consumer.copy goes.taken goes.ahead goes.place
+
+  -- what is pending is as it was, or is the end
+  still_goes : (cut : Bool) (messages : List SyncMessage) → waits opening.persists cut ≡ false → (cut ≡ true → opening.persists ≡ true) → Remains cut goes.ahead (goes.linked ++ messages)
+      → HasPending after.searches g.consumer.spec opening.persists cut g.search messages → GoesOn number after g opening entries
+  still_goes cut messages ends lasts left has = record {
+    count = goes.count;
+    upto = omega (arith, goes.upto, grown);
+    start = goes.start;
+    from = from_now;
+    taken = goes.taken;
+    ahead = goes.ahead;
+    whole = whole_now;
+    cut = cut;
+    lasts = lasts;
+    all = λ waiting. let bad : true ≡ false = sym waiting ∙ ends in let never : ⊥ = cc in absurd never;
+    linked = goes.linked;
+    pending = messages;
+    left = left;
+    told = goes.told;
+    link = goes.link;
+    search = has;
+    place = place_now;
+  }
+
+  -- a search without a queue
+  idle_search : (cut : Bool) (messages : List SyncMessage) → waits opening.persists cut ≡ false → (own : Option ℕ) → HasPending p.searches g.consumer.spec opening.persists cut own messages
+      → HasPending after.searches g.consumer.spec opening.persists cut own messages
+  idle_search cut messages ends None has = has
+  idle_search cut messages ends (Some at) has = record {
+    search = has.search;
+    found = changed-at change p.searches at has.search has.found ∙ ap Some same;
+    id = has.id;
+    spec = has.spec;
+    persists = has.persists;
+    over = has.over;
+    same = has.same;
+    some = has.some;
+  }
+    where
+      same : change has.search ≡ has.search
+      same =
+          (λ i. cond (has.persists i && not (has.over i)) (pushed p.queue_limit (group_of p.directory has.search w) has.search) has.search)
+          ∙ ap (λ b. cond b (pushed p.queue_limit (group_of p.directory has.search w) has.search) has.search) ends
+
+  -- ---- one with a queue
+
+  module _ (cut_is : goes.cut ≡ false) (persists_is : opening.persists ≡ true) (at : ℕ) (own : g.search ≡ Some at) (has : IsPending p.searches g.consumer.spec opening.persists goes.cut at goes.pending) where
+    whole_count : opening.writes + goes.count ≡ length writes
+    whole_count = goes.all ((λ i. waits (persists_is i) (cut_is i)) ∙ refl)
+
+    open_is : has.search.over ≡ false
+    open_is = has.over ∙ cut_is
+
+    group_is : group_of p.directory has.search w ≡ more
+    group_is =
+        (λ i. group (session_of (has.persists i) p.directory.sid p.directory.history (has.spec i) (writes ++ w ∷ [])) (length writes))
+        ∙ (λ i. group (session_of opening.persists (ap (λ (d : DirectoryState). d.sid) source.directory i) (ap (λ (d : DirectoryState). d.history) source.directory i) g.consumer.spec (writes ++ w ∷ [])) (length writes))
+
+    abbrev now : SearchState
+    now = pushed p.queue_limit more has.search
+
+    is_pushed : IsPushed has.search now more
+    is_pushed = pushed_is p.queue_limit has.search more open_is
+
+    change_is : change has.search ≡ now
+    change_is =
+        (λ i. cond ((has.persists ∙ persists_is) i && not (open_is i)) (pushed p.queue_limit (group_is i) has.search) has.search)
+
+    found_now : search_at after.searches at ≡ Some now
+    found_now = changed-at change p.searches at has.search has.found ∙ ap Some change_is
+
+    left_is : goes.linked ++ goes.pending ≡ goes.ahead
+    left_is = subst (λ cut. Remains cut goes.ahead (goes.linked ++ goes.pending)) cut_is goes.left
+
+    has_now : (cut : Bool) (messages : List SyncMessage) → now.over ≡ cut → pending now ≡ messages → (waits opening.persists cut ≡ false → HasNext messages)
+        → HasPending after.searches g.consumer.spec opening.persists cut g.search messages
+    has_now cut messages over same some =
+        subst (λ o. HasPending after.searches g.consumer.spec opening.persists cut o messages) (sym own) (record {
+          search = now;
+          found = found_now;
+          id = is_pushed.is.id ∙ has.id;
+          spec = is_pushed.is.spec ∙ has.spec;
+          persists = is_pushed.is.persists ∙ has.persists;
+          over = over;
+          same = same;
+          some = some;
+        })
+
+    -- the messages of the write are pending
+    grows_on : Grows has.search now more → GoesOn number after g opening entries
+    grows_on grows = record {
+      count = suc goes.count;
+      upto = omega (arith, whole_count, grown);
+      start = goes.start;
+      from = from_now;
+      taken = goes.taken;
+      ahead = goes.ahead ++ next;
+      whole =
+          sym (append_assoc goes.taken goes.ahead next)
+          ∙ ap (λ ms. ms ++ next) (whole_now ∙ ap (λ b. refresh_from longer goes.start opening.writes ++ cond b (later longer opening.writes goes.count) []) persists_is)
+          ∙ append_assoc (refresh_from longer goes.start opening.writes) (later longer opening.writes goes.count) next
+          ∙ ap (λ b. refresh_from longer goes.start opening.writes ++ cond b (later longer opening.writes goes.count ++ next) []) (sym persists_is);
+      cut = false;
+      lasts = λ bad. absurd (false≢true bad);
+      all = λ waiting. omega (arith, whole_count, grown);
+      linked = goes.linked;
+      pending = goes.pending ++ next;
+      left = sym (append_assoc goes.linked goes.pending next) ∙ ap (λ ms. ms ++ next) left_is;
+      told = goes.told;
+      link = goes.link;
+      search =
+          has_now false (goes.pending ++ next) grows.over (grows.same ∙ (λ i. has.same i ++ ap (group longer) (sym whole_count) i))
+          (λ idle. let bad : true ≡ false = ap (λ b. waits b false) (sym persists_is) ∙ idle in let never : ⊥ = cc in absurd never);
+      place = place_grows longer persists_is goes.start opening.writes goes.count entries g.consumer.copy goes.taken goes.ahead place_now;
+    }
+      where
+        next : List SyncMessage
+        next = group longer (opening.writes + goes.count)
+
+    -- or the end is
+    ends_on : Ends now → GoesOn number after g opening entries
+    ends_on ends =
+        still_goes true (busy ∷ []) (cut_waits opening.persists) (λ cut. persists_is) (goes.linked, goes.pending, refl, left_is)
+        (has_now true (busy ∷ []) ends.over ends.same (λ idle. record { next = busy; later = []; same = refl }))
+
+    queue_goes : GoesOn number after g opening entries
+    queue_goes = by is_pushed.then
+      where
+        by : Grows has.search now more ⊎ Ends now → GoesOn number after g opening entries
+        by (inl grows) = grows_on grows
+        by (inr ends) = ends_on ends
+
+  pub going-push : GoesOn number after g opening entries
+  going-push = by goes.cut refl opening.persists refl
+    where
+      idle : waits opening.persists goes.cut ≡ false → GoesOn number after g opening entries
+      idle ends = still_goes goes.cut goes.pending ends goes.lasts goes.left (idle_search goes.cut goes.pending ends g.search goes.search)
+
+      waiting : goes.cut ≡ false → opening.persists ≡ true → (own : Option ℕ) → g.search ≡ own → HasPending p.searches g.consumer.spec opening.persists goes.cut own goes.pending → GoesOn number after g opening entries
+      waiting cut persists None is has =
+          let bad : true ≡ false = sym ((λ i. waits (persists i) (cut i))) ∙ has.1 in
+          let never : ⊥ = cc in
+          absurd never
+      waiting cut persists (Some at) is has = queue_goes cut persists at is has
+
+      by : (cut : Bool) → goes.cut ≡ cut → (mode : Bool) → opening.persists ≡ mode → GoesOn number after g opening entries
+      by false cut true mode = waiting cut mode g.search refl goes.search
+      by false cut false mode = idle (λ i. waits (mode i) (cut i))
+      by true cut true mode = idle (λ i. waits (mode i) (cut i))
+      by true cut false mode = idle (λ i. waits (mode i) (cut i))
+
+fed-push : (number : ℕ) (suffix : Name) (p : ProviderState) (w : Write) → IsSource number suffix p → (g : Follower) (known : Known) → IsFed number p g known → IsFed number (written_once p w) g known
+fed-push number suffix p w source g known fed = record {
+  held = fed.held;
+  ascending = fed.ascending;
+  cookie = fed.cookie;
+  promised = promised-push number g.consumer.spec p.directory.writes w known.entries (held_cookie g.consumer.copy.cookie) fed.promised;
+  below = fed.below;
+  state = by fed.state;
+}
+  where
+    by : IsAtRest g ⊎ IsGoing number p g known → IsAtRest g ⊎ IsGoing number (written_once p w) g known
+    by (inl rest) = inl rest
+    by (inr going) = inr (record { opening = going.opening; latest = going.latest; goes = going-push number suffix p w source g going.opening known.entries going.goes })
+
+-- ---- what is written
+
+room_of : (d : DirectoryState) (op : Op) (now : ℕ) (w : Write) → judged d op now ≡ Ok w → length d.writes < 1000000
+room_of d op now w = by (has_room d.writes op) refl
+  where
+    by : (b : Bool) → has_room d.writes op ≡ b → cond b (judged_at d op (next_stamp d now)) (Err 11) ≡ Ok w → length d.writes < 1000000
+    by true room is =
+        ltb-true (length d.writes) most_writes (and_parts (nat_lt (length d.writes) most_writes) (nat_le (kept_weight d.writes + op_weight op) most_writes_weight) room).0
+    by false full is = let never : ⊥ = cc in absurd never
+
+-- the stamp of a write that was judged good is in range
+judged_ranged : (number : ℕ) (suffix : Name) (p : ProviderState) (op : Op) (now : ℕ) (w : Write) → IsSource number suffix p → judged p.directory op now ≡ Ok w
+    → IsJudged (logged_directory number suffix p.directory.writes p.directory.log) op now w × IsCsn w.csn
+judged_ranged number suffix p op now w source is =
+    (good, subst (λ drawn. IfSome drawn IsCsn) good.next (IsCsn-next_csn now (last_stamp (start number) writes) in_range))
+  where
+    writes : List Write
+    writes = p.directory.writes
+
+    good : IsJudged (logged_directory number suffix writes p.directory.log) op now w
+    good = judged_is (logged_directory number suffix writes p.directory.log) op now w (ap (λ d. judged d op now) (sym source.directory) ∙ is)
+
+    in_range : IsCsn (last_stamp (start number) writes)
+    in_range = subst (λ front. IsCsn (last_stamp (start number) front)) (take-length writes) (source.ranged (length writes))
+
+judged_next : (number : ℕ) (suffix : Name) (p : ProviderState) (op : Op) (now : ℕ) (w : Write) → IsSource number suffix p → judged p.directory op now ≡ Ok w
+    → CanBeServed (entries_after number (p.directory.writes ++ w ∷ []))
+    → (p.kind ≡ Root → IsAccepted suffix (state_of number p.directory.writes (length p.directory.writes)) w) → IsNext number suffix p.kind p.directory.writes w
+judged_next number suffix p op now w source is good accepted =
+    let judged' = judged_ranged number suffix p op now w source is in
+    record {
+      ranged = judged'.1;
+      good = good;
+      accepted = accepted;
+      later = next_rises now (last_stamp (start number) p.directory.writes) w.csn judged'.0.next;
+      room = room_of p.directory op now w is;
+    }
+
+-- a client's write to a root
+asked_next : (number : ℕ) (suffix : Name) (p : ProviderState) (op : Op) (now : ℕ) (w : Write) → IsSource number suffix p → p.kind ≡ Root
+    → IsWellFormed op → is_sound_op op ≡ true → judged p.directory op now ≡ Ok w → IsNext number suffix p.kind p.directory.writes w
+asked_next number suffix p op now w source root formed sound is =
+    judged_next number suffix p op now w source is
+    (subst CanBeServed whole
+    (record {
+      sent = sent-state_of suffix number (writes ++ w ∷ []) (length (writes ++ w ∷ [])) were;
+      within = IsWithin-state_of suffix number (writes ++ w ∷ []) were (omega (arith, length-append writes (w ∷ []), source.few)) (length (writes ++ w ∷ []));
+    }))
+    (λ kind. accepted)
+  where
+    writes : List Write
+    writes = p.directory.writes
+
+    judged' : IsJudged (logged_directory number suffix writes p.directory.log) op now w × IsCsn w.csn
+    judged' = judged_ranged number suffix p op now w source is
+
+    accepted : IsAccepted suffix (state_of number writes (length writes)) w
+    accepted = record {
+      formed = subst IsWellFormed (sym judged'.0.same) formed;
+      sound = ap is_sound_op judged'.0.same ∙ sound;
+      stamp = judged'.1;
+      free =
+          ap (λ (front : List Write). code_of suffix (entries_after number front) w.op) (take-length writes)
+          ∙ ap (code_of suffix (entries_after number writes)) judged'.0.same
+          ∙ judged'.0.unopposed;
+    }
+
+    were : WereAccepted suffix number (writes ++ w ∷ [])
+    were = WereAccepted-push suffix number writes w (source.accepted root) accepted
+
+    whole : state_of number (writes ++ w ∷ []) (length (writes ++ w ∷ [])) ≡ entries_after number (writes ++ w ∷ [])
+    whole = ap (entries_after number) (take-length (writes ++ w ∷ []))
+
+-- a change that is refused changes nothing
+still_kept : (number : ℕ) (suffix : Name) (p : ProviderState) → IsSource number suffix p → KeepsAll number suffix p p
+still_kept number suffix p source =
+    record { source = source; fed = λ g known fed. fed; opens = λ at s found. (s, found); kind = refl; later = []; grown = sym (append-nil p.directory.writes) }
+
+-- one that is accepted is told to all
+written_kept : (number : ℕ) (suffix : Name) (p : ProviderState) (w : Write) → IsSource number suffix p → IsNext number suffix p.kind p.directory.writes w → KeepsAll number suffix p (written_once p w)
+written_kept number suffix p w source next = record {
+  source = source-push number suffix p w source next;
+  fed = λ g known fed. fed-push number suffix p w source g known fed;
+  opens = λ at s found. changed-was (informed p.queue_limit p.directory w) p.searches at s found;
+  kind = refl;
+  later = w ∷ [];
+  grown = refl;
+}
+
+pub writes_are_kept : WritesAreKept
+writes_are_kept number suffix p now change source = by_read (read_change change) refl
+  where
+    by_judged : (op : Op) → read_change change ≡ Ok op → p.kind ≡ Root → (outcome : Result Write ℕ) → judged p.directory op now ≡ outcome → KeepsAll number suffix p (after_judged p outcome)
+    by_judged op read root (Err code) is = still_kept number suffix p source
+    by_judged op read root (Ok w) is =
+        let askable = gives-change change op read in
+        written_kept number suffix p w source (asked_next number suffix p op now w source root askable.0 askable.1 is)
+
+    by_kind : (op : Op) → read_change change ≡ Ok op → (kind : Kind) → p.kind ≡ kind → KeepsAll number suffix p (after_judged p (judged_by kind p.directory op now))
+    by_kind op read Root is = by_judged op read is (judged p.directory op now) refl
+    by_kind op read Replica is = still_kept number suffix p source
+
+    by_read : (read : Result Op ℕ) → read_change change ≡ read → KeepsAll number suffix p (wrote_read p now read)
+    by_read (Err code) is = still_kept number suffix p source
+    by_read (Ok op) is = by_kind op is p.kind refl
+
+-- ---- commits
+
+-- none, or a limit
+abbrev IsLimit : Option CommitFault → Type 0
+IsLimit None = Unit {0}
+IsLimit (Some (fault.LimitReached limit)) = Unit {0}
+IsLimit (Some (fault.DuplicateName one other)) = ⊥
+IsLimit (Some fault.NoMemory) = ⊥
+IsLimit (Some fault.NotAReplica) = ⊥
+
+log_limits : (full heavy spent : Bool)
+    → IsLimit (option_map fault_of (cond full (Some (cause.LimitReached most_writes)) (cond heavy (Some (cause.LimitReached most_writes_weight)) (cond spent (Some (cause.LimitReached greatest_count)) None))))
+log_limits true heavy spent = tt
+log_limits false true spent = tt
+log_limits false false true = tt
+log_limits false false false = tt
+
+or_none : (found : Option causes.CommitFault) → option_or found None ≡ found
+or_none None = refl
+or_none (Some x) = refl
+
+abbrev doubled : ℕ × ℕ → causes.CommitFault
+doubled pair = cause.DuplicateName pair.0 pair.1
+
+within_none : (entries : List Entry) → IsWithin entries → commits.held_refusal entries ≡ None
+within_none entries within =
+    ap (λ b. cond b (Some (cause.LimitReached most_entries)) (cond (nat_lt most_weight (total_weight entries)) (Some (cause.LimitReached most_weight)) (option_map doubled (same_named entries))))
+    (le-ltb most_entries (length entries) within.few)
+    ∙ ap (λ b. cond b (Some (cause.LimitReached most_weight)) (option_map doubled (same_named entries))) (le-ltb most_weight (total_weight entries) within.light)
+    ∙ ap (option_map doubled) within.apart
+
+module _ (number : ℕ) (suffix : Name) (p : ProviderState) (puts : List Entry) (drops : List ℕ) (now : ℕ) (source : IsSource number suffix p) (good : CanBeServed (committed (entries_of p.directory) puts drops)) where
+  history_is : p.directory.history ≡ number
+  history_is = ap (λ (d : DirectoryState). d.history) source.directory
+
+  after_is : (w : Write) → w.op ≡ Commit puts drops → entries_after number (p.directory.writes ++ w ∷ []) ≡ committed (entries_of p.directory) puts drops
+  after_is w op =
+      entries_after-push number p.directory.writes w
+      ∙ ap (λ o. effect (entries_after number p.directory.writes) o (identity number (length p.directory.writes + 1)) w.csn) op
+      ∙ ap (λ n. committed (entries_after n p.directory.writes) puts drops) (sym history_is)
+
+  -- one write more
+  committed_once : p.kind ≡ Replica → (w : Write) → judged p.directory (Commit puts drops) now ≡ Ok w → IsCommitted number suffix p (written_once p w) puts drops now
+  committed_once replica w is = record {
+    keeps =
+        written_kept number suffix p w source
+        (judged_next number suffix p (Commit puts drops) now w source is (subst CanBeServed (sym (after_is w good'.same)) good)
+        (λ root. absurd (apart (sym replica ∙ root))));
+    csn = w.csn;
+    drawn = good'.next;
+    one = ap (λ o. p.directory.writes ++ record { csn = w.csn; op = o } ∷ []) good'.same;
+    entries = ap (λ n. entries_after n (p.directory.writes ++ w ∷ [])) history_is ∙ after_is w good'.same;
+  }
+    where
+      good' : IsJudged (logged_directory number suffix p.directory.writes p.directory.log) (Commit puts drops) now w
+      good' = (judged_ranged number suffix p (Commit puts drops) now w source is).0
+
+      apart : Replica ≡ Root → ⊥
+      apart same = cc
+
+  -- nothing is against what can be served but a limit
+  held_none : commits.held_refusal (committed (entries_of p.directory) puts drops) ≡ None
+  held_none = within_none (committed (entries_of p.directory) puts drops) good.within
+
+  abbrev log_refusal : Option causes.CommitFault
+  log_refusal = commits.log_refusal p.directory (op_weight (Commit puts drops)) now
+
+  refusal_is : p.kind ≡ Replica → commit_refusal p.kind p.directory puts drops now ≡ option_map fault_of log_refusal
+  refusal_is replica =
+      ap (λ kind. commit_refusal kind p.directory puts drops now) replica
+      ∙ ap (λ held. option_map fault_of (option_or log_refusal held)) held_none
+      ∙ ap (option_map fault_of) (or_none log_refusal)
+
+  pub commit_is : p.kind ≡ Replica → CommitIs number suffix p puts drops now (commit_refusal p.kind p.directory puts drops now)
+  commit_is replica = by (commit_refusal p.kind p.directory puts drops now) refl (subst IsLimit (sym (refusal_is replica)) (log_limits (nat_le most_writes (length p.directory.writes)) (nat_lt most_writes_weight (kept_weight p.directory.writes + op_weight (Commit puts drops))) (is_none (next_stamp p.directory now))))
+    where
+      opened : commit_refusal p.kind p.directory puts drops now ≡ None → IsCommitted number suffix p (after_judged p (judged p.directory (Commit puts drops) now)) puts drops now
+      opened is =
+          let free = commit_open p.directory puts drops now (unopposed p.kind p.directory puts drops now is) in
+          subst (λ outcome. IsCommitted number suffix p (after_judged p outcome) puts drops now) (sym free.judged) (committed_once replica free.write free.judged)
+
+      by : (refusal : Option CommitFault) → commit_refusal p.kind p.directory puts drops now ≡ refusal → IsLimit refusal → CommitIs number suffix p puts drops now refusal
+      by None is limit = subst (λ r. IsCommitted number suffix p (after_commit p (Commit puts drops) now r) puts drops now) (sym is) (opened is)
+      by (Some (fault.LimitReached n)) is limit = tt
+      by (Some (fault.DuplicateName one other)) is limit = limit
+      by (Some fault.NoMemory) is limit = limit
+      by (Some fault.NotAReplica) is limit = limit
+
+pub commits_are_kept : CommitsAreKept
+commits_are_kept number suffix p puts drops now source replica good = commit_is number suffix p puts drops now source good replica
+
+-- ---- limits
+
+-- another log, or another limit
+going-limited : (number : ℕ) (p q : ProviderState) (g : Follower) (opening : Opening) (entries : List Entry) → q.directory.writes ≡ p.directory.writes → q.searches ≡ p.searches
+    → GoesOn number p g opening entries → GoesOn number q g opening entries
+going-limited number p q g opening entries writes searches goes = record {
+  count = goes.count;
+  upto = subst (λ ws. opening.writes + goes.count ≤ length ws) (sym writes) goes.upto;
+  start = goes.start;
+  from = subst (λ ws. BeginsFrom number (take opening.writes ws) opening.cookie (number_of goes.start)) (sym writes) goes.from;
+  taken = goes.taken;
+  ahead = goes.ahead;
+  whole = goes.whole ∙ ap (λ ws. stream_over number g.consumer.spec ws opening goes.start goes.count) (sym writes);
+  cut = goes.cut;
+  lasts = goes.lasts;
+  all = λ waiting. goes.all waiting ∙ ap (λ (ws : List Write). length ws) (sym writes);
+  linked = goes.linked;
+  pending = goes.pending;
+  left = goes.left;
+  told = goes.told;
+  link = goes.link;
+  search = subst (λ es. HasPending es g.consumer.spec opening.persists goes.cut g.search goes.pending) (sym searches) goes.search;
+  place = subst (λ ws. IsWhere (session_over number g.consumer.spec ws opening) goes.start opening.writes goes.count entries g.consumer.copy goes.taken goes.ahead) (sym writes) goes.place;
+}
+
+fed-limited : (number : ℕ) (p q : ProviderState) (g : Follower) (known : Known) → q.directory.writes ≡ p.directory.writes → q.directory.suffix ≡ p.directory.suffix → q.searches ≡ p.searches
+    → IsFed number p g known → IsFed number q g known
+fed-limited number p q g known writes suffix searches fed = record {
+  held = fed.held;
+  ascending = fed.ascending;
+  cookie = fed.cookie;
+  promised = subst (λ ws. IsPromised number g.consumer.spec ws known.entries (held_cookie g.consumer.copy.cookie)) (sym writes) fed.promised;
+  below = ap (is_at_or_below g.consumer.spec.base) suffix ∙ fed.below;
+  state = by fed.state;
+}
+  where
+    by : IsAtRest g ⊎ IsGoing number p g known → IsAtRest g ⊎ IsGoing number q g known
+    by (inl rest) = inl rest
+    by (inr going) = inr (record { opening = going.opening; latest = going.latest; goes = going-limited number p q g going.opening known.entries writes searches going.goes })
+
+pub limits_are_kept : LimitsAreKept
+limits_are_kept number suffix p limit source = record {
+  source = record {
+    first = source.first;
+    small = source.small;
+    directory = λ i. record (source.directory i) { log = (with_log_limit p.directory limit).log };
+    rises = source.rises;
+    ranged = source.ranged;
+    good = source.good;
+    accepted = source.accepted;
+    few = source.few;
+    apart = source.apart;
+  };
+  fed = λ g known fed. fed-limited number p (log_limited p limit) g known refl refl refl fed;
+  opens = λ at s found. (s, found);
+  kind = refl;
+  later = [];
+  grown = sym (append-nil p.directory.writes);
+}
+
+pub queues_are_kept : QueuesAreKept
+queues_are_kept number suffix p limit source = record {
+  source = record {
+    first = source.first;
+    small = source.small;
+    directory = source.directory;
+    rises = source.rises;
+    ranged = source.ranged;
+    good = source.good;
+    accepted = source.accepted;
+    few = source.few;
+    apart = source.apart;
+  };
+  fed = λ g known fed. fed-limited number p (queue_limited p limit) g known refl refl refl fed;
+  opens = λ at s found. (s, found);
+  kind = refl;
+  later = [];
+  grown = sym (append-nil p.directory.writes);
+}

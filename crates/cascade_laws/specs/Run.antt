@@ -1,0 +1,47 @@
+-- A run of a script: the orders that are read one after another, what each does, and what its lines tell.
+use Rattle.std.specs.Prelude.{◌≡◌, ◌⊎◌, ℕ, Ok, Err, List, [], ◌∷◌}
+use Rattle.cascade_script.specs.declared.fault.Cause.{Cause}
+use Rattle.cascade_script.specs.Fault.{fault_at}
+use Rattle.cascade_laws.specs.Headline.{LinesAreRight}
+use Rattle.cascade_script.specs.Orders.{Order}
+use Rattle.cascade_script.specs.Reader.{Reader, next_in, reader_of}
+use Rattle.cascade_script.specs.Reader.Next.{Ended, Refused, Got}
+use Rattle.cascade_world.specs.Report.{Told}
+use Rattle.cascade_world.specs.Trace.{AreTraced, all_lines}
+use Rattle.cascade_world.specs.World.{State, no_nodes, step}
+
+-- from this state and reader on these orders come, they tell these lines, and leave this state and the rest of the script
+abbrev pub Runs : State → Reader → List Order → List (List Told) → State → Reader → Type 0
+Runs state reader [] [] end rest = (state ≡ end) × (reader ≡ rest)
+Runs state reader (order ∷ orders) (told ∷ report) end rest =
+    (line : ℕ) × (more : Reader) × (next : State) × (next_in reader ≡ Got line order more) × (step state order ≡ Ok (next, told))
+    × Runs next more orders report end rest
+Runs state reader [] (told ∷ report) end rest = ⊥
+Runs state reader (order ∷ orders) [] end rest = ⊥
+
+-- what stands next is refused at that line, by the reader or by the nodes
+abbrev pub IsRefusal : State → Reader → ℕ → Cause → Type 0
+IsRefusal state reader line cause =
+    (next_in reader ≡ Refused (fault_at line cause))
+    ⊎ ((order : Order) × (rest : Reader) × (next_in reader ≡ Got line order rest) × (step state order ≡ Err cause))
+
+-- a text is a script that meets no refusal
+pub record IsScript (text : List ℕ) : Type 0 where
+  pub orders : List Order
+  pub report : List (List Told)
+  pub end : State
+  pub rest : Reader
+  pub run : Runs no_nodes (reader_of text) orders report end rest
+  pub whole : next_in rest ≡ Ended
+
+-- each line of each run from no nodes is right for the orders and the lines before it
+abbrev pub RunsAreRight : Type 0
+RunsAreRight =
+    (reader : Reader) (orders : List Order) (report : List (List Told)) (end : State) (rest : Reader)
+    → Runs no_nodes reader orders report end rest → LinesAreRight [] [] orders report
+
+-- the lines of each run from no nodes tell all that happened to the links and the copies of the consumers
+abbrev pub LinesTellAll : Type 0
+LinesTellAll =
+    (reader : Reader) (orders : List Order) (report : List (List Told)) (end : State) (rest : Reader)
+    → Runs no_nodes reader orders report end rest → AreTraced (all_lines report) end.followers

@@ -1,0 +1,5 @@
+pub mod Digits
+pub mod LastMark
+pub mod LineCuts
+pub mod Prefixes
+pub mod Records

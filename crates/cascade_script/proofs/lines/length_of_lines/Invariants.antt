@@ -1,0 +1,13 @@
+use Rattle.std.proofs.Common.{◌≡◌, ◌≤◌, length, take}
+use Rattle.std.specs.Str.Lines.{lines}
+use Rattle.cascade_script.specs.Lines.{IsCut}
+use Rattle.cascade_script.proofs.lines.length_of_lines.Given as goal
+
+-- so many lines stand before the place
+abbrev pub invariant-loop-count : goal.invariant-loop-count
+invariant-loop-count l =
+    record {
+      within : l.at ≤ length l.text;
+      cut : IsCut l.text l.at;
+      lines : length (lines (take l.at l.text)) ≡ l.count;
+    }

@@ -1,0 +1,11 @@
+use Rattle.std.proofs.Common.{◌≡◌, ◌≤◌, take}
+use Rattle.cascade_script.specs.Words.{value_of}
+use Rattle.cascade_script.proofs.words.value_up_to.Given as goal
+
+-- the value of the digits so far
+abbrev pub invariant-loop-digit : goal.invariant-loop-digit
+invariant-loop-digit l =
+    record {
+      value : l.value ≡ value_of (take l.digit-index l.digits);
+      within : l.value ≤ l.most;
+    }
