@@ -123,6 +123,7 @@ impl Source {
         ensures refused { IfErr result (Opposes (commit_refusal self.old.kind self.old.directory puts drops now)) }
         ensures state { OnOk result (self.new ≡ machine.committed self.old puts drops now) }
         ensures err { OnErr result (self.new ≡ self.old) }
+        ensures number { IfOk result (λ number. number ≡ length self.new.directory.writes) }
     {
         self.provider.commit(alloc, puts, drops, now)
     }
