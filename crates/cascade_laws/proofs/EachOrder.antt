@@ -1,5 +1,5 @@
 -- Each order keeps what holds of the nodes, and tells lines that are right, by what is known of providers and consumers.
-use Rattle.std.proofs.Common.{◌≡◌, ℕ, Option, Some, None, List, [], ◌∷◌, ◌++◌, refl, sym, subst, ◌∙◌, arith}
+use Rattle.std.proofs.Common.{◌≡◌, ℕ, Option, Some, None, List, [], ◌∷◌, ◌++◌, refl, sym, subst, ◌∙◌, arith, append-nil, append_assoc}
 use Rattle.std.proofs.lemmas.List.Sums.{fold-append}
 use Rattle.sync_messages.specs.declared.request.Mode.TheVariants.{RefreshOnly, RefreshAndPersist}
 use Rattle.entry_tree.specs.declared.entry.Entry.{Entry}
@@ -14,6 +14,7 @@ use Rattle.cascade_script.specs.Reader.{Reader}
 use Rattle.cascade_world.specs.Report.{Told}
 use Rattle.cascade_world.specs.Report.Told.{Clocked, Shown}
 use Rattle.cascade_laws.specs.Run.{Runs}
+use Rattle.cascade_world.specs.Trace.{all_lines}
 use Rattle.cascade_world.specs.World.{State, no_nodes, step, supplier_named, follower_named, shown_of, show_of}
 use Rattle.cascade_laws.proofs.Accepted.{time_from-push}
 use Rattle.cascade_laws.proofs.Declarations.{provider_after, consumer_after, replica_after}
@@ -124,14 +125,27 @@ step_after known before said state (asks.Show name) told is = show_after before 
 
 -- ---- runs
 
-run_right : Known → (before : List Order) (said : List Told) (state : State) (reader : Reader) (orders : List Order) (report : List (List Told)) (end : State) (rest : Reader)
-    → AreTold state said → Tracks before said state → Runs state reader orders report end rest → LinesAreRight before said orders report
-run_right known before said state reader [] report end rest told is r = tt
-run_right known before said state reader (o ∷ orders) [] end rest told is r = tt
-run_right known before said state reader (o ∷ orders) (t ∷ report) end rest told is r =
+-- what a run tells is right, and what holds of the nodes holds at its end
+pub record HasRun (before : List Order) (said : List Told) (orders : List Order) (report : List (List Told)) (end : State) : Type 0 where
+  pub right : LinesAreRight before said orders report
+  pub tracked : Tracks (before ++ orders) (said ++ all_lines report) end
+
+run_tracked : Known → (before : List Order) (said : List Told) (state : State) (reader : Reader) (orders : List Order) (report : List (List Told)) (end : State) (rest : Reader)
+    → AreTold state said → Tracks before said state → Runs state reader orders report end rest → HasRun before said orders report end
+run_tracked known before said state reader [] [] end rest told is r =
+    record { right = tt; tracked = subst (Tracks (before ++ []) (said ++ [])) r.0 (rw (append-nil before, append-nil said) is) }
+run_tracked known before said state reader [] (t ∷ report) end rest told is r = absurd r
+run_tracked known before said state reader (o ∷ orders) [] end rest told is r = absurd r
+run_tracked known before said state reader (o ∷ orders) (t ∷ report) end rest told is r =
     let next = subst (After before said o) r.4 (step_after known before said state o told is) in
     let told' : AreTold r.2 (said ++ t) = subst (ToldAfter said) r.4 (step_told_after said state o told) in
-    (next.1, run_right known (before ++ o ∷ []) (said ++ t) r.2 r.1 orders report end rest told' next.0 r.5)
+    let more = run_tracked known (before ++ o ∷ []) (said ++ t) r.2 r.1 orders report end rest told' next.0 r.5 in
+    record {
+      right = (next.1, more.right);
+      tracked =
+          subst (λ b. Tracks b (said ++ (t ++ all_lines report)) end) (append_assoc before (o ∷ []) orders)
+          (subst (λ s. Tracks ((before ++ o ∷ []) ++ orders) s end) (append_assoc said t (all_lines report)) more.tracked);
+    }
 
 start_tracked : Tracks [] [] no_nodes
 start_tracked = record {
@@ -155,7 +169,7 @@ start_tracked = record {
     none_there : {X : Type 0} {x : X} → None ≡ Some x → ⊥
     none_there e = cc
 
--- each line of a run from no nodes is right
-pub runs_lines_right_by : Known → (reader : Reader) (orders : List Order) (report : List (List Told)) (end : State) (rest : Reader) → Runs no_nodes reader orders report end rest → LinesAreRight [] [] orders report
-runs_lines_right_by known reader orders report end rest r =
-    run_right known [] [] no_nodes reader orders report end rest (record { apart = tt; of_nodes = tt; told = tt }) start_tracked r
+-- a run from no nodes
+pub runs_tracked_by : Known → (reader : Reader) (orders : List Order) (report : List (List Told)) (end : State) (rest : Reader) → Runs no_nodes reader orders report end rest → HasRun [] [] orders report end
+runs_tracked_by known reader orders report end rest r =
+    run_tracked known [] [] no_nodes reader orders report end rest (record { apart = tt; of_nodes = tt; told = tt }) start_tracked r

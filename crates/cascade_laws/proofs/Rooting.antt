@@ -203,7 +203,17 @@ accepted_at before said state name r orders commits e =
   where
     by : (kind : Kind) → IsOfKind before r.name r.provider.directory kind → CommittedBy said r kind → AreAccepted before said r.name r.provider.directory.history r.provider.directory.writes
     by Root is committed = inl record { suffix = r.provider.directory.suffix; later = is.later; declared = is.declared; accepted = is.accepted }
-    by Replica is committed = inr record { source = is.source; search = is.search; reload = is.reload; later = is.later; declared = is.declared; commits = committed.commits }
+    by Replica is committed =
+        inr record {
+          source = is.source;
+          search = is.search;
+          reload = is.reload;
+          later = is.later;
+          declared = is.declared;
+          commits = committed.commits;
+          counted = committed.counted;
+          each = committed.each;
+        }
 
 of_root : (before : List Order) (state : State) (search : Search) (entries : List Entry) (origin : Origin) → ByOrders before state → IsRooted state.suppliers search entries origin → IsOfRoot before search entries origin
 of_root before state search entries origin orders is =

@@ -12,6 +12,7 @@ use Rattle.cascade_world.specs.declared.node.Follower.{Follower}
 use Rattle.cascade_world.specs.declared.notes.Origin.{Origin}
 use Rattle.cascade_world.specs.Exchange.{Outcome, pair_of}
 use Rattle.cascade_laws.specs.Headline.{AreAccepted, IsConsumer, nothing_known, known_after, known_of, told_origin, IsOrigin, IsOfRoot, IsUnserved, IsAskedFor, IsOpenedAt, IsPrefixSelected, OfCookie, IsOfStream, IsSettled, IsGiven, IsShown, TellsRight, EachTellsRight}
+use Rattle.cascade_laws.specs.Run.{AreHeld}
 use Rattle.cascade_script.specs.Orders.{Order}
 use Rattle.cascade_world.specs.Origins.{origin_of}
 use Rattle.cascade_world.specs.Report.{Storing, Told}
@@ -39,7 +40,17 @@ pub record Serves (before : List Order) (said : List Told) (number : ℕ) (frame
 accepted_still : (before : List Order) (said lines : List Told) (name : List ℕ) (number : ℕ) (writes : List Write) → IsLeft name lines → AreAccepted before said name number writes → AreAccepted before (said ++ lines) name number writes
 accepted_still before said lines name number writes left (inl is) = inl is
 accepted_still before said lines name number writes left (inr is) =
-    inr record { source = is.source; search = is.search; reload = is.reload; later = is.later; declared = is.declared; commits = is.commits ∙ sym (commits_still number name said lines left) }
+    let same = stored_still name said lines left in
+    inr record {
+      source = is.source;
+      search = is.search;
+      reload = is.reload;
+      later = is.later;
+      declared = is.declared;
+      commits = is.commits ∙ sym (commits_still number name said lines left);
+      counted = is.counted ∙ ap length (sym same);
+      each = λ at stored e. is.each at stored (ap (λ s. slice_get s at) (sym same) ∙ e);
+    }
 
 origin_still : (before : List Order) (said lines : List Told) (name : List ℕ) (search : Search) (n : ℕ) (origin : Option Origin) → IsLeft name lines → IsOrigin before said name search n origin → IsOrigin before (said ++ lines) name search n origin
 origin_still before said lines name search n origin left (inl is) = inl is
@@ -232,8 +243,14 @@ supplier_shown before said state name r e is =
       exactly = refl;
     }
 
+-- what was told last of each consumer is what it holds
+pub copies_held : (before : List Order) (said : List Told) (state : State) → Tracks before said state → AreHeld said state
+copies_held before said state is name f e =
+    let fed = (is.feeds.followers name f e).fed in
+    let here = follower_name state.followers name f e in
+    record { entries = fed.held ∙ ap (λ n. (known_of n said).entries) (sym here); cookie = fed.cookie ∙ ap (λ n. (known_of n said).cookie) (sym here) }
+
 pub copy_shown : (before : List Order) (said : List Told) (state : State) (name : List ℕ) (f : Follower) → followers_by state.followers name ≡ Some f → Tracks before said state → IsShown before said name f.consumer.copy.held
 copy_shown before said state name f e is =
-    let fed = is.feeds.followers name f e in
-    let held : f.consumer.copy.held ≡ (known_of name said).entries = fed.fed.held ∙ ap (λ n. (known_of n said).entries) (sym (follower_name state.followers name f e)) in
-    inr record { provider = f.source; search = f.consumer.spec; reload = f.consumer.reload; follows = is.orders.consumers name f e; exactly = held }
+    let held = copies_held before said state is name f e in
+    inr record { provider = f.source; search = f.consumer.spec; reload = f.consumer.reload; follows = is.orders.consumers name f e; exactly = held.entries }

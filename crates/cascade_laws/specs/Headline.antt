@@ -136,7 +136,16 @@ committed_after history replica known _ = known
 abbrev pub commits_told : ℕ → List ℕ → List Told → List Write
 commits_told history replica said = (fold (committed_after history replica) (record { time = 0; writes = [] }) said).writes
 
--- these are the commits of the replica of that name: a function of the lines
+-- what the `stored` lines of a node tell, in order
+abbrev pub stored_by : List ℕ → Told → List Storing
+stored_by node (Stored name stored) = if bytes_eq name node then stored ∷ [] else []
+stored_by node _ = []
+
+abbrev pub stored_of : List ℕ → List Told → List Storing
+stored_of node said = flat_map (stored_by node) said
+
+-- these are the commits of the replica of that name: a function of the lines. Each of its `stored` lines is one write, and
+-- the entries after the writes up to it are those that the line told
 pub record AreOfReplica (before : List Order) (said : List Told) (replica : List ℕ) (history : ℕ) (writes : List Write) : Type 0 where
   pub source : List ℕ
   pub search : Search
@@ -144,6 +153,8 @@ pub record AreOfReplica (before : List Order) (said : List Told) (replica : List
   pub later : List Order
   pub declared : IsDeclared before history (asks.Replica replica source search reload) later
   pub commits : writes ≡ commits_told history replica said
+  pub counted : length writes ≡ length (stored_of replica said)
+  pub each : (at : ℕ) (stored : Storing) → slice_get (stored_of replica said) at ≡ Some stored → entries_after history (take (at + 1) writes) ≡ stored.entries
 
 -- these are the accepted writes of the provider of that name
 abbrev pub AreAccepted : List Order → List Told → List ℕ → ℕ → List Write → Type 0
@@ -189,14 +200,6 @@ known_after consumer known _ = known
 
 abbrev pub known_of : List ℕ → List Told → Known
 known_of consumer said = fold (known_after consumer) nothing_known said
-
--- what the `stored` lines of a node tell, in order
-abbrev pub stored_by : List ℕ → Told → List Storing
-stored_by node (Stored name stored) = if bytes_eq name node then stored ∷ [] else []
-stored_by node _ = []
-
-abbrev pub stored_of : List ℕ → List Told → List Storing
-stored_of node said = flat_map (stored_by node) said
 
 -- ---- cookies
 

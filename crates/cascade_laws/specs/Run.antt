@@ -1,14 +1,16 @@
 -- A run of a script: the orders that are read one after another, what each does, and what its lines tell.
-use Rattle.std.specs.Prelude.{◌≡◌, ◌⊎◌, ℕ, Ok, Err, List, [], ◌∷◌}
+use Rattle.std.specs.Prelude.{◌≡◌, ◌⊎◌, ℕ, Some, Ok, Err, List, [], ◌∷◌}
+use Rattle.sync_model.specs.Copy.{Copy}
 use Rattle.cascade_script.specs.declared.fault.Cause.{Cause}
 use Rattle.cascade_script.specs.Fault.{fault_at}
-use Rattle.cascade_laws.specs.Headline.{LinesAreRight}
+use Rattle.cascade_laws.specs.Headline.{Known, known_of, LinesAreRight}
 use Rattle.cascade_script.specs.Orders.{Order}
 use Rattle.cascade_script.specs.Reader.{Reader, next_in, reader_of}
 use Rattle.cascade_script.specs.Reader.Next.{Ended, Refused, Got}
+use Rattle.cascade_world.specs.declared.node.Follower.{Follower}
 use Rattle.cascade_world.specs.Report.{Told}
 use Rattle.cascade_world.specs.Trace.{AreTraced, all_lines}
-use Rattle.cascade_world.specs.World.{State, no_nodes, step}
+use Rattle.cascade_world.specs.World.{State, no_nodes, step, follower_named}
 
 -- from this state and reader on these orders come, they tell these lines, and leave this state and the rest of the script
 abbrev pub Runs : State → Reader → List Order → List (List Told) → State → Reader → Type 0
@@ -34,6 +36,17 @@ pub record IsScript (text : List ℕ) : Type 0 where
   pub run : Runs no_nodes (reader_of text) orders report end rest
   pub whole : next_in rest ≡ Ended
 
+-- the copy has the entries and the cookie that are known of its consumer
+pub record IsHeld (known : Known) (copy : Copy) : Type 0 where
+  pub entries : copy.held ≡ known.entries
+  pub cookie : copy.cookie ≡ known.cookie
+
+-- what these lines tell last of each consumer, that of a replica too, is what it holds: the entries of its last `stored`
+-- line, or none before the first, and the cookie of this line, or what was lost or given since
+abbrev pub AreHeld : List Told → State → Type 0
+AreHeld said state =
+    (name : List ℕ) (follower : Follower) → follower_named name state ≡ Some follower → IsHeld (known_of name said) follower.consumer.copy
+
 -- each line of each run from no nodes is right for the orders and the lines before it
 abbrev pub RunsAreRight : Type 0
 RunsAreRight =
@@ -45,3 +58,9 @@ abbrev pub LinesTellAll : Type 0
 LinesTellAll =
     (reader : Reader) (orders : List Order) (report : List (List Told)) (end : State) (rest : Reader)
     → Runs no_nodes reader orders report end rest → AreTraced (all_lines report) end.followers
+
+-- what the lines of each run from no nodes tell last of a consumer is what it holds at the end
+abbrev pub LinesTellWhatIsHeld : Type 0
+LinesTellWhatIsHeld =
+    (reader : Reader) (orders : List Order) (report : List (List Told)) (end : State) (rest : Reader)
+    → Runs no_nodes reader orders report end rest → AreHeld (all_lines report) end

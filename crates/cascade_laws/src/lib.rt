@@ -1,7 +1,7 @@
 //! What holds of every run of a script. There is no code here but the functions that carry the laws.
 #![tactic(auto)]
 
-ghost use Rattle.cascade_laws.specs.Run.{LinesTellAll, RunsAreRight};
+ghost use Rattle.cascade_laws.specs.Run.{LinesTellAll, LinesTellWhatIsHeld, RunsAreRight};
 
 /// Each line of a run is right for the orders and the lines before it: a `stored` line names a prefix
 /// of the accepted writes of the consumer's provider, no shorter than at the consumer's latest
@@ -20,4 +20,11 @@ pub fn lines_are_right()
 /// these and applied to the copy, and nothing else changed a copy.
 pub fn lines_tell_all()
     ensures { LinesTellAll }
+{}
+
+/// What the lines of a run tell last of a consumer, that of a replica too, is what it holds at the
+/// end: the entries of its last `stored` line, or none before the first, and the cookie of this line,
+/// or what was lost or given since.
+pub fn lines_tell_what_is_held()
+    ensures { LinesTellWhatIsHeld }
 {}

@@ -116,6 +116,6 @@ IsRefusalOf next line cause = next ≡ Refused (fault_at line cause)
 
 -- what reading an event answers, and the reader that it leaves
 abbrev pub Reads : Reader → Reader → Result (Option Event) ScriptFault → Type 0
-Reads old new (Ok None) = next_in old ≡ Ended
+Reads old new (Ok None) = (next_in old ≡ Ended) × (new ≡ old)
 Reads old new (Ok (Some event)) = next_in old ≡ Got event.line (order_of event.command) new
 Reads old new (Err fault) = IsRefusalOf (next_in old) fault.line fault.cause

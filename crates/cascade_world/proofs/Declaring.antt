@@ -1,10 +1,9 @@
 -- Consumers that are declared.
 use Rattle.std.proofs.Common.{◌≡◌, ◌+◌, ◌<◌, ◌≤◌, ℕ, Bool, true, false, Some, None, List, [], ◌∷◌, ◌++◌, get_or, refl, ap, sym, subst, ◌∙◌, arith}
 use Rattle.std.proofs.lemmas.Bool.Decides.{nat_tests}
-use Rattle.std.specs.Prelude.{Result, Ok, Err, position, nat_le}
+use Rattle.std.specs.Prelude.{Ok, Err, position, nat_le}
 use Rattle.dn_names.specs.Names.{TypeAndValue}
 use Rattle.entry_tree.specs.Selection.{Search}
-use Rattle.sync_consumer.specs.Taking.{Following, nothing}
 use Rattle.sync_provider.specs.Machine.{fresh}
 use Rattle.sync_provider.specs.declared.provider.Kind.TheVariants.{Replica}
 use Rattle.cascade_script.specs.declared.fault.Cause.TheVariants.{NameTaken, UnknownNode, OutsideSuffix, LimitReached}
@@ -48,18 +47,13 @@ pub declared : (state after new : State) (name source : List ℕ) (search : Sear
     → IsStep (declare_follower state name source search after) new text
 declared state after new name source search text ok same none = subst (λ step. IsStep step new text) (sym (ok after)) (same, none)
 
-pub same_made : {E : Type 0} (made : Result Following E) (one other : Following) → made ≡ Ok one → made ≡ Ok other → one ≡ other
-same_made made one other is are = cc
-
 -- a replica with its directory and its consumer
-pub replica_is : (state view : State) (name spelled source : List ℕ) (suffix : List (List TypeAndValue)) (search : Search) (reload : Bool) (number : ℕ) (own : Supplier) (consumer : Following) (follower : Follower)
-    (suppliers : List Supplier) (followers : List Follower)
-    → view ≡ state → spelled ≡ name → suffix ≡ [] → number ≡ state.nodes + 1 → own ≡ record { name = spelled; provider = fresh suffix number number Replica; notes = [] } → consumer ≡ record { spec = search; reload = reload; copy = nothing }
-    → follower ≡ record { name = name; source = source; consumer = consumer; link = []; search = None } → suppliers ≡ view.suppliers ++ own ∷ [] → followers ≡ view.followers ++ follower ∷ []
+pub replica_is : (state view : State) (name source : List ℕ) (search : Search) (reload : Bool) (number : ℕ) (own : Supplier) (follower : Follower) (suppliers : List Supplier) (followers : List Follower)
+    → view ≡ state → number ≡ state.nodes + 1 → own ≡ record { name = name; provider = fresh [] number number Replica; notes = [] } → follower ≡ new_follower name source search reload
+    → suppliers ≡ view.suppliers ++ own ∷ [] → followers ≡ view.followers ++ follower ∷ []
     → record view { nodes = number; suppliers = suppliers; followers = followers } ≡ with_replica state (new_follower name source search reload)
-replica_is state view name spelled source suffix search reload number own consumer follower suppliers followers same named empty next own_is consumer_is follower_is suppliers_are followers_are =
-    let supplier : own ≡ new_supplier state Replica name [] = own_is ∙ λ k. record { name = named k; provider = fresh (empty k) (next k) (next k) Replica; notes = [] } in
-    let consumed : follower ≡ new_follower name source search reload = follower_is ∙ λ k. record { name = name; source = source; consumer = consumer_is k; link = []; search = None } in
+replica_is state view name source search reload number own follower suppliers followers same next own_is follower_is suppliers_are followers_are =
+    let supplier : own ≡ new_supplier state Replica name [] = own_is ∙ λ k. record { name = name; provider = fresh [] (next k) (next k) Replica; notes = [] } in
     let all : suppliers ≡ state.suppliers ++ new_supplier state Replica name [] ∷ [] = suppliers_are ∙ λ k. (same k).suppliers ++ supplier k ∷ [] in
-    let each : followers ≡ state.followers ++ new_follower name source search reload ∷ [] = followers_are ∙ λ k. (same k).followers ++ consumed k ∷ [] in
+    let each : followers ≡ state.followers ++ new_follower name source search reload ∷ [] = followers_are ∙ λ k. (same k).followers ++ follower_is k ∷ [] in
     λ k. record { clock = (same k).clock; nodes = next k; suppliers = all k; followers = each k }

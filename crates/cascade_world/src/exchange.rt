@@ -14,7 +14,7 @@ use crate::node::{Follower, Supplier};
 use crate::opening::{cut_if_busy, open_search};
 use crate::receiving::take;
 use crate::repointing::want;
-use crate::sending::send;
+use crate::sending::{discard, send};
 use crate::settling::settle;
 use crate::source::Source;
 use crate::told::{Stage, Telling};
@@ -163,10 +163,14 @@ impl World {
         let (supplier, follower) = self.places(&name)?;
         let done = self.perform(supplier, follower, exchange)?;
         if done.stages.is_empty() {
+            discard(done.before);
             return Ok(Octets::from(done.text));
         }
         match self.commit(follower, done.stages) {
-            Ok(()) => Ok(Octets::from(done.text)),
+            Ok(()) => {
+                discard(done.before);
+                Ok(Octets::from(done.text))
+            }
             Err(cause) => {
                 let provider = &mut self.suppliers[supplier].provider;
                 done.before.restore(provider, &mut self.followers[follower]);

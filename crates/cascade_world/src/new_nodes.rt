@@ -8,12 +8,12 @@ ghost use Rattle.cascade_world.specs.World.{Does};
 
 use crate::cookies::MOST_NODES;
 use crate::node::{Follower, Supplier};
+use crate::sending::discard;
 use crate::world::{Lines, World, no_lines};
 use cascade_script::Cause;
 use dn_names::Dn;
 use entry_tree::Spec;
 use ldap_ber::Octets;
-use sync_consumer::Consumer;
 use sync_provider::Kind;
 
 impl World {
@@ -76,8 +76,7 @@ impl World {
         ensures err { OnErr result (self.new ≡ self.old) }
     {
         let number = self.next_follower(&name, &source, &wanted)?;
-        let consumer = Consumer::new(self.alloc, wanted, reload)?;
-        let follower = Follower::new(self.alloc, name, source, consumer);
+        let follower = Follower::of(self.alloc, name, source, wanted, reload)?;
         self.followers.push(follower)?;
         self.nodes = number;
         Ok(no_lines(self.alloc))
@@ -96,11 +95,13 @@ impl World {
         ensures err { OnErr result (self.new ≡ self.old) }
     {
         let number = self.next_follower(&name, &source, &wanted)?;
-        let suffix = Dn::empty(self.alloc);
-        let own = Supplier::new(self.alloc, name.copy()?, suffix, number, Kind::Replica)?;
-        let consumer = Consumer::new(self.alloc, wanted, reload)?;
-        let follower = Follower::new(self.alloc, name, source, consumer);
-        self.suppliers.reserve(1)?;
+        let own = Supplier::of_replica(self.alloc, &name, number)?;
+        let follower = Follower::of(self.alloc, name, source, wanted, reload)?;
+        if let Err(full) = self.suppliers.reserve(1) {
+            discard(follower);
+            discard(own);
+            return Err(Cause::from(full));
+        }
         self.followers.push(follower)?;
         self.suppliers.push_reserved(own);
         self.nodes = number;

@@ -2,7 +2,8 @@
 ghost use Rattle.std.specs.Prelude.{◌≡◌, ◌<◌, [], None, IfOk};
 ghost use Rattle.entry_tree.specs.Selection.{search_of};
 ghost use Rattle.sync_provider.specs.Machine.{fresh};
-ghost use Rattle.cascade_world.specs.World.{is_offered};
+ghost use Rattle.sync_provider.specs.declared.provider.Kind.TheVariants.{Replica};
+ghost use Rattle.cascade_world.specs.World.{is_offered, new_follower};
 
 use crate::link::Link;
 use crate::notes::Notes;
@@ -41,6 +42,15 @@ impl Supplier {
         })
     }
 
+    /// The directory of a replica with this name, without writes. Its suffix is empty.
+    pub fn of_replica(alloc: Global, name: &Octets, number: u16) -> Result<Supplier, NoMemory>
+        requires { number < 4096 }
+        ensures { IfOk result (λ supplier. supplier ≡ record { name = name.now; provider = fresh [] number number Replica; notes = [] }) }
+    {
+        let suffix = Dn::empty(alloc);
+        Supplier::new(alloc, name.copy()?, suffix, number, Kind::Replica)
+    }
+
     /// Whether the base of what is wanted is at or below the suffix.
     pub fn offers(&self, wanted: &Spec) -> bool
         ensures { result ≡ is_offered (search_of wanted.now) self.now }
@@ -61,6 +71,20 @@ pub struct Follower {
 }
 
 impl Follower {
+    /// A consumer of what is wanted, without entries, a cookie and a search.
+    pub fn of(
+        alloc: Global,
+        name: Octets,
+        source: Octets,
+        wanted: Spec,
+        reload: bool,
+    ) -> Result<Follower, NoMemory>
+        ensures { IfOk result (λ follower. follower ≡ new_follower name source (search_of wanted) reload) }
+    {
+        let consumer = Consumer::new(alloc, wanted, reload)?;
+        Ok(Follower::new(alloc, name, source, consumer))
+    }
+
     /// A consumer without entries and without a search.
     pub fn new(alloc: Global, name: Octets, source: Octets, consumer: Consumer) -> Follower
         ensures { result ≡ record { name = name; source = source; consumer = consumer; link = []; search = None } }

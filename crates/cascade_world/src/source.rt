@@ -177,11 +177,14 @@ impl Source {
         self.provider.accept(alloc, ask)
     }
 
-    /// The next message of the search with this number, which has a spelling.
+    /// The next message of the search with this number, which has a spelling. Where there is no
+    /// message none is asked for.
     #[tactic(auto, using(crate::proofs::Asked::turn_ours))]
     pub fn hand_out(&mut self, alloc: Global, number: u64) -> Handed
         ensures turn { IfSome (handing.turn_of result)
             (λ turn. turn ≡ handing.turn_at self.old.searches number) }
+        ensures memory { result ≡ Handed.NoMemory
+            → handing.has_message (handing.turn_at self.old.searches number) ≡ true }
         ensures state { self.new ≡ record self.old {
           searches = handing.after_answer self.old.searches number (handing.turn_of result);
         } }

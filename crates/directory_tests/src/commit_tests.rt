@@ -9,7 +9,8 @@ use crate::entry_tree_tests::{
     raw_list,
 };
 use dn_names::Dn;
-use entry_tree::{CommitRefusal, Entry, EntryList, Op, OpFault, Touched, Tree};
+use entry_tree::{CommitRefusal, Entry, EntryList, Op, OpFault, Touched, Tree, check_held};
+use ldap_ber::NoMemory;
 use schema_rules::Attrs;
 use std::alloc::Global;
 use std::process::Abort;
@@ -210,7 +211,14 @@ const LEFT: &str = "=1 1 o=x objectClass=organization|o=x\n\
 /// and `p`, with their types.
 const LEFT_WEIGHT: u64 = FIRST_WEIGHT - (29 + 3) - (2 + 2) - (1 + 1);
 
-/// Two entries go, one comes and one is replaced.
+fn assert_left(rt: &impl Abort, alloc: Global, tree: &Tree) -> Result<(), Fail> {
+    let left = entries_of(alloc, tree)?;
+    assert_same(rt, "entries", &left.as_slice(), &LEFT.as_bytes());
+    assert_same(rt, "weight", &tree.weight(), &LEFT_WEIGHT);
+    Ok(())
+}
+
+/// Two entries go, one comes and one is replaced. A copy has what is left too.
 #[test]
 fn a_commit_leaves(rt: HostRuntime) -> Result<(), Fail> {
     let alloc = rt.alloc();
@@ -224,10 +232,8 @@ fn a_commit_leaves(rt: HostRuntime) -> Result<(), Fail> {
     )?;
     let drops = drops_of(alloc, &[5, 2, 3])?;
     let _ = applied(alloc, &mut tree, puts, drops)?;
-    let left = entries_of(alloc, &tree)?;
-    assert_same(&rt, "entries", &left.as_slice(), &LEFT.as_bytes());
-    assert_same(&rt, "weight", &tree.weight(), &LEFT_WEIGHT);
-    Ok(())
+    assert_left(&rt, alloc, &tree)?;
+    assert_left(&rt, alloc, &tree.copy(alloc)?)
 }
 
 /// The entries that are put, the identities that are dropped, and the two that would have one name.
@@ -295,5 +301,35 @@ fn two_of_one_name(rt: HostRuntime) -> Result<(), Fail> {
     for row in &REFUSED {
         check_refused(&rt, rt.alloc(), row)?;
     }
+    Ok(())
+}
+
+/// Three entries, of which two have one name.
+const NAMED_TWICE: [&str; 3] = [
+    "9 1 ou=b,o=x|objectClass=organizationalUnit|ou=b",
+    "6 1 ou=c,o=x|objectClass=organizationalUnit|ou=c",
+    "7 1 OU=B,o=x|objectClass=organizationalUnit|ou=b",
+];
+
+fn each_of(alloc: Global, entries: &[Entry]) -> Result<Vec<&Entry>, NoMemory> {
+    let mut each = Vec::new(alloc);
+    for entry in entries {
+        each.push(entry)?;
+    }
+    Ok(each)
+}
+
+/// Whether a directory may have these entries.
+fn held(alloc: Global, entries: &[Entry]) -> Result<(), CommitRefusal> {
+    check_held(alloc, &each_of(alloc, entries)?)
+}
+
+#[test]
+fn entries_that_may_be_held(rt: HostRuntime) -> Result<(), Fail> {
+    let entries = puts_of(rt.alloc(), &NAMED_TWICE)?;
+    let wanted = Err(CommitRefusal::SameName(9, 7));
+    assert_same(&rt, "three", &held(rt.alloc(), entries.list()), &wanted);
+    let (_, two) = entries.list().split_first().ok_or("no entry")?;
+    assert_same(&rt, "two", &held(rt.alloc(), two), &Ok(()));
     Ok(())
 }

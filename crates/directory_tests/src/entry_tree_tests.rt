@@ -1,10 +1,12 @@
 //! Writes to a small directory: their codes, and what they leave.
 use csn_cookie::Csn;
 use dn_names::Dn;
-use entry_tree::{Entry, EntryList, OpFault, Scope, Spec, Touched, Tree, read_op};
+use entry_tree::{Edit, Edits, Entry, EntryList, OpFault, Scope, Spec, Touched, Tree, read_op};
 use ldap_ber::{NoMemory, Octets, OctetsList};
 use ldap_filter::Filter;
-use schema_rules::{Attribute, Change, EditList, How, RawAttribute, RawEdit, RawList};
+use schema_rules::{
+    Attribute, AttributeType, Change, EditList, How, RawAttribute, RawEdit, RawList,
+};
 use std::alloc::Global;
 use std::fmt::Debug;
 use std::process::Abort;
@@ -788,6 +790,17 @@ fn has_name(entry: Option<&Entry>, dn: &Dn) -> bool {
     }
 }
 
+/// The entry of the identity 4, as a copy of it has it.
+const PERSON: &str =
+    "=4 4 cn=j,ou=a,o=x objectClass=inetOrgPerson|cn=j|cn=k|sn=s|employeeNumber=1\n";
+
+/// The line of a copy of the entry.
+fn line_copied(alloc: Global, entry: &Entry) -> Result<Vec<u8>, NoMemory> {
+    let mut line = Vec::new(alloc);
+    push_entry(&mut line, "=", &entry.copy()?)?;
+    Ok(line)
+}
+
 #[test]
 fn entries_found(rt: HostRuntime) -> Result<(), Fail> {
     let tree = first_tree(rt.alloc())?;
@@ -795,6 +808,39 @@ fn entries_found(rt: HostRuntime) -> Result<(), Fail> {
     assert_same(&rt, "identity", &uuid_of(tree.find(&dn)), &Some(4));
     assert!(rt; has_name(tree.get(4), &dn));
     assert!(rt; tree.get(9).is_none());
+    let copied = line_copied(rt.alloc(), tree.get(4).ok_or("no entry")?)?;
+    assert_same(&rt, "copy", &copied.as_slice(), &PERSON.as_bytes());
+    Ok(())
+}
+
+/// Edits of types by their names, in order.
+const EDITS: [(How, &str); 3] = [(How::Replace, "sn"), (How::Add, "cn"), (How::Delete, "sn")];
+
+fn edits_of(alloc: Global, rows: &[(How, &str)]) -> Result<Edits, Fail> {
+    let mut edits = Edits::new(alloc);
+    for (how, name) in rows {
+        edits.push(Edit {
+            how: *how,
+            kind: AttributeType::find(name.as_bytes()).ok_or(*name)?,
+            values: values_of(alloc, name)?,
+        })?;
+    }
+    Ok(edits)
+}
+
+#[test]
+fn edits_in_order(rt: HostRuntime) -> Result<(), Fail> {
+    let edits = edits_of(rt.alloc(), &EDITS)?;
+    assert_same(&rt, "edits", &edits.list().len(), &EDITS.len());
+    for (edit, (how, name)) in edits.list().iter().zip(&EDITS) {
+        assert_same(
+            &rt,
+            name,
+            &(edit.how, edit.kind.name()),
+            &(*how, name.as_bytes()),
+        );
+        assert_same(&rt, name, &edit.values.list().len(), &1);
+    }
     Ok(())
 }
 

@@ -488,8 +488,16 @@ fn assert_returned(rt: &impl Abort, alloc: Global, provider: &mut Provider) -> R
     Ok(())
 }
 
+/// Returns at once to the moment that was taken.
+fn return_at_once(alloc: Global, provider: &mut Provider) -> Result<(), NoMemory> {
+    let moment = provider.moment(alloc)?;
+    provider.return_to_moment(moment);
+    Ok(())
+}
+
 fn assert_return(rt: &impl Abort, alloc: Global, provider: &mut Provider) -> Result<(), Fail> {
     assert_three_opened(rt, alloc, provider)?;
+    return_at_once(alloc, provider)?;
     let moment = provider.open_searches(alloc)?;
     let over = assert_all_over(rt, alloc, provider);
     provider.return_to(moment);

@@ -4,10 +4,10 @@ use session_log::SessionLog;
 use std::alloc::{AllocError, Global};
 use std::test::Fail;
 
-/// Notes of a number and an identity, and trims to a limit, each with a number behind it: the floor
-/// after it, and what is told of that number where it is covered.
+/// Notes of a number and an identity, trims to a limit, and a copy that goes on in the log's place, each
+/// with a number behind it: the floor after it, and what is told of that number where it is covered.
 const ROWS: &str = "\
-log note 1 7 0;note 2 5 0;note 2 9 1;note 3 5 1;note 4 6 2;note 5 5 1;trim 2 3;trim 2 4;trim 9 5;trim 0 4;note 6 1 6;trim 2 5;note 7 340282366920938463463374607431768211455 6 => 0 Some([7]);0 Some([5, 7]);0 Some([5, 9]);1 Some([5, 9]);2 Some([5, 6]);2 None;3 Some([5, 6]);3 Some([5]);3 Some([]);5 None;6 Some([]);6 None;6 Some([340282366920938463463374607431768211455]);
+log note 1 7 0;note 2 5 0;note 2 9 1;note 3 5 1;note 4 6 2;copy 2;note 5 5 1;trim 2 3;trim 2 4;trim 9 5;trim 0 4;note 6 1 6;trim 2 5;note 7 340282366920938463463374607431768211455 6 => 0 Some([7]);0 Some([5, 7]);0 Some([5, 9]);1 Some([5, 9]);2 Some([5, 6]);2 Some([5, 6]);2 None;3 Some([5, 6]);3 Some([5]);3 Some([]);5 None;6 Some([]);6 None;6 Some([340282366920938463463374607431768211455]);
 ";
 
 #[test]
@@ -31,12 +31,16 @@ fn push_step(
     step: &str,
 ) -> Result<(), AllocError> {
     let (change, number) = step.rsplit_once(' ').unwrap_or((step, ""));
-    make(log, change)?;
+    make(alloc, log, change)?;
     let since = since(log, number.parse::<u64>().unwrap_or(0))?;
     text.push_str(&format!(in alloc; "{} {:?};", log.floor(), since.as_deref())?)
 }
 
-fn make(log: &mut SessionLog, change: &str) -> Result<(), AllocError> {
+fn make(alloc: Global, log: &mut SessionLog, change: &str) -> Result<(), AllocError> {
+    if change == "copy" {
+        *log = log.copy(alloc)?;
+        return Ok(());
+    }
     let (change, last) = change.rsplit_once(' ').unwrap_or((change, ""));
     match change.split_once(' ') {
         Some((_, number)) => note(

@@ -2,7 +2,8 @@
 use crate::assertions::assert_same;
 use ldap_ber::{NoMemory, Octets, OctetsList};
 use schema_rules::{
-    Attribute, AttributeType, Attrs, RawAttribute, RawList, Rule, SchemaFault, check_entry, key_of,
+    Attribute, AttributeType, Attrs, RawAttribute, RawList, Rule, SchemaFault, add_values,
+    are_of_syntax, check_entry, key_of, keys_of, known_key,
 };
 use std::alloc::{AllocError, Global};
 use std::process::Abort;
@@ -122,6 +123,69 @@ fn keys_by_the_rules(rt: HostRuntime) -> Result<(), Fail> {
         let kind = AttributeType::find(name.as_bytes()).ok_or(*name)?;
         assert_key(&rt, rt.alloc(), kind, value, key);
     }
+    Ok(())
+}
+
+/// Types with two values, and the keys of those that have one.
+const KEYED: [(&str, [&[u8]; 2], &[&[u8]]); 4] = [
+    ("cn", [b"Ann  Lee", b"B"], &[b"ann lee", b"b"]),
+    ("uidNumber", [b"07", b"7"], &[b"7"]),
+    ("mail", [b"\xe9@x", b"A@X"], &[b"a@x"]),
+    ("entryCSN", [b"1", b"2"], &[]),
+];
+
+fn octets_of(alloc: Global, values: &[&[u8]]) -> Result<OctetsList, NoMemory> {
+    let mut list = OctetsList::new(alloc);
+    for value in values {
+        list.push(Octets::from_slice(alloc, value)?)?;
+    }
+    Ok(list)
+}
+
+#[test]
+fn keys_of_values(rt: HostRuntime) -> Result<(), Fail> {
+    for (name, values, wanted) in &KEYED {
+        let kind = AttributeType::find(name.as_bytes()).ok_or(*name)?;
+        let second = known_key(rt.alloc(), kind, values[1])?;
+        let second = second.as_ref().map(|key| key.as_slice());
+        assert_same(&rt, name, &second, &wanted.last().copied());
+        let values = octets_of(rt.alloc(), values)?;
+        let all = are_of_syntax(rt.alloc(), kind, values.list())?;
+        assert_same(&rt, name, &all, &(wanted.len() == 2));
+        let keys = keys_of(rt.alloc(), kind, values.list())?;
+        assert!(rt;
+            keys.as_slice() == octets_of(rt.alloc(), wanted)?.list(),
+            "{name}"
+        );
+    }
+    Ok(())
+}
+
+/// Types, and values that are put behind those of the type.
+const ADDED: [(&str, &[&[u8]]); 3] = [
+    ("cn", &[b"a"]),
+    ("sn", &[b"b", b"A"]),
+    ("cn", &[b"c", b"a"]),
+];
+
+fn added(alloc: Global, rows: &[(&str, &[&[u8]])]) -> Result<Vec<Attribute>, Fail> {
+    let mut attributes = Vec::new(alloc);
+    for (name, values) in rows {
+        let kind = AttributeType::find(name.as_bytes()).ok_or(*name)?;
+        let values = octets_of(alloc, values)?;
+        add_values(&mut attributes, kind, values.list())?;
+    }
+    Ok(attributes)
+}
+
+#[test]
+fn values_added(rt: HostRuntime) -> Result<(), Fail> {
+    let mut line = Vec::new(rt.alloc());
+    for attribute in &added(rt.alloc(), &ADDED)? {
+        push_attribute(&mut line, &attribute.copy()?)?;
+    }
+    let wanted = b"cn=a|cn=c|cn=a|sn=b|sn=A".as_slice();
+    assert_same(&rt, "added", &line.as_slice(), &wanted);
     Ok(())
 }
 

@@ -16,7 +16,7 @@ use std::test::Fail;
 use sync_messages::{Mode, SyncDone, SyncRequest};
 use sync_wire::{
     Heard, HearingFault, done_message, end_message, entry_message, gone_message, hear,
-    search_request, tag_of,
+    names_message, search_request, tag_of,
 };
 
 // What these calls answer is compared when the tests run: the proofs of the tests know nothing of it.
@@ -93,6 +93,16 @@ const PRESENT_PHASE_END: &[u8] =
 const DELETE_PHASE_END: &[u8] =
     b"0\x81\x87\x02\x01\x07y\x81\x81\x80\x181.3.6.1.4.1.4203.1.9.1.4\x81e\xa1c\x04arid=000,sid=001,\
     csn=20260101000000.000000Z#000002#001#000000,gen=0123456789abcdef0123456789abcdef";
+
+/// An entry is deleted, with the message ID 7.
+const DELETED: &[u8] =
+    b"0:\x02\x01\x07y5\x80\x181.3.6.1.4.1.4203.1.9.1.4\x81\x19\xa3\x17\x01\x01\xff1\x12\x04\x10\xf8\
+    \x1dO\xae}\xec\x11\xd0\xa7e\0\xa0\xc9\x1ek\xf6";
+
+/// The entries 5 and another are present, with the message ID 7.
+const BOTH_PRESENT: &[u8] =
+    b"0I\x02\x01\x07yD\x80\x181.3.6.1.4.1.4203.1.9.1.4\x81(\xa3&1$\x04\x10\0\0\0\0\0\0\0\0\0\0\0\0\0\0\0\
+    \x05\x04\x10\xf8\x1dO\xae}\xec\x11\xd0\xa7e\0\xa0\xc9\x1ek\xf6";
 
 /// The end of a search that found no room (51), with the message ID 7.
 const BUSY: &[u8] = b"0\x0c\x02\x01\x07e\x07\x0a\x013\x04\0\x04\0";
@@ -210,6 +220,13 @@ fn end_bytes(alloc: Global, persists: bool, deletes: bool, csn: Csn) -> Result<O
     bytes
 }
 
+fn names_bytes(alloc: Global, deletes: bool, uuids: &[u128]) -> Result<Octets, NoMemory> {
+    let message = names_message(alloc, 7, deletes, uuids)?;
+    let bytes = message.write(alloc);
+    discard(message);
+    bytes
+}
+
 fn busy_bytes(alloc: Global) -> Result<Octets, NoMemory> {
     let message = done_message(alloc, 7, 51)?;
     let bytes = message.write(alloc);
@@ -264,6 +281,15 @@ fn what_is_gone_is_sent(rt: HostRuntime) -> Result<(), Fail> {
         &gone_bytes(rt.alloc(), &name, csn)?,
         GONE_LAST,
     );
+    Ok(())
+}
+
+#[test]
+fn names_are_sent(rt: HostRuntime) -> Result<(), Fail> {
+    let deleted = names_bytes(rt.alloc(), true, &[UUID])?;
+    assert_bytes(&rt, "deleted", &deleted, DELETED);
+    let present = names_bytes(rt.alloc(), false, &[5, UUID])?;
+    assert_bytes(&rt, "present", &present, BOTH_PRESENT);
     Ok(())
 }
 

@@ -10,18 +10,18 @@ use Rattle.std.proofs.lemmas.Map.Steps.{set_value_same}
 use Rattle.std.proofs.lemmas.Option.{slice_get_within, get_or_from_slice_get}
 use Rattle.sync_model.specs.Law.{is_nil}
 use Rattle.sync_model.specs.Message.{Cookie, SyncMessage}
-use Rattle.sync_model.specs.Message.SyncMessage.{Done}
+use Rattle.sync_model.specs.Message.SyncMessage.{Put, Gone, Present, IdSet, NewCookie, PhaseEnds, Done, Passed}
 use Rattle.sync_model.specs.Stream.{end_of}
 use Rattle.sync_wire.specs.Sending.{sent}
 use Rattle.directory_writes.proofs.Keyed.{kept_at, closed_at, put_on}
-use Rattle.sync_provider.specs.HandingOut.{Turn, turn_of_message, turn_of_pending, search_at, is_closing, after_own_turn, without_first, closed, handed_on, after_answer}
+use Rattle.sync_provider.specs.HandingOut.{Turn, turn_of_message, turn_of_pending, turn_at, has_message, search_at, is_closing, after_own_turn, without_first, closed, handed_on, after_answer}
 use Rattle.sync_provider.specs.HandingOut.Turn.{Hands, Closes, Waits, Unknown}
 use Rattle.sync_provider.specs.Search.{SearchState, busy_end, pending, advanced, is_end, message_of, messages_of, first_of}
 use Rattle.sync_provider.specs.Staging.{HeldSearch, searches_of}
 use Rattle.sync_provider.specs.declared.parts.Part.{Part}
 use Rattle.sync_provider.specs.declared.parts.Part.TheVariants as part
 use Rattle.sync_provider.proofs.Kept.{hands}
-use Rattle.sync_provider.proofs.Held.{search_found, held_closed, held_put}
+use Rattle.sync_provider.proofs.Held.{search_found, turn_found, held_closed, held_put}
 
 -- ---- what is left of a refresh
 
@@ -102,6 +102,42 @@ none_turn s off none first = turn_of_rest s [] off none ∙ by s.due refl
     by : (due : List SyncMessage) → s.due ≡ due → turn_of_pending s.id due ≡ Waits
     by [] is = refl
     by (x ∷ due) is = absurd (never x (sym (ap (λ l. slice_get l 0) is) ∙ first))
+
+-- ---- where a message is pending there is one to write
+
+message_there : (id : ℕ) (m : SyncMessage) → has_message (turn_of_message id m) ≡ true
+message_there id (Put adds entry cookie) = refl
+message_there id (Gone uuid name cookie) = refl
+message_there id (Present uuid cookie) = refl
+message_there id (IdSet deletes uuids cookie) = refl
+message_there id (NewCookie cookie) = refl
+message_there id (PhaseEnds deletes done cookie) = refl
+message_there id (Done code control) = refl
+message_there id Passed = refl
+
+pub over_has_message : (s : SearchState) → s.over ≡ true → has_message (turn_of_pending s.id (pending s)) ≡ true
+over_has_message s on = ap has_message (over_turn s on)
+
+pub rest_has_message : (s : SearchState) (persists deletes : Bool) (parts : List Part) (cookie : Cookie) → s.over ≡ false → s.rest ≡ messages_of persists deletes parts cookie
+    → has_message (turn_of_pending s.id (pending s)) ≡ true
+rest_has_message s persists deletes [] cookie off is =
+    ap has_message (turn_of_rest s (messages_of persists deletes [] cookie) off is) ∙ message_there s.id (end_of persists deletes cookie)
+rest_has_message s persists deletes (p ∷ parts) cookie off is =
+    ap has_message (turn_of_rest s (messages_of persists deletes (p ∷ parts) cookie) off is) ∙ message_there s.id (message_of deletes p)
+
+pub due_has_message : (s : SearchState) (m : SyncMessage) → s.over ≡ false → s.rest ≡ [] → slice_get s.due 0 ≡ Some m → has_message (turn_of_pending s.id (pending s)) ≡ true
+due_has_message s m off none first = ap has_message (turn_of_rest s [] off none) ∙ by s.due refl
+  where
+    never : None ≡ Some m → ⊥
+    never e = cc
+
+    by : (due : List SyncMessage) → s.due ≡ due → has_message (turn_of_pending s.id due) ≡ true
+    by [] is = absurd (never (sym (ap (λ l. slice_get l 0) is) ∙ first))
+    by (x ∷ due) is = message_there s.id x
+
+pub found_has_message : (es : List (ℕ × HeldSearch)) (k : ℕ) (held : HeldSearch) → kept_at es k ≡ Some held → has_message (turn_of_pending held.search.id (pending held.search)) ≡ true
+    → has_message (turn_at (searches_of es) k) ≡ true
+found_has_message es k held found there = ap has_message (turn_found es k held found) ∙ there
 
 -- ---- the open searches after a turn
 

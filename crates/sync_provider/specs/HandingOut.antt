@@ -48,6 +48,13 @@ search_at searches number = lookup (is_at (nat_cmp number)) searches
 abbrev pub turn_at : List (ℕ × SearchState) → ℕ → Turn
 turn_at searches number = turn_of_found (search_at searches number)
 
+-- there is a message in it, which has to be written
+abbrev pub has_message : Turn → Bool
+has_message (Hands message) = true
+has_message (Closes code message) = true
+has_message Waits = false
+has_message Unknown = false
+
 -- what a call answered; want of memory is no turn
 abbrev pub turn_of : Handed → Option Turn
 turn_of (handed.Message message) = Some (Hands (whole_of message))

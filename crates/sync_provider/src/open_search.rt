@@ -1,11 +1,11 @@
 //! A search that is open.
 
-ghost use Rattle.std.specs.Prelude.{◌≡◌, ◌<◌, [], false, is_some, Some, None, IfOk, IfSome};
+ghost use Rattle.std.specs.Prelude.{◌≡◌, ◌<◌, [], false, true, is_some, Some, None, IfOk, IfSome};
 ghost use Rattle.csn_cookie.specs.Cookie.{cookie_text};
 ghost use Rattle.directory_writes.specs.Starting.{start_of};
 ghost use Rattle.entry_tree.specs.Selection.{search_of};
 ghost use Rattle.sync_model.specs.Stream.{is_covered};
-ghost use Rattle.sync_provider.specs.HandingOut.{turn_of, turn_of_pending, after_own_turn};
+ghost use Rattle.sync_provider.specs.HandingOut.{turn_of, turn_of_pending, has_message, after_own_turn};
 ghost use Rattle.sync_provider.specs.Queueing.{is_queueing};
 ghost use Rattle.sync_provider.specs.Search.{pending, messages_of};
 ghost use Rattle.sync_provider.specs.Staging.{staged_for, pushed_staged, IsTried};
@@ -131,6 +131,7 @@ impl OpenSearch {
     pub(crate) fn copy(&self, alloc: Global) -> Result<OpenSearch, NoMemory>
         ensures search { IfOk result (λ copy. copy.search ≡ self.now.search) }
     {
+        let rest = copy_of_rest(alloc, &self.rest)?;
         let queue = copy_of_queue(alloc, &self.queue)?;
         let spec = copy_of(&self.spec)?;
         Ok(OpenSearch {
@@ -139,7 +140,7 @@ impl OpenSearch {
             start: self.start,
             accepted: self.accepted,
             persists: self.persists,
-            rest: copy_of_rest(alloc, &self.rest)?,
+            rest,
             queue,
             staged: None,
             over: self.over,
@@ -154,10 +155,12 @@ impl OpenSearch {
     }
 
     /// The message that is pending first, which counts as handed out where it is not the last.
-    #[tactic(auto, using(crate::proofs::Turns::over_turn, crate::proofs::Turns::part_turn, crate::proofs::Turns::part_state, crate::proofs::Turns::end_turn, crate::proofs::Turns::end_state, crate::proofs::Turns::last_turn))]
+    #[tactic(auto, using(crate::proofs::Turns::over_turn, crate::proofs::Turns::over_has_message, crate::proofs::Turns::rest_has_message, crate::proofs::Turns::part_turn, crate::proofs::Turns::part_state, crate::proofs::Turns::end_turn, crate::proofs::Turns::end_state, crate::proofs::Turns::last_turn))]
     pub(crate) fn hand_out(&mut self, alloc: Global) -> Handed
         ensures turn { IfSome (turn_of result)
             (λ turn. turn ≡ turn_of_pending self.old.search.id (pending self.old.search)) }
+        ensures memory { result ≡ Handed.NoMemory
+            → has_message (turn_of_pending self.old.search.id (pending self.old.search)) ≡ true }
         ensures state { self.new.search ≡ after_own_turn self.old.search (turn_of result) }
     {
         if self.over {
@@ -185,12 +188,14 @@ impl OpenSearch {
     }
 
     /// The first message of later writes, once the refresh is handed out.
-    #[tactic(auto, using(crate::proofs::Turns::later_turn, crate::proofs::Turns::later_state, crate::proofs::Turns::none_turn))]
+    #[tactic(auto, using(crate::proofs::Turns::later_turn, crate::proofs::Turns::due_has_message, crate::proofs::Turns::later_state, crate::proofs::Turns::none_turn))]
     fn hand_out_later(&mut self, alloc: Global) -> Handed
         requires rest { self.old.search.rest ≡ [] }
         requires over { self.old.search.over ≡ false }
         ensures turn { IfSome (turn_of result)
             (λ turn. turn ≡ turn_of_pending self.old.search.id (pending self.old.search)) }
+        ensures memory { result ≡ Handed.NoMemory
+            → has_message (turn_of_pending self.old.search.id (pending self.old.search)) ≡ true }
         ensures state { self.new.search ≡ after_own_turn self.old.search (turn_of result) }
     {
         let Some(later) = self.queue.get(0) else {

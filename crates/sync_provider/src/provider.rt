@@ -1,6 +1,6 @@
 //! A directory with the searches that are open on it.
 
-ghost use Rattle.std.specs.Prelude.{◌≡◌, ◌≤◌, ◌-◌, ◌<◌, ◌^◌, length, slice_get, is_some, Some, IfOk, IfSome};
+ghost use Rattle.std.specs.Prelude.{◌≡◌, ◌≤◌, ◌-◌, ◌<◌, ◌^◌, true, length, slice_get, is_some, Some, IfOk, IfSome};
 ghost use Rattle.csn_cookie.specs.Csn as csns;
 ghost use Rattle.directory_writes.specs.Directory as directory;
 ghost use Rattle.sync_provider.specs.HandingOut as handing;
@@ -79,11 +79,13 @@ impl Provider {
     }
 
     /// The next message of the search with this number. Where memory runs out the same message is
-    /// still pending.
-    #[tactic(auto, using(crate::proofs::Turns::closed_after, crate::proofs::Turns::open_after, crate::proofs::Held::turn_found, crate::proofs::Held::search_found, crate::proofs::Held::search_none))]
+    /// still pending; where there is no message none is asked for.
+    #[tactic(auto, using(crate::proofs::Turns::closed_after, crate::proofs::Turns::open_after, crate::proofs::Turns::found_has_message, crate::proofs::Held::turn_found, crate::proofs::Held::search_found, crate::proofs::Held::search_none))]
     pub fn hand_out(&mut self, alloc: Global, number: u64) -> Handed
         ensures turn { IfSome (handing.turn_of result)
             (λ turn. turn ≡ handing.turn_at self.old.searches number) }
+        ensures memory { result ≡ Handed.NoMemory
+            → handing.has_message (handing.turn_at self.old.searches number) ≡ true }
         ensures state { self.new ≡ record self.old {
           searches = handing.after_answer self.old.searches number (handing.turn_of result);
         } }

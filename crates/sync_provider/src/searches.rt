@@ -1,6 +1,6 @@
 //! How a search is accepted (RFC 4533, sections 3.3 and 3.4).
 
-ghost use Rattle.std.specs.Prelude.{◌≡◌, length, Ok, IfOk, OnOk, OnErr};
+ghost use Rattle.std.specs.Prelude.{◌≡◌, length, Ok, IfOk, IfErr, OnOk, OnErr};
 ghost use Rattle.entry_tree.specs.Selection.{search_of};
 ghost use Rattle.std.specs.Ordering.{nat_cmp};
 ghost use Rattle.sync_messages.specs.Request.{request_of};
@@ -10,6 +10,7 @@ ghost use Rattle.sync_provider.specs.Accepting as accepting;
 ghost use Rattle.directory_writes.specs.Starting.{IsServed};
 ghost use Rattle.directory_writes.specs.Starting.{start_of};
 ghost use Rattle.sync_provider.specs.Search.{opening};
+ghost use Rattle.sync_provider.specs.declared.searches.Accepted.TheVariants.{Opened, Refused};
 
 use crate::open_search::{Asked, OpenSearch, discard};
 use crate::provider::Provider;
@@ -43,6 +44,13 @@ pub struct SyncSearch {
     pub control: Octets,
 }
 
+/// What a search that nothing is against gets: its number, and where it begins.
+#[derive(Drop)]
+struct Admitted {
+    number: u64,
+    start: Start,
+}
+
 /// What becomes of a search that was asked for.
 #[derive(Clone, Copy, Debug, PartialEq, Eq)]
 pub enum Accepted {
@@ -73,13 +81,17 @@ impl Provider {
     {
         match SyncRequest::read(alloc, ask.control.as_slice()) {
             Ok(request) => self.accept_request(alloc, &request, ask),
-            Err(SyncFault::NoMemory) => Accepted::NoMemory,
-            Err(_) => Accepted::Refused(PROTOCOL_ERROR),
+            Err(fault) => {
+                discard(ask);
+                match fault {
+                    SyncFault::NoMemory => Accepted::NoMemory,
+                    _ => Accepted::Refused(PROTOCOL_ERROR),
+                }
+            }
         }
     }
 
     /// The same, with the request that the control's value spells.
-    #[tactic(auto, using(crate::proofs::Asking::outside, crate::proofs::Asking::crowded, crate::proofs::Asking::opposed, crate::proofs::Asking::admitted))]
     fn accept_request(&mut self, alloc: Global, request: &SyncRequest, ask: SyncSearch) -> Accepted
         requires { request_of ask.control ≡ Ok request.now }
         ensures answer { accepting.Answers result
@@ -88,26 +100,47 @@ impl Provider {
           searches = accepting.after_answer self.old.directory self.old.searches ask result;
         } }
     {
+        match self.admitted(request, &ask) {
+            Ok(admitted) => {
+                let asked = Asked {
+                    id: ask.id,
+                    spec: ask.spec,
+                    start: admitted.start,
+                    persists: persists(request.mode),
+                };
+                match self.open(alloc, admitted.number, asked) {
+                    Ok(writes) => Accepted::Opened(admitted.number, writes),
+                    Err(_) => Accepted::NoMemory,
+                }
+            }
+            Err(code) => {
+                discard(ask);
+                Accepted::Refused(code)
+            }
+        }
+    }
+
+    /// The number that a search gets and where it begins, or the first code that is against it.
+    #[tactic(auto, using(crate::proofs::Asking::outside, crate::proofs::Asking::crowded, crate::proofs::Asking::opposed, crate::proofs::Asking::admitted))]
+    fn admitted(&self, request: &SyncRequest, ask: &SyncSearch) -> Result<Admitted, u32>
+        ensures answer { IfOk result (λ found. accepting.answer_to_request self.now.directory self.now.searches ask.now (Ok request.now)
+            ≡ Opened found.number (length self.now.directory.writes)) }
+        ensures start { IfOk result (λ found. start_of found.start ≡ accepting.start_of_request self.now.directory request.now) }
+        ensures served { IfOk result (λ found. IsServed self.now.directory (start_of found.start)) }
+        ensures code { IfErr result (λ code. accepting.answer_to_request self.now.directory self.now.searches ask.now (Ok request.now) ≡ Refused code) }
+    {
         if !ask.spec.base.is_at_or_below(self.directory.suffix()) {
-            return Accepted::Refused(NO_SUCH_OBJECT);
+            return Err(NO_SUCH_OBJECT);
         }
         let Some(number) = self.free_number() else {
-            return Accepted::Refused(ADMIN_LIMIT_EXCEEDED);
+            return Err(ADMIN_LIMIT_EXCEEDED);
         };
         let prefix = self.directory.asked_prefix(&request.cookie);
         if let Some(code) = code_of(request, prefix.is_some()) {
-            return Accepted::Refused(code);
+            return Err(code);
         }
-        let asked = Asked {
-            id: ask.id,
-            spec: ask.spec,
-            start: self.directory.start_at(prefix),
-            persists: persists(request.mode),
-        };
-        match self.open(alloc, number, asked) {
-            Ok(writes) => Accepted::Opened(number, writes),
-            Err(_) => Accepted::NoMemory,
-        }
+        let start = self.directory.start_at(prefix);
+        Ok(Admitted { number, start })
     }
 
     /// Opens a search with this number, and answers how many writes the directory has.
@@ -121,11 +154,19 @@ impl Provider {
         }) }
         ensures err { OnErr result (self.new ≡ self.old) }
     {
-        let parts = refresh(alloc, &self.directory, &asked.spec, asked.start)?;
-        let accepted = self.writes();
-        let search = OpenSearch::new(alloc, asked, accepted, parts, self.directory.cookie());
-        discard(self.searches.insert(number, search)?);
-        Ok(accepted)
+        match refresh(alloc, &self.directory, &asked.spec, asked.start) {
+            Ok(parts) => {
+                let accepted = self.writes();
+                let cookie = self.directory.cookie();
+                let search = OpenSearch::new(alloc, asked, accepted, parts, cookie);
+                discard(self.searches.insert(number, search)?);
+                Ok(accepted)
+            }
+            Err(full) => {
+                discard(asked);
+                Err(full)
+            }
+        }
     }
 
     /// The least number from 1 to 64 that no open search has.

@@ -30,11 +30,20 @@ front_kept {script} {a} {b} f c k = record {
   run = f.run;
   right = f.right;
   traced = f.traced;
+  held = f.held;
   written = (f.written.0, f.written.1, f.written.2, Appends-kept a b c f.written.0 f.written.3 k);
 }
 
 report_kept : {script : Reader} {a b : Option (List ℕ)} {end : State} {rest : Reader} → WritesReport script a b end rest → (c : Option (List ℕ)) → Keeps b c → WritesReport script a c end rest
-report_kept {script} {a} {b} w c k = record { orders = w.orders; report = w.report; run = w.run; right = w.right; traced = w.traced; written = Appends-kept a b c _ w.written k }
+report_kept {script} {a} {b} w c k = record {
+  orders = w.orders;
+  report = w.report;
+  run = w.run;
+  right = w.right;
+  traced = w.traced;
+  held = w.held;
+  written = Appends-kept a b c _ w.written k;
+}
 
 pub up_to_kept : {script : Reader} {a b : Option (List ℕ)} {end : State} {line : ℕ} {cause : Cause} → WritesUpTo script a b end line cause → (c : Option (List ℕ)) → Keeps b c → WritesUpTo script a c end line cause
 up_to_kept w c k = record { rest = w.rest; report = report_kept w.report c k; refusal = w.refusal }

@@ -15,7 +15,7 @@ use Rattle.cascade_script.specs.Reader.Next.{Ended, Refused, Got}
 use Rattle.cascade_world.specs.Report.{Told, lines_text, report_text}
 use Rattle.cascade_laws.specs.Run.{Runs}
 use Rattle.cascade_world.specs.World.{State, no_nodes, step, IsStep}
-use Rattle.cascade_laws.proofs.HeadlineHolds.{runs_lines_right}
+use Rattle.cascade_laws.proofs.HeadlineHolds.{runs_lines_right, runs_held}
 use Rattle.cascade_laws.proofs.Runs.{runs-more, step_told}
 use Rattle.cascade_laws.proofs.Traces.{runs_traced}
 use Rattle.syncrepl_tool.specs.declared.run.Outcome.{Outcome}
@@ -56,6 +56,7 @@ written_report {script} {reader} {state} s = record {
   run = s.run;
   right = runs_lines_right script s.orders s.report state reader s.run;
   traced = runs_traced script s.orders s.report state reader s.run;
+  held = runs_held script s.orders s.report state reader s.run;
   written = s.written;
 }
 
@@ -68,6 +69,7 @@ front_so_far {script} {reader} {state} s = record {
   run = s.run;
   right = runs_lines_right script s.orders s.report state reader s.run;
   traced = runs_traced script s.orders s.report state reader s.run;
+  held = runs_held script s.orders s.report state reader s.run;
   written = (report_text s.report, [], sym (append-nil (report_text s.report)), s.written);
 }
 
@@ -86,6 +88,7 @@ front_of_next {script} {reader} {state} {old} {new} s line order more next text 
       run = run;
       right = runs_lines_right script (s.orders ++ order ∷ []) (s.report ++ told.0 ∷ []) next more run;
       traced = runs_traced script (s.orders ++ order ∷ []) (s.report ++ told.0 ∷ []) next more run;
+      held = runs_held script (s.orders ++ order ∷ []) (s.report ++ told.0 ∷ []) next more run;
       written =
           let whole : lines_text told.0 ≡ front.0 ++ front.1 = sym told.2 ∙ front.2 in (
             report_text s.report ++ front.0,

@@ -14,7 +14,7 @@ use Rattle.cascade_script.specs.Orders.{Order}
 use Rattle.cascade_script.specs.Reader.{Reader, next_in}
 use Rattle.cascade_script.specs.Reader.Next.{Ended}
 use Rattle.cascade_world.specs.Report.{Told, report_text}
-use Rattle.cascade_laws.specs.Run.{Runs, IsRefusal, IsScript}
+use Rattle.cascade_laws.specs.Run.{Runs, IsRefusal, IsScript, AreHeld}
 use Rattle.cascade_world.specs.Trace.{AreTraced, all_lines}
 use Rattle.cascade_world.specs.World.{State, no_nodes}
 use Rattle.syncrepl_tool.specs.Texts.{Says, refusal_text, write_fault_text}
@@ -24,7 +24,7 @@ use Rattle.syncrepl_tool.specs.declared.run.Outcome.TheVariants.{Done, Refused, 
 use Rattle.syncrepl_tool.specs.declared.run.Input.{Input}
 use Rattle.syncrepl_tool.specs.declared.run.Input.TheVariants.{Text, Failed}
 
--- The headline: of the report of the first orders of the script a front was written, which may end in the midst of a line, and each of these lines is right. The wire is used: these lines tell all that happened to the links and the copies of the consumers.
+-- The headline: of the report of the first orders of the script a front was written, which may end in the midst of a line, and each of these lines is right. The wire is used: these lines tell all that happened to the links and the copies of the consumers. And what they tell last of each consumer is what it holds.
 pub record WritesFront (script : Reader) (old new : Option (List ℕ)) : Type 0 where
   pub orders : List Order
   pub report : List (List Told)
@@ -33,6 +33,7 @@ pub record WritesFront (script : Reader) (old new : Option (List ℕ)) : Type 0 
   pub run : Runs no_nodes script orders report end rest
   pub right : LinesAreRight [] [] orders report
   pub traced : AreTraced (all_lines report) end.followers
+  pub held : AreHeld (all_lines report) end
   pub written : AppendsFront old new (report_text report)
 
 -- the whole report of the first orders of the script was written, and the state is that which these orders leave
@@ -42,6 +43,7 @@ pub record WritesReport (script : Reader) (old new : Option (List ℕ)) (end : S
   pub run : Runs no_nodes script orders report end rest
   pub right : LinesAreRight [] [] orders report
   pub traced : AreTraced (all_lines report) end.followers
+  pub held : AreHeld (all_lines report) end
   pub written : Appends old new (report_text report)
 
 -- all orders of the script are done and told

@@ -9,7 +9,7 @@ use std::test::Fail;
 use std::thread::Threads;
 
 /// What follows the start, and what is reported after the first write.
-const REPORTS: [(&str, &str); 14] = [
+const REPORTS: [(&str, &str); 12] = [
     // An entry that was deleted is named.
     (
         "settle c
@@ -69,7 +69,7 @@ stored c 6 entries 3 sha256 e4d00c1c1d069df93dcb8e61a4a6530e8ab1ee83faf1cb3a74ba
 settled c 6
 ",
     ),
-    // Behind the log, what is left is named as present.
+    // Two deletes fit into a log of two. Three do not, and what is left is named as present.
     (
         "add a
 add b
@@ -81,60 +81,10 @@ settle c
 log p 2
 delete a
 delete b
+settle c
 delete c
 delete d
 delete e
-settle c
-",
-        "wrote p 0 2
-wrote p 0 3
-wrote p 0 4
-wrote p 0 5
-wrote p 0 6
-wrote p 0 7
-opened c 7
-dc 1
-taken c
-unit a2
-taken c
-unit b3
-taken c
-unit c4
-taken c
-unit d5
-taken c
-unit e6
-taken c
-unit f7
-taken c
-end 7
-stored c 7 entries 7 sha256 83fd1014904b94e386f93b2727249364b8b20f8ccd38de5d56a09d793e09f157 origin p 7
-settled c 7
-wrote p 0 8
-wrote p 0 9
-wrote p 0 10
-wrote p 0 11
-wrote p 0 12
-opened c 12
-sent c 304902010179448018312e332e362e312e342e312e343230332e312e392e312e348128a3263124041000000000000180008000000000000001041000000000000180008000000000000007
-taken c
-end c
-stored c 12 entries 2 sha256 cc27ffad0962a64e140420f72f3a5e48c3af3be12d46971212971a014eae93de origin p 12
-settled c 12
-",
-    ),
-    // Two deletes fit into a log of two.
-    (
-        "add a
-add b
-add c
-add d
-add e
-add f
-settle c
-log p 2
-delete a
-delete b
 settle c
 ",
         "wrote p 0 2
@@ -169,56 +119,15 @@ taken c
 deletes 9
 stored c 9 entries 5 sha256 a1c99044fdb0b700378634c8646f05eba3d3bd01f9883da45d2c60d4b84c4eaa origin p 9
 settled c 9
-",
-    ),
-    // Three do not.
-    (
-        "add a
-add b
-add c
-add d
-add e
-add f
-settle c
-log p 2
-delete a
-delete b
-delete c
-settle c
-",
-        "wrote p 0 2
-wrote p 0 3
-wrote p 0 4
-wrote p 0 5
-wrote p 0 6
-wrote p 0 7
-opened c 7
-dc 1
-taken c
-unit a2
-taken c
-unit b3
-taken c
-unit c4
-taken c
-unit d5
-taken c
-unit e6
-taken c
-unit f7
-taken c
-end 7
-stored c 7 entries 7 sha256 83fd1014904b94e386f93b2727249364b8b20f8ccd38de5d56a09d793e09f157 origin p 7
-settled c 7
-wrote p 0 8
-wrote p 0 9
 wrote p 0 10
-opened c 10
-sent c 306d02010179688018312e332e362e312e342e312e343230332e312e392e312e34814ca34a3148041000000000000180008000000000000001041000000000000180008000000000000005041000000000000180008000000000000006041000000000000180008000000000000007
+wrote p 0 11
+wrote p 0 12
+opened c 12
+sent c 304902010179448018312e332e362e312e342e312e343230332e312e392e312e348128a3263124041000000000000180008000000000000001041000000000000180008000000000000007
 taken c
-end a
-stored c 10 entries 4 sha256 15f82d75de2ade6ecb4a56e499a522d610b0b0b6ef89313c4ccbcbbfebf69516 origin p 10
-settled c 10
+end c
+stored c 12 entries 2 sha256 cc27ffad0962a64e140420f72f3a5e48c3af3be12d46971212971a014eae93de origin p 12
+settled c 12
 ",
     ),
     // A cookie of no history that the provider has is refused, and lost.

@@ -1,4 +1,4 @@
-ghost use Rattle.std.specs.Prelude.{◌≡◌, ◌↔◌, ◌≢◌, ◌≤◌, false, IfOk, IfSome, IsTrue, ℕ, []};
+ghost use Rattle.std.specs.Prelude.{◌≡◌, ◌↔◌, ◌≢◌, ◌≤◌, false, IfOk, IfSome, IsOk, IsTrue, OnErr, ℕ, []};
 ghost use Rattle.std.specs.Io.KnownBytes.{IsAtEnd, Keeps};
 ghost use Rattle.sync_io.specs.Faults.{Rose};
 ghost use Rattle.cascade_script.specs.Reader.{reader_of};
@@ -57,8 +57,9 @@ pub fn run<R: Threads + Wait + Sync, I: Source, O: Sink, E: Sink>(
     ensures usage_told { IfOk result (OnCode 2 (Says usage_text
         (E.bytes_held errors.old) (E.bytes_held errors.new)
         (E.write_fault_count errors.old) (E.write_fault_count errors.new))) }
-    ensures usage_alone { IfOk result (OnCode 2 ((world.new ≡ no_nodes)
-        × Keeps (O.bytes_held output.old) (O.bytes_held output.new))) }
+    // Other words are answered whether there is memory or not, and nothing is read, done or reported.
+    ensures other { (IsCascade words.now → ⊥) → IsOk result
+        × (world.new ≡ world.old) × (input.new ≡ input.old) × (output.new ≡ output.old) }
 
     ensures refused { IfOk result (OnCode 3 (IfSome (I.bytes_left input.old) (λ text. IsRefused 3 (reader_of text)
         (O.bytes_held output.old) (O.bytes_held output.new) world.new
@@ -81,6 +82,9 @@ pub fn run<R: Threads + Wait + Sync, I: Source, O: Sink, E: Sink>(
     ensures write_fault_told { IfOk result (OnCode 5 (Says write_fault_text
         (E.bytes_held errors.old) (E.bytes_held errors.new)
         (E.write_fault_count errors.old) (E.write_fault_count errors.new))) }
+
+    // Where there is no memory nothing was said.
+    ensures unsaid { OnErr result (errors.new ≡ errors.old) }
 
     ensures codes { IfOk result (λ status. IsStatus status.code) }
     // Where nothing failed, a script without a refusal is done, and every other text is refused.
@@ -171,6 +175,9 @@ pub fn run_cascade<I: Source, O: Sink, E: Sink>(
         (E.bytes_held errors.old) (E.bytes_held errors.new)
         (E.write_fault_count errors.old) (E.write_fault_count errors.new))) }
 
+    // Where there is no memory nothing was said.
+    ensures unsaid { OnErr result (errors.new ≡ errors.old) }
+
     ensures codes { IfOk result (λ status. IsCascadeStatus status.code) }
     // Where nothing failed, a script without a refusal is done, and every other text is refused.
     ensures complete { IfOk result (λ status.
@@ -208,10 +215,11 @@ fn write_fault<E: Sink>(errors: &mut E) -> Status
 
 /// Says at which line the script is refused, and why.
 fn refuse<E: Sink>(alloc: Global, errors: &mut E, fault: ScriptFault) -> Result<Status, NoMemory>
-    ensures { IfOk result (λ status. (status.code ≡ status_of fault.cause)
+    ensures says { IfOk result (λ status. (status.code ≡ status_of fault.cause)
         × Says (refusal_text fault.line fault.cause)
         (E.bytes_held errors.old) (E.bytes_held errors.new)
         (E.write_fault_count errors.old) (E.write_fault_count errors.new)) }
+    ensures unsaid { OnErr result (errors.new ≡ errors.old) }
 {
     let text = refusal_text(alloc, &fault)?;
     say(errors, &text);
@@ -328,6 +336,7 @@ fn run_text<O: Sink, E: Sink>(
         (O.write_fault_count output.old) (O.write_fault_count output.new)
         (E.bytes_held errors.old) (E.bytes_held errors.new)
         (E.write_fault_count errors.old) (E.write_fault_count errors.new) status.code) }
+    ensures unsaid { OnErr result (errors.new ≡ errors.old) }
 {
     let mut script = Script::new(text);
     let outcome = run_events(alloc, world, &mut script, output)?;

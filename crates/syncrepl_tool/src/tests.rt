@@ -772,6 +772,37 @@ fn a_script_has_1000000_lines_at_most(rt: HostRuntime) -> Result<(), Fail> {
     Ok(())
 }
 
+/// The start, a settling, and a comment up to so many bytes.
+fn large_script(alloc: Global, bytes: usize) -> Result<Vec<u8>, Fail> {
+    let mut script = started(alloc, b"settle c\n")?;
+    script.resize(bytes, b'#')?;
+    Ok(script)
+}
+
+/// The number of bytes, the status, and the refusal. The comment is line 12.
+const SIZES: [(usize, u8, &[u8]); 2] = [
+    (67_108_864, 0, b""),
+    (67_108_865, 8, b"syncrepl: line 12: LimitReached 67108864\n"),
+];
+
+/// A script of the most bytes is done; the line that holds one more is refused.
+#[test]
+fn a_script_has_67108864_bytes_at_most(rt: HostRuntime) -> Result<(), Fail> {
+    let report = in_full(rt.alloc(), SETTLED)?;
+    for (bytes, status, refusal) in &SIZES {
+        let script = large_script(rt.alloc(), *bytes)?;
+        assert_run(
+            &rt,
+            rt.alloc(),
+            script.as_slice(),
+            *status,
+            report.as_slice(),
+            refusal,
+        )?;
+    }
+    Ok(())
+}
+
 const OTHER_WORDS: [&[&str]; 3] = [&[], &["cascade", "extra"], &["Cascade"]];
 
 #[test]

@@ -2,7 +2,9 @@
 //! to a Subset of ASN.1, BER, and DER" (RSA Laboratories, 1993), with its section, and those
 //! marked X.690 from that standard.
 use crate::assertions::{assert_same, assert_same_of};
-use ldap_ber::{BerFault, BerKind, NoMemory, Octets, Reader, Tlv, Writer, boolean, integer};
+use ldap_ber::{
+    BerFault, BerKind, NoMemory, Octets, OctetsList, Reader, Tlv, Writer, boolean, integer,
+};
 use std::alloc::Global;
 use std::process::Abort;
 use std::test::Fail;
@@ -118,6 +120,23 @@ fn octets_both_ways(rt: HostRuntime) -> Result<(), Fail> {
         assert_same_of(&rt, spelling, &reader_of(spelling).octets(*tag), &Ok(*body));
         let written = with_octets(rt.alloc(), *tag, body)?;
         assert_same_of(&rt, spelling, &written.as_slice(), spelling);
+    }
+    Ok(())
+}
+
+/// Octet strings: no octet, some that are no text, and a URI.
+const STRINGS: [&[u8]; 3] = [b"", b"\0\xff", b"ldap://a"];
+
+#[test]
+fn copies_of_octets(rt: HostRuntime) -> Result<(), Fail> {
+    let mut list = OctetsList::new(rt.alloc());
+    for bytes in &STRINGS {
+        list.push(Octets::from_slice(rt.alloc(), bytes)?.copy()?)?;
+    }
+    let copies = list.copy()?;
+    assert_same(&rt, "strings", &copies.list().len(), &STRINGS.len());
+    for (copy, bytes) in copies.list().iter().zip(&STRINGS) {
+        assert_same_of(&rt, bytes, &copy.as_slice(), bytes);
     }
     Ok(())
 }

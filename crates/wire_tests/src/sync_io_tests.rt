@@ -136,7 +136,8 @@ fn a_faulty_sink_fails_at_its_calls(rt: HostRuntime) -> Result<(), Fail> {
         assert_same(&rt, "taken", &write_whole(&mut faulty, bytes), is_taken);
     }
     assert!(rt; !faulty.flush());
-    assert_same(&rt, "held", &faulty.bytes(), &b"abef".as_slice());
+    assert_same(&rt, "fifth call", &faulty.write(b"g"), &Put::Wrote(1));
+    assert_same(&rt, "held", &faulty.bytes(), &b"abefg".as_slice());
     assert_same(&rt, "faults", &faulty.write_faults(), &2);
     Ok(())
 }

@@ -9,7 +9,7 @@ pub returns-in-Ok-None-clause-front : goal.returns-in-Ok-None-clause-front
 returns-in-Ok-None-clause-front g c = front_so_far c.loop-event.invariant
 
 pub returns-in-Ok-None-clause-ends : goal.returns-in-Ok-None-clause-ends
-returns-in-Ok-None-clause-ends g c = whole_so_far c.loop-event.invariant (rw c.in-Ok-None.field-0-is at c.in-Ok-None.ensures.reads)
+returns-in-Ok-None-clause-ends g c = whole_so_far c.loop-event.invariant (rw c.in-Ok-None.field-0-is at c.in-Ok-None.ensures.reads).0
 
 pub returns-in-Err-clause-front : goal.returns-in-Err-clause-front
 returns-in-Err-clause-front g c = front_so_far c.loop-event.invariant

@@ -6,7 +6,7 @@ pub returns-in-Refused-clause-ends : goal.returns-in-Refused-clause-ends
 returns-in-Refused-clause-ends g c =
     let ends = rw c.in-Refused.is at c.in_ok-outcome.ensures.ends in
     let told = rw c.new-script.ensures at ends in
-    IfOk-weaker c.refuse.result _ _ (λ status is. refused_ends _ _ (up_to_kept told _ c.if-not-flush.ensures.bytes) is.0 is.1) c.refuse.ensures
+    IfOk-weaker c.refuse.result _ _ (λ status is. refused_ends _ _ (up_to_kept told _ c.if-not-flush.ensures.bytes) is.0 is.1) c.refuse.ensures.says
 
 pub returns-then-not-flush-clause-front : goal.returns-then-not-flush-clause-front
 returns-then-not-flush-clause-front g c =
