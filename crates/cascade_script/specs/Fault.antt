@@ -13,7 +13,7 @@ IsBadCommand line at BadCommand read = (read ≡ None) × (at ≡ line)
 IsBadCommand line at NoMemory read = Unit {0}
 IsBadCommand line at _ read = ⊥
 
--- what a function returned, seen by view, is what that line says
+-- the view of a function's answer is what that line holds
 abbrev pub Gives : {X Y : Type 0} → ℕ → (X → Y) → Result X ScriptFault → Option Y → Type 0
 Gives line view (Ok x) read = read ≡ Some (view x)
 Gives line view (Err fault) read = IsBadCommand line fault.line fault.cause read

@@ -3,8 +3,8 @@ use Rattle.std.specs.Prelude.{◌≡◌, ℕ, ◌+◌, Bool, Option, Some, None,
 use Rattle.std.specs.List.{list_any}
 use Rattle.std.specs.Str.Lines.{lines}
 
--- the lines of a text: each ends with a line feed, and a carriage return before that is no part of it;
--- what stands after the last line feed is a line too, where it is not empty
+-- the lines of a text, each without the line feed at its end and without one carriage return in front of that; bytes
+-- behind the last line feed are one more line
 abbrev pub text_lines : List ℕ → List (List ℕ)
 text_lines text = lines text
 

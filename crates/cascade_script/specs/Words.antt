@@ -27,7 +27,7 @@ otherwise (Some a) f b = f a
 
 -- ---- cuts
 
--- the bytes before the first such byte and those after it, where it is there
+-- the two sides of the first mark of a list of bytes that has one
 abbrev pub after_cut : List ℕ → Option (List ℕ) → Option (List ℕ × List ℕ)
 after_cut front None = None
 after_cut front (Some back) = Some (front, back)
@@ -35,7 +35,7 @@ after_cut front (Some back) = Some (front, back)
 abbrev pub until : ℕ → List ℕ → Option (List ℕ × List ℕ)
 until mark bytes = after_cut (cut mark bytes).0 (cut mark bytes).1
 
--- what follows the prefix, where the bytes begin with it
+-- the bytes without this front, if they have it
 abbrev pub stripped : List ℕ → List ℕ → Option (List ℕ)
 stripped [] bytes = Some bytes
 stripped (p ∷ prefix) [] = None

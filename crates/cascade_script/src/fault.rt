@@ -10,7 +10,7 @@ use std::alloc::{AllocError, AllocFailed};
 pub enum Cause {
     /// A line is outside the grammar, or is not UTF-8.
     BadCommand,
-    /// A name is not declared, or is of a kind that the command is not for.
+    /// No node has the name, or only one of another kind than the command asks for.
     UnknownNode,
     /// A declared name is in use.
     NameTaken,
@@ -22,8 +22,8 @@ pub enum Cause {
     Circle,
     /// The base of a consumer is not at or below its provider's suffix.
     OutsideSuffix,
-    /// A consumer is given a cookie of a node's history that is later than what it holds: the text
-    /// that it holds, where it holds one, and the text that it is given.
+    /// A consumer would get a cookie that names more of a node's history than the one that it holds:
+    /// the text of its own, where it has one, and the text that it would get.
     LaterCookie(Option<Octets>, Octets),
     NoMemory,
 }

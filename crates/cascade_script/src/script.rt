@@ -21,7 +21,7 @@ use std::alloc::{AllocError, Global};
 use std::marker::Model;
 use std::str;
 
-/// The text of a script, with the place that was read up to.
+/// A script, and how far it has been read.
 #[derive(Drop)]
 pub struct Script {
     text: Octets,

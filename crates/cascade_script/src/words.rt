@@ -15,7 +15,7 @@ use ldap_filter::{Filter, FilterFault};
 use ldif_text::cut_at;
 use std::alloc::{AllocError, Global};
 
-/// The bytes before the mark, and those after it.
+/// The two sides of the first mark; a line without one is faulty.
 pub fn until_mark(bytes: &[u8], mark: u8, line: u64) -> Result<(&[u8], &[u8]), ScriptFault>
     ensures { Gives line (λ x. (x.0.now, x.1.now)) result (spec.until mark bytes.now) }
 {
@@ -25,7 +25,7 @@ pub fn until_mark(bytes: &[u8], mark: u8, line: u64) -> Result<(&[u8], &[u8]), S
     }
 }
 
-/// What follows the prefix, where the bytes begin with it.
+/// The bytes without this front, if they have it.
 fn strip_front<'a>(bytes: &'a [u8], prefix: &[u8]) -> Option<&'a [u8]>
     ensures { shown result ≡ spec.stripped prefix.now bytes.now }
 {

@@ -10,7 +10,7 @@ use Rattle.cascade_script.specs.declared.fault.Cause.TheVariants.{NameTaken, Unk
 use Rattle.cascade_world.specs.declared.node.Supplier.{Supplier}
 use Rattle.cascade_world.specs.declared.node.Follower.{Follower}
 use Rattle.cascade_world.specs.Cookies.{most_nodes}
-use Rattle.cascade_world.specs.World.{State, IsStep, new_supplier, new_follower, with_replica, is_supplier, has_node, supplier_named, where_room, is_offered, follow, declare_follower}
+use Rattle.cascade_world.specs.World.{State, IsStep, new_supplier, with_replica, is_supplier, has_node, supplier_named, where_room, is_offered, follow, declare_follower}
 use Rattle.cascade_world.proofs.Places.{found_at, found_nowhere}
 
 pub taken : (state : State) (name source : List ℕ) (search : Search) (after : State) → has_node name state ≡ true → declare_follower state name source search after ≡ Err NameTaken
@@ -48,12 +48,8 @@ pub declared : (state after new : State) (name source : List ℕ) (search : Sear
 declared state after new name source search text ok same none = subst (λ step. IsStep step new text) (sym (ok after)) (same, none)
 
 -- a replica with its directory and its consumer
-pub replica_is : (state view : State) (name source : List ℕ) (search : Search) (reload : Bool) (number : ℕ) (own : Supplier) (follower : Follower) (suppliers : List Supplier) (followers : List Follower)
-    → view ≡ state → number ≡ state.nodes + 1 → own ≡ record { name = name; provider = fresh [] number number Replica; notes = [] } → follower ≡ new_follower name source search reload
-    → suppliers ≡ view.suppliers ++ own ∷ [] → followers ≡ view.followers ++ follower ∷ []
-    → record view { nodes = number; suppliers = suppliers; followers = followers } ≡ with_replica state (new_follower name source search reload)
-replica_is state view name source search reload number own follower suppliers followers same next own_is follower_is suppliers_are followers_are =
-    let supplier : own ≡ new_supplier state Replica name [] = own_is ∙ λ k. record { name = name; provider = fresh [] (next k) (next k) Replica; notes = [] } in
-    let all : suppliers ≡ state.suppliers ++ new_supplier state Replica name [] ∷ [] = suppliers_are ∙ λ k. (same k).suppliers ++ supplier k ∷ [] in
-    let each : followers ≡ state.followers ++ new_follower name source search reload ∷ [] = followers_are ∙ λ k. (same k).followers ++ follower_is k ∷ [] in
-    λ k. record { clock = (same k).clock; nodes = next k; suppliers = all k; followers = each k }
+pub replica_is : (state view : State) (number : ℕ) (own : Supplier) (follower : Follower) → number ≡ state.nodes + 1 → own ≡ record { name = follower.name; provider = fresh [] number number Replica; notes = [] }
+    → view ≡ record state { suppliers = state.suppliers ++ own ∷ []; followers = state.followers ++ follower ∷ [] } → record view { nodes = number } ≡ with_replica state follower
+replica_is state view number own follower next own_is same =
+    let supplier : own ≡ new_supplier state Replica follower.name [] = own_is ∙ λ k. record { name = follower.name; provider = fresh [] (next k) (next k) Replica; notes = [] } in
+    ap (λ (s : State). record s { nodes = number }) same ∙ λ k. record state { nodes = next k; suppliers = state.suppliers ++ supplier k ∷ []; followers = state.followers ++ follower ∷ [] }

@@ -4,6 +4,7 @@ pub mod Commits
 pub mod Cuts
 pub mod Declaring
 pub mod Decoding
+pub mod Digests
 pub mod Doing
 pub mod Exchanging
 pub mod Finding

@@ -194,8 +194,8 @@ not_both : (next : Step) → next ≡ Err Circle → next ≡ Err UnknownNode �
 not_both next one other = cc
 
 -- where no exchange is possible, the consumer or its provider is not there
-pub respec_unknown : (state new : State) (name : List ℕ) (wish : Search) (cause : Cause) → cause ≡ UnknownNode → ((part : Pair → Outcome) → exchange state name part ≡ Err UnknownNode) → Does (respec state name wish) new (Err cause)
-respec_unknown state new name wish cause e none = subst (λ c. Does (respec state name wish) new (Err c)) (sym e) (by (follower_named name state) refl)
+pub respec_unknown : (state : State) (name : List ℕ) (wish : Search) → ((part : Pair → Outcome) → exchange state name part ≡ Err UnknownNode) → respec state name wish ≡ Err UnknownNode
+respec_unknown state name wish none = by (follower_named name state) refl
   where
     by : (found : Option Follower) → follower_named name state ≡ found → respec_of state name wish found ≡ Err UnknownNode
     by None is = refl
@@ -218,8 +218,6 @@ respec_by state name wish j i r places is =
 pub respec_outside : (state : State) (name : List ℕ) (wish : Search) (j i : ℕ) (r : Supplier) → ArePlaces state name (j, i) → r ≡ get_or state.suppliers j r → is_offered wish r ≡ false → respec state name wish ≡ Err OutsideSuffix
 respec_outside state name wish j i r places is out = respec_by state name wish j i r places is ∙ rw out refl
 
-pub respecced : (state new : State) (name : List ℕ) (wish : Search) (j i : ℕ) (r : Supplier) (result : Result (List ℕ) Cause) → ArePlaces state name (j, i) → r ≡ get_or state.suppliers j r → is_offered wish r ≡ true
-    → Does (exchange state name (respecs wish)) new result → Does (respec state name wish) new result
-respecced state new name wish j i r result places is within h =
-    let through : respec state name wish ≡ exchange state name (respecs wish) = respec_by state name wish j i r places is ∙ rw within refl in
-    subst (λ next. Does next new result) (sym through) h
+pub respec_inside : (state : State) (name : List ℕ) (wish : Search) (j i : ℕ) (r : Supplier) → ArePlaces state name (j, i) → r ≡ get_or state.suppliers j r → is_offered wish r ≡ true
+    → respec state name wish ≡ exchange state name (respecs wish)
+respec_inside state name wish j i r places is within = respec_by state name wish j i r places is ∙ rw within refl

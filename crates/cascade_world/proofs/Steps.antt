@@ -232,6 +232,18 @@ limit_seen state view name change i r p' same e is now =
 
 -- ---- refusals
 
+-- a step that is refused does what its refusal says
+pub refused_as : (next : Step) (new : State) (cause : Cause) → next ≡ Err cause → Does next new (Err cause)
+refused_as next new BadCommand h = h
+refused_as next new UnknownNode h = h
+refused_as next new NameTaken h = h
+refused_as next new BadRecord h = h
+refused_as next new (LimitReached number) h = h
+refused_as next new OutsideSuffix h = h
+refused_as next new (LaterCookie held given) h = h
+refused_as next new Circle h = h
+refused_as next new NoMemory h = tt
+
 -- the refusal of an event, at its line
 pub refused_at : (line : ℕ) (next : Step) (new : State) (cause : Cause) → Does next new (Err cause) → RefusedAt line line cause next
 refused_at line next new BadCommand h = (h, refl)

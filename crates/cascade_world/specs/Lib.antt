@@ -1,5 +1,6 @@
 pub mod Commits
 pub mod Cookies
+pub mod Digests
 pub mod Directory
 pub mod Exchange
 pub mod Going

@@ -10,6 +10,7 @@ ghost use Rattle.cascade_world.specs.World as world;
 use crate::node::Supplier;
 use crate::notes::Note;
 use crate::opening::copy_of;
+use crate::sending::discard;
 use crate::told::Stage;
 use crate::world::World;
 use cascade_script::Cause;
@@ -31,7 +32,7 @@ impl World {
         let Some(own) = self.supplier_place(&self.followers[place].name) else {
             return Ok(());
         };
-        let wanted = self.followers[place].consumer.spec();
+        let wanted = self.followers[place].consumer.inner().spec();
         self.suppliers[own].commit_all(self.alloc, wanted, stages, self.clock)
     }
 }
@@ -51,7 +52,10 @@ impl Supplier {
     {
         let before = SupplierMoment::of(alloc, self)?;
         match self.commit_each(alloc, wanted, stages, now) {
-            Ok(()) => Ok(()),
+            Ok(()) => {
+                discard(before);
+                Ok(())
+            }
             Err(cause) => {
                 before.restore(self);
                 Err(cause)

@@ -25,8 +25,8 @@ pub fn lose(follower: &mut Follower)
 pub fn give(alloc: Global, follower: &mut Follower, text: Octets) -> Result<(), Cause>
     ensures { Gives follower.old text follower.new result }
 {
-    if is_later(follower.consumer.cookie(), text.as_slice()) {
-        let held = copy_of(alloc, follower.consumer.cookie())?;
+    if is_later(follower.consumer.inner().cookie(), text.as_slice()) {
+        let held = copy_of(alloc, follower.consumer.inner().cookie())?;
         return Err(Cause::LaterCookie(held, text));
     }
     follower.consumer.set_cookie(text.as_slice())?;

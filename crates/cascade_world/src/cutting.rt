@@ -14,7 +14,7 @@ use cascade_script::Cause;
 pub fn is_busy(follower: &Follower) -> bool
     ensures { result ≡ spec.is_busy follower.now }
 {
-    follower.search.is_some() || follower.consumer.is_running() || !follower.link.is_empty()
+    follower.search.is_some() || follower.consumer.inner().is_running() || !follower.link.is_empty()
 }
 
 /// Drops the search, and what the link and the stage hold.

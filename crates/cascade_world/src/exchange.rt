@@ -1,10 +1,10 @@
 //! What an event does to a consumer and its provider.
-ghost use Rattle.std.specs.Prelude.{◌≡◌, ◌<◌, length, IfOk, OnErr};
+ghost use Rattle.std.specs.Prelude.{◌≡◌, ◌<◌, ℕ, List, length, IfOk, OnErr};
 ghost use Rattle.cascade_world.specs.Exchange.{pair_of, part_of};
 ghost use Rattle.cascade_world.specs.Ours.{AreOurs};
 ghost use Rattle.cascade_world.specs.Parts as parts;
 ghost use Rattle.cascade_world.specs.Parts.{Performs, IsBefore};
-ghost use Rattle.cascade_world.specs.Places.{PerformsAt};
+ghost use Rattle.cascade_world.specs.Places.{ArePlaces, PerformsAt};
 ghost use Rattle.cascade_world.specs.World as spec;
 ghost use Rattle.cascade_world.specs.World.{Does};
 
@@ -137,7 +137,10 @@ impl Supplier {
         ensures err { OnErr result (self.new ≡ self.old) }
         ensures follower_err { OnErr result (follower.new ≡ follower.old) }
     {
-        let before = Moment::of(alloc, &self.provider, follower)?;
+        let Ok(before) = Moment::of(alloc, &self.provider, follower) else {
+            discard(exchange);
+            return Err(Cause::NoMemory);
+        };
         let mut telling = Telling::new(alloc, top, &self.notes);
         match exchange.perform(alloc, &mut self.provider, follower, &mut telling) {
             Ok(()) => Ok(Performed {
@@ -160,7 +163,28 @@ impl World {
         ensures steps { Does (spec.exchange self.old name (part_of exchange)) self.new result }
         ensures err { OnErr result (self.new ≡ self.old) }
     {
-        let (supplier, follower) = self.places(&name)?;
+        match self.places(&name) {
+            Ok((supplier, follower)) => self.exchange_at(supplier, follower, exchange),
+            Err(cause) => {
+                discard(exchange);
+                Err(cause)
+            }
+        }
+    }
+
+    /// The same, where the provider and the consumer stand at these places.
+    fn exchange_at(
+        &mut self,
+        supplier: usize,
+        follower: usize,
+        exchange: Exchange,
+    ) -> Result<Lines, Cause>
+        requires supplier { supplier < length self.old.suppliers }
+        requires follower { follower < length self.old.followers }
+        ensures steps { (name : List ℕ) → ArePlaces self.old name (supplier, follower)
+            → Does (spec.exchange self.old name (part_of exchange)) self.new result }
+        ensures err { OnErr result (self.new ≡ self.old) }
+    {
         let done = self.perform(supplier, follower, exchange)?;
         if done.stages.is_empty() {
             discard(done.before);
@@ -191,9 +215,16 @@ impl World {
         ensures does { PerformsAt self.old supplier follower (part_of exchange) self.new result }
         ensures err { OnErr result (self.new ≡ self.old) }
     {
-        let top = self.top_of(&self.suppliers[supplier].name)?;
-        let from = &mut self.suppliers[supplier];
-        let to = &mut self.followers[follower];
-        from.serve(self.alloc, top, to, exchange)
+        match self.top_of(&self.suppliers[supplier].name) {
+            Ok(top) => {
+                let from = &mut self.suppliers[supplier];
+                let to = &mut self.followers[follower];
+                from.serve(self.alloc, top, to, exchange)
+            }
+            Err(_) => {
+                discard(exchange);
+                Err(Cause::NoMemory)
+            }
+        }
     }
 }

@@ -7,6 +7,7 @@
 mod committing;
 mod cookies;
 mod cutting;
+mod digested;
 mod exchange;
 mod link;
 mod narrating;

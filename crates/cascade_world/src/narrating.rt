@@ -94,19 +94,20 @@ impl Telling<'_> {
     pub fn stored(
         &mut self,
         alloc: Global,
-        follower: &Follower,
+        follower: &mut Follower,
         number: u64,
         origin: Option<Origin>,
         commit: Commit,
     ) -> Result<(), NoMemory>
         requires { AreFit commit.puts }
-        ensures { OnOk result (self.new ≡ said self.old (line.Stored follower.now.name (record {
+        ensures line { OnOk result (self.new ≡ said self.old (line.Stored follower.old.name (record {
           number = number;
-          entries = follower.now.consumer.copy.held;
+          entries = follower.old.consumer.copy.held;
           origin = origin;
           commit = commit_told commit;
-          search = follower.now.consumer.spec;
+          search = follower.old.consumer.spec;
         }) ∷ [])) }
+        ensures same { follower.new ≡ follower.old }
     {
         push_stored(alloc, &mut self.text, follower, number, &origin)?;
         self.stages.push(Stage::new(commit, origin))?;

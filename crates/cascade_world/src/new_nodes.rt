@@ -1,5 +1,5 @@
 //! Declarations of nodes.
-ghost use Rattle.std.specs.Prelude.{◌≡◌, ◌+◌, ◌<◌, ◌≤◌, [], OnErr, IfOk, IfErr, Ok, Err};
+ghost use Rattle.std.specs.Prelude.{◌≡◌, ◌+◌, ◌<◌, ◌≤◌, ◌++◌, ◌∷◌, [], OnOk, OnErr, IfOk, IfErr, Ok, Err};
 ghost use Rattle.entry_tree.specs.Selection.{search_of};
 ghost use Rattle.cascade_world.specs.Cookies.{most_nodes};
 ghost use Rattle.cascade_script.specs.Orders.{Order as order};
@@ -13,7 +13,8 @@ use crate::world::{Lines, World, no_lines};
 use cascade_script::Cause;
 use dn_names::Dn;
 use entry_tree::Spec;
-use ldap_ber::Octets;
+use ldap_ber::{NoMemory, Octets};
+use std::alloc::AllocError;
 use sync_provider::Kind;
 
 impl World {
@@ -75,11 +76,18 @@ impl World {
         ensures steps { Does (spec.step self.old (order.Consumer name source (search_of wanted) reload)) self.new result }
         ensures err { OnErr result (self.new ≡ self.old) }
     {
-        let number = self.next_follower(&name, &source, &wanted)?;
-        let follower = Follower::of(self.alloc, name, source, wanted, reload)?;
-        self.followers.push(follower)?;
-        self.nodes = number;
-        Ok(no_lines(self.alloc))
+        match self.next_follower(&name, &source, &wanted) {
+            Ok(number) => {
+                let follower = Follower::wanting(self.alloc, name, source, wanted, reload)?;
+                self.followers.push(follower)?;
+                self.nodes = number;
+                Ok(no_lines(self.alloc))
+            }
+            Err(cause) => {
+                discard(wanted);
+                Err(cause)
+            }
+        }
     }
 
     /// Declares a replica: a consumer of a provider, and a directory with the empty suffix, which
@@ -94,17 +102,54 @@ impl World {
         ensures steps { Does (spec.step self.old (order.Replica name source (search_of wanted) reload)) self.new result }
         ensures err { OnErr result (self.new ≡ self.old) }
     {
-        let number = self.next_follower(&name, &source, &wanted)?;
-        let own = Supplier::of_replica(self.alloc, &name, number)?;
-        let follower = Follower::of(self.alloc, name, source, wanted, reload)?;
-        if let Err(full) = self.suppliers.reserve(1) {
-            discard(follower);
-            discard(own);
-            return Err(Cause::from(full));
+        match self.next_follower(&name, &source, &wanted) {
+            Ok(number) => {
+                let follower = Follower::wanting(self.alloc, name, source, wanted, reload)?;
+                self.add_replica(number, follower)?;
+                Ok(no_lines(self.alloc))
+            }
+            Err(cause) => {
+                discard(wanted);
+                Err(cause)
+            }
         }
-        self.followers.push(follower)?;
+    }
+
+    /// Adds a consumer, and a directory of its name for what it takes, which get this number.
+    fn add_replica(&mut self, number: u16, follower: Follower) -> Result<(), NoMemory>
+        requires next { number ≡ self.old.nodes + 1 }
+        requires room { self.old.nodes < most_nodes }
+        ensures ok { OnOk result (self.new ≡ spec.with_replica self.old follower) }
+        ensures err { OnErr result (self.new ≡ self.old) }
+    {
+        match Supplier::replica(self.alloc, &follower.name, number) {
+            Ok(own) => {
+                self.add_pair(own, follower)?;
+                self.nodes = number;
+                Ok(())
+            }
+            Err(full) => {
+                discard(follower);
+                Err(full)
+            }
+        }
+    }
+
+    /// Adds a directory and a consumer, or neither. The number of nodes stays.
+    fn add_pair(&mut self, own: Supplier, follower: Follower) -> Result<(), NoMemory>
+        ensures ok { OnOk result (self.new ≡ record self.old {
+          suppliers = self.old.suppliers ++ own ∷ [];
+          followers = self.old.followers ++ follower ∷ [];
+        }) }
+        ensures err { OnErr result (self.new ≡ self.old) }
+    {
+        if self.suppliers.reserve(1).is_err() || self.followers.reserve(1).is_err() {
+            discard(own);
+            discard(follower);
+            return Err(AllocError);
+        }
         self.suppliers.push_reserved(own);
-        self.nodes = number;
-        Ok(no_lines(self.alloc))
+        self.followers.push_reserved(follower);
+        Ok(())
     }
 }

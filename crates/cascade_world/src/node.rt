@@ -5,6 +5,7 @@ ghost use Rattle.sync_provider.specs.Machine.{fresh};
 ghost use Rattle.sync_provider.specs.declared.provider.Kind.TheVariants.{Replica};
 ghost use Rattle.cascade_world.specs.World.{is_offered, new_follower};
 
+use crate::digested::Digested;
 use crate::link::Link;
 use crate::notes::Notes;
 use crate::source::Source;
@@ -43,7 +44,7 @@ impl Supplier {
     }
 
     /// The directory of a replica with this name, without writes. Its suffix is empty.
-    pub fn of_replica(alloc: Global, name: &Octets, number: u16) -> Result<Supplier, NoMemory>
+    pub fn replica(alloc: Global, name: &Octets, number: u16) -> Result<Supplier, NoMemory>
         requires { number < 4096 }
         ensures { IfOk result (λ supplier. supplier ≡ record { name = name.now; provider = fresh [] number number Replica; notes = [] }) }
     {
@@ -65,14 +66,14 @@ impl Supplier {
 pub struct Follower {
     pub name: Octets,
     pub source: Octets,
-    pub consumer: Consumer,
+    pub consumer: Digested,
     pub link: Link,
     pub search: Option<u64>,
 }
 
 impl Follower {
     /// A consumer of what is wanted, without entries, a cookie and a search.
-    pub fn of(
+    pub fn wanting(
         alloc: Global,
         name: Octets,
         source: Octets,
@@ -92,7 +93,7 @@ impl Follower {
         Follower {
             name,
             source,
-            consumer,
+            consumer: Digested::new(consumer),
             link: Link::new(alloc),
             search: None,
         }
@@ -106,9 +107,9 @@ impl Follower {
         Ok(Follower {
             name: self.name.copy()?,
             source: self.source.copy()?,
-            consumer: self.consumer.copy()?,
             link: self.link.copy(alloc)?,
             search,
+            consumer: self.consumer.copy()?,
         })
     }
 }

@@ -3,6 +3,7 @@ ghost use Rattle.std.specs.Prelude.{◌≡◌, ◌∷◌, ◌++◌, ◌-◌, [],
 ghost use Rattle.entry_tree.specs.Selection.{search_of};
 ghost use Rattle.cascade_world.specs.Origins as spec;
 
+use crate::sending::discard;
 use entry_tree::Spec;
 use ldap_ber::{NoMemory, Octets};
 use std::alloc::Global;
@@ -111,7 +112,7 @@ impl Notes {
     pub fn pop(&mut self)
         ensures { self.new ≡ take (length self.old - 1) self.old }
     {
-        self.notes.pop();
+        discard(self.notes.pop());
     }
 
     pub fn len(&self) -> usize

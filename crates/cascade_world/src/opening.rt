@@ -11,6 +11,7 @@ ghost use Rattle.cascade_world.specs.Exchange.{pair_of};
 ghost use Rattle.cascade_world.specs.Parts.{Does, Opens, Refuses, first_value};
 
 use crate::cutting::{cut, is_busy};
+use crate::digested::Digested;
 use crate::node::Follower;
 use crate::sending::discard;
 use crate::source::{MESSAGE_ID, Source};
@@ -20,7 +21,7 @@ use entry_tree::Spec;
 use ldap_ber::{NoMemory, Octets};
 use ldap_messages::Message;
 use std::alloc::{AllocError, Global};
-use sync_consumer::{Consumer, Taken};
+use sync_consumer::Taken;
 use sync_messages::Mode;
 use sync_provider::{Accepted, done_message};
 
@@ -139,7 +140,7 @@ fn open_idle(
     ensures kind { provider.new.kind ≡ provider.old.kind }
 {
     let control = asked(alloc, follower, mode)?;
-    let wanted = copy_of(follower.consumer.spec())?;
+    let wanted = copy_of(follower.consumer.inner().spec())?;
     match provider.accept(alloc, wanted, control) {
         Accepted::Opened(number, writes) => {
             follower.search = Some(number);
@@ -182,7 +183,7 @@ fn refuse(
 }
 
 /// Takes a message, whatever comes of it.
-fn take_whatever(consumer: &mut Consumer, message: &Message) -> Result<(), NoMemory>
+fn take_whatever(consumer: &mut Digested, message: &Message) -> Result<(), NoMemory>
     ensures { OnOk result (consumer.new ≡ record consumer.old { copy = (hearing.heard_of consumer.old.copy (Some (whole_of message.now))).0 }) }
 {
     match consumer.take(message) {

@@ -154,16 +154,18 @@ fn take_message(
 fn tell_stored(
     alloc: Global,
     provider: &Source,
-    follower: &Follower,
+    follower: &mut Follower,
     commit: Commit,
     out: &mut Telling,
 ) -> Result<(), NoMemory>
     requires { AreFit commit.puts }
-    ensures { OnOk result (out.new ≡ said out.old (spec.stored_told (pair_of provider.now follower.now out.old.lineage)
-        follower.now.consumer.copy (hearing.commit_told commit) ∷ [])) }
+    ensures line { OnOk result (out.new ≡ said out.old (spec.stored_told (pair_of provider.now follower.old out.old.lineage)
+        follower.old.consumer.copy (hearing.commit_told commit) ∷ [])) }
+    ensures same { follower.new ≡ follower.old }
 {
-    let number = stored_number(provider, follower.consumer.cookie());
-    let origin = out.origin(provider.kind(), follower.consumer.spec(), number)?;
+    let consumer = follower.consumer.inner();
+    let number = stored_number(provider, consumer.cookie());
+    let origin = out.origin(provider.kind(), consumer.spec(), number)?;
     out.stored(alloc, follower, number, origin, commit)
 }
 

@@ -1,5 +1,5 @@
 //! Consumers that follow another provider, or want something else.
-ghost use Rattle.std.specs.Prelude.{◌≡◌, OnErr, IfOk};
+ghost use Rattle.std.specs.Prelude.{◌≡◌, OnOk, OnErr, IfOk, IfErr, Err};
 ghost use Rattle.std.specs.Option.{option_copied};
 ghost use Rattle.entry_tree.specs.Selection.{search_of};
 ghost use Rattle.cascade_world.specs.Exchange as exchange;
@@ -13,6 +13,7 @@ ghost use Rattle.cascade_world.specs.World.{Does};
 use crate::exchange::Exchange;
 use crate::node::Follower;
 use crate::opening::cut_if_busy;
+use crate::sending::discard;
 use crate::source::Source;
 use crate::told::Telling;
 use crate::world::{Lines, World};
@@ -36,7 +37,7 @@ impl World {
         if self.is_fed(&name, &source) {
             return Err(Cause::Circle);
         }
-        if !self.suppliers[supplier].offers(self.followers[follower].consumer.spec()) {
+        if !self.suppliers[supplier].offers(self.followers[follower].consumer.inner().spec()) {
             return Err(Cause::OutsideSuffix);
         }
         let lines = self.exchange(name, Exchange::Idle)?;
@@ -49,11 +50,26 @@ impl World {
         ensures steps { Does (spec.step self.old (order.Respec name (search_of wanted))) self.new result }
         ensures err { OnErr result (self.new ≡ self.old) }
     {
-        let (supplier, _) = self.places(&name)?;
-        if !self.suppliers[supplier].offers(&wanted) {
+        match self.check_offered(&name, &wanted) {
+            Ok(()) => self.exchange(name, Exchange::Want(wanted)),
+            Err(cause) => {
+                discard(wanted);
+                Err(cause)
+            }
+        }
+    }
+
+    /// Whether the provider of the consumer of this name offers what is wanted.
+    fn check_offered(&self, name: &Octets, wanted: &Spec) -> Result<(), Cause>
+        ensures ok { OnOk result (spec.respec self.now name.now (search_of wanted.now)
+            ≡ spec.exchange self.now name.now (exchange.respecs (search_of wanted.now))) }
+        ensures fault { IfErr result (λ cause. spec.respec self.now name.now (search_of wanted.now) ≡ Err cause) }
+    {
+        let (supplier, _) = self.places(name)?;
+        if !self.suppliers[supplier].offers(wanted) {
             return Err(Cause::OutsideSuffix);
         }
-        self.exchange(name, Exchange::Want(wanted))
+        Ok(())
     }
 
     /// The place of the name that the node of this name follows.
@@ -118,7 +134,14 @@ pub fn want(
     ensures queue_limit { provider.new.queue_limit ≡ provider.old.queue_limit }
     ensures kind { provider.new.kind ≡ provider.old.kind }
 {
-    cut_if_busy(provider, follower, out)?;
-    follower.consumer.respec(wanted);
-    Ok(())
+    match cut_if_busy(provider, follower, out) {
+        Ok(()) => {
+            follower.consumer.respec(wanted);
+            Ok(())
+        }
+        Err(cause) => {
+            discard(wanted);
+            Err(cause)
+        }
+    }
 }

@@ -1,8 +1,6 @@
 //! The lines of a report.
 ghost use Rattle.std.specs.Prelude.{◌≡◌, ◌++◌, take, Some, IfOk, OnOk};
 ghost use Rattle.std.specs.Fmt.{decimal};
-ghost use Rattle.std.specs.String.{string_bytes};
-ghost use Rattle.hex.specs.Hex.{encode_lower};
 ghost use Rattle.sha2.specs.Sha256.{sha256};
 ghost use Rattle.cascade_world.specs.Report as spec;
 
@@ -11,24 +9,14 @@ use crate::node::Follower;
 use crate::notes::Origin;
 use entry_tree::Entry;
 use ldif_text::write_entry;
-use sha2::{Digest, Sha256};
 use std::alloc::Global;
+use sync_consumer::EntryMap;
 
 fn push_number(alloc: Global, out: &mut Vec<u8>, number: u64) -> Result<(), NoMemory>
     ensures { OnOk result (out.new.items ≡ out.old.items ++ decimal number) }
 {
     let text = number.to_string(alloc)?;
     out.extend_from_slice(text.as_bytes())
-}
-
-/// The SHA-256 digest of a text in lower-case hexadecimal digits.
-fn digest_text(alloc: Global, text: &[u8]) -> Result<String, NoMemory>
-    ensures { IfOk result (λ digits. string_bytes digits ≡ encode_lower (sha256 text.now)) }
-{
-    let mut hasher = Sha256::new();
-    hasher.update(text);
-    let digest = hasher.finalize();
-    hex::encode(alloc, digest.as_slice())
 }
 
 /// The entries as LDIF, each with its identity and the number of its last change.
@@ -158,36 +146,39 @@ pub fn push_taken(out: &mut Vec<u8>, name: &[u8]) -> Result<(), NoMemory>
 pub fn push_stored(
     alloc: Global,
     out: &mut Vec<u8>,
-    follower: &Follower,
+    follower: &mut Follower,
     number: u64,
     origin: &Option<Origin>,
 ) -> Result<(), NoMemory>
-    ensures { OnOk result (out.new.items ≡ out.old.items
-        ++ spec.stored_line follower.now.name number follower.now.consumer.copy.held origin.now) }
+    ensures line { OnOk result (out.new.items ≡ out.old.items
+        ++ spec.stored_line follower.old.name number follower.old.consumer.copy.held origin.now) }
+    ensures same { follower.new ≡ follower.old }
 {
-    let entries = follower.consumer.entries().list();
+    let digest = follower.consumer.digest(alloc)?;
+    let entries = follower.consumer.inner().entries();
     push_front(out, b"stored", follower.name.as_slice())?;
-    push_content(alloc, out, number, entries)?;
+    push_content(alloc, out, number, entries, &digest)?;
     push_origin(alloc, out, origin)
 }
 
-/// ` N entries E sha256 H`.
+/// ` N entries E sha256 H`, with the digest of their text.
 fn push_content(
     alloc: Global,
     out: &mut Vec<u8>,
     number: u64,
-    entries: &[Entry],
+    entries: &EntryMap,
+    digest: &[u8; 32],
 ) -> Result<(), NoMemory>
+    requires { digest.now ≡ sha256 (spec.text_of entries.now) }
     ensures { OnOk result (out.new.items ≡ out.old.items ++ spec.content_text number entries.now) }
 {
-    let text = text_of(alloc, entries)?;
-    let digest = digest_text(alloc, &text)?;
+    let digits = hex::encode(alloc, digest.as_slice())?;
     out.push(b' ')?;
     push_number(alloc, out, number)?;
     out.extend_from_slice(b" entries ")?;
     push_number(alloc, out, entries.len() as u64)?;
     out.extend_from_slice(b" sha256 ")?;
-    out.extend_from_slice(digest.as_bytes())
+    out.extend_from_slice(digits.as_bytes())
 }
 
 /// ` origin P M`, or ` origin -` where none is known, and the end of the line.

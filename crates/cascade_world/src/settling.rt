@@ -80,7 +80,7 @@ fn refresh(
 fn follows_on(follower: &Follower) -> bool
     ensures { (provider : ProviderState) → (lineage : Lineage) → result ≡ spec.follows_on (pair_of provider follower.now lineage) }
 {
-    follower.search.is_some() && follower.consumer.is_persisting()
+    follower.search.is_some() && follower.consumer.inner().is_persisting()
 }
 
 /// Takes all that the link holds.

@@ -17,6 +17,7 @@ ghost use Rattle.cascade_world.specs.Places.{ArePlaces, Writes};
 use crate::exchange::Exchange;
 use crate::node::{Follower, Supplier};
 use crate::report::{push_wrote, text_of};
+use crate::sending::discard;
 use crate::source::Source;
 use cascade_script::{Cause, Command, Event, ScriptFault};
 use entry_tree::{OpFault, read_op};
@@ -110,7 +111,11 @@ impl World {
                 self.clock = time;
                 Ok(no_lines(self.alloc))
             }
-            Command::Write(name, change) => self.write(name, change),
+            Command::Write(name, change) => {
+                let written = self.write(&name, &change);
+                discard(change);
+                written
+            }
             Command::OpenOnce(name) => self.exchange(name, Exchange::Open(Mode::RefreshOnly)),
             Command::OpenStay(name) => {
                 self.exchange(name, Exchange::Open(Mode::RefreshAndPersist))
@@ -182,15 +187,15 @@ impl World {
     // ---- writes
 
     #[tactic(auto, using(crate::proofs::Steps::no_supplier, crate::proofs::Steps::write_same))]
-    fn write(&mut self, name: Octets, change: Change) -> Result<Lines, Cause>
-        ensures steps { Does (spec.step self.old (order.Write name change)) self.new result }
+    fn write(&mut self, name: &Octets, change: &Change) -> Result<Lines, Cause>
+        ensures steps { Does (spec.step self.old (order.Write name.now change.now)) self.new result }
         ensures err { OnErr result (self.new ≡ self.old) }
     {
-        let Some(place) = self.supplier_place(&name) else {
+        let Some(place) = self.supplier_place(name) else {
             return Err(Cause::UnknownNode);
         };
         let provider = &mut self.suppliers[place].provider;
-        write_to(self.alloc, provider, name.as_slice(), self.clock, &change)
+        write_to(self.alloc, provider, name.as_slice(), self.clock, change)
     }
 
     #[tactic(auto, using(crate::proofs::Steps::no_log_limited))]
@@ -230,7 +235,7 @@ impl World {
         let Some(follower) = self.follower_place(name) else {
             return Err(Cause::UnknownNode);
         };
-        let entries = self.followers[follower].consumer.entries().list();
+        let entries = self.followers[follower].consumer.inner().entries().list();
         Ok(Octets::from(text_of(self.alloc, entries)?))
     }
 }

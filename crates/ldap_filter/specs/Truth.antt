@@ -23,11 +23,12 @@ is_true True = true
 is_true False = false
 is_true Undefined = false
 
--- section 4.5.1.7: an `and` is False where a part is False, else Undefined where one is, else True
+-- section 4.5.1.7: one False part makes an `and` False; without such, one Undefined part makes it Undefined; without
+-- both it is True
 abbrev pub conjunction : List Truth → Truth
 conjunction parts = if list_any is_false parts then False else if list_any is_undefined parts then Undefined else True
 
--- an `or` is True where a part is True, else Undefined where one is, else False
+-- one True part makes an `or` True; without such, one Undefined part makes it Undefined; without both it is False
 abbrev pub disjunction : List Truth → Truth
 disjunction parts = if list_any is_true parts then True else if list_any is_undefined parts then Undefined else False
 

@@ -8,8 +8,8 @@ use std::alloc::AllocError;
 /// Why the bytes so far begin no message.
 #[derive(Clone, Copy, Debug, PartialEq, Eq)]
 pub enum MessageFault {
-    /// The place of the first octet of a header, or of the first element, that the grammar
-    /// refuses, counted from 0.
+    /// How many octets stand before the part that the grammar refuses: of a header its first wrong
+    /// octet, else the first wrong element.
     BadMessage(usize),
     /// More than 4,194,304 octets are announced.
     TooLong,

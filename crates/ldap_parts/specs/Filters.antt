@@ -40,7 +40,7 @@ SubstringsForm = Sequence 164 (Both (OctetString 4) PiecesForm)
 abbrev pub AssertionForm : ℕ → Form (List ℕ × List ℕ)
 AssertionForm tag = Sequence tag (Both (OctetString 4) (OctetString 4))
 
--- a filter in at most so many levels; an item is a level
+-- a filter of no more levels than this, of which an item counts as one
 unfoldable pub FilterIn : ℕ → Form Tree
 FilterIn zero bytes filter rest = ⊥
 FilterIn (suc levels) bytes (all_of parts) rest = ListOf 160 (FilterIn levels) bytes (listed parts) rest

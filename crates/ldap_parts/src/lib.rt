@@ -3,7 +3,7 @@
 //!
 //! Each is read in any spelling of its elements, with unknown elements behind the last known one
 //! of a SEQUENCE, and with values written that could be left out. It is written in its one
-//! canonical spelling. The elements of a SEQUENCE OF or SET OF are all known. A refused place is
+//! canonical spelling. In a SEQUENCE OF or SET OF no element is unknown. A refused place is
 //! the first octet of the first element that the grammar refuses; a missing element is refused
 //! where it had to begin.
 #![tactic(auto)]

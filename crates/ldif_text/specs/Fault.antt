@@ -9,14 +9,14 @@ abbrev pub ◌>>=◌ : {A B : Type 0} → Result A LdifFault → (A → Result B
 (Ok a) >>= read = read a
 (Err fault) >>= read = Err fault
 
--- want of memory says nothing of the text, and any other fault is that of the reading
+-- a fault is that of the reading, but for want of memory, which tells nothing of it
 abbrev pub Refuses : {Y : Type 0} → LdifFault → Result Y LdifFault → Type 0
 Refuses NoMemory read = Unit {0}
 Refuses (BadLine number) read = read ≡ Err (BadLine number)
 Refuses (BadBase64 number) read = read ≡ Err (BadBase64 number)
 Refuses (BadChange number) read = read ≡ Err (BadChange number)
 
--- what a function returned, seen by view, is what the reading says
+-- the view of a function's answer is the reading's answer
 abbrev pub Gives : {X Y : Type 0} → (X → Y) → Result X LdifFault → Result Y LdifFault → Type 0
 Gives view (Ok x) read = read ≡ Ok (view x)
 Gives view (Err fault) read = Refuses fault read

@@ -17,7 +17,7 @@ abbrev pub shown : Option (Bor (List ℕ)) → Option (List ℕ)
 shown None = None
 shown (Some slice) = Some slice.now
 
--- the bytes before the first such byte, and those after it, where it is there
+-- the two sides of the first mark: all bytes and nothing where there is none
 abbrev pub cut : ℕ → List ℕ → List ℕ × Option (List ℕ)
 cut mark [] = ([], None)
 cut mark (b ∷ bytes) = if b == mark then ([], Some bytes) else (b ∷ (cut mark bytes).0, (cut mark bytes).1)

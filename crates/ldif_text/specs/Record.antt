@@ -28,7 +28,7 @@ nothing_more (line ∷ lines) = do
 abbrev pub is_of_type : List ℕ → RawAttribute → Bool
 is_of_type name a = str_eq_ignore_ascii_case a.name name
 
--- the value goes last in its type's attribute, and that goes last where it is new
+-- one more value, behind the others of its type; a type without values yet comes behind the other types
 abbrev pub with_value : List RawAttribute → List ℕ → List ℕ → List RawAttribute
 with_value [] name value = record { name = name; values = value ∷ [] } ∷ []
 with_value (a ∷ attrs) name value =

@@ -53,7 +53,7 @@ impl Line {
     }
 }
 
-/// The bytes before the first such byte, and those after it, where it is there.
+/// The two sides of the first mark: all bytes and nothing where there is none.
 pub fn cut_at(bytes: &[u8], mark: u8) -> (&[u8], Option<&[u8]>)
     ensures front { result.0.now ≡ (cut mark bytes.now).0 }
     ensures back { shown result.1 ≡ (cut mark bytes.now).1 }

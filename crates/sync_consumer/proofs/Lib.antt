@@ -1,6 +1,7 @@
 -- Lemmas of the crate.
 pub mod Cuts
 pub mod Fits
+pub mod Fronts
 pub mod Heeding
 pub mod Keyed
 pub mod Merging

@@ -1,11 +1,11 @@
 -- What a consumer makes of a message, by its search's step.
-use Rattle.std.proofs.Common.{◌≡◌, ℕ, Bool, true, false, cond, nat_eq, Option, Some, None, Result, Ok, Err, refl, sym, ap, ◌∙◌, subst}
+use Rattle.std.proofs.Common.{◌≡◌, ℕ, Bool, true, false, cond, nat_eq, nat_lt, Option, Some, None, Result, Ok, Err, refl, sym, ap, ◌∙◌, subst}
 use Rattle.std.proofs.lemmas.Bool.{eq-eqb, eqb-true}
 use Rattle.ldap_messages.specs.declared.message.Message.{Message}
 use Rattle.sync_model.specs.Message.{SyncMessage}
 use Rattle.sync_model.specs.Copy as model
 use Rattle.sync_model.specs.Copy.{Answer as answer, Fault as fault, taken, taken_in}
-use Rattle.sync_model.specs.Keeping.{Keeps}
+use Rattle.sync_model.specs.Keeping.{Keeps, IsEffected}
 use Rattle.sync_model.specs.Within.{puts_entry, taken_within}
 use Rattle.sync_model.proofs.Keeping.{taking_keeps}
 use Rattle.sync_wire.specs.Hearing.{said}
@@ -21,8 +21,11 @@ use Rattle.sync_consumer.specs.declared.held.Held.{Held}
 use Rattle.sync_consumer.specs.declared.running.Running.{Running}
 use Rattle.sync_consumer.specs.declared.running.Step.{Step}
 use Rattle.sync_consumer.specs.declared.running.Step.TheVariants.{Goes, Ends}
+use Rattle.std.specs.List.{list_all}
+use Rattle.sync_consumer.specs.Staging.{is_above, up_to}
+use Rattle.sync_consumer.proofs.Fronts.{front_effected}
 use Rattle.sync_consumer.specs.Running.{running_of, copy_of, copy_with, within, Tells, refused_by, Refuses, StepsBy, heard_by_search, taken_by_id, taken_by_search}
-use Rattle.sync_consumer.specs.Taking.{refusal_of, told_fault, told, told_refusal, without_search, taken_as, taken_by, taken_of, Takes, KeepsEntries, KeepsCookie}
+use Rattle.sync_consumer.specs.Taking.{refusal_of, told_fault, told_commit, told, told_refusal, without_search, taken_as, taken_by, taken_of, Takes, KeepsFront, KeepsEntries, KeepsCookie}
 
 -- ---- what stays
 
@@ -35,10 +38,16 @@ refusal_keeps tag before refusal.OutOfPlace = (refl, refl)
 refusal_keeps tag before (refusal.Fault told) = (refl, refl)
 refusal_keeps tag before refusal.NoMemory = (refl, refl)
 
+front_stays : (before after : model.Copy) (commit : model.Commit) → IsEffected before after commit → KeepsFront before after (told_commit commit)
+front_stays before after commit effect uuid beyond =
+    ap (up_to uuid) effect.held
+    ∙ front_effected uuid effect.stage before.held (ap (λ (c : model.Commit). is_above uuid c.puts) (sym effect.told) ∙ beyond.0)
+    (ap (λ (c : model.Commit). list_all (nat_lt uuid) c.drops) (sym effect.told) ∙ beyond.1)
+
 answer_keeps : (tag : ℕ) (before after : model.Copy) (given : model.Answer) → Keeps before after given → KeepsBoth before (after, told tag given)
 answer_keeps tag before after answer.Staged keeps = (keeps.held, keeps.cookie)
-answer_keeps tag before after (answer.Stored commit) keeps = (tt, keeps.1)
-answer_keeps tag before after (answer.Copied commit) keeps = (tt, keeps.1)
+answer_keeps tag before after (answer.Stored commit) keeps = (front_stays before after commit keeps.0, keeps.1)
+answer_keeps tag before after (answer.Copied commit) keeps = (front_stays before after commit keeps.0, keeps.1)
 answer_keeps tag before after (answer.Over code) keeps = (ap (λ (c : model.Copy). c.held) keeps, ap (λ (c : model.Copy). c.cookie) keeps)
 answer_keeps tag before after (answer.Refused found) keeps = (ap (λ (c : model.Copy). c.held) keeps, ap (λ (c : model.Copy). c.cookie) keeps)
 

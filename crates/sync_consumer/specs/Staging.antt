@@ -1,5 +1,5 @@
 -- Stages, as they are kept.
-use Rattle.std.specs.Prelude.{◌≡◌, ℕ, ◌<◌, ◌≤◌, ◌-◌, ◌^◌, Bool, true, ◌&&◌, nat_lt, nat_eq, min, List, [], ◌∷◌, length, slice_index, map, filter, fold, sum_by, Option, Some, None}
+use Rattle.std.specs.Prelude.{◌≡◌, ℕ, ◌<◌, ◌≤◌, ◌-◌, ◌^◌, Bool, true, ◌&&◌, nat_lt, nat_le, nat_eq, min, List, [], ◌∷◌, length, slice_index, map, filter, fold, sum_by, Option, Some, None}
 use Rattle.std.specs.List.{list_all}
 use Rattle.std.specs.Option.{option_and_then}
 use Rattle.std.specs.Map.{keys_of, remove_entry, set_value}
@@ -68,6 +68,10 @@ lower uuid entries = filter (λ entry. nat_lt entry.uuid uuid) entries
 -- the entries above the identity
 abbrev pub higher : ℕ → List Entry → List Entry
 higher uuid entries = filter (λ entry. nat_lt uuid entry.uuid) entries
+
+-- the entries up to the identity
+abbrev pub up_to : ℕ → List Entry → List Entry
+up_to uuid entries = filter (λ entry. nat_le entry.uuid uuid) entries
 
 -- ---- counts and weights
 

@@ -1,5 +1,5 @@
 -- A consumer, what it asks for, and what it makes of each message.
-use Rattle.std.specs.Prelude.{◌≡◌, ⊤, ℕ, Bool, true, false, ◌==◌, if◌then◌else◌, List, [], Option, Some, None, Result, Ok, Err}
+use Rattle.std.specs.Prelude.{◌≡◌, ⊤, ℕ, Bool, true, false, ◌==◌, nat_lt, if◌then◌else◌, List, [], Option, Some, None, Result, Ok, Err}
 use Rattle.std.specs.List.{list_all}
 use Rattle.entry_tree.specs.Fitting.{is_light}
 use Rattle.entry_tree.specs.Selection.{Search}
@@ -21,6 +21,7 @@ use Rattle.sync_wire.specs.Requesting.{search_request}
 use Rattle.sync_wire.specs.declared.fault.HearingFault.{HearingFault}
 use Rattle.sync_wire.specs.declared.fault.HearingFault.TheVariants as hearing
 use Rattle.sync_consumer.specs.declared.commit.Commit.{Commit}
+use Rattle.sync_consumer.specs.Staging.{is_above, up_to}
 use Rattle.sync_consumer.specs.declared.consumer.Taken.{Taken}
 use Rattle.sync_consumer.specs.declared.consumer.Taken.TheVariants.{Staged, Stored, Copied, Over, Fault, NoMemory}
 use Rattle.sync_consumer.specs.declared.fault.PeerFault.{PeerFault}
@@ -124,11 +125,19 @@ Takes before message after (Copied commit) = (after, Copied commit) ≡ taken_of
 Takes before message after (Over code) = (after, Over code) ≡ taken_of before message
 Takes before message after (Fault found) = (after, Fault found) ≡ taken_of before message
 
--- the entries are as before, other than where a stage took effect
+-- all that a stage puts and drops is above the identity
+abbrev pub IsBeyond : ℕ → Commit → Type 0
+IsBeyond uuid commit = (is_above uuid commit.puts ≡ true) × (list_all (nat_lt uuid) commit.drops ≡ true)
+
+-- the entries up to an identity are as before where all that a stage puts and drops is above it
+abbrev pub KeepsFront : model.Copy → model.Copy → Commit → Type 0
+KeepsFront before after commit = (uuid : ℕ) → IsBeyond uuid commit → up_to uuid after.held ≡ up_to uuid before.held
+
+-- the entries are as before, other than where a stage took effect, from the first identity on that it puts or drops
 abbrev pub KeepsEntries : model.Copy → model.Copy → Taken → Type 0
 KeepsEntries before after Staged = after.held ≡ before.held
-KeepsEntries before after (Stored commit) = ⊤
-KeepsEntries before after (Copied commit) = ⊤
+KeepsEntries before after (Stored commit) = KeepsFront before after commit
+KeepsEntries before after (Copied commit) = KeepsFront before after commit
 KeepsEntries before after (Over code) = after.held ≡ before.held
 KeepsEntries before after (Fault found) = after.held ≡ before.held
 KeepsEntries before after NoMemory = after.held ≡ before.held

@@ -1,14 +1,16 @@
 //! The entries that are held.
 
-ghost use Rattle.std.specs.Prelude.{◌≡◌, ◌==◌, ◌≤◌, [], true, length, map, IfOk, OnOk, OnErr, IsTrue, IsFalse};
+ghost use Rattle.std.specs.Prelude.{◌≡◌, ◌==◌, ◌≤◌, ◌-◌, ◌++◌, [], true, None, length, map, option_map, IfOk, IfSome, IfNone, OnOk, OnErr, IsTrue, IsFalse};
 ghost use Rattle.std.specs.Vec.{vec_capacity};
 ghost use Rattle.std.specs.List.{slice_get};
 ghost use Rattle.std.specs.Option.{option_copied};
 ghost use Rattle.entry_tree.specs.State.{ascends, entry_at};
 ghost use Rattle.sync_model.specs.Copy.{effected};
-ghost use Rattle.sync_consumer.specs.Holding.{held_in};
+ghost use Rattle.sync_model.specs.Within.{against};
+ghost use Rattle.sync_consumer.specs.Holding.{held_in, MayHold};
+ghost use Rattle.sync_consumer.specs.Staging.{higher, up_to};
 
-use crate::merge::{effected, merged};
+use crate::merge::{effected, merged, parted};
 use crate::places::place_of_entry;
 use crate::stage::Stage;
 use entry_tree::Entry;
@@ -18,7 +20,8 @@ use std::marker::Model;
 use std::mem;
 use std::rc::Rc;
 
-/// Entries by their identities, in ascending order. A copy shares them, until one of the two changes.
+/// Entries by their identities, in ascending order, as a directory may have them. A copy shares them,
+/// until one of the two changes.
 #[derive(Drop)]
 pub struct EntryMap {
     alloc: Global,
@@ -27,19 +30,19 @@ pub struct EntryMap {
 }
 
 impl Model for EntryMap {
-    ghost use Rattle.std.specs.Prelude.{◌≡◌, true, List};
+    ghost use Rattle.std.specs.Prelude.{List};
     ghost use Rattle.entry_tree.specs.declared.entry.Entry.{Entry};
-    ghost use Rattle.entry_tree.specs.State.{ascends};
-    ghost use Rattle.sync_consumer.specs.Holding.{held_in};
+    ghost use Rattle.sync_consumer.specs.Holding.{held_in, MayHold};
 
     ghost Value = { List Entry };
 
     ghost view = { λ m. held_in m.entries };
 
-    ghost invariant = { λ m. ascends (held_in m.entries) ≡ true };
+    ghost invariant = { λ m. MayHold (held_in m.entries) };
 }
 
 impl EntryMap {
+    #[tactic(auto, using(crate::proofs::Settling::nothing_held))]
     pub(crate) fn new(alloc: Global) -> EntryMap
         ensures { result ≡ [] }
     {
@@ -86,6 +89,28 @@ impl EntryMap {
         }
     }
 
+    /// The entries above an identity, in ascending order of identity.
+    #[tactic(auto, using(crate::proofs::Fronts::both_sides))]
+    pub fn above(&self, uuid: u128) -> &[Entry]
+        ensures value { result.now ≡ higher uuid self.now }
+        ensures split { up_to uuid self.now ++ result.now ≡ self.now }
+    {
+        parted(self.list(), uuid).1
+    }
+
+    /// The greatest identity, up to which all entries are.
+    #[tactic(auto, using(crate::proofs::Fronts::all_front))]
+    pub fn greatest(&self) -> Option<u128>
+        ensures value { result ≡ option_map (λ entry. entry.uuid) (slice_get self.now (length self.now - 1)) }
+        ensures all { IfSome result (λ uuid. up_to uuid self.now ≡ self.now) }
+        ensures none { IfNone result (self.now ≡ []) }
+    {
+        match self.list().last() {
+            Some(entry) => Some(entry.uuid),
+            None => None,
+        }
+    }
+
     /// The entry at this place, counted from 0.
     pub fn at(&self, place: usize) -> Option<&Entry>
         ensures { option_copied result ≡ slice_get self.now place }
@@ -97,6 +122,7 @@ impl EntryMap {
     pub fn list(&self) -> &[Entry]
         ensures value { result.now ≡ self.now }
         ensures ascends { ascends self.now ≡ true }
+        ensures within { against self.now ≡ None }
     {
         match &self.entries {
             Some(shared) => shared.as_slice(),
@@ -109,13 +135,18 @@ impl EntryMap {
     }
 
     /// Brings the stage into effect, which leaves so many entries. Want of memory leaves both as they were.
+    /// A stage without changes costs nothing of the number of entries.
     pub(crate) fn settle(&mut self, stage: &mut Stage, count: usize) -> Result<(), NoMemory>
-        requires { count ≡ length (effected self.old stage.old) }
+        requires count { count ≡ length (effected self.old stage.old) }
+        requires within { against (effected self.old stage.old) ≡ None }
         ensures entries { OnOk result (self.new ≡ effected self.old stage.old) }
         ensures stage { OnOk result (stage.new ≡ []) }
         ensures err { OnErr result (self.new ≡ self.old) }
         ensures err_stage { OnErr result (stage.new ≡ stage.old) }
     {
+        if stage.is_empty() {
+            return Ok(());
+        }
         let room = Vec::with_capacity(self.alloc, count)?;
         self.begin()?;
         if !self.settle_alone(stage, room) {
@@ -141,6 +172,7 @@ impl EntryMap {
     fn settle_alone(&mut self, stage: &mut Stage, room: Vec<Entry>) -> bool
         requires empty { room.items ≡ [] }
         requires room { length (effected self.old stage.old) ≤ vec_capacity room }
+        requires within { against (effected self.old stage.old) ≡ None }
         ensures entries { IsTrue result → self.new ≡ effected self.old stage.old }
         ensures stage { IsTrue result → stage.new ≡ [] }
         ensures shared { IsFalse result → self.new ≡ self.old }
@@ -153,10 +185,11 @@ impl EntryMap {
     }
 
     /// Copies of the entries that there would be with the stage in effect.
-    #[tactic(auto, using(crate::proofs::Settling::after_ascends))]
+    #[tactic(auto, using(crate::proofs::Settling::after_held))]
     fn copied(&self, stage: &Stage) -> Result<Rc<Vec<Entry>>, NoMemory>
+        requires { against (effected self.now stage.now) ≡ None }
         ensures value { IfOk result (λ shared. shared.value.items ≡ effected self.now stage.now) }
-        ensures ascends { IfOk result (λ shared. ascends shared.value.items ≡ true) }
+        ensures held { IfOk result (λ shared. MayHold shared.value.items) }
     {
         let after = effected(self.alloc, self.list(), stage.changes())?;
         list_of(self.alloc, copies(self.alloc, &after)?)
@@ -174,14 +207,15 @@ fn list_of(alloc: Global, entries: Vec<Entry>) -> Result<Rc<Vec<Entry>>, NoMemor
 }
 
 /// Brings the stage into effect in the list, where nothing else shares it, and tells whether it is so.
-#[tactic(auto, using(crate::proofs::Settling::after_ascends))]
+#[tactic(auto, using(crate::proofs::Settling::after_held))]
 fn merge_alone(shared: &mut Rc<Vec<Entry>>, stage: &mut Stage, room: Vec<Entry>) -> bool
-    requires ascends { ascends shared.old.value.items ≡ true }
+    requires held { MayHold shared.old.value.items }
     requires empty { room.items ≡ [] }
     requires room { length (effected shared.old.value.items stage.old) ≤ vec_capacity room }
+    requires within { against (effected shared.old.value.items stage.old) ≡ None }
     ensures entries { IsTrue result → shared.new.value.items ≡ effected shared.old.value.items stage.old }
     ensures stage { IsTrue result → stage.new ≡ [] }
-    ensures ascends { ascends shared.new.value.items ≡ true }
+    ensures held { MayHold shared.new.value.items }
     ensures shared { IsFalse result → shared.new.value.items ≡ shared.old.value.items }
     ensures shared_stage { IsFalse result → stage.new ≡ stage.old }
 {

@@ -77,8 +77,12 @@ impl Held {
         ensures within { OnOk result (against (model.effected self.now.entries stage.now) ≡ None) }
         ensures fault { IfErr result (RefusesBy (against (model.effected self.now.entries stage.now))) }
     {
+        let held = self.entries.list();
+        if stage.is_empty() {
+            return Ok(held.len());
+        }
         let alloc = self.entries.allocator();
-        let after = effected(alloc, self.entries.list(), stage.changes())?;
+        let after = effected(alloc, held, stage.changes())?;
         check_held(alloc, &after)?;
         Ok(after.len())
     }

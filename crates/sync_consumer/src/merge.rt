@@ -39,7 +39,7 @@ pub(crate) fn effected<'a>(
 }
 
 /// The entries below the identity, and those above it.
-fn parted(entries: &[Entry], uuid: u128) -> (&[Entry], &[Entry])
+pub(crate) fn parted(entries: &[Entry], uuid: u128) -> (&[Entry], &[Entry])
     requires { ascends entries.now ≡ true }
     ensures lower { result.0.now ≡ lower uuid entries.now }
     ensures higher { result.1.now ≡ higher uuid entries.now }

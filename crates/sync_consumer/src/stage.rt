@@ -1,6 +1,6 @@
 //! What a search has sent and what has not taken effect yet.
 
-ghost use Rattle.std.specs.Prelude.{◌≡◌, ◌∷◌, [], ◌+◌, ◌<◌, ◌^◌, Some, None, true, not, map, IfOk, OnErr, OnOk};
+ghost use Rattle.std.specs.Prelude.{◌≡◌, ◌∷◌, [], ◌+◌, ◌<◌, ◌^◌, Some, None, true, not, length, map, IfOk, OnErr, OnOk, IsTrue, IsFalse};
 ghost use Rattle.std.specs.Map.{keys_of};
 ghost use Rattle.std.specs.Option.{option_copied};
 ghost use Rattle.sync_model.specs.Copy as model;
@@ -142,6 +142,14 @@ impl Stage {
         ensures ordered { rises (keys_of self.now) ≡ true }
     {
         self.changes.as_slice()
+    }
+
+    /// Whether nothing is staged.
+    pub(crate) fn is_empty(&self) -> bool
+        ensures none { IsTrue result → self.now ≡ [] }
+        ensures some { IsFalse result → 0 < length self.now }
+    {
+        self.changes.is_empty()
     }
 
     /// Whether an entry of the identity is staged.

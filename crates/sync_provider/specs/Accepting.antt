@@ -29,7 +29,7 @@ abbrev pub numbers_from : ℕ → ℕ → List ℕ
 numbers_from first zero = []
 numbers_from first (suc count) = first ∷ numbers_from (first + 1) count
 
--- the least number from 1 to 64 that no open search has
+-- the smallest number, of those up to 64, under which no search is open
 abbrev pub free_number : List (ℕ × SearchState) → Option ℕ
 free_number searches = find (is_free searches) (numbers_from 1 64)
 

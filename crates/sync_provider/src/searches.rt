@@ -25,7 +25,7 @@ use sync_messages::{Mode, SyncFault, SyncRequest};
 /// protocolError: the control's value is outside its grammar.
 const PROTOCOL_ERROR: u32 = 2;
 
-/// noSuchObject: the base is not at or below the suffix.
+/// noSuchObject: the base lies outside the suffix.
 const NO_SUCH_OBJECT: u32 = 32;
 
 /// e-syncRefreshRequired: the cookie cannot be served.
@@ -62,12 +62,12 @@ pub enum Accepted {
 }
 
 impl Provider {
-    /// Opens a search, or tells the first code that is against it: 2 where the control's value is
-    /// outside its grammar; 32 where the base is not at or below the suffix; 11 where each number
-    /// from 1 to 64 is that of an open search; 4096 where a cookie is given that is neither blank
-    /// nor servable, and the client does not ask to reload then. Its number is the least from 1 to
-    /// 64 that no open search has. It goes on after its refresh where its mode is
-    /// refreshAndPersist.
+    /// Opens a search under the smallest free number, or tells the first of the codes against it:
+    /// protocolError (2) for a control's value outside its grammar, noSuchObject (32) for a base
+    /// outside the suffix, adminLimitExceeded (11) where the 64 numbers are all in use, and
+    /// e-syncRefreshRequired (4096) for a cookie that is neither blank nor servable, from a client
+    /// that does not ask to reload then. A search in the mode refreshAndPersist goes on after its
+    /// refresh.
     ///
     /// A cookie is servable where it is of the directory's history and its stamp is not above the
     /// last one. The search then begins with the content after the writes that it names.
@@ -169,7 +169,7 @@ impl Provider {
         }
     }
 
-    /// The least number from 1 to 64 that no open search has.
+    /// The smallest number, of those up to 64, under which no search is open.
     #[tactic(auto, using(crate::proofs::Numbers::found_here, crate::proofs::Numbers::found_later, crate::proofs::Numbers::found_none))]
     fn free_number(&self) -> Option<u64>
         ensures { result ≡ accepting.free_number self.now.searches }

@@ -94,7 +94,7 @@ abbrev pub IsInput : Option (List ℕ) → Option (List ℕ) → ℕ → ℕ →
 IsInput old new before now (Text text) = IsFrontOf old new text
 IsInput old new before now Failed = Rose before now
 
--- the fact holds where the status has the code
+-- a fact that a status of this code brings
 abbrev pub OnCode : ℕ → Type 0 → Status → Type 0
 OnCode code P status = status.code ≡ code → P
 

@@ -40,11 +40,11 @@ pub fn run<R: Threads + Wait + Sync, I: Source, O: Sink, E: Sink>(
     requires fresh { world.old ≡ no_nodes }
     requires prompt { I.waits input.old ≡ false }
 
-    // Each `stored` line names a prefix of the provider's accepted writes, no shorter than when the
-    // consumer's search was opened, and the consumer's entries are exactly what its specification
-    // selects from it; a `show` of the consumer prints these until the next one. A search is refused
-    // with 4096 exactly where the consumer's cookie is in its way. Each consumer is what the lines of
-    // its messages make of it.
+    // The prefix of accepted writes that a `stored` line names reaches at least as far as they did
+    // when the search was opened, and what the line tells is all that the specification selects from
+    // it, and no more. It is what the consumer holds, and a `show` prints, up to its next line. A
+    // search is refused with 4096 exactly where the consumer's cookie is in its way. Each consumer
+    // is what the lines of its messages make of it.
     ensures headline { IfSome (I.bytes_left input.old) (λ text.
         WritesFront (reader_of text) (O.bytes_held output.old) (O.bytes_held output.new)) }
 
@@ -140,11 +140,11 @@ pub fn run_cascade<I: Source, O: Sink, E: Sink>(
     requires fresh { world.old ≡ no_nodes }
     requires prompt { I.waits input.old ≡ false }
 
-    // Each `stored` line names a prefix of the provider's accepted writes, no shorter than when the
-    // consumer's search was opened, and the consumer's entries are exactly what its specification
-    // selects from it; a `show` of the consumer prints these until the next one. A search is refused
-    // with 4096 exactly where the consumer's cookie is in its way. Each consumer is what the lines of
-    // its messages make of it.
+    // The prefix of accepted writes that a `stored` line names reaches at least as far as they did
+    // when the search was opened, and what the line tells is all that the specification selects from
+    // it, and no more. It is what the consumer holds, and a `show` prints, up to its next line. A
+    // search is refused with 4096 exactly where the consumer's cookie is in its way. Each consumer
+    // is what the lines of its messages make of it.
     ensures headline { IfSome (I.bytes_left input.old) (λ text.
         WritesFront (reader_of text) (O.bytes_held output.old) (O.bytes_held output.new)) }
 

@@ -754,20 +754,24 @@ stored c 1 entries 1 sha256 8f8bbfc32f02a834239e30b6652655f8b425d92fe020ac9bd789
 settled c 1
 ";
 
+/// A script of which the start and a settling are done, and then nothing or the refusal.
+fn assert_settled<R: Threads + Wait + Sync + Abort>(
+    rt: &R,
+    alloc: Global,
+    script: &[u8],
+    status: u8,
+    refusal: &[u8],
+) -> Result<(), Fail> {
+    let report = in_full(alloc, SETTLED)?;
+    assert_run(rt, alloc, script, status, report.as_slice(), refusal)
+}
+
 /// A script of the most lines is done; one more is refused, and so is a record that runs into it.
 #[test]
 fn a_script_has_1000000_lines_at_most(rt: HostRuntime) -> Result<(), Fail> {
-    let report = in_full(rt.alloc(), SETTLED)?;
     for (lines, more, status, refusal) in &LENGTHS {
         let script = long_script(rt.alloc(), *lines, more)?;
-        assert_run(
-            &rt,
-            rt.alloc(),
-            script.as_slice(),
-            *status,
-            report.as_slice(),
-            refusal,
-        )?;
+        assert_settled(&rt, rt.alloc(), &script, *status, refusal)?;
     }
     Ok(())
 }
@@ -788,17 +792,9 @@ const SIZES: [(usize, u8, &[u8]); 2] = [
 /// A script of the most bytes is done; the line that holds one more is refused.
 #[test]
 fn a_script_has_67108864_bytes_at_most(rt: HostRuntime) -> Result<(), Fail> {
-    let report = in_full(rt.alloc(), SETTLED)?;
     for (bytes, status, refusal) in &SIZES {
         let script = large_script(rt.alloc(), *bytes)?;
-        assert_run(
-            &rt,
-            rt.alloc(),
-            script.as_slice(),
-            *status,
-            report.as_slice(),
-            refusal,
-        )?;
+        assert_settled(&rt, rt.alloc(), &script, *status, refusal)?;
     }
     Ok(())
 }

@@ -12,8 +12,9 @@ returns-in-Copied-clause-does c =
 
 pub returns-in-Stored-clause-does : goal.returns-in-Stored-clause-does
 returns-in-Stored-clause-does c =
-    hears_stored c.args.out.now.lineage c.args.provider.now c.args.follower.now c.take.new.self c.args.message.now _ _ _ c.in-Stored.ensures.spec c.in-Stored.ensures.reload c.in-Stored.ensures.exact
-    c.in_ok-tell_stored-in-Stored.ensures
+    rw c.in_ok-tell_stored-in-Stored.ensures.same
+    (hears_stored c.args.out.now.lineage c.args.provider.now c.args.follower.now c.take.new.self c.args.message.now _ _ _ c.in-Stored.ensures.spec c.in-Stored.ensures.reload c.in-Stored.ensures.exact
+    c.in_ok-tell_stored-in-Stored.ensures.line)
 
 pub returns-in-Over-clause-does : goal.returns-in-Over-clause-does
 returns-in-Over-clause-does c =
