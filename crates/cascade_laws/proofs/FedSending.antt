@@ -19,7 +19,7 @@ use Rattle.sync_model.proofs.Incremental.{refresh_sent}
 use Rattle.sync_wire.specs.Sending as wire
 use Rattle.sync_provider.specs.HandingOut as handing
 use Rattle.sync_provider.specs.HandingOut.{Turn, turn_of_message, turn_of_pending, turn_of_found, turn_at, search_at, without_first, handed_on, after_turn}
-use Rattle.sync_provider.specs.HandingOut.Turn.{Hands, Closes, Waits, Unknown}
+use Rattle.sync_provider.specs.HandingOut.Turn.{Hands, Closes}
 use Rattle.sync_provider.specs.Machine.{ProviderState}
 use Rattle.sync_provider.specs.Search.{SearchState, whole_walk, busy_end, pending, advanced}
 use Rattle.cascade_world.specs.declared.node.Follower.{Follower}

@@ -1,6 +1,6 @@
 -- What is done between a provider and a consumer at their places, and taken back.
 use Rattle.std.proofs.Common.{◌≡◌, ◌==◌, ◌<◌, ℕ, true, zero, suc, Some, List, [], ◌∷◌, length, set, get_or, refl, ap, sym, subst, ◌∙◌, arith}
-use Rattle.std.specs.Prelude.{Result, Ok, Err, IfOk, IfSome, OnErr, slice_get}
+use Rattle.std.specs.Prelude.{Result, Ok, Err, IfOk, IfSome, slice_get}
 use Rattle.std.proofs.lemmas.Bool.Decides.{nat_tests}
 use Rattle.std.proofs.lemmas.List.{set-get_or, set-set, get_or-set_same}
 use Rattle.std.proofs.Math.ListN.{length-set}
@@ -85,20 +85,6 @@ unperformed state j i part low low' =
       before = tt;
       after = λ k. record state { suppliers = suppliers k; followers = followers k };
     }
-
-same_at : (state view : State) (j i : ℕ) (r r' : Supplier) (f f' : Follower) → view ≡ state → r ≡ get_or view.suppliers j r → f ≡ get_or view.followers i f → r' ≡ r → f' ≡ f
-    → record view { suppliers = set view.suppliers j r'; followers = set view.followers i f' } ≡ state
-same_at state view j i r r' f f' same r_is f_is r_same f_same =
-    let suppliers : set view.suppliers j r' ≡ view.suppliers = set_same view.suppliers j r r' r_is r_same in
-    let followers : set view.followers i f' ≡ view.followers = set_same view.followers i f f' f_is f_same in
-    let kept : record view { suppliers = set view.suppliers j r'; followers = set view.followers i f' } ≡ view = λ k. record view { suppliers = suppliers k; followers = followers k } in
-    kept ∙ same
-
--- where the two are as before, the state is
-pub unchanged_at : (state view : State) (j i : ℕ) (r r' : Supplier) (f f' : Follower) (result : Result Performed Cause) → view ≡ state → r ≡ get_or view.suppliers j r → f ≡ get_or view.followers i f
-    → OnErr result (r' ≡ r) → OnErr result (f' ≡ f) → OnErr result (record view { suppliers = set view.suppliers j r'; followers = set view.followers i f' } ≡ state)
-unchanged_at state view j i r r' f f' (Ok done) same r_is f_is r_same f_same = tt
-unchanged_at state view j i r r' f f' (Err cause) same r_is f_is r_same f_same = same_at state view j i r r' f f' same r_is f_is r_same f_same
 
 -- no stage is told
 pub no_stages : (stages : List Stage) (count : ℕ) → count ≡ length stages → (count == 0) ≡ true → stages ≡ []

@@ -1,5 +1,5 @@
 //! Consumers with the digest of what they hold.
-ghost use Rattle.std.specs.Prelude.{◌≡◌, ◌++◌, ℕ, nat_lt, List, Ok, None, Some, option_map, IfOk, OnOk, OnErr, IsTrue};
+ghost use Rattle.std.specs.Prelude.{◌≡◌, ◌++◌, ℕ, nat_lt, List, Ok, None, Some, map, option_map, IfOk, OnOk, OnErr, IsTrue};
 ghost use Rattle.entry_tree.specs.Selection.{search_of};
 ghost use Rattle.ldap_messages.specs.Whole.{whole_of};
 ghost use Rattle.sha2.specs.Hashers.{Holds256};
@@ -89,8 +89,8 @@ impl Digested {
         ensures digest { IfOk result (λ digest. digest ≡ sha256 (text_of self.old.copy.held)) }
     {
         let entries = self.consumer.entries();
-        let rest = entries_behind(entries, self.reached);
-        let digest = digest_with(alloc, &mut self.hasher, rest)?;
+        let rest = entries_behind(entries, self.reached)?;
+        let digest = digest_with(alloc, &mut self.hasher, &rest)?;
         self.reached = entries.greatest();
         Ok(digest)
     }
@@ -160,8 +160,8 @@ impl Digested {
 }
 
 /// The entries above an identity, or all of them.
-fn entries_behind(entries: &EntryMap, reached: Option<u128>) -> &[Entry]
-    ensures { front reached entries.now ++ result.now ≡ entries.now }
+fn entries_behind(entries: &EntryMap, reached: Option<u128>) -> Result<Vec<&Entry>, NoMemory>
+    ensures { IfOk result (λ rest. front reached entries.now ++ map (λ e. e.now) rest.items ≡ entries.now) }
 {
     match reached {
         Some(uuid) => entries.above(uuid),
@@ -170,9 +170,9 @@ fn entries_behind(entries: &EntryMap, reached: Option<u128>) -> &[Entry]
 }
 
 /// Takes the text of these entries, and answers the digest of all that the hasher has taken then.
-fn digest_with(alloc: Global, hasher: &mut Sha256, entries: &[Entry]) -> Result<[u8; 32], NoMemory>
-    ensures taken { OnOk result ((m : List ℕ) → Holds256 hasher.old m → Holds256 hasher.new (m ++ text_of entries.now)) }
-    ensures digest { IfOk result (λ digest. (m : List ℕ) → Holds256 hasher.old m → digest ≡ sha256 (m ++ text_of entries.now)) }
+fn digest_with(alloc: Global, hasher: &mut Sha256, entries: &[&Entry]) -> Result<[u8; 32], NoMemory>
+    ensures taken { OnOk result ((m : List ℕ) → Holds256 hasher.old m → Holds256 hasher.new (m ++ text_of (map (λ e. e.now) entries.now))) }
+    ensures digest { IfOk result (λ digest. (m : List ℕ) → Holds256 hasher.old m → digest ≡ sha256 (m ++ text_of (map (λ e. e.now) entries.now))) }
     ensures err { OnErr result (hasher.new ≡ hasher.old) }
 {
     let text = text_of(alloc, entries)?;

@@ -1,5 +1,5 @@
 //! The lines of a report.
-ghost use Rattle.std.specs.Prelude.{◌≡◌, ◌++◌, take, Some, IfOk, OnOk};
+ghost use Rattle.std.specs.Prelude.{◌≡◌, ◌++◌, take, map, Some, IfOk, OnOk};
 ghost use Rattle.std.specs.Fmt.{decimal};
 ghost use Rattle.sha2.specs.Sha256.{sha256};
 ghost use Rattle.cascade_world.specs.Report as spec;
@@ -19,10 +19,21 @@ fn push_number(alloc: Global, out: &mut Vec<u8>, number: u64) -> Result<(), NoMe
     out.extend_from_slice(text.as_bytes())
 }
 
+/// Borrows of the entries.
+pub fn each_of(alloc: Global, entries: &[Entry]) -> Result<Vec<&Entry>, NoMemory>
+    ensures { IfOk result (λ each. map (λ e. e.now) each.items ≡ entries.now) }
+{
+    let mut each = Vec::new(alloc);
+    for entry in entries {
+        each.push(entry)?;
+    }
+    Ok(each)
+}
+
 /// The entries as LDIF, each with its identity and the number of its last change.
 #[tactic(auto, unfolding(crate::specs::Report::text_of))]
-pub fn text_of(alloc: Global, entries: &[Entry]) -> Result<Vec<u8>, NoMemory>
-    ensures { IfOk result (λ text. text.items ≡ spec.text_of entries.now) }
+pub fn text_of(alloc: Global, entries: &[&Entry]) -> Result<Vec<u8>, NoMemory>
+    ensures { IfOk result (λ text. text.items ≡ spec.text_of (map (λ e. e.now) entries.now)) }
 {
     let mut text = Vec::new(alloc);
     for entry in entries {

@@ -16,7 +16,7 @@ ghost use Rattle.cascade_world.specs.Places.{ArePlaces, Writes};
 
 use crate::exchange::Exchange;
 use crate::node::{Follower, Supplier};
-use crate::report::{push_wrote, text_of};
+use crate::report::{each_of, push_wrote, text_of};
 use crate::sending::discard;
 use crate::source::Source;
 use cascade_script::{Cause, Command, Event, ScriptFault};
@@ -229,14 +229,14 @@ impl World {
         ensures { Does (spec.step self.now (order.Show name.now)) self.now result }
     {
         if let Some(supplier) = self.supplier_place(name) {
-            let entries = self.suppliers[supplier].provider.entries();
-            return Ok(Octets::from(text_of(self.alloc, entries)?));
+            let entries = each_of(self.alloc, self.suppliers[supplier].provider.entries())?;
+            return Ok(Octets::from(text_of(self.alloc, &entries)?));
         }
         let Some(follower) = self.follower_place(name) else {
             return Err(Cause::UnknownNode);
         };
-        let entries = self.followers[follower].consumer.inner().entries().list();
-        Ok(Octets::from(text_of(self.alloc, entries)?))
+        let entries = self.followers[follower].consumer.inner().entries().list()?;
+        Ok(Octets::from(text_of(self.alloc, &entries)?))
     }
 }
 

@@ -874,8 +874,36 @@ fn keeps_what_it_knows_of_an_entry(rt: HostRuntime) -> Result<(), Fail> {
     answer
 }
 
-/// Searches in which two entries get one name.
-const NAMES: [Table; 3] = [
+/// The identities of the entries, each with a blank behind it.
+fn identities(alloc: Global, entries: &[&Entry]) -> Result<String, NoMemory> {
+    let mut text = String::new(alloc);
+    for entry in entries {
+        text = format!(in alloc; "{text}{} ", entry.uuid)?;
+    }
+    Ok(text)
+}
+
+fn check_lists<R: Abort + AllocGlobal>(rt: &R, consumer: &mut Consumer) -> Result<(), Fail> {
+    check_table(rt, consumer, &FOUR_AND_FIVE)?;
+    let entries = consumer.entries();
+    let all = identities(rt.alloc(), &entries.list()?)?;
+    assert_same(rt, "all", &all.as_str(), &"4 5 ");
+    let above = identities(rt.alloc(), &entries.above(4)?)?;
+    assert_same(rt, "above 4", &above.as_str(), &"5 ");
+    assert_same(rt, "greatest", &entries.greatest(), &Some(5));
+    Ok(())
+}
+
+#[test]
+fn entries_are_listed(rt: HostRuntime) -> Result<(), Fail> {
+    let mut consumer = consumer(&rt, rt.alloc())?;
+    let answer = check_lists(&rt, &mut consumer);
+    discard(consumer);
+    answer
+}
+
+/// Searches in which entries get names that others have, or had.
+const NAMES: [Table; 4] = [
     FOUR_AND_FIVE,
     (
         ONCE,
@@ -895,6 +923,15 @@ const NAMES: [Table; 3] = [
             ("add 7 f ou=b,o=x CSN", "DuplicateName(5, 7)"),
         ],
         "4 5 6 e",
+    ),
+    (
+        STAY,
+        &[
+            ("refreshDelete f", "Stored f"),
+            ("modify 5 - ou=a,o=x CSN", "Staged"),
+            ("modify 6 g ou=b,o=x CSN", "Stored +5 +6 g"),
+        ],
+        "4 5 6 g",
     ),
 ];
 

@@ -253,16 +253,16 @@ fn answer_told(taken: &Taken) -> Option<Answer> {
 
 /// Whether both hold the same entries and the same cookie, and run a search or none.
 fn agree(alloc: Global, consumer: &Consumer, plain: &PlainCopy) -> Result<bool, NoMemory> {
-    let entries = consumer.entries().list();
+    let entries = consumer.entries().list()?;
     Ok(
         entries.len() == plain.held.len()
             && consumer.is_running() == plain.running.is_some()
             && plain.has_cookie(consumer.cookie())
-            && holds_each(alloc, plain, entries)?,
+            && holds_each(alloc, plain, &entries)?,
     )
 }
 
-fn holds_each(alloc: Global, plain: &PlainCopy, entries: &[Entry]) -> Result<bool, NoMemory> {
+fn holds_each(alloc: Global, plain: &PlainCopy, entries: &[&Entry]) -> Result<bool, NoMemory> {
     for entry in entries {
         let text = entry_text(alloc, entry)?;
         if !plain.holds(entry.uuid, text.as_slice()) {

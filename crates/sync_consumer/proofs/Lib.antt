@@ -1,10 +1,12 @@
 -- Lemmas of the crate.
+pub mod Apart
 pub mod Cuts
 pub mod Fits
 pub mod Fronts
 pub mod Heeding
 pub mod Keyed
 pub mod Merging
+pub mod Noting
 pub mod Opposing
 pub mod Outcomes
 pub mod Phases

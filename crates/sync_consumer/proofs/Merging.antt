@@ -1,9 +1,9 @@
 -- The effect of changes in ascending order on entries in ascending order: what is below the first change comes first,
 -- then its entry, and then the effect of the others on what is above it.
-use Rattle.std.proofs.Common.{◌≡◌, ◌<◌, ◌≤◌, ◌+◌, ℕ, suc, true, false, not, cond, nat_lt, List, [], ◌∷◌, ◌++◌, length, get_or, drop, drop-cons, append_assoc, length-append, subst, refl, sym, ap, ◌∙◌, ◌⊎◌, inl, inr, arith}
+use Rattle.std.proofs.Common.{◌≡◌, ◌<◌, ℕ, suc, true, not, cond, nat_lt, List, [], ◌∷◌, ◌++◌, length, get_or, drop, drop-cons, append_assoc, refl, sym, ap, ◌∙◌, ◌⊎◌, inl, inr, arith}
 use Rattle.std.specs.List.{filter}
 use Rattle.std.specs.Map.{keys_of}
-use Rattle.std.proofs.lemmas.Bool.{and_parts, and_from, lt-ltb, ltb-true, ltb-false, le-ltb, eq-eqb, ne_eqb, cases_order}
+use Rattle.std.proofs.lemmas.Bool.{and_parts, and_from, lt-ltb, ltb-true, le-ltb, eq-eqb, ne_eqb, cases_order}
 use Rattle.std.proofs.lemmas.List.Folds.{list_all-append}
 use Rattle.entry_tree.specs.declared.entry.Entry.{Entry}
 use Rattle.entry_tree.specs.State.{ascends, put, is_identified}
@@ -57,7 +57,7 @@ above_put u e es less later =
     (and_from (nat_lt u e.uuid) (above u (higher e.uuid es)) (lt-ltb u e.uuid less) (above_filter (λ (x : Entry). nat_lt e.uuid x.uuid) u es later))
 
 above_effect : (u : ℕ) (s : Staged) (es : List Entry) → u < own s → above u es ≡ true → above u (one_effect es s) ≡ true
-above_effect u (Put e) es less later = above_put u e es less later
+above_effect u (Put k) es less later = above_put u k.value es less later
 above_effect u (Gone v) es less later = above_filter (λ (entry : Entry). not (is_identified v entry)) u es later
 
 above_effected : (u : ℕ) (ss : List Staged) (es : List Entry) → below_all u (keys ss) ≡ true → above u es ≡ true → above u (effected es (changes_of ss)) ≡ true
@@ -69,22 +69,22 @@ above_effected u (s ∷ ss) es below later =
 -- ---- one change, above the first entry, at it, or below all
 
 effect_behind : (x : Entry) (es : List Entry) (s : Staged) → x.uuid < own s → one_effect (x ∷ es) s ≡ x ∷ one_effect es s
-effect_behind x es (Put e) less =
-    ap (λ b. cond b (x ∷ lower e.uuid es) (lower e.uuid es) ++ e ∷ higher e.uuid (x ∷ es)) (lt-ltb x.uuid e.uuid less)
-    ∙ ap (λ b. (x ∷ lower e.uuid es) ++ e ∷ cond b (x ∷ higher e.uuid es) (higher e.uuid es)) (le-ltb e.uuid x.uuid (omega (arith, less)))
+effect_behind x es (Put k) less =
+    ap (λ b. cond b (x ∷ lower k.value.uuid es) (lower k.value.uuid es) ++ k.value ∷ higher k.value.uuid (x ∷ es)) (lt-ltb x.uuid k.value.uuid less)
+    ∙ ap (λ b. (x ∷ lower k.value.uuid es) ++ k.value ∷ cond b (x ∷ higher k.value.uuid es) (higher k.value.uuid es)) (le-ltb k.value.uuid x.uuid (omega (arith, less)))
 effect_behind x es (Gone u) less =
     let rest = filter (λ entry. not (is_identified u entry)) es in
     ap (λ b. cond (not b) (x ∷ rest) rest) (ne_eqb x.uuid u (λ same. omega (arith, less, same)))
 
 effect_before : (es : List Entry) (s : Staged) → above (own s) es ≡ true → one_effect es s ≡ put_alone s ++ es
-effect_before es (Put e) later = λ i. none_lower e.uuid es later i ++ e ∷ all_higher e.uuid es later i
+effect_before es (Put k) later = λ i. none_lower k.value.uuid es later i ++ k.value ∷ all_higher k.value.uuid es later i
 effect_before es (Gone u) later = none_identified u es later
 
 effect_there : (x : Entry) (es : List Entry) (s : Staged) → x.uuid ≡ own s → above (own s) es ≡ true → one_effect (x ∷ es) s ≡ put_alone s ++ es
-effect_there x es (Put e) same later =
-    ap (λ b. cond b (x ∷ lower e.uuid es) (lower e.uuid es) ++ e ∷ higher e.uuid (x ∷ es)) (le-ltb x.uuid e.uuid (omega (arith, same)))
-    ∙ ap (λ b. lower e.uuid es ++ e ∷ cond b (x ∷ higher e.uuid es) (higher e.uuid es)) (le-ltb e.uuid x.uuid (omega (arith, same)))
-    ∙ (λ i. none_lower e.uuid es later i ++ e ∷ all_higher e.uuid es later i)
+effect_there x es (Put k) same later =
+    ap (λ b. cond b (x ∷ lower k.value.uuid es) (lower k.value.uuid es) ++ k.value ∷ higher k.value.uuid (x ∷ es)) (le-ltb x.uuid k.value.uuid (omega (arith, same)))
+    ∙ ap (λ b. lower k.value.uuid es ++ k.value ∷ cond b (x ∷ higher k.value.uuid es) (higher k.value.uuid es)) (le-ltb k.value.uuid x.uuid (omega (arith, same)))
+    ∙ (λ i. none_lower k.value.uuid es later i ++ k.value ∷ all_higher k.value.uuid es later i)
 effect_there x es (Gone u) same later =
     let rest = filter (λ entry. not (is_identified u entry)) es in
     ap (λ b. cond (not b) (x ∷ rest) rest) (eq-eqb x.uuid u same) ∙ none_identified u es later
@@ -154,22 +154,3 @@ more_merged done rest stage k s all low same asc up so_far =
 pub more_rises : (stage : List Staged) (k : ℕ) → k < length stage → rises (keys (drop k stage)) ≡ true → rises (keys (drop (suc k) stage)) ≡ true
 more_rises [] k low up = absurd (omega (arith, low))
 more_rises (s ∷ stage) k low up = tail_rises (own (get_or (s ∷ stage) k s)) (keys (drop k stage)) (sym (ap (λ ss. rises (keys ss)) (drop-cons (s ∷ stage) k s low)) ∙ up)
-
--- the parts are no longer than the whole
-pub parts_fit : (a b c d all : List Entry) → ((a ++ b) ++ c) ++ d ≡ all → (length a + length b ≤ length all) × (length a + length b + length c ≤ length all)
-parts_fit a b c d all whole =
-    let whole_long = ap length whole in
-    let three = length-append ((a ++ b) ++ c) d in
-    let two = length-append (a ++ b) c in
-    let one = length-append a b in
-    (omega (arith, whole_long, three, two, one), omega (arith, whole_long, three, two, one))
-
--- ---- the first entry
-
-pub above_first : (es : List Entry) (u : ℕ) (e : Entry) → ascends es ≡ true → e ≡ get_or es 0 e → u < e.uuid → above u es ≡ true
-above_first [] u e asc is less = refl
-above_first (x ∷ es) u e asc is less = above_all u x es (subst (λ (y : Entry). u < y.uuid) is less) (and_parts (above x.uuid es) (ascends es) asc).0
-
-pub no_first : (es : List Entry) (u : ℕ) → nat_lt 0 (length es) ≡ false → above u es ≡ true
-no_first [] u none = refl
-no_first (x ∷ es) u none = let short = ltb-false 0 (length (x ∷ es)) none in absurd (omega (arith, short))

@@ -1,5 +1,5 @@
 -- What is against entries that a directory may not have.
-use Rattle.std.proofs.Common.{◌≡◌, ℕ, Bool, true, false, not, ◌&&◌, cond, nat_lt, List, length, Option, Some, None, refl, ap, ◌∙◌}
+use Rattle.std.proofs.Common.{◌≡◌, ℕ, Bool, true, false, not, ◌&&◌, cond, nat_lt, List, length, Option, Some, None, refl, ap, subst, ◌∙◌}
 use Rattle.std.specs.Prelude.{◌||◌, is_none, option_map}
 use Rattle.std.proofs.lemmas.Bool.{lt-ltb}
 use Rattle.entry_tree.specs.declared.commit.CommitRefusal.{CommitRefusal}
@@ -12,6 +12,7 @@ use Rattle.sync_model.specs.Copy.{Fault}
 use Rattle.sync_model.specs.Within.{against}
 use Rattle.sync_consumer.specs.Running.{RefusesBy}
 use Rattle.sync_consumer.specs.Taking.{refusal_against}
+use Rattle.sync_consumer.specs.declared.fault.Refusal.{Refusal}
 
 abbrev by_name : Option (ℕ × ℕ) → Option Fault
 by_name pair = option_map (λ (p : ℕ × ℕ). DuplicateName p.0 p.1) pair
@@ -37,6 +38,9 @@ opposed entries (SameName one other) same = (
   refl,
 )
 opposed entries NoMemory none = tt
+
+pub opposed_as : (left all : List Entry) (refusal : Refusal) → left ≡ all → RefusesBy (against left) refusal → RefusesBy (against all) refusal
+opposed_as left all refusal is refuses = subst (λ (es : List Entry). RefusesBy (against es) refusal) is refuses
 
 pub unopposed : (entries : List Entry) → may_be_held entries ≡ true → against entries ≡ None
 unopposed entries held = by (is_crowded entries) (same_named entries) held

@@ -1,7 +1,6 @@
 -- What one more element adds to what a loop made of a list so far.
-use Rattle.std.proofs.Common.{◌≡◌, ◌<◌, ℕ, zero, suc, Bool, true, false, cond, List, [], ◌∷◌, ◌++◌, length, map, reverse, take, get_or, Some, None, refl, sym, ap, ◌∙◌, arith}
+use Rattle.std.proofs.Common.{◌≡◌, ◌<◌, ℕ, zero, suc, Bool, true, false, cond, List, [], ◌∷◌, ◌++◌, length, take, get_or, Some, None, sym, ap, ◌∙◌, arith}
 use Rattle.std.specs.List.{filter, find}
-use Rattle.std.proofs.lemmas.List.{map_push, reverse-append}
 use Rattle.entry_tree.specs.declared.entry.Entry.{Entry}
 use Rattle.entry_tree.specs.Touched.{identities}
 use Rattle.sync_model.specs.Copy.{puts_of, drops_of}
@@ -45,25 +44,15 @@ kept_more p (x ∷ es) (suc i) e low is = step (p x.uuid) (kept_more p es i e (o
 pub puts_more : (stage : List Staged) (i : ℕ) (s : Staged) → i < length stage → s ≡ get_or stage i s
     → puts_of (changes_of (take (suc i) stage)) ≡ puts_of (changes_of (take i stage)) ++ put_alone s
 puts_more [] i s low is = absurd (omega (arith, low))
-puts_more (Put e ∷ stage) zero s low is = ap put_alone (sym is)
+puts_more (Put k ∷ stage) zero s low is = ap put_alone (sym is)
 puts_more (Gone u ∷ stage) zero s low is = ap put_alone (sym is)
-puts_more (Put e ∷ stage) (suc i) s low is = ap (λ es. e ∷ es) (puts_more stage i s (omega (arith, low)) is)
+puts_more (Put k ∷ stage) (suc i) s low is = ap (λ es. k.value ∷ es) (puts_more stage i s (omega (arith, low)) is)
 puts_more (Gone u ∷ stage) (suc i) s low is = puts_more stage i s (omega (arith, low)) is
 
 pub drops_more : (stage : List Staged) (i : ℕ) (s : Staged) → i < length stage → s ≡ get_or stage i s
     → drops_of (changes_of (take (suc i) stage)) ≡ drops_of (changes_of (take i stage)) ++ dropped_alone s
 drops_more [] i s low is = absurd (omega (arith, low))
-drops_more (Put e ∷ stage) zero s low is = ap dropped_alone (sym is)
+drops_more (Put k ∷ stage) zero s low is = ap dropped_alone (sym is)
 drops_more (Gone u ∷ stage) zero s low is = ap dropped_alone (sym is)
-drops_more (Put e ∷ stage) (suc i) s low is = drops_more stage i s (omega (arith, low)) is
+drops_more (Put k ∷ stage) (suc i) s low is = drops_more stage i s (omega (arith, low)) is
 drops_more (Gone u ∷ stage) (suc i) s low is = ap (λ us. u ∷ us) (drops_more stage i s (omega (arith, low)) is)
-
--- ---- entries from the last one on
-
-map-reverse : {A B : Type 0} (f : A → B) (xs : List A) → map f (reverse xs) ≡ reverse (map f xs)
-map-reverse f [] = refl
-map-reverse f (x ∷ xs) =
-    ap (map f) (reverse-append (x ∷ []) xs)
-    ∙ map_push f (reverse xs) x
-    ∙ ap (λ ys. ys ++ f x ∷ []) (map-reverse f xs)
-    ∙ sym (reverse-append (f x ∷ []) (map f xs))

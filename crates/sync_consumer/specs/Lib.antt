@@ -1,5 +1,6 @@
 -- What a consumer keeps of its search, and what it makes of each message.
 pub mod Holding
+pub mod Names
 pub mod Running
 pub mod Staging
 pub mod Taking

@@ -12,7 +12,7 @@ use Rattle.sync_consumer.specs.declared.stage.Before.{Before}
 use Rattle.sync_consumer.specs.declared.stage.Before.TheVariants.{Had, Nothing}
 
 abbrev pub change_of : Staged → ℕ × Option Entry
-change_of (Put entry) = (entry.uuid, Some entry)
+change_of (Put kept) = (kept.value.uuid, Some kept.value)
 change_of (Gone uuid) = (uuid, None)
 
 abbrev pub changes_of : List Staged → Stage
@@ -20,11 +20,11 @@ changes_of changes = map change_of changes
 
 -- the entry of one change, and the identity that has none, as lists
 abbrev pub put_alone : Staged → List Entry
-put_alone (Put entry) = entry ∷ []
+put_alone (Put kept) = kept.value ∷ []
 put_alone (Gone uuid) = []
 
 abbrev pub dropped_alone : Staged → List ℕ
-dropped_alone (Put entry) = []
+dropped_alone (Put kept) = []
 dropped_alone (Gone uuid) = uuid ∷ []
 
 -- one change

@@ -59,7 +59,7 @@ fn note(staged: &Staged, puts: &mut EntryList, drops: &mut IdList) -> Result<(),
     ensures drops { OnOk result (drops.new ≡ drops.old ++ dropped_alone staged.now) }
 {
     match staged {
-        Staged::Put(entry) => puts.push(entry.copy()?)?,
+        Staged::Put(kept) => puts.push(kept.entry().copy()?)?,
         Staged::Gone(uuid) => drops.push(*uuid)?,
     }
     Ok(())

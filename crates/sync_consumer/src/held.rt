@@ -1,6 +1,6 @@
 //! What a consumer holds between its searches.
 
-ghost use Rattle.std.specs.Prelude.{◌≡◌, [], None, Some, not, find, length, IfOk, IfErr, OnOk, OnErr};
+ghost use Rattle.std.specs.Prelude.{◌≡◌, [], None, Some, not, find, IfOk, IfErr, OnOk, OnErr};
 ghost use Rattle.std.specs.Option.{option_or};
 ghost use Rattle.sync_model.specs.Copy as model;
 ghost use Rattle.sync_model.specs.Within.{against};
@@ -10,10 +10,8 @@ ghost use Rattle.sync_consumer.specs.Taking.{told_commit};
 use crate::commit::Commit;
 use crate::entry_map::EntryMap;
 use crate::fault::Refusal;
-use crate::merge::effected;
 use crate::named::Named;
 use crate::stage::Stage;
-use entry_tree::check_held;
 use ldap_ber::{NoMemory, Octets};
 use std::alloc::Global;
 
@@ -60,31 +58,15 @@ impl Held {
         ensures err { OnErr result (self.new ≡ self.old) }
         ensures err_stage { OnErr result (stage.new ≡ stage.old) }
     {
-        let count = self.checked_len(stage)?;
+        let entries = self.entries.with(stage)?;
         let kept = copy_of(&cookie)?;
         let commit = Commit::of(self.entries.allocator(), stage.changes(), cookie)?;
-        self.entries.settle(stage, count)?;
+        self.entries = entries;
         if kept.is_some() {
             self.cookie = kept;
         }
+        let _ = stage.take();
         Ok(commit)
-    }
-
-    /// How many entries there would be with the stage in effect, where a directory may have them.
-    #[tactic(auto, using(crate::proofs::Opposing::opposed, crate::proofs::Opposing::unopposed))]
-    fn checked_len(&self, stage: &Stage) -> Result<usize, Refusal>
-        ensures len { IfOk result (λ len. len ≡ length (model.effected self.now.entries stage.now)) }
-        ensures within { OnOk result (against (model.effected self.now.entries stage.now) ≡ None) }
-        ensures fault { IfErr result (RefusesBy (against (model.effected self.now.entries stage.now))) }
-    {
-        let held = self.entries.list();
-        if stage.is_empty() {
-            return Ok(held.len());
-        }
-        let alloc = self.entries.allocator();
-        let after = effected(alloc, held, stage.changes())?;
-        check_held(alloc, &after)?;
-        Ok(after.len())
     }
 
     /// The first of the identities that is neither held nor staged with an entry.
@@ -112,9 +94,10 @@ impl Held {
         ensures { IfOk result (λ uuids. uuids.items ≡ model.unspoken named.now stage.now self.now.entries) }
     {
         let mut uuids = Vec::new(self.entries.allocator());
-        for entry in self.entries.list() {
-            if !named.has(entry.uuid) && !stage.has_entry(entry.uuid) {
-                uuids.push(entry.uuid)?;
+        for kept in self.entries.kept() {
+            let uuid = kept.uuid();
+            if !named.has(uuid) && !stage.has_entry(uuid) {
+                uuids.push(uuid)?;
             }
         }
         Ok(uuids)

@@ -4,10 +4,12 @@ ghost use Rattle.std.specs.Prelude.{◌≡◌, true, IfOk, IfErr};
 ghost use Rattle.std.specs.Map.{keys_of};
 ghost use Rattle.entry_tree.specs.State.{ascends};
 ghost use Rattle.entry_tree.specs.Touched.{identities};
+ghost use Rattle.sync_consumer.specs.Holding.{entries_in};
 ghost use Rattle.sync_consumer.specs.Staging.{changes_of, rises, IsAt, IsGapFor};
 
+use crate::kept::Kept;
 use crate::stage::Staged;
-use entry_tree::Entry;
+use std::rc::Rc;
 
 /// Where the number is, or where it would be.
 pub(crate) fn place_of(numbers: &[u128], number: u128) -> Result<usize, usize>
@@ -19,12 +21,12 @@ pub(crate) fn place_of(numbers: &[u128], number: u128) -> Result<usize, usize>
 }
 
 /// Where the entry of the identity is, or where it would be.
-pub(crate) fn place_of_entry(entries: &[Entry], uuid: u128) -> Result<usize, usize>
-    requires { ascends entries.now ≡ true }
-    ensures found { IfOk result (IsAt (identities entries.now) uuid) }
-    ensures absent { IfErr result (IsGapFor (identities entries.now) uuid) }
+pub(crate) fn place_of_entry(entries: &[Rc<Kept>], uuid: u128) -> Result<usize, usize>
+    requires { ascends (entries_in entries.now) ≡ true }
+    ensures found { IfOk result (IsAt (identities (entries_in entries.now)) uuid) }
+    ensures absent { IfErr result (IsGapFor (identities (entries_in entries.now)) uuid) }
 {
-    entries.binary_search_by_key(&uuid, |entry| entry.uuid)
+    entries.binary_search_by_key(&uuid, |kept| kept.uuid())
 }
 
 /// Where the change of the identity is, or where it would be.

@@ -9,23 +9,25 @@ ghost use Rattle.sync_consumer.specs.Staging as spec;
 ghost use Rattle.sync_consumer.specs.Staging.{change_of, changes_of, rises, laid, undone, IsStage};
 
 use crate::changes::{Load, put_back, set};
+use crate::kept::Kept;
 use crate::places::place_of_change;
 use entry_tree::Entry;
 use ldap_ber::NoMemory;
 use std::alloc::Global;
 use std::marker::Model;
 use std::mem;
+use std::rc::Rc;
 
 /// The most entries that are staged.
-const MOST_ENTRIES: usize = 20_000;
+pub(crate) const MOST_ENTRIES: usize = 20_000;
 
 /// The most that the staged entries weigh.
-const MOST_WEIGHT: u128 = 67_108_864;
+pub(crate) const MOST_WEIGHT: u128 = 67_108_864;
 
 /// What is staged of an identity: its entry, or that it has none.
 #[derive(Drop)]
 pub(crate) enum Staged {
-    Put(Entry),
+    Put(Rc<Kept>),
     Gone(u128),
 }
 
@@ -34,16 +36,17 @@ impl Staged {
         ensures { result ≡ (change_of self.now).0 }
     {
         match self {
-            Staged::Put(entry) => entry.uuid,
+            Staged::Put(kept) => kept.uuid(),
             Staged::Gone(uuid) => *uuid,
         }
     }
 
+    /// What shares the entry.
     fn copy(&self) -> Result<Staged, NoMemory>
-        ensures { IfOk result (λ copy. copy ≡ self.now) }
+        ensures { IfOk result (λ copy. change_of copy ≡ change_of self.now) }
     {
         match self {
-            Staged::Put(entry) => Ok(Staged::Put(entry.copy()?)),
+            Staged::Put(kept) => Ok(Staged::Put(kept.clone()?)),
             Staged::Gone(uuid) => Ok(Staged::Gone(*uuid)),
         }
     }
@@ -52,7 +55,7 @@ impl Staged {
         ensures { option_copied result ≡ (change_of self.now).1 }
     {
         match self {
-            Staged::Put(entry) => Some(entry),
+            Staged::Put(kept) => Some(kept.entry()),
             Staged::Gone(_) => None,
         }
     }
@@ -63,7 +66,7 @@ pub(crate) fn put_of(alloc: Global, entry: Entry) -> Result<Vec<Staged>, NoMemor
     ensures { IfOk result (λ changes. changes_of changes.items ≡ (entry.uuid, Some entry) ∷ []) }
 {
     let mut changes = Vec::new(alloc);
-    changes.push(Staged::Put(entry))?;
+    changes.push(Staged::Put(Kept::shared(alloc, entry)?))?;
     Ok(changes)
 }
 
@@ -80,7 +83,7 @@ pub(crate) fn drops_of(alloc: Global, uuids: &[u128]) -> Result<Vec<Staged>, NoM
 }
 
 fn copies(alloc: Global, changes: &[Staged]) -> Result<Vec<Staged>, NoMemory>
-    ensures { IfOk result (λ copied. copied.items ≡ changes.now) }
+    ensures { IfOk result (λ copied. changes_of copied.items ≡ changes_of changes.now) }
 {
     let mut copied = Vec::new(alloc);
     for change in changes {
