@@ -23,7 +23,7 @@ use Rattle.sync_provider.specs.HandingOut.{Turn, turn_of_message, turn_of_pendin
 use Rattle.sync_provider.specs.HandingOut.Turn.{Hands, Closes, Waits, Unknown}
 use Rattle.sync_provider.specs.Machine.{ProviderState}
 use Rattle.sync_provider.specs.Search.{SearchState, pending}
-use Rattle.cascade_world.specs.declared.node.Follower.{Follower}
+use Rattle.cascade_nodes.specs.declared.node.Follower.{Follower}
 use Rattle.cascade_world.specs.Exchange.{Pair, pair_of, Outcome, after_lines, and_then, copy_of, name_of, Sending, Sends, Rests, Overflows, turn_of, handed, linked, fits, sending_by, sending, taking, taken_as, taken_from, taken_before, taken_some, pending_count, left_to_send, ran_before, ran_some, runs, drains, follows_on, opens_anew, refreshes, catches_up, settled_told}
 use Rattle.cascade_laws.specs.Headline.{Opening, Known, with_sent, known_after, session_over, octets_of, busy}
 use Rattle.cascade_world.specs.Hearing.{Came, heard}
@@ -37,7 +37,7 @@ use Rattle.cascade_laws.proofs.FedOpening.{OpenedIn, opens_anew_opens}
 use Rattle.cascade_laws.proofs.FedSending.{own_sent, GoingSent, going_sent}
 use Rattle.cascade_laws.proofs.FedTaking.{IsTaken, GoingTaken, going_taken}
 use Rattle.cascade_laws.proofs.Past as past
-use Rattle.cascade_world.proofs.Pending.{Left, LeavesLess, leaves_less}
+use Rattle.cascade_exchange.proofs.Pending.{Left, LeavesLess, leaves_less}
 
 abbrev Name : Type 0
 Name = List (List TypeAndValue)

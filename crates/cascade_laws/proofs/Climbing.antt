@@ -3,7 +3,7 @@ use Rattle.std.proofs.Common.{◌≡◌, ◌⊎◌, ◌+◌, ◌≤◌, ℕ, zer
 use Rattle.std.proofs.lemmas.Bool.{cases_Bool}
 use Rattle.std.specs.Prelude.{find, filter, not, option_map}
 use Rattle.std.specs.Str.{bytes_eq}
-use Rattle.cascade_world.specs.declared.node.Follower.{Follower}
+use Rattle.cascade_nodes.specs.declared.node.Follower.{Follower}
 use Rattle.cascade_world.specs.Nodes.{is_follower, source_of, top_above, top_within, holds_above, is_fed_within}
 use Rattle.cascade_world.proofs.SameNames.{same_name, or_parts}
 

@@ -9,7 +9,7 @@ use Rattle.sync_model.specs.Stream.{among}
 use Rattle.sync_provider.specs.HandingOut.{search_at}
 use Rattle.sync_provider.specs.Machine.{ProviderState}
 use Rattle.sync_provider.specs.Search.{SearchState}
-use Rattle.cascade_world.specs.declared.node.Follower.{Follower}
+use Rattle.cascade_nodes.specs.declared.node.Follower.{Follower}
 use Rattle.cascade_world.specs.Exchange.{Pair, Outcome, pair_of, after_lines, and_then}
 use Rattle.cascade_laws.specs.Headline.{Known, known_after}
 use Rattle.cascade_world.specs.Origins.{Lineage}

@@ -4,9 +4,9 @@ use Rattle.std.proofs.lemmas.List.Sums.{fold-append}
 use Rattle.sync_messages.specs.declared.request.Mode.TheVariants.{RefreshOnly, RefreshAndPersist}
 use Rattle.entry_tree.specs.declared.entry.Entry.{Entry}
 use Rattle.directory_writes.specs.Directory.{entries_of}
-use Rattle.cascade_world.specs.declared.exchange.Exchange.TheVariants as goes
-use Rattle.cascade_world.specs.declared.node.Supplier.{Supplier}
-use Rattle.cascade_world.specs.declared.node.Follower.{Follower}
+use Rattle.cascade_exchange.specs.declared.exchange.Exchange.TheVariants as goes
+use Rattle.cascade_nodes.specs.declared.node.Supplier.{Supplier}
+use Rattle.cascade_nodes.specs.declared.node.Follower.{Follower}
 use Rattle.cascade_laws.specs.Headline.{is_declaration, IsShown, LinesAreRight}
 use Rattle.cascade_script.specs.Orders.{Order}
 use Rattle.cascade_script.specs.Orders.{Order as asks}

@@ -11,9 +11,9 @@ use Rattle.entry_tree.specs.Selection.{Search, select}
 use Rattle.entry_tree.specs.declared.entry.Entry.{Entry}
 use Rattle.entry_tree.specs.declared.op.Write.{Write}
 use Rattle.directory_writes.specs.Directory.{DirectoryState, entries_after}
-use Rattle.cascade_world.specs.declared.node.Supplier.{Supplier}
-use Rattle.cascade_world.specs.declared.node.Follower.{Follower}
-use Rattle.cascade_world.specs.declared.notes.Origin.{Origin}
+use Rattle.cascade_nodes.specs.declared.node.Supplier.{Supplier}
+use Rattle.cascade_nodes.specs.declared.node.Follower.{Follower}
+use Rattle.cascade_report.specs.declared.notes.Origin.{Origin}
 use Rattle.cascade_world.specs.Cookies.{held_cookie}
 use Rattle.cascade_world.specs.Exchange.{Pair, Outcome, pair_of, is_busy, respecs}
 use Rattle.cascade_laws.specs.Headline.{Known, nothing_known, known_after, known_of, stored_by, stored_of}
@@ -23,7 +23,7 @@ use Rattle.cascade_world.specs.Report.{Storing, Told}
 use Rattle.cascade_world.specs.Report.Told.{Wrote, Opened, Refused, Sent, Taken, Stored, Ended, Faulted, Cut, Nothing, Settled, Holds, Clocked, Shown}
 use Rattle.cascade_world.specs.World.{State, with_provider, with_follower, with_pair, lineage_of}
 use Rattle.cascade_laws.proofs.Climbing.{all_climb_same}
-use Rattle.cascade_world.proofs.Exchanging.{Alters, Keeps}
+use Rattle.cascade_exchange.proofs.Exchanging.{Alters, Keeps}
 use Rattle.cascade_laws.proofs.Feeding.{IsSource, IsFed, IsPromised, Promises, Frame, frame_of, IsRightOf, LineIsRightOf, LinesAreRightOf, AreApart, KeepsOthers, OwnsNew, known_then, IsKept, IsRespecced, PromisesLast}
 use Rattle.cascade_world.proofs.Finding.{IsChanged, found_after, found_still, suppliers_by, supplier_name, followers_by, follower_name, provider_changed, follower_changed, length-first_changed}
 use Rattle.cascade_laws.proofs.Growing.{Grows, AllBecome, AllBeen, become_changed, been_changed, source_now, sources_changed, numbered_grown, manned_grown, rooted_grown, promises_grown, fed_by, follower_still, committer_still, IsSameSupplier, committer_same}

@@ -7,11 +7,11 @@ use Rattle.dn_names.specs.Names.{TypeAndValue}
 use Rattle.entry_tree.specs.Selection.{Search, search_of}
 use Rattle.directory_writes.specs.Directory.{DirectoryState}
 use Rattle.sync_messages.specs.declared.request.Mode.TheVariants.{RefreshOnly, RefreshAndPersist}
-use Rattle.cascade_world.specs.declared.exchange.Exchange.{Exchange}
-use Rattle.cascade_world.specs.declared.exchange.Exchange.TheVariants as goes
+use Rattle.cascade_exchange.specs.declared.exchange.Exchange.{Exchange}
+use Rattle.cascade_exchange.specs.declared.exchange.Exchange.TheVariants as goes
 use Rattle.cascade_script.specs.declared.fault.Cause.{Cause}
-use Rattle.cascade_world.specs.declared.node.Supplier.{Supplier}
-use Rattle.cascade_world.specs.declared.node.Follower.{Follower}
+use Rattle.cascade_nodes.specs.declared.node.Supplier.{Supplier}
+use Rattle.cascade_nodes.specs.declared.node.Follower.{Follower}
 use Rattle.cascade_world.specs.Cookies.{is_later}
 use Rattle.cascade_world.specs.Exchange.{Pair, Outcome, pair_of, part_of, sent, takes, cut, idle, opens, settles}
 use Rattle.cascade_laws.specs.Headline.{Following, following, followed, known_of, IsConsumer, EachTellsRight}
@@ -21,7 +21,7 @@ use Rattle.cascade_world.specs.Report.{Told, stages_of}
 use Rattle.cascade_world.specs.World.{State, Step, supplier_named, follower_named, with_pair, commits_in, commits_of, with_lines, with_outcome, lineage_of, between, exchange_of, exchange}
 use Rattle.cascade_laws.proofs.Climbing.{source_apart}
 use Rattle.cascade_laws.proofs.Exchanged.{IsDone, done_kept, pair_feeds, pair_commits, pair_changed, pair_becomes, pair_followed}
-use Rattle.cascade_world.proofs.Exchanging.{Alters, AltersIn, as_before, sent_keeps, takes_keeps, cut_keeps, idle_keeps, opens_keeps, settles_keeps, lost_keeps, given_keeps}
+use Rattle.cascade_exchange.proofs.Exchanging.{Alters, AltersIn, as_before, sent_keeps, takes_keeps, cut_keeps, idle_keeps, opens_keeps, settles_keeps, lost_keeps, given_keeps}
 use Rattle.cascade_laws.proofs.Feeding.{Frame, frame_of, LinesAreRightOf, IsKept, PartsAreKept, WantsTheSame, CommitsAreKept, PromisesLast, SelectedCanBeServed}
 use Rattle.cascade_world.proofs.Finding.{IsChanged, suppliers_by, followers_by, follower_name}
 use Rattle.cascade_laws.proofs.Finishing.{FinishedIn, finished}

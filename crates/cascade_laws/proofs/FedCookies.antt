@@ -9,7 +9,7 @@ use Rattle.sync_model.specs.Message.{SyncMessage}
 use Rattle.sync_model.specs.Stream.{Session, Start}
 use Rattle.sync_provider.specs.Machine.{ProviderState}
 use Rattle.cascade_script.specs.declared.fault.Cause.TheVariants.{LaterCookie}
-use Rattle.cascade_world.specs.declared.node.Follower.{Follower}
+use Rattle.cascade_nodes.specs.declared.node.Follower.{Follower}
 use Rattle.cascade_world.specs.Cookies.{held_cookie, is_later}
 use Rattle.cascade_world.specs.Exchange.{Pair, Outcome, copy_of, with_text, holding, lost, given}
 use Rattle.cascade_laws.specs.Headline.{Opening, Known, known_after, session_over}

@@ -6,7 +6,7 @@ use Rattle.directory_writes.proofs.Keyed.{closed-other}
 use Rattle.dn_names.specs.Names.{TypeAndValue, is_at_or_below}
 use Rattle.sync_provider.specs.HandingOut as handing
 use Rattle.sync_provider.specs.Machine.{ProviderState}
-use Rattle.cascade_world.specs.declared.node.Follower.{Follower}
+use Rattle.cascade_nodes.specs.declared.node.Follower.{Follower}
 use Rattle.cascade_world.specs.Cookies.{held_cookie}
 use Rattle.cascade_world.specs.Exchange.{Pair, Outcome, pair_of, copy_of, closed, emptied, given_up, is_busy, cut, idle, name_of}
 use Rattle.cascade_laws.specs.Headline.{Known}

@@ -27,7 +27,7 @@ use Rattle.sync_provider.specs.Machine.{ProviderState}
 use Rattle.sync_provider.specs.Search.{SearchState, session_of, refresh_from, opening, pending}
 use Rattle.sync_provider.specs.declared.searches.Accepted.{Accepted}
 use Rattle.sync_provider.specs.declared.searches.Accepted.TheVariants as accepted
-use Rattle.cascade_world.specs.declared.node.Follower.{Follower}
+use Rattle.cascade_nodes.specs.declared.node.Follower.{Follower}
 use Rattle.cascade_world.specs.Cookies.{held_cookie}
 use Rattle.cascade_world.specs.Exchange.{Pair, Outcome, pair_of, copy_of, with_copy, name_of, is_busy, given_up, after_lines, and_then, idle, asking, request_from, start_of, answer_of, is_required, refused_copy, opened_by, opened_idle, opens, asked_again, opens_anew}
 use Rattle.cascade_laws.specs.Headline.{Opening, Known, known_after, IsServed, IsUnserved, BeginsFrom, session_over, stream_over}

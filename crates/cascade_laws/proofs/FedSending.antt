@@ -22,7 +22,7 @@ use Rattle.sync_provider.specs.HandingOut.{Turn, turn_of_message, turn_of_pendin
 use Rattle.sync_provider.specs.HandingOut.Turn.{Hands, Closes}
 use Rattle.sync_provider.specs.Machine.{ProviderState}
 use Rattle.sync_provider.specs.Search.{SearchState, whole_walk, busy_end, pending, advanced}
-use Rattle.cascade_world.specs.declared.node.Follower.{Follower}
+use Rattle.cascade_nodes.specs.declared.node.Follower.{Follower}
 use Rattle.cascade_world.specs.Exchange.{Pair, pair_of, Sending, Sends, Rests, Overflows, turn_of, handed, linked, fits, sends, sending_by, sending, name_of}
 use Rattle.cascade_laws.specs.Headline.{Opening, Known, with_sent, known_after, BeginsFrom, session_over, refresh_over, stream_over, octets_of, busy, Follows, TellsChange, IsNextOf}
 use Rattle.cascade_world.specs.Opening.{message_id}

@@ -5,10 +5,10 @@ use Rattle.std.specs.Prelude.{◌⊎◌, ◌||◌, ◌==◌, not, pos, All}
 use Rattle.std.specs.Ordering.{int_eq}
 use Rattle.std.proofs.lemmas.Bool.{true≢false}
 use Rattle.std.proofs.lemmas.Slice.Eq.{bytes_eq-Decides}
-use Rattle.csn_cookie.specs.Cookie.{cookie_text}
+use Rattle.csn_cookie.specs.Cookie.{cookie_text, cookie_of_text}
 use Rattle.csn_cookie.specs.Csn.{start}
 use Rattle.csn_cookie.specs.declared.cookie.Cookie.{Cookie}
-use Rattle.csn_cookie.proofs.CookieLemmas.{cookie_of_text-cookie_text}
+use Rattle.csn_cookie.proofs.CookieLemmas.{cookie_of_text-cookie_text, cookie_of_text-spelled}
 use Rattle.csn_cookie.proofs.OrderLemmas.{is_upto-itself}
 use Rattle.directory_writes.specs.Directory.{cookie_at, entries_after, last_stamp, stamps}
 use Rattle.directory_writes.proofs.Stamps.{upto_stamp}
@@ -32,10 +32,10 @@ use Rattle.sync_model.proofs.Taking.{running_in, names_after, stage_after}
 use Rattle.sync_wire.specs.CanBeSent.{CanBeSent}
 use Rattle.sync_provider.specs.Machine.{ProviderState}
 use Rattle.sync_provider.specs.Search.{cookie_after}
-use Rattle.cascade_world.specs.declared.node.Follower.{Follower}
+use Rattle.cascade_nodes.specs.declared.node.Follower.{Follower}
 use Rattle.cascade_world.specs.Cookies.{held_cookie}
 use Rattle.cascade_world.specs.Exchange.{Pair, pair_of, copy_of, with_copy, number_of_cookie, stored_number, storing, taken_as, taken_from, taking}
-use Rattle.cascade_laws.specs.Headline.{Opening, Known, known_after, session_over, stream_over, octets_of, busy}
+use Rattle.cascade_laws.specs.Headline.{Opening, Known, known_after, NamesPrefix, session_over, stream_over, octets_of, busy}
 use Rattle.cascade_world.specs.Hearing.{Came, came_of, heard}
 use Rattle.cascade_world.specs.Origins.{Lineage}
 use Rattle.cascade_world.specs.Report.{Storing, Told}
@@ -46,6 +46,7 @@ use Rattle.cascade_laws.proofs.Composing.{promises-still, kept-told, owns-still}
 use Rattle.cascade_laws.proofs.Feeding.{Remains, waits, cut_waits, IsSource, IsPromised, HasPending, AtWhole, InGroup, IsPast, IsWhere, GoesOn, IsAtRest, IsGoing, IsFed, IsRightOf, KeepsPromises, IsKept, frame_of, content_at}
 use Rattle.cascade_laws.proofs.Groups.{heads, tails}
 use Rattle.cascade_laws.proofs.Sharing.{Searches, others-none}
+use Rattle.cascade_laws.proofs.Stamped.{front_upto}
 
 abbrev Name : Type 0
 Name = List (List TypeAndValue)
@@ -73,6 +74,23 @@ pub cookie_numbers : (number : ℕ) (suffix : Name) (p : ProviderState) (count :
 cookie_numbers number suffix p count source within =
     ap (number_of_cookie (stamps p.directory.writes)) (cookie_read number suffix p count source)
     ∙ upto_stamp number p.directory.writes source.rises count within
+
+-- it can be served, and names that prefix of the writes
+cookie_names : (number : ℕ) (suffix : Name) (p : ProviderState) (count : ℕ) → IsSource number suffix p → count ≤ length p.directory.writes
+    → NamesPrefix (cookie_after number number p.directory.writes count) number p.directory.writes count
+cookie_names number suffix p count source within =
+    let read : cookie_of_text (cookie_after number number p.directory.writes count) ≡ Some (cookie_of_number number p.directory.writes count) = cookie_read number suffix p count source in
+    let spelled = cookie_of_text-spelled (cookie_after number number p.directory.writes count) (cookie_of_number number p.directory.writes count) read in
+    record {
+      serves = record {
+        cookie = cookie_of_number number p.directory.writes count;
+        good = spelled.0;
+        spells = spelled.1;
+        own = refl;
+        not_greater = front_upto (start number) p.directory.writes source.rises count;
+      };
+      counted = sym (upto_stamp number p.directory.writes source.rises count within);
+    }
 
 own_stored : (name : List ℕ) (known : Known) (stored : Storing) → known_after name known (told.Stored name stored) ≡ record known { entries = stored.entries; cookie = stored.commit.cookie }
 own_stored name known stored =
@@ -298,6 +316,7 @@ module _ (lin : Lineage) (number : ℕ) (suffix : Name) (p : ProviderState) (f :
           no_shorter = omega (arith, right_number, now.from);
           exactly = now.held ∙ ap (λ k. select f.consumer.spec (entries_after number (take k writes))) (sym right_number);
           cookie = text_is;
+          names = cookie_names number suffix p n source (omega (arith, right_number, low));
           staged = now.staged ∙ sym now.held;
           wanted = refl;
           from = refl;

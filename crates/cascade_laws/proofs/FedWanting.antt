@@ -6,7 +6,7 @@ use Rattle.dn_names.specs.Names.{TypeAndValue, is_at_or_below}
 use Rattle.entry_tree.specs.Selection.{Search}
 use Rattle.sync_consumer.specs.Taking.{wanting}
 use Rattle.sync_provider.specs.Machine.{ProviderState}
-use Rattle.cascade_world.specs.declared.node.Follower.{Follower}
+use Rattle.cascade_nodes.specs.declared.node.Follower.{Follower}
 use Rattle.cascade_world.specs.Exchange.{Pair, Outcome, copy_of, name_of, closed, given_up, is_busy, wanted, and_then}
 use Rattle.cascade_laws.specs.Headline.{Known}
 use Rattle.cascade_world.specs.Report.{Told}

@@ -34,13 +34,13 @@ use Rattle.sync_provider.specs.declared.writing.CommitFault.{CommitFault}
 use Rattle.sync_provider.specs.declared.writing.CommitFault.TheVariants as fault
 use Rattle.sync_wire.specs.CanBeSent.{CanBeSent}
 use Rattle.schema_rules.specs.declared.raw.Change.{Change}
-use Rattle.cascade_world.specs.declared.exchange.Exchange.{Exchange}
-use Rattle.cascade_world.specs.declared.exchange.Exchange.TheVariants as goes
-use Rattle.cascade_world.specs.declared.node.Follower.{Follower}
+use Rattle.cascade_exchange.specs.declared.exchange.Exchange.{Exchange}
+use Rattle.cascade_exchange.specs.declared.exchange.Exchange.TheVariants as goes
+use Rattle.cascade_nodes.specs.declared.node.Follower.{Follower}
 use Rattle.cascade_world.specs.Cookies.{held_cookie}
 use Rattle.cascade_world.specs.Directory.{logged_directory, wrote_change}
 use Rattle.cascade_world.specs.Exchange.{Pair, part_of, idle, respecs}
-use Rattle.cascade_laws.specs.Headline.{Opening, Known, nothing_known, known_after, IsUnserved, IsOpenedAt, BeginsFrom, session_over, stream_over, octets_of, busy, IsNextOf}
+use Rattle.cascade_laws.specs.Headline.{Opening, Known, nothing_known, known_after, IsUnserved, IsOpenedAt, NamesPrefix, BeginsFrom, session_over, stream_over, octets_of, busy, IsNextOf}
 use Rattle.cascade_world.specs.Opening.{message_id}
 use Rattle.cascade_world.specs.Origins.{Lineage, origin_of}
 use Rattle.cascade_world.specs.Report.{Storing, Told}
@@ -253,6 +253,7 @@ pub record IsRightOf (number : ℕ) (frame : Frame) (known : Known) (stored : St
   pub latest : known.opening ≡ Some opening
   pub no_shorter : opening.writes ≤ stored.number
   pub cookie : stored.commit.cookie ≡ Some (cookie_after number number frame.writes stored.number)
+  pub names : NamesPrefix (cookie_after number number frame.writes stored.number) number frame.writes stored.number
   pub exactly : stored.entries ≡ select frame.spec (entries_after number (take stored.number frame.writes))
   pub staged : committed known.entries stored.commit.puts stored.commit.drops ≡ stored.entries
   pub wanted : stored.search ≡ frame.spec

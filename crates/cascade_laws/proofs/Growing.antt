@@ -12,9 +12,9 @@ use Rattle.directory_writes.specs.Directory.{DirectoryState, entries_after}
 use Rattle.sync_provider.specs.Machine.{ProviderState}
 use Rattle.sync_provider.specs.declared.provider.Kind.{Kind}
 use Rattle.sync_provider.specs.declared.provider.Kind.TheVariants.{Root, Replica}
-use Rattle.cascade_world.specs.declared.node.Supplier.{Supplier}
-use Rattle.cascade_world.specs.declared.node.Follower.{Follower}
-use Rattle.cascade_world.specs.declared.notes.Origin.{Origin}
+use Rattle.cascade_nodes.specs.declared.node.Supplier.{Supplier}
+use Rattle.cascade_nodes.specs.declared.node.Follower.{Follower}
+use Rattle.cascade_report.specs.declared.notes.Origin.{Origin}
 use Rattle.cascade_world.specs.Cookies.{held_cookie}
 use Rattle.cascade_laws.specs.Headline.{Known, known_of, stored_of}
 use Rattle.cascade_world.specs.Origins.{Note}

@@ -1,4 +1,5 @@
 pub mod Accepted
+pub mod Answered
 pub mod Carried
 pub mod CatchingUp
 pub mod Climbing
@@ -17,6 +18,7 @@ pub mod FedTaking
 pub mod FedWanting
 pub mod Feeding
 pub mod Finishing
+pub mod Gives
 pub mod Groups
 pub mod Growing
 pub mod HeadlineHolds
@@ -32,6 +34,7 @@ pub mod PartsKept
 pub mod Past
 pub mod Refreshes
 pub mod Refusing
+pub mod Reported
 pub mod Repointed
 pub mod Room
 pub mod Rooting

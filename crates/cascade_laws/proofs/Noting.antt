@@ -4,7 +4,7 @@ use Rattle.std.proofs.lemmas.Bool.{cases_Bool}
 use Rattle.std.proofs.lemmas.List.Concat.{flat_map-cons}
 use Rattle.std.proofs.lemmas.List.Sums.{fold-append}
 use Rattle.std.proofs.lemmas.Option.{slice_get_within}
-use Rattle.std.specs.List.{fold}
+use Rattle.std.specs.Option.{option_or}
 use Rattle.std.specs.Prelude.{Result, Ok, Err, map, slice_get, cond, ◌&&◌, ◌==◌}
 use Rattle.std.specs.Str.{bytes_eq}
 use Rattle.csn_cookie.specs.Csn.{Stamp, start}
@@ -17,13 +17,13 @@ use Rattle.entry_tree.specs.declared.op.Write.{Write}
 use Rattle.directory_writes.specs.Directory.{DirectoryState, entries_after, entries_of, last_stamp}
 use Rattle.sync_provider.specs.Committing.{commit_refusal}
 use Rattle.sync_provider.specs.Machine as machine
-use Rattle.sync_provider.specs.Machine.{ProviderState}
+use Rattle.sync_provider.specs.Machine.{ProviderState, refusal_of_each}
 use Rattle.sync_provider.specs.declared.provider.Kind.TheVariants.{Replica}
 use Rattle.sync_provider.specs.declared.writing.CommitFault.{CommitFault}
 use Rattle.sync_provider.specs.declared.writing.CommitFault.TheVariants as fault
 use Rattle.cascade_script.specs.declared.fault.Cause.{Cause}
-use Rattle.cascade_world.specs.declared.node.Supplier.{Supplier}
-use Rattle.cascade_world.specs.Commits.{commits_by, commits, commits_after, commits_all}
+use Rattle.cascade_nodes.specs.declared.node.Supplier.{Supplier}
+use Rattle.cascade_world.specs.Commits.{note_of, commit_of, with_commits, commits_by, commits_all}
 use Rattle.cascade_laws.specs.Headline.{Known, nothing_known, known_after, known_of, Committed, with_stored, with_stamp, committed_after, stored_by, stored_of}
 use Rattle.cascade_world.specs.Origins.{Note}
 use Rattle.cascade_world.specs.Report.{Storing, Told, Stage, stage_of, stages_in, stages_of}
@@ -203,10 +203,40 @@ module _ (kept : CommitsAreKept) (selected : SelectedCanBeServed) (number : ℕ)
   served : (known : Known) (stored : Storing) → IsRightOf from frame known stored → CanBeServed stored.entries
   served known stored is = subst CanBeServed (sym is.exactly) (selected frame.spec (entries_after from (take stored.number frame.writes)) (good stored.number))
 
-  -- one stage
-  stage_commits : (said : List Told) (own : Supplier) (stored : Storing) → now ≡ clock_told said → IsRightOf from frame (known_of name said) stored → IsCommitting number suffix first name said own
-      → CommittingIn number suffix first name (said ++ Stored name stored ∷ []) (commits now search own (stage_of stored))
-  stage_commits said own stored clock is committing =
+  -- what is against the commits of some stages: nothing, or a limit
+  abbrev CommittingBy : List Told → Supplier → List Stage → Option CommitFault → Type 0
+  CommittingBy said own stages None = IsCommitting number suffix first name said (with_commits now search own stages)
+  CommittingBy said own stages (Some (fault.LimitReached limit)) = Unit {0}
+  CommittingBy said own stages (Some (fault.DuplicateName one other)) = ⊥
+  CommittingBy said own stages (Some fault.NotAReplica) = ⊥
+  CommittingBy said own stages (Some fault.NoMemory) = ⊥
+
+  -- so it is with these stages, which leave what was told by then
+  abbrev AreCommitting : List Told → Supplier → List Stage → Type 0
+  AreCommitting said own stages = CommittingBy said own stages (refusal_of_each own.provider (map commit_of stages) now)
+
+  -- the replica after one of them
+  abbrev with_one : Supplier → Stage → Supplier
+  with_one own stage = record own {
+    provider = machine.committed own.provider stage.puts stage.drops now;
+    notes = own.notes ++ note_of search stage ∷ [];
+  }
+
+  one_before : (said : List Told) (own : Supplier) (stage : Stage) (stages : List Stage) (refusal : Option CommitFault) → CommittingBy said (with_one own stage) stages refusal → CommittingBy said own (stage ∷ stages) refusal
+  one_before said own stage stages None is =
+      subst (λ ns. IsCommitting number suffix first name said (record own { provider = (with_commits now search (with_one own stage) stages).provider; notes = ns }))
+      (append_assoc own.notes (note_of search stage ∷ []) (map (note_of search) stages)) is
+  one_before said own stage stages (Some (fault.LimitReached limit)) is = tt
+  one_before said own stage stages (Some (fault.DuplicateName one other)) is = is
+  one_before said own stage stages (Some fault.NotAReplica) is = is
+  one_before said own stage stages (Some fault.NoMemory) is = is
+
+  -- one stage, and those behind it
+  stage_commits : (said : List Told) (own : Supplier) (stored : Storing) (later : List Told) (stages : List Stage) → now ≡ clock_told said → IsRightOf from frame (known_of name said) stored
+      → IsCommitting number suffix first name said own
+      → (IsCommitting number suffix first name (said ++ Stored name stored ∷ []) (with_one own (stage_of stored)) → AreCommitting later (with_one own (stage_of stored)) stages)
+      → AreCommitting later own (stage_of stored ∷ stages)
+  stage_commits said own stored later stages clock is committing behind =
       by (commit_refusal p.kind p.directory stored.commit.puts stored.commit.drops now) (kept number suffix p stored.commit.puts stored.commit.drops now committing.keeps.source kind can)
     where
       p : ProviderState
@@ -226,61 +256,66 @@ module _ (kept : CommitsAreKept) (selected : SelectedCanBeServed) (number : ℕ)
       can = subst CanBeServed (sym left) (served (known_of name said) stored is)
 
       by : (refusal : Option CommitFault) → CommitIs number suffix p stored.commit.puts stored.commit.drops now refusal
-          → CommittingIn number suffix first name (said ++ Stored name stored ∷ []) (commits_by now search own (stage_of stored) refusal)
+          → CommittingBy later own (stage_of stored ∷ stages) (option_or refusal (refusal_of_each (with_one own (stage_of stored)).provider (map commit_of stages) now))
       by None done =
           let q = machine.committed p stored.commit.puts stored.commit.drops now in
-          record {
+          one_before later own (stage_of stored) stages (refusal_of_each (with_one own (stage_of stored)).provider (map commit_of stages) now) (behind (record {
             named = committing.named;
             keeps = keeps_through number suffix first p q committing.keeps done.keeps;
             has =
                 one_more number name said stored search now done.csn own.notes p.directory.writes q.directory.writes (is.wanted ∙ wants) clock done.drawn done.one
                 (sym (here q done.keeps.source) ∙ done.entries ∙ left) committing.has;
-          }
+          }))
       by (Some (fault.LimitReached limit)) done = tt
       by (Some (fault.DuplicateName one other)) done = absurd done
       by (Some fault.NoMemory) done = absurd done
       by (Some fault.NotAReplica) done = absurd done
 
-  -- a refusal stays one
-  refused_still : (cause : Cause) (stages : List Stage) → fold (commits_after now search) (Err cause) stages ≡ Err cause
-  refused_still cause [] = refl
-  refused_still cause (stage ∷ stages) = refused_still cause stages
-
-  -- one line
-  line_commits : (said : List Told) (own : Supplier) (line : Told) → now ≡ clock_told said → LineIsRightOf from frame (known_of name said) line → IsCommitting number suffix first name said own
-      → CommittingIn number suffix first name (said ++ line ∷ []) (commits_all now search own (stages_in line))
-  line_commits said own line clock is committing = by (either name line)
+  -- a line that stores something is a commit, and no other line is one
+  line_by : (line : Told) (lines said : List Told) (own : Supplier) → now ≡ clock_told said → LinesAreRightOf from frame (known_of name said) (line ∷ lines)
+      → IsCommitting number suffix first name said own
+      → ((own' : Supplier) → now ≡ clock_told (said ++ line ∷ []) → LinesAreRightOf from frame (known_of name (said ++ line ∷ [])) lines
+      → IsCommitting number suffix first name (said ++ line ∷ []) own' → AreCommitting ((said ++ line ∷ []) ++ lines) own' (stages_of lines))
+      → AreCommitting (said ++ line ∷ lines) own (stages_of (line ∷ lines))
+  line_by line lines said own clock is committing rest = by (either name line)
     where
-      by : IsStoring line ⊎ StoresNone name line → CommittingIn number suffix first name (said ++ line ∷ []) (commits_all now search own (stages_in line))
-      by (inl storing) =
-          let is' : LineIsRightOf from frame (known_of name said) (Stored storing.0 storing.1) = subst (LineIsRightOf from frame (known_of name said)) storing.2 is in
-          let same : Stored storing.0 storing.1 ≡ Stored name storing.1 = ap (λ n. Stored n storing.1) (is'.0 ∙ named) in
-          subst (λ l. CommittingIn number suffix first name (said ++ l ∷ []) (commits_all now search own (stages_in l))) (sym (storing.2 ∙ same))
-          (stage_commits said own storing.1 clock is'.1 committing)
-      by (inr none) =
-          subst (λ s. CommittingIn number suffix first name (said ++ line ∷ []) (commits_all now search own s)) (sym none.stages)
-          (record { named = committing.named; keeps = committing.keeps; has = none_more number name said line own.notes own.provider.directory.writes none committing.has })
+      right : LinesAreRightOf from frame (known_of name (said ++ line ∷ [])) lines
+      right = subst (λ k. LinesAreRightOf from frame k lines) (ap (λ n. known_after n (known_of name said) line) named ∙ sym (known_one name said line)) is.1
 
-  -- the lines of an event
+      behind : (own' : Supplier) → IsCommitting number suffix first name (said ++ line ∷ []) own' → AreCommitting (said ++ line ∷ lines) own' (stages_of lines)
+      behind own' done =
+          subst (λ s. AreCommitting s own' (stages_of lines)) (append_assoc said (line ∷ []) lines)
+          (rest own' (clock ∙ sym (clock_more said (line ∷ []) (λ time. no_time from frame (known_of name said) line is.0 time))) right done)
+
+      by : IsStoring line ⊎ StoresNone name line → AreCommitting (said ++ line ∷ lines) own (stages_of (line ∷ lines))
+      by (inl storing) =
+          let is' : LineIsRightOf from frame (known_of name said) (Stored storing.0 storing.1) = subst (LineIsRightOf from frame (known_of name said)) storing.2 is.0 in
+          let same : line ≡ Stored name storing.1 = storing.2 ∙ ap (λ n. Stored n storing.1) (is'.0 ∙ named) in
+          let one : stages_of (line ∷ lines) ≡ stage_of storing.1 ∷ stages_of lines = stages_one line lines ∙ ap (λ l. stages_in l ++ stages_of lines) same in
+          subst (AreCommitting (said ++ line ∷ lines) own) (sym one)
+          (stage_commits said own storing.1 (said ++ line ∷ lines) (stages_of lines) clock is'.1 committing
+          (λ done. behind (with_one own (stage_of storing.1)) (subst (λ l. IsCommitting number suffix first name (said ++ l ∷ []) (with_one own (stage_of storing.1))) (sym same) done)))
+      by (inr none) =
+          let one : stages_of (line ∷ lines) ≡ stages_of lines = stages_one line lines ∙ ap (λ s. s ++ stages_of lines) none.stages in
+          subst (AreCommitting (said ++ line ∷ lines) own) (sym one)
+          (behind own (record { named = committing.named; keeps = committing.keeps; has = none_more number name said line own.notes own.provider.directory.writes none committing.has }))
+
+  -- the lines of an event, of which each that stores something is a commit
+  lines_by : (lines said : List Told) (own : Supplier) → now ≡ clock_told said → LinesAreRightOf from frame (known_of name said) lines → IsCommitting number suffix first name said own
+      → AreCommitting (said ++ lines) own (stages_of lines)
+  lines_by [] said own clock is committing =
+      subst (λ s. IsCommitting number suffix first name s (with_commits now search own [])) (sym (append-nil said))
+      (subst (λ ns. IsCommitting number suffix first name said (record own { notes = ns })) (sym (append-nil own.notes)) committing)
+  lines_by (line ∷ lines) said own clock is committing =
+      line_by line lines said own clock is committing (λ own'. lines_by lines (said ++ line ∷ []) own')
+
   pub lines_commit : (lines said : List Told) (own : Supplier) → now ≡ clock_told said → LinesAreRightOf from frame (known_of name said) lines → IsCommitting number suffix first name said own
       → CommittingIn number suffix first name (said ++ lines) (commits_all now search own (stages_of lines))
-  lines_commit [] said own clock is committing = subst (λ s. IsCommitting number suffix first name s own) (sym (append-nil said)) committing
-  lines_commit (line ∷ lines) said own clock is committing =
-      let whole : commits_all now search own (stages_of (line ∷ lines)) ≡ fold (commits_after now search) (commits_all now search own (stages_in line)) (stages_of lines) =
-      ap (commits_all now search own) (stages_one line lines) ∙ fold-append (commits_after now search) (Ok own) (stages_in line) (stages_of lines) in
-      subst (CommittingIn number suffix first name (said ++ line ∷ lines)) (sym whole)
-      (by (commits_all now search own (stages_in line)) (line_commits said own line clock is.0 committing)
-      (λ own' done. subst (λ s. CommittingIn number suffix first name s (commits_all now search own' (stages_of lines))) (append_assoc said (line ∷ []) lines)
-      (lines_commit lines (said ++ line ∷ []) own' clock' (subst (λ k. LinesAreRightOf from frame k lines) next is.1) done)))
+  lines_commit lines said own clock is committing = by (refusal_of_each own.provider (map commit_of (stages_of lines)) now) (lines_by lines said own clock is committing)
     where
-      clock' : now ≡ clock_told (said ++ line ∷ [])
-      clock' = clock ∙ sym (clock_more said (line ∷ []) (λ time. no_time from frame (known_of name said) line is.0 time))
-
-      next : known_after frame.name (known_of name said) line ≡ known_of name (said ++ line ∷ [])
-      next = ap (λ n. known_after n (known_of name said) line) named ∙ sym (known_one name said line)
-
-      by : (one : Result Supplier Cause) → CommittingIn number suffix first name (said ++ line ∷ []) one
-          → ((own' : Supplier) → IsCommitting number suffix first name (said ++ line ∷ []) own' → CommittingIn number suffix first name (said ++ line ∷ lines) (commits_all now search own' (stages_of lines)))
-          → CommittingIn number suffix first name (said ++ line ∷ lines) (fold (commits_after now search) one (stages_of lines))
-      by (Err cause) done later = subst (CommittingIn number suffix first name (said ++ line ∷ lines)) (sym (refused_still cause (stages_of lines))) tt
-      by (Ok own') done later = later own' done
+      by : (refusal : Option CommitFault) → CommittingBy (said ++ lines) own (stages_of lines) refusal → CommittingIn number suffix first name (said ++ lines) (commits_by now search own (stages_of lines) refusal)
+      by None done = done
+      by (Some (fault.LimitReached limit)) done = tt
+      by (Some (fault.DuplicateName one other)) done = absurd done
+      by (Some fault.NotAReplica) done = absurd done
+      by (Some fault.NoMemory) done = absurd done

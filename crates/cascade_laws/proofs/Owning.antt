@@ -6,8 +6,8 @@ use Rattle.std.proofs.lemmas.Bool.{or_right, true≢false}
 use Rattle.sync_model.specs.Stream.{among}
 use Rattle.sync_provider.specs.HandingOut.{search_at}
 use Rattle.sync_provider.specs.Search.{SearchState}
-use Rattle.cascade_world.specs.declared.node.Supplier.{Supplier}
-use Rattle.cascade_world.specs.declared.node.Follower.{Follower}
+use Rattle.cascade_nodes.specs.declared.node.Supplier.{Supplier}
+use Rattle.cascade_nodes.specs.declared.node.Follower.{Follower}
 use Rattle.cascade_world.specs.Exchange.{Pair, pair_of}
 use Rattle.cascade_world.specs.Origins.{Lineage}
 use Rattle.cascade_world.specs.World.{is_supplier, is_follower}

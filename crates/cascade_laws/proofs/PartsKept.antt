@@ -1,8 +1,8 @@
 -- Each part of an event keeps what its consumer is fed, and tells it right.
 use Rattle.std.proofs.Common.{ℕ, zero, suc, Option, Some, None, List, [], ◌∷◌, ◌++◌, length, subst}
 use Rattle.dn_names.specs.Names.{TypeAndValue}
-use Rattle.cascade_world.specs.declared.exchange.Exchange.{Exchange}
-use Rattle.cascade_world.specs.declared.exchange.Exchange.TheVariants as goes
+use Rattle.cascade_exchange.specs.declared.exchange.Exchange.{Exchange}
+use Rattle.cascade_exchange.specs.declared.exchange.Exchange.TheVariants as goes
 use Rattle.cascade_world.specs.Exchange.{Pair, Sending, Sends, Rests, Overflows, name_of, sending, sent_before, sent, taking, taken_before, taken_some, takes, left_to_send, ran_before, ran_some, runs, drains, settles, and_then, part_of}
 use Rattle.cascade_laws.specs.Headline.{Known}
 use Rattle.cascade_world.specs.Report.{Told}

@@ -5,9 +5,9 @@ use Rattle.std.specs.Prelude.{Ok, Err, not, option_map}
 use Rattle.std.specs.Str.{bytes_eq}
 use Rattle.dn_names.specs.Names.{is_at_or_below}
 use Rattle.entry_tree.specs.Selection.{Search}
-use Rattle.cascade_world.specs.declared.exchange.Exchange.TheVariants as goes
-use Rattle.cascade_world.specs.declared.node.Supplier.{Supplier}
-use Rattle.cascade_world.specs.declared.node.Follower.{Follower}
+use Rattle.cascade_exchange.specs.declared.exchange.Exchange.TheVariants as goes
+use Rattle.cascade_nodes.specs.declared.node.Supplier.{Supplier}
+use Rattle.cascade_nodes.specs.declared.node.Follower.{Follower}
 use Rattle.cascade_world.specs.Exchange.{Pair, Outcome, pair_of, idle, respecs, is_busy}
 use Rattle.cascade_laws.specs.Headline.{following, followed, known_of}
 use Rattle.cascade_world.specs.Nodes.{source_of}
@@ -18,7 +18,7 @@ use Rattle.cascade_world.specs.World.{State, Step, is_follower, supplier_named, 
 use Rattle.cascade_laws.proofs.Climbing.{AllClimb, climbs_same, all_climb_rerouted, few_above, unfed}
 use Rattle.cascade_laws.proofs.Exchanged.{done_kept, done_respecced}
 use Rattle.cascade_laws.proofs.Exchanges.{After, Known, ThroughIn, outcome_through}
-use Rattle.cascade_world.proofs.Exchanging.{Alters, AltersIn, as_before, idle_keeps, respecs_alters}
+use Rattle.cascade_exchange.proofs.Exchanging.{Alters, AltersIn, as_before, idle_keeps, respecs_alters}
 use Rattle.cascade_laws.proofs.Feeding.{IsAtRest, IsKept, IsRespecced, PartsAreKept, RespecsAreKept, IdlesRest, RestsAreFed}
 use Rattle.cascade_world.proofs.Finding.{IsChanged, found_after, found_still, suppliers_by, followers_by, follower_name, pointed_changed, length-first_changed}
 use Rattle.cascade_laws.proofs.Growing.{HasBecome, been_itself, manned_grown, fed_by}

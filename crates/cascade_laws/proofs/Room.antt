@@ -7,7 +7,7 @@ use Rattle.sync_provider.specs.Accepting.{is_free, numbers_from, free_number}
 use Rattle.sync_provider.specs.HandingOut.{search_at}
 use Rattle.sync_provider.specs.Machine.{ProviderState}
 use Rattle.sync_provider.specs.Search.{SearchState}
-use Rattle.cascade_world.specs.declared.node.Follower.{Follower}
+use Rattle.cascade_nodes.specs.declared.node.Follower.{Follower}
 use Rattle.cascade_laws.proofs.Feeding.{HasRoom}
 
 -- ---- so many numbers need so many places

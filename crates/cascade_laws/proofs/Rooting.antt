@@ -10,9 +10,9 @@ use Rattle.entry_tree.specs.declared.op.Write.{Write}
 use Rattle.directory_writes.specs.Directory.{entries_after}
 use Rattle.sync_provider.specs.declared.provider.Kind.{Kind}
 use Rattle.sync_provider.specs.declared.provider.Kind.TheVariants.{Root, Replica}
-use Rattle.cascade_world.specs.declared.node.Supplier.{Supplier}
-use Rattle.cascade_world.specs.declared.node.Follower.{Follower}
-use Rattle.cascade_world.specs.declared.notes.Origin.{Origin}
+use Rattle.cascade_nodes.specs.declared.node.Supplier.{Supplier}
+use Rattle.cascade_nodes.specs.declared.node.Follower.{Follower}
+use Rattle.cascade_report.specs.declared.notes.Origin.{Origin}
 use Rattle.cascade_laws.specs.Headline.{following, LeadsUp, AreAccepted, told_origin, IsOrigin, IsOfRoot, stored_of}
 use Rattle.cascade_script.specs.Orders.{Order}
 use Rattle.cascade_world.specs.Origins.{Note, prefix_of, passed_on, origin_of}

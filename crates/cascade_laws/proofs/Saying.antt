@@ -11,7 +11,7 @@ use Rattle.cascade_world.specs.Report.{Told}
 use Rattle.cascade_world.specs.Report.Told.{Wrote, Opened, Refused, Sent, Taken, Stored, Ended, Faulted, Cut, Nothing, Settled, Holds, Clocked, Shown}
 use Rattle.cascade_world.specs.Trace.{name_in}
 use Rattle.cascade_world.specs.World.{State, has_node}
-use Rattle.cascade_world.proofs.Exchanging.{EachOwn}
+use Rattle.cascade_exchange.proofs.Exchanging.{EachOwn}
 use Rattle.cascade_world.proofs.SameNames.{same_name}
 use Rattle.cascade_laws.proofs.Traces.{IsOfNode, AreOfNodes}
 

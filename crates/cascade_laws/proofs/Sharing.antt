@@ -11,7 +11,7 @@ use Rattle.sync_model.specs.Message.{SyncMessage}
 use Rattle.sync_provider.specs.HandingOut.{search_at}
 use Rattle.sync_provider.specs.Machine.{ProviderState}
 use Rattle.sync_provider.specs.Search.{SearchState}
-use Rattle.cascade_world.specs.declared.node.Follower.{Follower}
+use Rattle.cascade_nodes.specs.declared.node.Follower.{Follower}
 use Rattle.cascade_world.specs.Exchange.{pair_of}
 use Rattle.cascade_laws.specs.Headline.{Opening, Known}
 use Rattle.cascade_world.specs.Origins.{Lineage}

@@ -52,7 +52,7 @@ use Rattle.sync_provider.specs.declared.writing.CommitFault.{CommitFault}
 use Rattle.sync_provider.specs.declared.writing.CommitFault.TheVariants as fault
 use Rattle.sync_provider.proofs.Commits.{unopposed}
 use Rattle.sync_wire.specs.CanBeSent.{CanBeSent}
-use Rattle.cascade_world.specs.declared.node.Follower.{Follower}
+use Rattle.cascade_nodes.specs.declared.node.Follower.{Follower}
 use Rattle.cascade_world.specs.Cookies.{held_cookie}
 use Rattle.cascade_world.specs.Directory.{logged_directory, wrote_read}
 use Rattle.cascade_laws.specs.Headline.{Opening, Known, BeginsFrom, session_over, stream_over, busy}

@@ -1,10 +1,14 @@
 -- The order of stamps, and how many are not greater than one.
-use Rattle.std.proofs.Common.{◌≡◌, ◌+◌, ◌≤◌, ℕ, Bool, true, false, cond, List, [], ◌∷◌, refl, ap, sym, ◌∙◌, arith}
+use Rattle.std.proofs.Common.{◌≡◌, ◌+◌, ◌≤◌, ℕ, zero, suc, Bool, true, false, cond, List, [], ◌∷◌, take, refl, ap, sym, ◌∙◌, arith}
+use Rattle.std.specs.List.Sorted.{IsStrictlySortedBy}
 use Rattle.std.specs.declared.cmp.Ordering.{Ordering}
 use Rattle.std.specs.declared.cmp.Ordering.TheVariants.{Less, Equal, Greater}
 use Rattle.std.specs.Ordering.{is_lt, is_le, ordering_reverse}
 use Rattle.csn_cookie.specs.Csn.{Stamp, csn_cmp, is_before, is_upto, upto}
-use Rattle.csn_cookie.proofs.OrderLemmas.{csn_cmp_total, upto-cons}
+use Rattle.std.proofs.lemmas.Map.Keys.{sorted_head, sorted_tail}
+use Rattle.csn_cookie.proofs.OrderLemmas.{csn_cmp_total, is_upto-itself, is_upto-before, upto-cons}
+use Rattle.entry_tree.specs.declared.op.Write.{Write}
+use Rattle.directory_writes.specs.Directory.{last_stamp, stamps}
 
 -- ---- one stamp and another
 
@@ -52,3 +56,16 @@ upto_more [] a b h = omega arith
 upto_more (s ∷ stamps) a b h =
     let more = one_more (is_upto s a) (is_upto s b) (upto stamps a) (upto stamps b) (λ k. is_upto_then s a b k h) (upto_more stamps a b h) in
     omega (arith, upto-cons s a stamps, upto-cons s b stamps, more)
+
+-- ---- the last of a front, and the last of all
+
+last_not_below : (first : Stamp) (writes : List Write) → IsStrictlySortedBy csn_cmp (first ∷ stamps writes) → is_upto first (last_stamp first writes) ≡ true
+last_not_below first [] rise = is_upto-itself first
+last_not_below first (w ∷ writes) rise =
+    let above = sorted_head csn_cmp first (stamps (w ∷ writes)) rise in
+    is_upto_then first w.csn (last_stamp w.csn writes) (is_upto-before first w.csn above.0) (last_not_below w.csn writes (sorted_tail csn_cmp first (stamps (w ∷ writes)) rise))
+
+pub front_upto : (first : Stamp) (writes : List Write) → IsStrictlySortedBy csn_cmp (first ∷ stamps writes) → (count : ℕ) → is_upto (last_stamp first (take count writes)) (last_stamp first writes) ≡ true
+front_upto first writes rise zero = last_not_below first writes rise
+front_upto first [] rise (suc count) = is_upto-itself first
+front_upto first (w ∷ writes) rise (suc count) = front_upto w.csn writes (sorted_tail csn_cmp first (stamps (w ∷ writes)) rise) count

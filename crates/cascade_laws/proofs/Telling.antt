@@ -7,9 +7,9 @@ use Rattle.entry_tree.specs.Selection.{Search, select}
 use Rattle.entry_tree.specs.declared.entry.Entry.{Entry}
 use Rattle.entry_tree.specs.declared.op.Write.{Write}
 use Rattle.directory_writes.specs.Directory.{entries_of, entries_after}
-use Rattle.cascade_world.specs.declared.node.Supplier.{Supplier}
-use Rattle.cascade_world.specs.declared.node.Follower.{Follower}
-use Rattle.cascade_world.specs.declared.notes.Origin.{Origin}
+use Rattle.cascade_nodes.specs.declared.node.Supplier.{Supplier}
+use Rattle.cascade_nodes.specs.declared.node.Follower.{Follower}
+use Rattle.cascade_report.specs.declared.notes.Origin.{Origin}
 use Rattle.cascade_world.specs.Exchange.{Outcome, pair_of}
 use Rattle.cascade_laws.specs.Headline.{AreAccepted, IsConsumer, nothing_known, known_after, known_of, told_origin, IsOrigin, IsOfRoot, IsUnserved, IsAskedFor, IsOpenedAt, IsPrefixSelected, OfCookie, IsOfStream, IsSettled, IsGiven, IsShown, TellsRight, EachTellsRight}
 use Rattle.cascade_laws.specs.Run.{AreHeld}
@@ -19,7 +19,7 @@ use Rattle.cascade_world.specs.Report.{Storing, Told}
 use Rattle.cascade_world.specs.Report.Told.{Wrote, Opened, Refused, Sent, Taken, Stored, Ended, Faulted, Cut, Nothing, Settled, Holds, Clocked, Shown}
 use Rattle.cascade_world.specs.Trace.{name_in}
 use Rattle.cascade_world.specs.World.{State, lineage_of}
-use Rattle.cascade_world.proofs.Exchanging.{EachOwn}
+use Rattle.cascade_exchange.proofs.Exchanging.{EachOwn}
 use Rattle.cascade_laws.proofs.Feeding.{Frame, frame_of, IsRightOf, IsSentOf, IsSettledOf, LineIsRightOf, LinesAreRightOf}
 use Rattle.cascade_world.proofs.Finding.{suppliers_by, followers_by, follower_name}
 use Rattle.cascade_laws.proofs.Rooting.{origin_rooted, origin_is, accepted_at, of_root_some}
@@ -108,6 +108,7 @@ stored_right before said number frame stored follows serves is =
       latest = is.latest;
       no_shorter = is.no_shorter;
       cookie = is.cookie;
+      names = is.names;
       exactly = is.exactly;
       staged = is.staged;
       wanted = is.wanted;

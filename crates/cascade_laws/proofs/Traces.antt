@@ -14,8 +14,8 @@ use Rattle.sync_messages.specs.declared.request.Mode.TheVariants.{RefreshOnly, R
 use Rattle.sync_provider.specs.Machine.{ProviderState, log_limited, queue_limited}
 use Rattle.sync_provider.specs.declared.provider.Kind.TheVariants.{Root, Replica}
 use Rattle.cascade_script.specs.declared.fault.Cause.{Cause}
-use Rattle.cascade_world.specs.declared.node.Supplier.{Supplier}
-use Rattle.cascade_world.specs.declared.node.Follower.{Follower}
+use Rattle.cascade_nodes.specs.declared.node.Supplier.{Supplier}
+use Rattle.cascade_nodes.specs.declared.node.Follower.{Follower}
 use Rattle.cascade_world.specs.Commits.{commits_all}
 use Rattle.cascade_world.specs.Cookies.{most_nodes}
 use Rattle.cascade_world.specs.Directory.{change_code, wrote_change}
@@ -29,7 +29,7 @@ use Rattle.cascade_laws.specs.Run.{Runs}
 use Rattle.cascade_world.specs.Trace.{Seen, seen_of, unseen, after_own, after_line, name_in, traced, AreTraced, all_lines}
 use Rattle.cascade_world.specs.World.{State, no_nodes, Step, step, is_supplier, is_follower, has_node, supplier_named, follower_named, first_changed, with_follower, with_provider, with_supplier, with_pair, with_own, commits_in, commits_of, with_lines, with_outcome, lineage_of, between, exchange_of, exchange, where_room, new_supplier, with_root, declare_root, new_follower, with_consumer, with_replica, is_offered, follow, declare_follower, write_to, limited, is_fed, pointed, pointed_after, repoint_to, repoint_of, respec_at, respec_of, shown_of, show_of}
 use Rattle.cascade_world.proofs.SameNames.{same_name, itself, other_way, or_parts, found_name, pointed_at}
-use Rattle.cascade_world.proofs.Exchanging.{EachOwn, Alters, AltersIn, as_before, sent_keeps, takes_keeps, cut_keeps, idle_keeps, opens_keeps, settles_keeps, lost_keeps, given_keeps, respecs_alters}
+use Rattle.cascade_exchange.proofs.Exchanging.{EachOwn, Alters, AltersIn, as_before, sent_keeps, takes_keeps, cut_keeps, idle_keeps, opens_keeps, settles_keeps, lost_keeps, given_keeps, respecs_alters}
 
 -- ---- names
 

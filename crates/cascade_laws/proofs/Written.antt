@@ -12,7 +12,7 @@ use Rattle.directory_writes.specs.Directory.{DirectoryState, has_room, next_stam
 use Rattle.sync_provider.specs.Machine.{ProviderState, judged_by, log_limited, queue_limited}
 use Rattle.sync_provider.specs.declared.provider.Kind.{Kind}
 use Rattle.sync_provider.specs.declared.provider.Kind.TheVariants.{Root, Replica}
-use Rattle.cascade_world.specs.declared.node.Supplier.{Supplier}
+use Rattle.cascade_nodes.specs.declared.node.Supplier.{Supplier}
 use Rattle.session_log.specs.Log.{Log, fresh}
 use Rattle.cascade_world.specs.Directory.{logged_directory, directory_of, change_code, changed, written_read, wrote_read, wrote_change}
 use Rattle.cascade_laws.specs.Headline.{time_after, time_from, with_accepted, accepted_from, is_declaration, IsDeclared, Following, followed}

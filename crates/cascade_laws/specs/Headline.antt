@@ -30,7 +30,7 @@ use Rattle.cascade_script.specs.Orders.{Order}
 use Rattle.cascade_script.specs.Orders.{Order as asks}
 use Rattle.cascade_world.specs.Origins.{prefix_of}
 use Rattle.cascade_world.specs.Report.{Storing, Told}
-use Rattle.cascade_world.specs.declared.notes.Origin.{Origin}
+use Rattle.cascade_report.specs.declared.notes.Origin.{Origin}
 use Rattle.cascade_world.specs.Report.Told.{Opened, Refused, Sent, Stored, Ended, Faulted, Settled, Holds, Clocked, Shown}
 
 -- the time after an order
@@ -322,7 +322,8 @@ pub record IsOfRoot (before : List Order) (search : Search) (entries : List Entr
   pub exactly : entries ≡ select search (entries_after history (take origin.number writes))
 
 -- a `stored` line after these orders and lines: it names a prefix of the accepted writes of the consumer's provider,
--- which is no shorter than it was when the consumer's search was opened, and the cookie is that of this prefix; the
+-- which is no shorter than it was when the consumer's search was opened, and the cookie that the consumer holds then is
+-- that of this prefix: its number is how many of these writes have stamps that are not greater than the cookie's own; the
 -- entries are what the consumer wants of that prefix; they are those that it told before, with the stage in effect; and
 -- where an origin is told, they are what it wants of that prefix of a root's writes
 pub record IsPrefixSelected (before : List Order) (said : List Told) (consumer : List ℕ) (stored : Storing) : Type 0 where
@@ -338,6 +339,7 @@ pub record IsPrefixSelected (before : List Order) (said : List Told) (consumer :
   pub latest : (known_of consumer said).opening ≡ Some opening
   pub no_shorter : opening.writes ≤ stored.number
   pub cookie : stored.commit.cookie ≡ Some (cookie_after history history writes stored.number)
+  pub names : NamesPrefix (cookie_after history history writes stored.number) history writes stored.number
   pub exactly : stored.entries ≡ select search (entries_after history (take stored.number writes))
   pub staged : committed (known_of consumer said).entries stored.commit.puts stored.commit.drops ≡ stored.entries
   pub wanted : stored.search ≡ search

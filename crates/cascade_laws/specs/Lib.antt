@@ -1,2 +1,3 @@
 pub mod Headline
 pub mod Run
+pub mod Reports

@@ -4,10 +4,11 @@ use Rattle.sync_model.specs.Copy.{Copy}
 use Rattle.cascade_script.specs.declared.fault.Cause.{Cause}
 use Rattle.cascade_script.specs.Fault.{fault_at}
 use Rattle.cascade_laws.specs.Headline.{Known, known_of, LinesAreRight}
+use Rattle.cascade_laws.specs.Reports.{AreReportsOf}
 use Rattle.cascade_script.specs.Orders.{Order}
 use Rattle.cascade_script.specs.Reader.{Reader, next_in, reader_of}
 use Rattle.cascade_script.specs.Reader.Next.{Ended, Refused, Got}
-use Rattle.cascade_world.specs.declared.node.Follower.{Follower}
+use Rattle.cascade_nodes.specs.declared.node.Follower.{Follower}
 use Rattle.cascade_world.specs.Report.{Told}
 use Rattle.cascade_world.specs.Trace.{AreTraced, all_lines}
 use Rattle.cascade_world.specs.World.{State, no_nodes, step, follower_named}
@@ -52,6 +53,12 @@ abbrev pub RunsAreRight : Type 0
 RunsAreRight =
     (reader : Reader) (orders : List Order) (report : List (List Told)) (end : State) (rest : Reader)
     → Runs no_nodes reader orders report end rest → LinesAreRight [] [] orders report
+
+-- each order of a run gives the lines that belong to it, and no others
+abbrev pub OrdersGiveTheirLines : Type 0
+OrdersGiveTheirLines =
+    (reader : Reader) (orders : List Order) (report : List (List Told)) (end : State) (rest : Reader)
+    → Runs no_nodes reader orders report end rest → AreReportsOf orders report
 
 -- the lines of each run from no nodes tell all that happened to the links and the copies of the consumers
 abbrev pub LinesTellAll : Type 0

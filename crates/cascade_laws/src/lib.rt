@@ -1,7 +1,7 @@
 //! What holds of every run of a script. There is no code here but the functions that carry the laws.
 #![tactic(auto)]
 
-ghost use Rattle.cascade_laws.specs.Run.{LinesTellAll, LinesTellWhatIsHeld, RunsAreRight};
+ghost use Rattle.cascade_laws.specs.Run.{LinesTellAll, LinesTellWhatIsHeld, OrdersGiveTheirLines, RunsAreRight};
 
 /// Each line of a run is right for the orders and the lines before it: a `stored` line names a prefix
 /// of the accepted writes of the consumer's provider, no shorter than at the consumer's latest
@@ -13,6 +13,12 @@ ghost use Rattle.cascade_laws.specs.Run.{LinesTellAll, LinesTellWhatIsHeld, Runs
 /// message is refused by its consumer.
 pub fn lines_are_right()
     ensures { RunsAreRight }
+{}
+
+/// Each order of a run gives the lines that belong to it, and no others: as many of each kind, in that
+/// order and of that node, as its command gives.
+pub fn orders_give_their_lines()
+    ensures { OrdersGiveTheirLines }
 {}
 
 /// The lines of a run tell all that happened to its consumers: each message that was sent stands in

@@ -6,18 +6,19 @@ use Rattle.std.proofs.lemmas.List.{set-get_or, set-set, get_or-set_same}
 use Rattle.std.proofs.Math.ListN.{length-set}
 use Rattle.std.proofs.lemmas.Option.{slice_get-get_or}
 use Rattle.sync_provider.specs.Machine.{ProviderState}
-use Rattle.cascade_world.specs.declared.exchange.Performed.{Performed}
+use Rattle.sync_provider.specs.Returning.{HasNoWriteSince}
+use Rattle.cascade_exchange.specs.declared.exchange.Performed.{Performed}
 use Rattle.cascade_script.specs.declared.fault.Cause.{Cause}
 use Rattle.cascade_script.specs.declared.fault.Cause.TheVariants.{NoMemory}
-use Rattle.cascade_world.specs.declared.node.Supplier.{Supplier}
-use Rattle.cascade_world.specs.declared.node.Follower.{Follower}
-use Rattle.cascade_world.specs.Commits.{Leaves}
-use Rattle.cascade_world.specs.Exchange.{Pair, Outcome, pair_of}
-use Rattle.cascade_world.specs.Parts.{Performs, IsBefore}
+use Rattle.cascade_nodes.specs.declared.node.Supplier.{Supplier}
+use Rattle.cascade_nodes.specs.declared.node.Follower.{Follower}
+use Rattle.cascade_nodes.specs.Commits.{Leaves}
+use Rattle.cascade_exchange.specs.Exchange.{Pair, Outcome, pair_of}
+use Rattle.cascade_exchange.specs.Parts.{Performs, IsBefore}
 use Rattle.cascade_world.specs.Places.{ArePlaces, placed, PerformsAt}
-use Rattle.cascade_world.specs.Report.{Stage}
+use Rattle.cascade_report.specs.Report.{Stage}
 use Rattle.cascade_world.specs.World.{State, is_supplier, is_follower, top_of, commits_of}
-use Rattle.cascade_world.proofs.Performing.{back}
+use Rattle.cascade_exchange.proofs.Performing.{unwritten, back}
 use Rattle.cascade_world.proofs.Places.{position_is}
 
 -- what stands at a place
@@ -93,11 +94,6 @@ no_stages (stage ∷ stages) count long empty = let none : count ≡ 0 = grind (
 
 -- ---- the two after it
 
-pub low_follower : (state mid : State) (j i : ℕ) (part : Pair → Outcome) (result : Result Performed Cause) → PerformsAt state j i part mid result → i < length state.followers → i < length mid.followers
-low_follower state mid j i part result at low =
-    let long : length mid.followers ≡ length state.followers = ap (λ (s : State). length s.followers) at.after ∙ length-set state.followers i at.consumer in
-    omega arith
-
 pub consumer_after : (state mid : State) (j i : ℕ) (part : Pair → Outcome) (result : Result Performed Cause) (at : PerformsAt state j i part mid result) → i < length state.followers → slice_get mid.followers i ≡ Some at.consumer
 consumer_after state mid j i part result at low =
     let long : length (set state.followers i at.consumer) ≡ length state.followers = length-set state.followers i at.consumer in
@@ -123,12 +119,20 @@ set_back xs i x y z at low same =
     let is : x ≡ get_or xs i x = cc in
     set-set xs i y z ∙ set_same xs i x z is same
 
+-- the provider got no write
+pub no_write : (state mid view : State) (j i : ℕ) (part : Pair → Outcome) (done : Performed) (r : Supplier) → j < length state.suppliers → PerformsAt state j i part mid (Ok done) → view ≡ mid → r ≡ get_or view.suppliers j r
+    → HasNoWriteSince r.provider.directory done.before.searches
+no_write state mid view j i part done r low at same is =
+    let r_is : r ≡ record at.supplier { provider = at.provider } = supplier_after state mid j i part (Ok done) at r low (subst (λ (s : State). r ≡ get_or s.suppliers j r) same is) in
+    subst (λ (s : Supplier). HasNoWriteSince s.provider.directory done.before.searches) (sym r_is)
+    (unwritten at.supplier.provider at.provider.directory done.before.searches at.before.same_searches at.before.same_directory)
+
 pub taken_back : (state mid view : State) (j i : ℕ) (part : Pair → Outcome) (done : Performed) (r : Supplier) (p' : ProviderState) (f' : Follower) → j < length state.suppliers → i < length state.followers
-    → PerformsAt state j i part mid (Ok done) → view ≡ mid → r ≡ get_or view.suppliers j r → p' ≡ record r.provider { searches = done.before.searches } → f' ≡ done.before.follower
+    → PerformsAt state j i part mid (Ok done) → view ≡ mid → r ≡ get_or view.suppliers j r → p' ≡ record r.provider { searches = done.before.searches.searches } → f' ≡ done.before.follower
     → record view { suppliers = set view.suppliers j (record r { provider = p' }); followers = set view.followers i f' } ≡ state
 taken_back state mid view j i part done r p' f' low low' at same is p_is f_is =
     let r_is : r ≡ record at.supplier { provider = at.provider } = supplier_after state mid j i part (Ok done) at r low (subst (λ (s : State). r ≡ get_or s.suppliers j r) same is) in
-    let restored : p' ≡ record at.provider { searches = done.before.searches } = p_is ∙ ap (λ (s : Supplier). record s.provider { searches = done.before.searches }) r_is in
+    let restored : p' ≡ record at.provider { searches = done.before.searches.searches } = p_is ∙ ap (λ (s : Supplier). record s.provider { searches = done.before.searches.searches }) r_is in
     let provider : p' ≡ at.supplier.provider =
     back at.supplier.provider at.provider p' done.before.searches at.before.same_directory at.before.same_limit at.before.same_kind at.before.same_searches restored in
     let supplier : record r { provider = p' } ≡ at.supplier = ap (λ (s : Supplier). record s { provider = p' }) r_is ∙ ap (λ p. record at.supplier { provider = p }) provider in

@@ -6,9 +6,9 @@ use Rattle.entry_tree.specs.Selection.{Search}
 use Rattle.sync_provider.specs.Machine.{fresh}
 use Rattle.sync_provider.specs.declared.provider.Kind.TheVariants.{Replica}
 use Rattle.cascade_script.specs.declared.fault.Cause.TheVariants.{NameTaken, UnknownNode, OutsideSuffix, LimitReached}
-use Rattle.cascade_world.specs.declared.node.Supplier.{Supplier}
-use Rattle.cascade_world.specs.declared.node.Follower.{Follower}
-use Rattle.cascade_world.specs.Cookies.{most_nodes}
+use Rattle.cascade_nodes.specs.declared.node.Supplier.{Supplier}
+use Rattle.cascade_nodes.specs.declared.node.Follower.{Follower}
+use Rattle.cascade_exchange.specs.Cookies.{most_nodes}
 use Rattle.cascade_world.specs.World.{State, IsStep, new_supplier, with_replica, is_supplier, has_node, supplier_named, where_room, is_offered, follow, declare_follower}
 use Rattle.cascade_world.proofs.Places.{found_at, found_nowhere}
 

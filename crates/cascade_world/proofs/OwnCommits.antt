@@ -1,19 +1,41 @@
 -- What a replica commits, seen in the world.
-use Rattle.std.proofs.Common.{◌≡◌, ◌<◌, ℕ, Some, None, List, length, get_or, set, ap, sym, subst, ◌∙◌}
-use Rattle.std.specs.Prelude.{Result, Ok, Err, IfSome, OnErr, position, slice_get}
+use Rattle.std.proofs.Common.{◌≡◌, ◌<◌, ℕ, Option, Some, None, List, [], ◌∷◌, length, get_or, set, inl, inr, refl, ap, sym, subst, ◌∙◌, append-nil}
+use Rattle.std.proofs.lemmas.Bool.{cases_Bool}
+use Rattle.std.specs.Prelude.{Result, Ok, Err, IfSome, OnErr, find, position, slice_get}
 use Rattle.std.proofs.lemmas.List.{set-get_or}
 use Rattle.std.proofs.lemmas.Option.{slice_get-get_or}
 use Rattle.entry_tree.specs.Selection.{Search}
 use Rattle.cascade_script.specs.declared.fault.Cause.{Cause}
 use Rattle.cascade_script.specs.declared.fault.Cause.TheVariants.{BadCommand, UnknownNode, NameTaken, BadRecord, LimitReached, OutsideSuffix, LaterCookie, Circle, NoMemory}
-use Rattle.cascade_world.specs.declared.node.Supplier.{Supplier}
-use Rattle.cascade_world.specs.declared.node.Follower.{Follower}
-use Rattle.cascade_world.specs.Commits.{commits_all, Leaves}
-use Rattle.cascade_world.specs.Report.{Stage}
-use Rattle.cascade_world.specs.World.{State, is_supplier, with_supplier, with_own, commits_in, commits_of}
+use Rattle.cascade_nodes.specs.declared.node.Supplier.{Supplier}
+use Rattle.cascade_nodes.specs.declared.node.Follower.{Follower}
+use Rattle.cascade_nodes.specs.Commits.{with_commits, commits_all, Leaves}
+use Rattle.cascade_report.specs.Report.{Stage}
+use Rattle.cascade_world.specs.World.{State, is_supplier, supplier_named, with_supplier, with_own, commits_in, commits_of}
 use Rattle.cascade_world.proofs.Finding.{supplier_name}
-use Rattle.cascade_world.proofs.Owns.{committed_name}
+use Rattle.cascade_nodes.proofs.Commits.{committed_name}
 use Rattle.cascade_world.proofs.Places.{found_at, found_nowhere, changed_at}
+
+-- put into its place it changes nothing
+same_own : (name : List ℕ) (xs : List Supplier) (own : Supplier) → find (is_supplier name) xs ≡ Some own → with_supplier name own xs ≡ xs
+same_own name [] own e = cc
+same_own name (x ∷ xs) own e =
+    elim (cases_Bool (is_supplier name x)) [
+      | inl hit ↦ let e' : Some x ≡ Some own = rw hit at e in let same : own ≡ x = cc in rw hit (ap (λ s. s ∷ xs) same)
+      | inr miss ↦ let e' : find (is_supplier name) xs ≡ Some own = rw miss at e in rw miss (ap (λ l. x ∷ l) (same_own name xs own e'))
+    ]
+
+-- nothing is committed where no stage took effect
+pub commits_none : (state : State) (follower : Follower) → commits_of state follower [] ≡ Ok state
+commits_none state follower = by (supplier_named follower.name state) refl
+  where
+    by : (found : Option Supplier) → supplier_named follower.name state ≡ found → commits_in state follower.consumer.spec [] found ≡ Ok state
+    by None is = refl
+    by (Some own) is =
+        let same : with_commits state.clock follower.consumer.spec own [] ≡ own = λ i. record own { notes = append-nil own.notes i } in
+        let named : with_supplier own.name own state.suppliers ≡ state.suppliers =
+        ap (λ n. with_supplier n own state.suppliers) (sym (supplier_name state.suppliers follower.name own is)) ∙ same_own follower.name state.suppliers own is in
+        ap (λ (s : Supplier). Ok (record state { suppliers = with_supplier own.name s state.suppliers })) same ∙ ap (λ s. Ok (record state { suppliers = s })) named
 
 pub at_place : (followers : List Follower) (place : ℕ) (f : Follower) (P : Follower → Type 0) → place < length followers → f ≡ get_or followers place f → P f → IfSome (slice_get followers place) P
 at_place followers place f P low is holds = subst (λ found. IfSome found P) (sym (slice_get-get_or followers place f low ∙ ap Some (sym is))) holds

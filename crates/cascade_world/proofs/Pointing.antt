@@ -6,20 +6,20 @@ use Rattle.std.proofs.lemmas.Bool.{cases_Bool}
 use Rattle.std.proofs.lemmas.Option.{slice_get-get_or}
 use Rattle.std.proofs.lemmas.Slice.Eq.{bytes_eq-Decides}
 use Rattle.entry_tree.specs.Selection.{Search}
-use Rattle.cascade_world.specs.declared.exchange.Exchange.{Exchange}
-use Rattle.cascade_world.specs.declared.exchange.Exchange.TheVariants as goes
+use Rattle.cascade_exchange.specs.declared.exchange.Exchange.{Exchange}
+use Rattle.cascade_exchange.specs.declared.exchange.Exchange.TheVariants as goes
 use Rattle.cascade_script.specs.declared.fault.Cause.{Cause}
 use Rattle.cascade_script.specs.declared.fault.Cause.TheVariants.{BadCommand, UnknownNode, NameTaken, BadRecord, LimitReached, OutsideSuffix, LaterCookie, Circle, NoMemory}
-use Rattle.cascade_world.specs.declared.node.Supplier.{Supplier}
-use Rattle.cascade_world.specs.declared.node.Follower.{Follower}
-use Rattle.cascade_world.specs.Commits.{commits_all}
-use Rattle.cascade_world.specs.Exchange.{Pair, Outcome, pair_of, part_of, idle, respecs}
+use Rattle.cascade_nodes.specs.declared.node.Supplier.{Supplier}
+use Rattle.cascade_nodes.specs.declared.node.Follower.{Follower}
+use Rattle.cascade_nodes.specs.Commits.{commits_all}
+use Rattle.cascade_exchange.specs.Exchange.{Pair, Outcome, pair_of, part_of, idle, respecs}
 use Rattle.cascade_world.specs.Places.{ArePlaces}
-use Rattle.cascade_world.specs.Report.{Stage, Told, stages_of}
+use Rattle.cascade_report.specs.Report.{Stage, Told, stages_of}
 use Rattle.cascade_world.specs.World.{State, Step, Does, IsStep, is_supplier, is_follower, follower_named, supplier_named, first_changed, with_follower, with_pair, with_own, with_lines, with_outcome, commits_in, commits_of, lineage_of, between, exchange_of, exchange, is_fed, is_offered, pointed, pointed_after, repoint_to, repoint_of, repoint, respec_at, respec_of, respec}
 use Rattle.cascade_world.proofs.AtPlaces.{element}
 use Rattle.cascade_world.proofs.Finding.{length-first_changed}
-use Rattle.cascade_world.proofs.Names.{NamedIn, part_named}
+use Rattle.cascade_exchange.proofs.Names.{NamedIn, part_named}
 use Rattle.cascade_world.proofs.Places.{position_is, found_at, found_nowhere, changed_at}
 use Rattle.cascade_world.proofs.SameNames.{found_name}
 
@@ -192,20 +192,6 @@ repointed state mid view name source i j f g r text stand fed within h same is =
 
 not_both : (next : Step) → next ≡ Err Circle → next ≡ Err UnknownNode → ⊥
 not_both next one other = cc
-
--- where no exchange is possible, the consumer or its provider is not there
-pub respec_unknown : (state : State) (name : List ℕ) (wish : Search) → ((part : Pair → Outcome) → exchange state name part ≡ Err UnknownNode) → respec state name wish ≡ Err UnknownNode
-respec_unknown state name wish none = by (follower_named name state) refl
-  where
-    by : (found : Option Follower) → follower_named name state ≡ found → respec_of state name wish found ≡ Err UnknownNode
-    by None is = refl
-    by (Some f) is = supplied (supplier_named f.source state) refl
-      where
-        supplied : (found : Option Supplier) → supplier_named f.source state ≡ found → respec_at state name wish found ≡ Err UnknownNode
-        supplied None is' = refl
-        supplied (Some r) is' =
-            let through : exchange state name (λ pair. Err Circle) ≡ Err Circle = ap (exchange_of state (λ pair. Err Circle)) is ∙ ap (between state f (λ pair. Err Circle)) is' in
-            absurd (not_both (exchange state name (λ pair. Err Circle)) through (none (λ pair. Err Circle)))
 
 respec_by : (state : State) (name : List ℕ) (wish : Search) (j i : ℕ) (r : Supplier) → ArePlaces state name (j, i) → r ≡ get_or state.suppliers j r → respec state name wish ≡ respec_at state name wish (Some r)
 respec_by state name wish j i r places is =

@@ -4,11 +4,11 @@ use Rattle.std.specs.Prelude.{Ok, Err, position}
 use Rattle.entry_tree.specs.declared.entry.Entry.{Entry}
 use Rattle.directory_writes.specs.Directory.{entries_of}
 use Rattle.cascade_script.specs.declared.fault.Cause.TheVariants.{UnknownNode}
-use Rattle.cascade_world.specs.declared.node.Supplier.{Supplier}
-use Rattle.cascade_world.specs.declared.node.Follower.{Follower}
+use Rattle.cascade_nodes.specs.declared.node.Supplier.{Supplier}
+use Rattle.cascade_nodes.specs.declared.node.Follower.{Follower}
 use Rattle.cascade_script.specs.Orders.Order.{Show}
-use Rattle.cascade_world.specs.Report.{text_of}
-use Rattle.cascade_world.specs.Report.Told.{Shown}
+use Rattle.cascade_report.specs.Report.{text_of}
+use Rattle.cascade_report.specs.Report.Told.{Shown}
 use Rattle.cascade_world.specs.World.{State, Step, IsStep, step, is_supplier, is_follower, follower_named, shown_of, show_of}
 use Rattle.cascade_world.proofs.Places.{found_at, found_nowhere}
 

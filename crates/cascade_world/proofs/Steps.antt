@@ -7,20 +7,20 @@ use Rattle.schema_rules.specs.declared.raw.Change.{Change}
 use Rattle.sync_provider.specs.Machine.{ProviderState, log_limited, queue_limited}
 use Rattle.cascade_script.specs.declared.fault.Cause.{Cause}
 use Rattle.cascade_script.specs.declared.fault.Cause.TheVariants.{BadCommand, UnknownNode, NameTaken, BadRecord, LimitReached, OutsideSuffix, LaterCookie, Circle, NoMemory}
-use Rattle.cascade_world.specs.declared.node.Supplier.{Supplier}
-use Rattle.cascade_world.specs.declared.node.Follower.{Follower}
-use Rattle.cascade_world.specs.declared.exchange.Exchange.{Exchange}
-use Rattle.cascade_world.specs.declared.exchange.Performed.{Performed}
-use Rattle.cascade_world.specs.Exchange.{Pair, Outcome, pair_of, part_of}
-use Rattle.cascade_world.specs.Commits.{Leaves}
+use Rattle.cascade_nodes.specs.declared.node.Supplier.{Supplier}
+use Rattle.cascade_nodes.specs.declared.node.Follower.{Follower}
+use Rattle.cascade_exchange.specs.declared.exchange.Exchange.{Exchange}
+use Rattle.cascade_exchange.specs.declared.exchange.Performed.{Performed}
+use Rattle.cascade_exchange.specs.Exchange.{Pair, Outcome, pair_of, part_of}
+use Rattle.cascade_nodes.specs.Commits.{Leaves}
 use Rattle.cascade_script.specs.Fault.{RefusedAt}
-use Rattle.cascade_world.specs.Parts.{Performs}
-use Rattle.cascade_world.specs.Origins.{Lineage}
+use Rattle.cascade_exchange.specs.Parts.{Performs}
+use Rattle.cascade_report.specs.Origins.{Lineage}
 use Rattle.cascade_world.specs.Places.{ArePlaces, placed, PerformsAt, Writes}
-use Rattle.cascade_world.specs.Report.{stages_of}
+use Rattle.cascade_report.specs.Report.{stages_of}
 use Rattle.cascade_world.specs.World.{State, Step, Does, IsStep, is_supplier, is_follower, supplier_named, follower_named, with_provider, with_follower, with_pair, with_lines, with_outcome, commits_of, lineage_of, between, exchange_of, exchange, write_to, limited, limit_log, limit_queue}
-use Rattle.cascade_world.proofs.Names.{SameNames, NamedIn, part_named}
-use Rattle.cascade_world.proofs.Owns.{commits_none}
+use Rattle.cascade_exchange.proofs.Names.{SameNames, NamedIn, part_named}
+use Rattle.cascade_world.proofs.OwnCommits.{commits_none}
 use Rattle.cascade_world.proofs.Places.{position_is, found_at, found_nowhere, changed_at}
 use Rattle.cascade_world.proofs.SameNames.{found_name}
 

@@ -2,8 +2,8 @@
 use Rattle.std.proofs.Common.{◌≡◌, ◌-◌, ◌<◌, ℕ, zero, suc, true, false, ◌||◌, Some, None, List, get_or, refl, ap, ◌∙◌, arith}
 use Rattle.std.specs.Prelude.{position, option_map}
 use Rattle.std.specs.Str.{bytes_eq}
-use Rattle.cascade_world.specs.declared.node.Follower.{Follower}
-use Rattle.cascade_world.specs.Nodes.{is_follower, source_of, top_above, top_within, holds_above, is_fed_within}
+use Rattle.cascade_nodes.specs.declared.node.Follower.{Follower}
+use Rattle.cascade_nodes.specs.Nodes.{is_follower, source_of, top_above, top_within, holds_above, is_fed_within}
 use Rattle.cascade_world.proofs.Places.{found_at, found_nowhere}
 
 -- ---- the source of a node, by its place

@@ -4,14 +4,14 @@ use Rattle.schema_rules.specs.declared.raw.Change.{Change}
 use Rattle.sync_provider.specs.Machine.{ProviderState}
 use Rattle.cascade_script.specs.declared.fault.Cause.{Cause}
 use Rattle.cascade_script.specs.declared.fault.Cause.TheVariants.{NoMemory}
-use Rattle.cascade_world.specs.declared.node.Supplier.{Supplier}
-use Rattle.cascade_world.specs.declared.node.Follower.{Follower}
-use Rattle.cascade_world.specs.declared.exchange.Performed.{Performed}
+use Rattle.cascade_nodes.specs.declared.node.Supplier.{Supplier}
+use Rattle.cascade_nodes.specs.declared.node.Follower.{Follower}
+use Rattle.cascade_exchange.specs.declared.exchange.Performed.{Performed}
 use Rattle.cascade_world.specs.Directory.{change_code, wrote_change}
-use Rattle.cascade_world.specs.Exchange.{Pair, Outcome, pair_of}
-use Rattle.cascade_world.specs.Parts.{Performs, IsBefore}
-use Rattle.cascade_world.specs.Report.{lines_text}
-use Rattle.cascade_world.specs.Report.Told.{Wrote}
+use Rattle.cascade_exchange.specs.Exchange.{Pair, Outcome, pair_of}
+use Rattle.cascade_exchange.specs.Parts.{Performs, IsBefore}
+use Rattle.cascade_report.specs.Report.{lines_text}
+use Rattle.cascade_report.specs.Report.Told.{Wrote}
 use Rattle.cascade_world.specs.World.{State, is_supplier, is_follower, lineage_of}
 
 -- the consumer of that name stands at the second place, and its provider at the first

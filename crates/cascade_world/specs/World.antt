@@ -1,11 +1,10 @@
 -- The nodes of a script, and what an order does to them.
 use Rattle.std.specs.Prelude.{◌≡◌, ℕ, ◌+◌, Bool, not, ◌||◌, nat_le, find, Option, Some, None, Result, Ok, Err, List, [], ◌∷◌, ◌++◌, length, if◌then◌else◌}
 use Rattle.std.specs.List.{list_any}
-use Rattle.dn_names.specs.Names.{TypeAndValue, is_at_or_below}
+use Rattle.dn_names.specs.Names.{TypeAndValue}
 use Rattle.entry_tree.specs.Selection.{Search}
 use Rattle.entry_tree.specs.declared.entry.Entry.{Entry}
 use Rattle.schema_rules.specs.declared.raw.Change.{Change}
-use Rattle.sync_consumer.specs.Taking.{nothing}
 use Rattle.sync_messages.specs.declared.request.Mode.TheVariants.{RefreshOnly, RefreshAndPersist}
 use Rattle.directory_writes.specs.Directory.{entries_of}
 use Rattle.sync_provider.specs.Machine.{ProviderState, fresh, log_limited, queue_limited}
@@ -14,20 +13,20 @@ use Rattle.sync_provider.specs.declared.provider.Kind.TheVariants.{Root, Replica
 use Rattle.cascade_script.specs.declared.fault.ScriptFault.{ScriptFault}
 use Rattle.cascade_script.specs.declared.fault.Cause.{Cause}
 use Rattle.cascade_script.specs.declared.fault.Cause.TheVariants.{NameTaken, UnknownNode, Circle, OutsideSuffix, LimitReached, NoMemory}
-use Rattle.cascade_world.specs.declared.node.Supplier.{Supplier}
-use Rattle.cascade_world.specs.declared.node.Follower.{Follower}
-use Rattle.cascade_world.specs.Cookies.{most_nodes}
-use Rattle.cascade_world.specs.Commits.{commits_all}
+use Rattle.cascade_nodes.specs.declared.node.Supplier.{Supplier}
+use Rattle.cascade_nodes.specs.declared.node.Follower.{Follower}
+use Rattle.cascade_exchange.specs.Cookies.{most_nodes}
+use Rattle.cascade_nodes.specs.Commits.{commits_all}
 use Rattle.cascade_world.specs.Directory.{change_code, wrote_change}
-use Rattle.cascade_world.specs.Exchange.{Pair, Outcome, sent, takes, cut, idle, opens, settles, lost, given, respecs}
+use Rattle.cascade_exchange.specs.Exchange.{Pair, Outcome, sent, takes, cut, idle, opens, settles, lost, given, respecs}
 use Rattle.cascade_script.specs.Fault.{RefusedAt}
-use Rattle.cascade_world.specs.Nodes.{is_fed_within, top_within}
-pub use Rattle.cascade_world.specs.Nodes.{is_supplier, is_follower}
+use Rattle.cascade_nodes.specs.Nodes.{is_fed_within, top_within}
+pub use Rattle.cascade_nodes.specs.Nodes.{is_supplier, is_follower, is_offered, new_follower}
 use Rattle.cascade_script.specs.Orders.{Order}
 use Rattle.cascade_script.specs.Orders.{Order as asks}
-use Rattle.cascade_world.specs.Origins.{Lineage}
-use Rattle.cascade_world.specs.Report.{Stage, Told, lines_text, stages_of}
-use Rattle.cascade_world.specs.Report.Told.{Wrote, Clocked, Shown}
+use Rattle.cascade_report.specs.Origins.{Lineage}
+use Rattle.cascade_report.specs.Report.{Stage, Told, lines_text, stages_of}
+use Rattle.cascade_report.specs.Report.Told.{Wrote, Clocked, Shown}
 
 -- the time, in microseconds from the first moment of 1970 on; how many nodes are declared; and the directories of roots
 -- and of replicas, and the consumers, of which each replica has one too, each in the order of their declaration
@@ -96,11 +95,6 @@ with_root state name suffix =
 abbrev pub declare_root : State → List ℕ → List (List TypeAndValue) → Step
 declare_root state name suffix = if has_node name state then Err NameTaken else where_room state (with_root state name suffix)
 
--- a consumer has no entries, no cookie and no search at first
-abbrev pub new_follower : List ℕ → List ℕ → Search → Bool → Follower
-new_follower name source search reload =
-    record { name = name; source = source; consumer = record { spec = search; reload = reload; copy = nothing }; link = []; search = None }
-
 abbrev pub with_consumer : State → Follower → State
 with_consumer state follower = record state { nodes = state.nodes + 1; followers = state.followers ++ follower ∷ [] }
 
@@ -111,10 +105,6 @@ with_replica state follower = record state {
   suppliers = state.suppliers ++ new_supplier state Replica follower.name [] ∷ [];
   followers = state.followers ++ follower ∷ [];
 }
-
--- the base of what is wanted is at or below the suffix of a provider
-abbrev pub is_offered : Search → Supplier → Bool
-is_offered search supplier = is_at_or_below search.base supplier.provider.directory.suffix
 
 -- a consumer of a provider
 abbrev pub follow : State → Search → State → Option Supplier → Step

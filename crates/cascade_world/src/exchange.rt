@@ -1,160 +1,17 @@
-//! What an event does to a consumer and its provider.
-ghost use Rattle.std.specs.Prelude.{◌≡◌, ◌<◌, ℕ, List, length, IfOk, OnErr};
-ghost use Rattle.cascade_world.specs.Exchange.{pair_of, part_of};
-ghost use Rattle.cascade_world.specs.Ours.{AreOurs};
-ghost use Rattle.cascade_world.specs.Parts as parts;
-ghost use Rattle.cascade_world.specs.Parts.{Performs, IsBefore};
+//! What goes on between a consumer and its provider, and what a replica commits at the end of an event.
+ghost use Rattle.std.specs.Prelude.{◌≡◌, ◌<◌, ℕ, List, length, slice_get, IfSome, OnErr};
+ghost use Rattle.cascade_exchange.specs.Exchange.{part_of};
+ghost use Rattle.cascade_nodes.specs.Commits.{Leaves};
 ghost use Rattle.cascade_world.specs.Places.{ArePlaces, PerformsAt};
 ghost use Rattle.cascade_world.specs.World as spec;
 ghost use Rattle.cascade_world.specs.World.{Does};
 
-use crate::cookies::{give, lose};
-use crate::cutting::cut;
-use crate::node::{Follower, Supplier};
-use crate::opening::{cut_if_busy, open_search};
-use crate::receiving::take;
-use crate::repointing::want;
-use crate::sending::{discard, send};
-use crate::settling::settle;
-use crate::source::Source;
-use crate::told::{Stage, Telling};
 use crate::world::{Lines, World};
+use cascade_exchange::{Exchange, Performed, serve};
+use cascade_nodes::discard;
+use cascade_report::Stage;
 use cascade_script::Cause;
-use entry_tree::Spec;
-use ldap_ber::{NoMemory, Octets};
-use std::alloc::Global;
-use sync_messages::Mode;
-use sync_provider::OpenSearches;
-
-/// What an event does to a consumer and its provider.
-#[derive(Drop)]
-pub enum Exchange {
-    /// A search that ends with its refresh, or goes on after it, is opened.
-    Open(Mode),
-    /// So many messages of the search go into the link.
-    Send(u64),
-    /// So many messages are taken from the link.
-    Take(u64),
-    /// The search, and what the link holds, is dropped.
-    Cut,
-    /// The consumer is brought up to its provider.
-    Settle,
-    /// The consumer loses its cookie.
-    Lose,
-    /// The consumer gets this text for its cookie.
-    Give(Octets),
-    /// A busy consumer is cut.
-    Idle,
-    /// A busy consumer is cut, and wants this from now on.
-    Want(Spec),
-}
-
-impl Exchange {
-    /// Does it, and puts its lines at the end. A refusal can come in its midst.
-    pub fn perform(
-        self,
-        alloc: Global,
-        provider: &mut Source,
-        follower: &mut Follower,
-        out: &mut Telling,
-    ) -> Result<(), Cause>
-        ensures does { parts.Does (part_of self (pair_of provider.old follower.old out.old.lineage))
-            out.old (pair_of provider.new follower.new out.old.lineage) out.new result }
-        ensures directory { provider.new.directory ≡ provider.old.directory }
-        ensures queue_limit { provider.new.queue_limit ≡ provider.old.queue_limit }
-        ensures kind { provider.new.kind ≡ provider.old.kind }
-    {
-        match self {
-            Exchange::Open(mode) => open_search(alloc, provider, follower, mode, out),
-            Exchange::Send(count) => send(alloc, provider, follower, count, out),
-            Exchange::Take(count) => take(alloc, provider, follower, count, out),
-            Exchange::Cut => cut(provider, follower, out),
-            Exchange::Settle => settle(alloc, provider, follower, out),
-            Exchange::Lose => {
-                lose(follower);
-                Ok(())
-            }
-            Exchange::Give(text) => give(alloc, follower, text),
-            Exchange::Idle => cut_if_busy(provider, follower, out),
-            Exchange::Want(wanted) => want(provider, follower, wanted, out),
-        }
-    }
-}
-
-/// A consumer and the open searches of its provider as they stood at one moment.
-#[derive(Drop)]
-pub struct Moment {
-    searches: OpenSearches,
-    follower: Follower,
-}
-
-impl Moment {
-    pub fn of(alloc: Global, provider: &Source, follower: &Follower) -> Result<Moment, NoMemory>
-        ensures searches { IfOk result (λ moment. moment.searches ≡ provider.now.searches) }
-        ensures ours { IfOk result (λ moment. AreOurs moment.searches) }
-        ensures follower { IfOk result (λ moment. moment.follower ≡ follower.now) }
-    {
-        Ok(Moment {
-            searches: provider.open_searches(alloc)?,
-            follower: follower.copy(alloc)?,
-        })
-    }
-
-    /// Brings both back to this moment.
-    pub fn restore(self, provider: &mut Source, follower: &mut Follower)
-        requires { AreOurs self.searches }
-        ensures provider { provider.new ≡ record provider.old { searches = self.searches } }
-        ensures follower { follower.new ≡ self.follower }
-    {
-        provider.return_to(self.searches);
-        *follower = self.follower;
-    }
-}
-
-/// What an exchange told, the stages that took effect in it, and how the two stood before it.
-#[derive(Drop)]
-pub struct Performed {
-    pub text: Vec<u8>,
-    pub stages: Vec<Stage>,
-    pub before: Moment,
-}
-
-impl Supplier {
-    /// Does what goes on with a consumer, where this root stands at the top of the provider's providers.
-    /// After a refusal the two are as before.
-    #[tactic(auto, using(crate::proofs::Performing::performed, crate::proofs::Performing::refused, crate::proofs::Performing::back))]
-    fn serve(
-        &mut self,
-        alloc: Global,
-        top: Octets,
-        follower: &mut Follower,
-        exchange: Exchange,
-    ) -> Result<Performed, Cause>
-        ensures does { Performs (part_of exchange (pair_of self.old.provider follower.old (record { top = top; notes = self.old.notes })))
-            (pair_of self.new.provider follower.new (record { top = top; notes = self.old.notes })) result }
-        ensures before { IfOk result (λ done. IsBefore self.old.provider follower.old self.new.provider done.before) }
-        ensures same { self.new ≡ record self.old { provider = self.new.provider } }
-        ensures err { OnErr result (self.new ≡ self.old) }
-        ensures follower_err { OnErr result (follower.new ≡ follower.old) }
-    {
-        let Ok(before) = Moment::of(alloc, &self.provider, follower) else {
-            discard(exchange);
-            return Err(Cause::NoMemory);
-        };
-        let mut telling = Telling::new(alloc, top, &self.notes);
-        match exchange.perform(alloc, &mut self.provider, follower, &mut telling) {
-            Ok(()) => Ok(Performed {
-                text: telling.text,
-                stages: telling.stages,
-                before,
-            }),
-            Err(cause) => {
-                before.restore(&mut self.provider, follower);
-                Err(cause)
-            }
-        }
-    }
-}
+use ldap_ber::Octets;
 
 impl World {
     /// Does what goes on between a consumer and its provider, and then the commits of a replica. After
@@ -219,12 +76,28 @@ impl World {
             Ok(top) => {
                 let from = &mut self.suppliers[supplier];
                 let to = &mut self.followers[follower];
-                from.serve(self.alloc, top, to, exchange)
+                serve(self.alloc, from, top, to, exchange)
             }
             Err(_) => {
                 discard(exchange);
                 Err(Cause::NoMemory)
             }
         }
+    }
+
+    /// The node at this place commits these stages, one write for each, where it is a replica. After a
+    /// refusal its directory is as before.
+    #[tactic(auto, using(crate::proofs::OwnCommits::at_place, crate::proofs::OwnCommits::commits_nothing, crate::proofs::OwnCommits::own_same))]
+    fn commit(&mut self, place: usize, stages: Vec<Stage>) -> Result<(), Cause>
+        requires { place < length self.old.followers }
+        ensures does { IfSome (slice_get self.old.followers place)
+            (λ follower. Leaves (spec.commits_of self.old follower stages.items) self.new result) }
+        ensures err { OnErr result (self.new ≡ self.old) }
+    {
+        let Some(own) = self.supplier_place(&self.followers[place].name) else {
+            return Ok(());
+        };
+        let wanted = self.followers[place].consumer.inner().spec();
+        self.suppliers[own].commit_all(self.alloc, wanted, stages, self.clock)
     }
 }

@@ -4,25 +4,9 @@
 //! out goes into the consumer's link as bytes, and the consumer takes what these bytes spell.
 #![tactic(auto)]
 
-mod committing;
-mod cookies;
-mod cutting;
-mod digested;
 mod exchange;
-mod link;
-mod narrating;
 mod new_nodes;
-mod node;
-mod notes;
-mod opening;
-mod receiving;
 mod repointing;
-mod report;
-mod sending;
-mod settling;
-mod source;
-mod taking;
-mod told;
 mod world;
 
 pub use cascade_script::{Cause, Command, Event, Script, ScriptFault, read_event};

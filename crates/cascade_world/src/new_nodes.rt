@@ -1,15 +1,14 @@
 //! Declarations of nodes.
 ghost use Rattle.std.specs.Prelude.{◌≡◌, ◌+◌, ◌<◌, ◌≤◌, ◌++◌, ◌∷◌, [], OnOk, OnErr, IfOk, IfErr, Ok, Err};
 ghost use Rattle.entry_tree.specs.Selection.{search_of};
-ghost use Rattle.cascade_world.specs.Cookies.{most_nodes};
+ghost use Rattle.cascade_exchange.specs.Cookies.{most_nodes};
 ghost use Rattle.cascade_script.specs.Orders.{Order as order};
 ghost use Rattle.cascade_world.specs.World as spec;
 ghost use Rattle.cascade_world.specs.World.{Does};
 
-use crate::cookies::MOST_NODES;
-use crate::node::{Follower, Supplier};
-use crate::sending::discard;
 use crate::world::{Lines, World, no_lines};
+use cascade_exchange::MOST_NODES;
+use cascade_nodes::{Follower, Supplier, discard};
 use cascade_script::Cause;
 use dn_names::Dn;
 use entry_tree::Spec;

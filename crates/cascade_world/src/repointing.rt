@@ -2,21 +2,15 @@
 ghost use Rattle.std.specs.Prelude.{◌≡◌, OnOk, OnErr, IfOk, IfErr, Err};
 ghost use Rattle.std.specs.Option.{option_copied};
 ghost use Rattle.entry_tree.specs.Selection.{search_of};
-ghost use Rattle.cascade_world.specs.Exchange as exchange;
-ghost use Rattle.cascade_world.specs.Exchange.{pair_of};
-ghost use Rattle.cascade_world.specs.Nodes as nodes;
+ghost use Rattle.cascade_exchange.specs.Exchange as exchange;
+ghost use Rattle.cascade_nodes.specs.Nodes as nodes;
 ghost use Rattle.cascade_script.specs.Orders.{Order as order};
-ghost use Rattle.cascade_world.specs.Parts as parts;
 ghost use Rattle.cascade_world.specs.World as spec;
 ghost use Rattle.cascade_world.specs.World.{Does};
 
-use crate::exchange::Exchange;
-use crate::node::Follower;
-use crate::opening::cut_if_busy;
-use crate::sending::discard;
-use crate::source::Source;
-use crate::told::Telling;
 use crate::world::{Lines, World};
+use cascade_exchange::Exchange;
+use cascade_nodes::discard;
 use cascade_script::Cause;
 use entry_tree::Spec;
 use ldap_ber::{NoMemory, Octets};
@@ -118,30 +112,5 @@ impl World {
             left -= 1;
         }
         at.copy()
-    }
-}
-
-/// A busy consumer is cut, and wants this from now on.
-pub fn want(
-    provider: &mut Source,
-    follower: &mut Follower,
-    wanted: Spec,
-    out: &mut Telling,
-) -> Result<(), Cause>
-    ensures does { parts.Does (exchange.respecs (search_of wanted) (pair_of provider.old follower.old out.old.lineage))
-        out.old (pair_of provider.new follower.new out.old.lineage) out.new result }
-    ensures directory { provider.new.directory ≡ provider.old.directory }
-    ensures queue_limit { provider.new.queue_limit ≡ provider.old.queue_limit }
-    ensures kind { provider.new.kind ≡ provider.old.kind }
-{
-    match cut_if_busy(provider, follower, out) {
-        Ok(()) => {
-            follower.consumer.respec(wanted);
-            Ok(())
-        }
-        Err(cause) => {
-            discard(wanted);
-            Err(cause)
-        }
     }
 }

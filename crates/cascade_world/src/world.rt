@@ -1,24 +1,19 @@
 //! The nodes of a script, and what each event does and tells.
 ghost use Rattle.std.specs.Prelude.{◌≡◌, ◌+◌, ◌<◌, ◌≤◌, ◌∷◌, [], length, position, IfOk, IfErr, OnErr, Err};
 ghost use Rattle.std.specs.List.{list_any};
-ghost use Rattle.entry_tree.specs.Selection.{search_of};
-ghost use Rattle.sync_provider.specs.Machine.{ProviderState};
-ghost use Rattle.cascade_world.specs.Directory.{change_code, changed};
 ghost use Rattle.cascade_script.specs.Orders.{order_of};
 ghost use Rattle.cascade_script.specs.Orders.{Order as order};
-ghost use Rattle.cascade_world.specs.Report.{lines_text};
-ghost use Rattle.cascade_world.specs.Report.Told.{Wrote};
+ghost use Rattle.cascade_report.specs.Report.{lines_text};
+ghost use Rattle.cascade_report.specs.Report.Told.{Wrote};
 ghost use Rattle.cascade_world.specs.World as spec;
-ghost use Rattle.cascade_world.specs.Cookies.{most_nodes};
+ghost use Rattle.cascade_exchange.specs.Cookies.{most_nodes};
 ghost use Rattle.cascade_world.specs.World.{StepsBy, Does};
-ghost use Rattle.cascade_world.specs.Exchange.{Pair, Outcome, part_of};
+ghost use Rattle.cascade_exchange.specs.Exchange.{Pair, Outcome};
 ghost use Rattle.cascade_world.specs.Places.{ArePlaces, Writes};
 
-use crate::exchange::Exchange;
-use crate::node::{Follower, Supplier};
-use crate::report::{each_of, push_wrote, text_of};
-use crate::sending::discard;
-use crate::source::Source;
+use cascade_exchange::Exchange;
+use cascade_nodes::{Follower, Source, Supplier, discard};
+use cascade_report::{each_of, push_wrote, text_of};
 use cascade_script::{Cause, Command, Event, ScriptFault};
 use entry_tree::{OpFault, read_op};
 use ldap_ber::{NoMemory, Octets};
@@ -49,9 +44,9 @@ pub struct World {
 impl Model for World {
     ghost use Rattle.std.specs.Prelude.{◌≡◌, ◌+◌, ◌≤◌, length};
     ghost use Rattle.std.specs.Coded.{codes};
-    ghost use Rattle.cascade_world.specs.contracts.node.Supplier as supplier;
-    ghost use Rattle.cascade_world.specs.contracts.node.Follower as follower;
-    ghost use Rattle.cascade_world.specs.Cookies.{most_nodes};
+    ghost use Rattle.cascade_nodes.specs.contracts.node.Supplier as supplier;
+    ghost use Rattle.cascade_nodes.specs.contracts.node.Follower as follower;
+    ghost use Rattle.cascade_exchange.specs.Cookies.{most_nodes};
     ghost use Rattle.cascade_world.specs.World.{State};
 
     ghost Value = { State };
@@ -262,7 +257,7 @@ fn write_to(
             // The line of an accepted write is made before the write, which then can't fail any more.
             let number = provider.writes();
             let accepted = wrote_lines(alloc, name, 0, number + 1)?;
-            let reply = provider.write(alloc, op, now);
+            let reply = provider.write(op, now);
             if reply.code == OTHER {
                 return Err(Cause::NoMemory);
             }

@@ -1,10 +1,8 @@
 -- Edits keep attributes that a client may give.
 use Rattle.std.proofs.Common.{◌≡◌, ℕ, Bool, true, false, not, cond, nat_eq, List, [], ◌∷◌, ◌++◌, length, refl, sym, subst, ◌∙◌}
-use Rattle.std.specs.List.{list_all, filter}
+use Rattle.std.specs.List.{list_all}
 use Rattle.std.proofs.lemmas.Bool.{and_parts, and_from, cond_both, eqb-true}
-use Rattle.std.proofs.lemmas.List.Elements.{All-filter}
 use Rattle.std.proofs.lemmas.List.Folds.{list_all-append}
-use Rattle.std.proofs.lemmas.List.Sums.{AllPass-from_list_all, list_all-from_AllPass}
 use Rattle.schema_rules.specs.declared.attributes.Attribute.{Attribute}
 use Rattle.schema_rules.specs.declared.raw.How.{How}
 use Rattle.schema_rules.specs.declared.raw.How.TheVariants as how
@@ -15,10 +13,7 @@ use Rattle.schema_rules.proofs.Joining.{is_given-with_values}
 use Rattle.entry_tree.specs.declared.edit.Edit.{Edit}
 use Rattle.entry_tree.specs.Edits.{matches, change_of, with_change, unmatched, has_kind, without_kind, without_values, with_only, deleted, replaced, changed, after_edit, after_edits}
 use Rattle.entry_tree.specs.Sound.{is_sound_edit}
-
-list_all-filter : {X : Type 0} (test p : X → Bool) (xs : List X) → list_all test xs ≡ true → list_all test (filter p xs) ≡ true
-list_all-filter test p xs all =
-    list_all-from_AllPass test (filter p xs) (All-filter p (λ x. test x ≡ true) xs (AllPass-from_list_all test xs all))
+use Rattle.entry_tree.proofs.Passing.{list_all-filter}
 
 -- ---- other values of one type
 

@@ -70,11 +70,11 @@ fn previewed(alloc: Global, tree: &Tree, puts: EntryList, drops: IdList) -> Resu
     requires sound { list_all is_sound_put puts ≡ true }
     requires light { list_all is_light puts ≡ true }
 {
-    tree.check_commit(alloc, puts.list(), drops.list())?;
+    tree.check_commit(puts.list(), drops.list())?;
     let suffix = Dn::parse(alloc, b"o=x")?;
     let mark = mark_of(alloc, NEXT)?;
     let op = Op::Commit(puts, drops);
-    let touches = tree.preview(alloc, &op, &suffix, mark.number as u128, mark.csn);
+    let touches = tree.preview(&op, &suffix, mark.number as u128, mark.csn);
     discard(op);
     shown(alloc, touches)
 }
@@ -84,11 +84,11 @@ fn applied(alloc: Global, tree: &mut Tree, puts: EntryList, drops: IdList) -> Re
     requires sound { list_all is_sound_put puts ≡ true }
     requires light { list_all is_light puts ≡ true }
 {
-    tree.check_commit(alloc, puts.list(), drops.list())?;
+    tree.check_commit(puts.list(), drops.list())?;
     let suffix = Dn::parse(alloc, b"o=x")?;
     let mark = mark_of(alloc, NEXT)?;
     let op = Op::Commit(puts, drops);
-    let touches = tree.apply(alloc, &op, &suffix, mark.number as u128, mark.csn);
+    let touches = tree.apply(&op, &suffix, mark.number as u128, mark.csn);
     discard(op);
     shown(alloc, touches)
 }
@@ -233,7 +233,7 @@ fn a_commit_leaves(rt: HostRuntime) -> Result<(), Fail> {
     let drops = drops_of(alloc, &[5, 2, 3])?;
     let _ = applied(alloc, &mut tree, puts, drops)?;
     assert_left(&rt, alloc, &tree)?;
-    assert_left(&rt, alloc, &tree.copy(alloc)?)
+    assert_left(&rt, alloc, &tree.copy()?)
 }
 
 /// The entries that are put, the identities that are dropped, and the two that would have one name.
@@ -288,7 +288,7 @@ fn check_refused(rt: &impl Abort, alloc: Global, row: &Refused) -> Result<(), Fa
     let tree = first_tree(alloc)?;
     let puts = puts_of(alloc, puts)?;
     let drops = drops_of(alloc, drops)?;
-    let refusal = tree.check_commit(alloc, puts.list(), drops.list());
+    let refusal = tree.check_commit(puts.list(), drops.list());
     discard(puts);
     discard(drops);
     let wanted = Err(CommitRefusal::SameName(*one, *other));

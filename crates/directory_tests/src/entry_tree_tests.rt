@@ -156,7 +156,7 @@ fn applied(
     mark: WriteMark,
 ) -> Result<Touched, OpFault> {
     let op = read_op(alloc, change)?;
-    let touches = tree.apply(alloc, &op, suffix, mark.number as u128, mark.csn);
+    let touches = tree.apply(&op, suffix, mark.number as u128, mark.csn);
     discard(op);
     touches
 }
@@ -185,7 +185,7 @@ fn previewed(
     mark: WriteMark,
 ) -> Result<Touched, OpFault> {
     let op = read_op(alloc, change)?;
-    let touches = tree.preview(alloc, &op, suffix, mark.number as u128, mark.csn);
+    let touches = tree.preview(&op, suffix, mark.number as u128, mark.csn);
     discard(op);
     touches
 }
@@ -891,7 +891,7 @@ fn spec_of(alloc: Global, base: &str, scope: Scope, kind: &str) -> Result<Spec, 
 
 /// The identities of the selected entries.
 fn selected_by(alloc: Global, tree: &Tree, spec: &Spec) -> Result<Vec<u128>, NoMemory> {
-    let found = tree.select(alloc, spec)?;
+    let found = tree.select(spec)?;
     let identities = identities(alloc, &found);
     discard(found);
     identities

@@ -226,7 +226,7 @@ impl Directory {
 
     /// Applies a write where the clock shows `now`, in microseconds from the first moment of 1970
     /// on, and answers its code. A write with another code than 0 leaves the directory as it was.
-    pub fn write(&mut self, alloc: Global, op: Op, now: u64) -> Result<u32, NoMemory>
+    pub fn write(&mut self, op: Op, now: u64) -> Result<u32, NoMemory>
         requires sound { is_sound_op op ≡ true }
         requires fits { fits (directory.entries_of self.old) op ≡ true }
         ensures code { IfOk result (λ code. code ≡ directory.write_code self.old op now) }
@@ -245,7 +245,7 @@ impl Directory {
         let uuid = identity(self.history, number);
         self.accepted.reserve(1)?;
         let mark = Mark { number, uuid, csn };
-        if let Err(fault) = self.held.apply(alloc, &op, &self.suffix, mark) {
+        if let Err(fault) = self.held.apply(&op, &self.suffix, mark) {
             return code_of(fault);
         }
         self.accepted.push_reserved(Write { csn, op });
@@ -256,7 +256,7 @@ impl Directory {
 
     /// What `write` would do where the clock shows `now`, or the code that it would answer. The
     /// directory is left as it is.
-    pub fn preview(&self, alloc: Global, op: &Op, now: u64) -> Result<Preview, OpFault>
+    pub fn preview(&self, op: &Op, now: u64) -> Result<Preview, OpFault>
         requires sound { is_sound_op op.now ≡ true }
         requires fits { fits (directory.entries_of self.now) op.now ≡ true }
         ensures accepted { IfOk result (λ preview. directory.judged self.now op.now now
@@ -270,26 +270,20 @@ impl Directory {
         let csn = self.next_csn(op, now)?;
         let number = self.accepted.len() as u64 + 1;
         let uuid = identity(self.history, number);
-        let touched = self.held.tree.preview(alloc, op, &self.suffix, uuid, csn)?;
+        let touched = self.held.tree.preview(op, &self.suffix, uuid, csn)?;
         Ok(Preview { csn, touched })
     }
 
     /// Whether a commit that puts these entries and drops these identities may be kept where the
     /// clock shows `now`, or the first cause against it.
     #[tactic(auto, using(crate::proofs::Commits::log_capped, crate::proofs::Commits::first_opposed, crate::proofs::Commits::none_opposed))]
-    pub fn check_commit(
-        &self,
-        alloc: Global,
-        puts: &[Entry],
-        drops: &[u128],
-        now: u64,
-    ) -> Result<(), CommitFault>
+    pub fn check_commit(&self, puts: &[Entry], drops: &[u128], now: u64) -> Result<(), CommitFault>
         ensures ok { OnOk result (commit_refusal self.now puts.now drops.now now ≡ None) }
         ensures refused { IfErr result (Opposes (commit_refusal self.now puts.now drops.now now)) }
     {
         let weight = commit_weight(puts, drops)?;
         self.check_log(weight, now)?;
-        self.held.check_commit(alloc, puts, drops)
+        self.held.check_commit(puts, drops)
     }
 
     /// Whether one more write of this weight may be kept, or the first cause against it.

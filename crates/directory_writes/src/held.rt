@@ -60,13 +60,7 @@ impl Held {
     /// Applies a write to the entries of the directory with this suffix and notes what it touches,
     /// or tells the first code that is against it. It is done whole or not at all.
     #[tactic(auto, using(crate::proofs::Served::renews_left, crate::proofs::Served::keeps_both))]
-    pub(crate) fn apply(
-        &mut self,
-        alloc: Global,
-        op: &Op,
-        suffix: &Dn,
-        mark: Mark,
-    ) -> Result<(), OpFault>
+    pub(crate) fn apply(&mut self, op: &Op, suffix: &Dn, mark: Mark) -> Result<(), OpFault>
         requires sound { is_sound_op op.now ≡ true }
         requires fits { fits self.old.entries op.now ≡ true }
         requires ascends { ascends self.old.entries ≡ true }
@@ -83,7 +77,7 @@ impl Held {
             (KeepsNumbers self.old.touches.numbers self.new.touches.numbers) }
     {
         let uuid = mark.uuid;
-        let outcome = self.apply_with_places(alloc, op, suffix, mark);
+        let outcome = self.apply_with_places(op, suffix, mark);
         self.leave_places(op, uuid);
         outcome
     }
@@ -91,13 +85,7 @@ impl Held {
     /// The same, where places that were made for entries to come may stay behind. All room is made
     /// before the entries change.
     #[tactic(auto, using(crate::proofs::Effects::few_touched))]
-    fn apply_with_places(
-        &mut self,
-        alloc: Global,
-        op: &Op,
-        suffix: &Dn,
-        mark: Mark,
-    ) -> Result<(), OpFault>
+    fn apply_with_places(&mut self, op: &Op, suffix: &Dn, mark: Mark) -> Result<(), OpFault>
         requires sound { is_sound_op op.now ≡ true }
         requires fits { fits self.old.entries op.now ≡ true }
         requires ascends { ascends self.old.entries ≡ true }
@@ -116,7 +104,7 @@ impl Held {
         let most = self.most_touched(op)?;
         self.touches.make_room(most)?;
         self.make_places(op, mark.uuid)?;
-        let touched = self.tree.apply(alloc, op, suffix, mark.uuid, mark.csn)?;
+        let touched = self.tree.apply(op, suffix, mark.uuid, mark.csn)?;
         self.touches.note(mark.number, touched.list());
         Ok(())
     }
@@ -167,16 +155,11 @@ impl Held {
 
     /// Whether the entries after a commit may be held, or the first cause against them.
     #[tactic(auto, using(crate::proofs::Commits::open_held))]
-    pub(crate) fn check_commit(
-        &self,
-        alloc: Global,
-        puts: &[Entry],
-        drops: &[u128],
-    ) -> Result<(), CommitFault>
+    pub(crate) fn check_commit(&self, puts: &[Entry], drops: &[u128]) -> Result<(), CommitFault>
         ensures ok { OnOk result (held_refusal (committed self.now.entries puts.now drops.now) ≡ None) }
         ensures refused { IfErr result (Opposes (held_refusal (committed self.now.entries puts.now drops.now))) }
     {
-        match self.tree.check_commit(alloc, puts, drops) {
+        match self.tree.check_commit(puts, drops) {
             Ok(()) => Ok(()),
             Err(refusal) => Err(CommitFault::from(refusal)),
         }

@@ -6,7 +6,6 @@ use crate::NoMemory;
 use crate::directory::Directory;
 use crate::held::Held;
 use csn_cookie::CsnMaker;
-use std::alloc::Global;
 use std::marker::Model;
 
 /// How many writes a directory had at one moment, and what it kept beside them then.
@@ -35,14 +34,14 @@ impl Model for DirectoryMoment {
 
 impl Directory {
     /// This moment.
-    pub fn moment(&self, alloc: Global) -> Result<DirectoryMoment, NoMemory>
+    pub fn moment(&self) -> Result<DirectoryMoment, NoMemory>
         ensures { IfOk result (IsMomentOf self.now) }
     {
         Ok(DirectoryMoment {
             count: self.accepted.len(),
             weight: self.weight,
             stamps: self.stamps.copy(),
-            held: self.held.copy(alloc)?,
+            held: self.held.copy()?,
         })
     }
 
@@ -60,14 +59,14 @@ impl Directory {
 
 impl Held {
     /// The same once more.
-    fn copy(&self, alloc: Global) -> Result<Held, NoMemory>
+    fn copy(&self) -> Result<Held, NoMemory>
         ensures entries { IfOk result (λ copy. copy.entries ≡ self.now.entries) }
         ensures log { IfOk result (λ copy. copy.touches.log ≡ self.now.touches.log) }
         ensures numbers { IfOk result (λ copy. copy.touches.numbers ≡ self.now.touches.numbers) }
     {
         Ok(Held {
-            tree: self.tree.copy(alloc)?,
-            touches: self.touches.copy(alloc)?,
+            tree: self.tree.copy()?,
+            touches: self.touches.copy()?,
         })
     }
 }

@@ -44,12 +44,12 @@ impl Touches {
     }
 
     /// The same once more.
-    pub(crate) fn copy(&self, alloc: Global) -> Result<Touches, NoMemory>
+    pub(crate) fn copy(&self) -> Result<Touches, NoMemory>
         ensures log { IfOk result (λ copy. copy.log ≡ self.now.log) }
         ensures numbers { IfOk result (λ copy. copy.numbers ≡ self.now.numbers) }
     {
         Ok(Touches {
-            log: self.log.copy(alloc)?,
+            log: self.log.copy()?,
             numbers: self.numbers.clone()?,
         })
     }

@@ -7,15 +7,15 @@ use Rattle.std.proofs.lemmas.Bool.{and_parts, or_parts, eqb-true, eq-eqb, ne_eqb
 use Rattle.std.proofs.lemmas.List.{reverse-append, take_more}
 use Rattle.std.proofs.lemmas.List.Sums.{fold-append}
 use Rattle.std.proofs.lemmas.List.Folds.{find-append}
-use Rattle.entry_tree.specs.declared.entry.Entry.{Entry}
-use Rattle.entry_tree.specs.declared.touched.Touch.{Touch}
-use Rattle.entry_tree.specs.Bytes.{is_one_found}
-use Rattle.entry_tree.specs.Effects.{is_one_of, committed}
+use Rattle.entry_writes.specs.declared.entry.Entry.{Entry}
+use Rattle.entry_writes.specs.declared.touched.Touch.{Touch}
+use Rattle.entry_writes.specs.Bytes.{is_one_found}
+use Rattle.entry_writes.specs.Effects.{is_one_of, committed}
 use Rattle.entry_tree.specs.Fitting.{may_be_held}
-use Rattle.entry_tree.specs.State.{ascends, entry_at, put, is_crowded, same_named, total_weight, most_entries, most_weight, IsDirectory}
-use Rattle.entry_tree.specs.Touched.{identities, joined, touch_at, is_change, touched}
+use Rattle.entry_writes.specs.State.{ascends, entry_at, put, is_crowded, same_named, total_weight, most_entries, most_weight, IsDirectory}
+use Rattle.entry_writes.specs.Touched.{identities, joined, touch_at, is_change, touched}
 use Rattle.entry_tree.proofs.Directory.{ascends_filter}
-use Rattle.entry_tree.proofs.Identities.{above}
+use Rattle.entry_writes.proofs.Identities.{above}
 use Rattle.entry_tree.proofs.Putting.{ascends_put, entry_at_put, found_same}
 use Rattle.entry_tree.proofs.Rising.{below_all, rises, among, rises-joined, among-joined, same_passing}
 

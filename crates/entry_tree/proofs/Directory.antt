@@ -5,9 +5,9 @@ use Rattle.std.proofs.lemmas.Bool.{and_parts, and_from, cond_both}
 use Rattle.std.proofs.lemmas.List.Filters.{length-filter_both, sum_by-filter_both}
 use Rattle.std.proofs.lemmas.List.Sums.{sum_by_more_le}
 use Rattle.schema_rules.specs.Attributes.{weight_of}
-use Rattle.entry_tree.specs.declared.entry.Entry.{Entry}
-use Rattle.entry_tree.specs.State.{ascends, total_weight, IsDirectory}
-use Rattle.entry_tree.proofs.Identities.{above}
+use Rattle.entry_writes.specs.declared.entry.Entry.{Entry}
+use Rattle.entry_writes.specs.State.{ascends, total_weight, IsDirectory}
+use Rattle.entry_writes.proofs.Identities.{above}
 
 pub above_filter : (p : Entry → Bool) (u : ℕ) (es : List Entry) → above u es ≡ true → above u (filter p es) ≡ true
 above_filter p u [] h = refl

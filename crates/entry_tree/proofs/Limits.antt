@@ -5,9 +5,9 @@ use Rattle.std.proofs.lemmas.Bool.{ltb-false, leb-false, lt-ltb, or_parts, cases
 use Rattle.schema_rules.specs.declared.attributes.Attribute.{Attribute}
 use Rattle.schema_rules.specs.Attributes.{entry_code, weight_of}
 use Rattle.dn_names.specs.Names.{TypeAndValue}
-use Rattle.entry_tree.specs.declared.entry.Entry.{Entry}
-use Rattle.entry_tree.specs.Codes.{weight_code, room_code, naming_code, place_code, add_code}
-use Rattle.entry_tree.specs.State.{total_weight, most_entry_weight, most_entries, most_weight}
+use Rattle.entry_writes.specs.declared.entry.Entry.{Entry}
+use Rattle.entry_writes.specs.Codes.{weight_code, room_code, naming_code, place_code, add_code}
+use Rattle.entry_writes.specs.State.{total_weight, most_entry_weight, most_entries, most_weight}
 
 -- neither code is against it
 pub both_none : (a b : Option ℕ) → option_or a b ≡ None → (a ≡ None) × (b ≡ None)

@@ -6,13 +6,13 @@ use Rattle.std.proofs.lemmas.List.Quantifiers.{position-Some}
 use Rattle.schema_rules.specs.Attributes.{entry_code, weight_of}
 use Rattle.csn_cookie.specs.Csn.{Stamp}
 use Rattle.dn_names.specs.Names.{TypeAndValue}
-use Rattle.entry_tree.specs.declared.edit.Edit.{Edit}
-use Rattle.entry_tree.specs.declared.entry.Entry.{Entry}
-use Rattle.entry_tree.specs.Codes.{modify_code, kept_code, weight_code}
-use Rattle.entry_tree.specs.Edits.{after_edits, edits_code}
-use Rattle.entry_tree.specs.Effects.{edited, modified}
-use Rattle.entry_tree.specs.State.{ascends, is_identified, is_named, entry_named, total_weight}
-use Rattle.entry_tree.specs.Touched.{is_change, touched}
+use Rattle.entry_writes.specs.declared.edit.Edit.{Edit}
+use Rattle.entry_writes.specs.declared.entry.Entry.{Entry}
+use Rattle.entry_writes.specs.Codes.{modify_code, kept_code, weight_code}
+use Rattle.entry_writes.specs.Edits.{after_edits, edits_code}
+use Rattle.entry_writes.specs.Effects.{edited, modified}
+use Rattle.entry_writes.specs.State.{ascends, is_identified, is_named, entry_named, total_weight}
+use Rattle.entry_writes.specs.Touched.{is_change, touched}
 use Rattle.entry_tree.proofs.Replacing.{find_at_place, set_replaces, sum_others, change_from, touched_replaced}
 
 -- the entry is the first of that name, and in this place

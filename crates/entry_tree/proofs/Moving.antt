@@ -13,12 +13,12 @@ use Rattle.dn_names.specs.declared.fault.NameFault.{NameFault}
 use Rattle.dn_names.specs.declared.fault.NameFault.TheVariants.{TooLong}
 use Rattle.dn_names.specs.Reading.{limited}
 use Rattle.dn_names.specs.Sound.{most_rdns}
-use Rattle.entry_tree.specs.declared.entry.Entry.{Entry}
-use Rattle.entry_tree.specs.Codes.{target_code, weight_code, length_code}
-use Rattle.entry_tree.specs.Edits.{with_rdn}
-use Rattle.entry_tree.specs.Effects.{moved, new_name, new_attributes}
-use Rattle.entry_tree.specs.State.{ascends, entry_at, is_identified, own_pairs, total_weight, weight_with, most_weight, IsDirectory}
-use Rattle.entry_tree.proofs.Identities.{above, none_at}
+use Rattle.entry_writes.specs.declared.entry.Entry.{Entry}
+use Rattle.entry_writes.specs.Codes.{target_code, weight_code, length_code}
+use Rattle.entry_writes.specs.Edits.{with_rdn}
+use Rattle.entry_writes.specs.Effects.{moved, new_name, new_attributes}
+use Rattle.entry_writes.specs.State.{ascends, entry_at, is_identified, own_pairs, total_weight, weight_with, most_weight, IsDirectory}
+use Rattle.entry_writes.proofs.Identities.{above, none_at}
 use Rattle.entry_tree.proofs.Limits.{weight_code-told}
 use Rattle.entry_tree.proofs.Replacing.{ascends_mapped}
 

@@ -11,8 +11,8 @@ use Rattle.dn_names.specs.Names.{TypeAndValue, same_name}
 use Rattle.dn_names.specs.Sound.{IsName}
 use Rattle.dn_names.proofs.Equality.{sets-from_same_name, same_name-from_sets}
 use Rattle.dn_names.proofs.KeyTexts.{name_key-apart, name_key-from_sets}
-use Rattle.entry_tree.specs.declared.entry.Entry.{Entry}
-use Rattle.entry_tree.specs.State.{entry_named, same_named}
+use Rattle.entry_writes.specs.declared.entry.Entry.{Entry}
+use Rattle.entry_writes.specs.State.{entry_named, same_named}
 
 -- keys compare equal exactly where the names are
 pub keys_tell : (one other : List (List TypeAndValue)) → IsName one → IsName other → eq_by_cmp (slice_cmp nat_cmp) (name_key one) (name_key other) ≡ same_name one other

@@ -9,14 +9,15 @@ use Rattle.std.proofs.lemmas.Bool.{eq-eqb, eqb-true, ne_eqb, ltb-true, lt-ltb, l
 use Rattle.std.proofs.lemmas.List.Folds.{list_all-append}
 use Rattle.std.proofs.lemmas.List.Sums.{AllPass-from_list_all, fold-append, sum_by-cons}
 use Rattle.schema_rules.specs.Attributes.{weight_of}
-use Rattle.entry_tree.specs.declared.entry.Entry.{Entry}
-use Rattle.entry_tree.specs.declared.touched.Touch.{Touch}
-use Rattle.entry_tree.specs.State.{ascends, entry_at, put, total_weight, most_entries, most_weight, IsDirectory}
-use Rattle.entry_tree.specs.Touched.{identities, joined, touch_at, is_change, touched}
-use Rattle.entry_tree.specs.Bytes.{is_one_found}
+use Rattle.entry_writes.specs.declared.entry.Entry.{Entry}
+use Rattle.entry_writes.specs.declared.touched.Touch.{Touch}
+use Rattle.entry_writes.specs.State.{ascends, entry_at, put, total_weight, most_entries, most_weight, IsDirectory}
+use Rattle.entry_writes.specs.Touched.{identities, joined, touch_at, is_change, touched}
+use Rattle.entry_writes.specs.Bytes.{is_one_found}
 use Rattle.entry_tree.proofs.Directory.{above_filter}
-use Rattle.entry_tree.proofs.Identities.{above, above_lower, holds, insert_same, each_held, none_at}
-use Rattle.entry_tree.proofs.Same.{entry_same}
+use Rattle.entry_writes.proofs.Identities.{above, above_lower, holds, insert_same, each_held, none_at}
+use Rattle.entry_writes.proofs.Passing.{list_all-filter}
+use Rattle.entry_writes.proofs.Same.{entry_same}
 
 abbrev lower : ℕ → List Entry → List Entry
 lower u es = filter (λ x. nat_lt x.uuid u) es
@@ -198,16 +199,6 @@ joined_held base (e ∷ es) asc held =
     let p = and_parts (holds base e.uuid) (list_all (λ x. holds base x.uuid) es) held in
     ap (λ ids. joined ids (identities es)) (insert_same base e.uuid asc p.0) ∙ joined_held base es asc p.1
 
-all_filter : (p q : Entry → Bool) (es : List Entry) → list_all p es ≡ true → list_all p (filter q es) ≡ true
-all_filter p q [] h = refl
-all_filter p q (e ∷ es) h =
-    let parts = and_parts (p e) (list_all p es) h in
-    by parts.0 (all_filter p q es parts.1) (q e)
-  where
-    by : p e ≡ true → list_all p (filter q es) ≡ true → (b : Bool) → list_all p (cond b (e ∷ filter q es) (filter q es)) ≡ true
-    by first rest true = and_from (p e) (list_all p (filter q es)) first rest
-    by first rest false = rest
-
 identities-append : (xs ys : List Entry) → identities (xs ++ ys) ≡ identities xs ++ identities ys
 identities-append [] ys = refl
 identities-append (x ∷ xs) ys = ap (λ ids. x.uuid ∷ ids) (identities-append xs ys)
@@ -216,7 +207,7 @@ joined_put : (e : Entry) (es : List Entry) → ascends es ≡ true → joined (i
 joined_put e es asc =
     let lows = lower e.uuid es in
     let highs = higher e.uuid es in
-    let low_held : list_all (λ x. holds es x.uuid) lows ≡ true = all_filter (λ (x : Entry). holds es x.uuid) (λ (x : Entry). nat_lt x.uuid e.uuid) es (each_held es) in
+    let low_held : list_all (λ x. holds es x.uuid) lows ≡ true = list_all-filter (λ (x : Entry). holds es x.uuid) (λ (x : Entry). nat_lt x.uuid e.uuid) es (each_held es) in
     let all_held = sym (list_all-append (λ (x : Entry). holds (put e es) x.uuid) lows (e ∷ highs)) ∙ each_held (put e es) in
     let high_held = and_parts (holds (put e es) e.uuid) (list_all (λ x. holds (put e es) x.uuid) highs)
     (and_parts (list_all (λ x. holds (put e es) x.uuid) lows) (list_all (λ x. holds (put e es) x.uuid) (e ∷ highs)) all_held).1

@@ -1,12 +1,12 @@
 -- What differs where entries are removed.
 use Rattle.std.proofs.Common.{◌≡◌, Bool, true, false, not, cond, List, [], ◌∷◌, map, Option, Some, None, ap, sym, ◌∙◌, refl}
 use Rattle.std.specs.List.{filter, filter_map, cons_option}
-use Rattle.entry_tree.specs.declared.entry.Entry.{Entry}
-use Rattle.entry_tree.specs.declared.touched.Touch.{Touch}
-use Rattle.entry_tree.specs.State.{ascends}
-use Rattle.entry_tree.specs.Touched.{is_change, touched}
-use Rattle.entry_tree.proofs.Identities.{stepped, touched_stepped}
-use Rattle.entry_tree.proofs.Same.{entry_same}
+use Rattle.entry_writes.specs.declared.entry.Entry.{Entry}
+use Rattle.entry_writes.specs.declared.touched.Touch.{Touch}
+use Rattle.entry_writes.specs.State.{ascends}
+use Rattle.entry_writes.specs.Touched.{is_change, touched}
+use Rattle.entry_writes.proofs.Identities.{stepped, touched_stepped}
+use Rattle.entry_writes.proofs.Same.{entry_same}
 
 -- ---- what differs where entries are removed
 

@@ -6,12 +6,12 @@ use Rattle.std.proofs.lemmas.List.Quantifiers.{position-Some}
 use Rattle.std.proofs.lemmas.List.Sums.{AllPass-from_list_all, sum_by-cons, sum_by-set, fails_before_first}
 use Rattle.std.proofs.lemmas.List.{length-set}
 use Rattle.schema_rules.specs.Attributes.{weight_of}
-use Rattle.entry_tree.specs.declared.entry.Entry.{Entry}
-use Rattle.entry_tree.specs.declared.touched.Touch.{Touch}
-use Rattle.entry_tree.specs.State.{ascends, is_identified, IsDirectory, most_weight}
-use Rattle.entry_tree.specs.Touched.{is_change, touched}
-use Rattle.entry_tree.proofs.Identities.{none_held, stepped, touched_mapped}
-use Rattle.entry_tree.proofs.Same.{entry_same}
+use Rattle.entry_writes.specs.declared.entry.Entry.{Entry}
+use Rattle.entry_writes.specs.declared.touched.Touch.{Touch}
+use Rattle.entry_writes.specs.State.{ascends, is_identified, IsDirectory, most_weight}
+use Rattle.entry_writes.specs.Touched.{is_change, touched}
+use Rattle.entry_writes.proofs.Identities.{none_held, stepped, touched_mapped}
+use Rattle.entry_writes.proofs.Same.{entry_same}
 
 -- ---- the place of the first
 

@@ -8,7 +8,7 @@ use Rattle.std.proofs.lemmas.Bool.{and_parts, and_from, eq-eqb, eqb-true, lt-ltb
 use Rattle.std.proofs.lemmas.Bool.Decides.{nat_tests}
 use Rattle.std.proofs.lemmas.List.{take_more}
 use Rattle.std.proofs.lemmas.List.Sums.{fold-append}
-use Rattle.entry_tree.specs.Touched.{joined}
+use Rattle.entry_writes.specs.Touched.{joined}
 
 abbrev pub below_all : ℕ → List ℕ → Bool
 below_all n ns = list_all (nat_lt n) ns

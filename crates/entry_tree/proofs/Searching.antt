@@ -9,9 +9,9 @@ use Rattle.std.specs.declared.cmp.Ordering.TheVariants.{Less, Equal, Greater}
 use Rattle.std.proofs.lemmas.Bool.{and_parts, eq-eqb, ltb-true, ne_eqb, cases_lt}
 use Rattle.std.proofs.lemmas.Bool.Decides.{nat_tests}
 use Rattle.std.proofs.lemmas.List.Sums.{AllPass-from_list_all}
-use Rattle.entry_tree.specs.declared.entry.Entry.{Entry}
-use Rattle.entry_tree.specs.State.{ascends, entry_at, put}
-use Rattle.entry_tree.proofs.Identities.{above}
+use Rattle.entry_writes.specs.declared.entry.Entry.{Entry}
+use Rattle.entry_writes.specs.State.{ascends, entry_at, put}
+use Rattle.entry_writes.proofs.Identities.{above}
 use Rattle.entry_tree.proofs.Putting.{set_puts, insert_puts}
 
 less_where : (a b : ℕ) → nat_cmp a b ≡ Less → a < b

@@ -4,11 +4,11 @@ use Rattle.std.specs.List.{list_all}
 use Rattle.schema_rules.specs.Attributes.{weight_of}
 use Rattle.entry_tree.specs.declared.commit.CommitRefusal.{CommitRefusal}
 use Rattle.entry_tree.specs.declared.commit.CommitRefusal.TheVariants.{TooMany, TooHeavy, SameName, NoMemory}
-use Rattle.entry_tree.specs.declared.entry.Entry.{Entry}
-use Rattle.entry_tree.specs.declared.op.Op.{Op}
-use Rattle.entry_tree.specs.declared.op.Op.TheVariants.{Add, Delete, Modify, Rename, Commit}
-use Rattle.entry_tree.specs.Effects.{committed}
-use Rattle.entry_tree.specs.State.{most_entry_weight, most_entries, most_weight, total_weight, is_crowded, same_named}
+use Rattle.entry_writes.specs.declared.entry.Entry.{Entry}
+use Rattle.entry_writes.specs.declared.op.Op.{Op}
+use Rattle.entry_writes.specs.declared.op.Op.TheVariants.{Add, Delete, Modify, Rename, Commit}
+use Rattle.entry_writes.specs.Effects.{committed}
+use Rattle.entry_writes.specs.State.{most_entry_weight, most_entries, most_weight, total_weight, is_crowded, same_named}
 
 -- an entry is no heavier than one of a directory may be
 abbrev pub is_light : Entry → Bool

@@ -1,10 +1,10 @@
 -- A directory over a list of writes.
 use Rattle.std.specs.Prelude.{ℕ, zero, suc, ◌+◌, ◌-◌, ◌*◌, ◌%◌, ◌^◌, List, [], ◌∷◌, map, take}
-use Rattle.entry_tree.specs.declared.entry.Entry.{Entry}
-use Rattle.entry_tree.specs.declared.op.Write.{Write}
-use Rattle.entry_tree.specs.Effects.{effect}
+use Rattle.entry_writes.specs.declared.entry.Entry.{Entry}
+use Rattle.entry_writes.specs.declared.op.Write.{Write}
+use Rattle.entry_writes.specs.Effects.{effect}
 use Rattle.entry_tree.specs.Selection.{Search, select}
-use Rattle.entry_tree.specs.Touched.{touched, joined}
+use Rattle.entry_writes.specs.Touched.{touched, joined}
 
 -- the identity of an entry that write `number` of a history adds: a UUID of version 8 (RFC 9562, section 5.8)
 -- of the low 48 bits of the history's number and 62 bits of the write's

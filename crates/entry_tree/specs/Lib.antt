@@ -1,14 +1,15 @@
--- Entries, writes with their codes and effects, and what a specification selects.
-pub mod Bytes
-pub mod Codes
-pub mod Edits
-pub mod Effects
-pub mod Fault
+-- What a specification selects from entries, histories of writes, and commits that there is room for, with what
+-- entry_writes says of entries and writes.
 pub mod FilterCode
 pub mod Fitting
 pub mod History
-pub mod Reading
 pub mod Selection
-pub mod Sound
-pub mod State
-pub mod Touched
+pub use Rattle.entry_writes.specs.Bytes
+pub use Rattle.entry_writes.specs.Codes
+pub use Rattle.entry_writes.specs.Edits
+pub use Rattle.entry_writes.specs.Effects
+pub use Rattle.entry_writes.specs.Fault
+pub use Rattle.entry_writes.specs.Reading
+pub use Rattle.entry_writes.specs.Sound
+pub use Rattle.entry_writes.specs.State
+pub use Rattle.entry_writes.specs.Touched

@@ -4,7 +4,7 @@ use Rattle.dn_names.specs.Names.{TypeAndValue, same_name, is_at_or_below, is_chi
 use Rattle.ldap_filter.specs.Same.{same_tree}
 use Rattle.ldap_filter.specs.Tree.{Tree, tree_of}
 use Rattle.ldap_filter.specs.Truth.{truth_on, is_true}
-use Rattle.entry_tree.specs.declared.entry.Entry.{Entry}
+use Rattle.entry_writes.specs.declared.entry.Entry.{Entry}
 use Rattle.entry_tree.specs.declared.spec.Scope.{Scope}
 use Rattle.entry_tree.specs.declared.spec.Scope.TheVariants.{Base, One, Sub}
 use Rattle.entry_tree.specs.declared.spec.Spec.{Spec}

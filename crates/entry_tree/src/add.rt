@@ -3,18 +3,15 @@ ghost use Rattle.std.specs.Prelude.{◌≡◌, ◌+◌, ◌≤◌, ◌<◌, true
 ghost use Rattle.std.specs.Option.{option_copied};
 ghost use Rattle.std.specs.Vec.{vec_capacity, vec_len};
 ghost use Rattle.schema_rules.specs.Attributes.{weight_of};
-ghost use Rattle.entry_tree.specs.Codes.{add_code};
-ghost use Rattle.entry_tree.specs.Fault.{Tells};
-ghost use Rattle.entry_tree.specs.State as state;
-ghost use Rattle.entry_tree.specs.Touched.{is_change, touched};
+ghost use Rattle.entry_writes.specs.Codes.{add_code};
+ghost use Rattle.entry_writes.specs.Fault.{Tells};
+ghost use Rattle.entry_writes.specs.State as state;
+ghost use Rattle.entry_writes.specs.Touched.{is_change, touched};
 
-use crate::checks::check_add;
-use crate::entry::Entry;
-use crate::fault::OpFault;
-use crate::touched::Touched;
 use crate::tree::Tree;
 use csn_cookie::Csn;
 use dn_names::Dn;
+use entry_writes::{Entry, OpFault, Touched, check_add};
 use ldap_ber::NoMemory;
 use schema_rules::Attrs;
 use std::alloc::Global;
@@ -25,7 +22,6 @@ impl Tree {
     /// entries.
     pub(crate) fn add(
         &mut self,
-        alloc: Global,
         suffix: &Dn,
         dn: &Dn,
         attrs: &Attrs,
@@ -38,14 +34,13 @@ impl Tree {
         ensures refused { IfErr result (Tells (add_code suffix.now self.old dn.now attrs.now)) }
         ensures err { OnErr result (self.new ≡ self.old) }
     {
-        let entry = self.new_entry(alloc, suffix, dn, attrs, uuid, csn)?;
-        Ok(self.put(alloc, entry)?)
+        let entry = self.new_entry(suffix, dn, attrs, uuid, csn)?;
+        Ok(self.put(entry)?)
     }
 
     /// What differs after that addition, or the first code that is against it.
     pub(crate) fn preview_add(
         &self,
-        alloc: Global,
         suffix: &Dn,
         dn: &Dn,
         attrs: &Attrs,
@@ -57,14 +52,13 @@ impl Tree {
             touches ≡ touched self.now (state.put (record { uuid = uuid; csn = csn; dn = dn.now; attrs = attrs.now }) self.now)) }
         ensures refused { IfErr result (Tells (add_code suffix.now self.now dn.now attrs.now)) }
     {
-        let entry = self.new_entry(alloc, suffix, dn, attrs, uuid, csn)?;
-        Ok(self.preview_put(alloc, &entry)?)
+        let entry = self.new_entry(suffix, dn, attrs, uuid, csn)?;
+        Ok(self.preview_put(&entry)?)
     }
 
     /// The entry that is to be added, or the first code that is against it.
     fn new_entry(
         &self,
-        alloc: Global,
         suffix: &Dn,
         dn: &Dn,
         attrs: &Attrs,
@@ -75,7 +69,14 @@ impl Tree {
         ensures value { IfOk result (λ entry. entry ≡ record { uuid = uuid; csn = csn; dn = dn.now; attrs = attrs.now }) }
         ensures refused { IfErr result (Tells (add_code suffix.now self.now dn.now attrs.now)) }
     {
-        check_add(alloc, &self.entries, self.weight, suffix, dn, attrs)?;
+        check_add(
+            *self.entries.allocator(),
+            &self.entries,
+            self.weight,
+            suffix,
+            dn,
+            attrs,
+        )?;
         Ok(Entry {
             uuid,
             csn,
@@ -86,7 +87,7 @@ impl Tree {
 
     /// Puts the entry in its place, where it replaces one of the same identity. The answer is what
     /// differs.
-    fn put(&mut self, alloc: Global, entry: Entry) -> Result<Touched, NoMemory>
+    fn put(&mut self, entry: Entry) -> Result<Touched, NoMemory>
         requires few { length self.old < state.most_entries }
         requires light { state.total_weight self.old + weight_of entry.attrs ≤ state.most_weight }
         ensures effect { OnOk result (self.new ≡ state.put entry self.old) }
@@ -95,17 +96,17 @@ impl Tree {
     {
         let was = self.get(entry.uuid);
         let weight = weight_without(self.weight, was) + entry.attrs.weight();
-        let touches = change(alloc, was, &entry)?;
+        let touches = change(*self.entries.allocator(), was, &entry)?;
         put_entry(&mut self.entries, entry)?;
         self.weight = weight;
         Ok(touches)
     }
 
     /// What differs after the entry is put in its place.
-    fn preview_put(&self, alloc: Global, entry: &Entry) -> Result<Touched, NoMemory>
+    fn preview_put(&self, entry: &Entry) -> Result<Touched, NoMemory>
         ensures { IfOk result (λ touches. touches ≡ touched self.now (state.put entry.now self.now)) }
     {
-        change(alloc, self.get(entry.uuid), entry)
+        change(*self.entries.allocator(), self.get(entry.uuid), entry)
     }
 }
 

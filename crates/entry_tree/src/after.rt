@@ -1,11 +1,11 @@
 //! The entries after a commit, where they are.
 ghost use Rattle.std.specs.Prelude.{◌≡◌, true, not, [], map, filter, fold, IfOk, OnOk};
 ghost use Rattle.std.specs.Option.{option_copied};
-ghost use Rattle.entry_tree.specs.Effects.{committed, is_one_of};
-ghost use Rattle.entry_tree.specs.State.{ascends, entry_at, put};
-ghost use Rattle.entry_tree.specs.Touched.{identities, joined};
+ghost use Rattle.entry_writes.specs.Effects.{committed, is_one_of};
+ghost use Rattle.entry_writes.specs.State.{ascends, entry_at, put};
+ghost use Rattle.entry_writes.specs.Touched.{identities, joined};
 
-use crate::entry::Entry;
+use entry_writes::Entry;
 use ldap_ber::NoMemory;
 use std::alloc::Global;
 use std::collections::BTreeSet;

@@ -3,17 +3,16 @@ ghost use Rattle.std.specs.Prelude.{◌≡◌, ◌≤◌, ◌+◌, true, not, ma
 ghost use Rattle.std.specs.List.{list_all};
 ghost use Rattle.std.specs.Vec.{vec_capacity, vec_len};
 ghost use Rattle.entry_tree.specs.declared.commit.CommitRefusal.TheVariants.{NoMemory};
-ghost use Rattle.entry_tree.specs.Effects.{committed, is_one_of};
+ghost use Rattle.entry_writes.specs.Effects.{committed, is_one_of};
 ghost use Rattle.entry_tree.specs.Fitting.{is_light, may_be_held, Opposes};
-ghost use Rattle.entry_tree.specs.State as state;
-ghost use Rattle.entry_tree.specs.Touched.{is_change, touch_at, touched};
+ghost use Rattle.entry_writes.specs.State as state;
+ghost use Rattle.entry_writes.specs.Touched.{is_change, touch_at, touched};
 
 use crate::add::put_reserved;
 use crate::after::{entries_after, entry_of, has, id_set, ids_of};
-use crate::entry::Entry;
 use crate::held::check_held;
-use crate::touched::Touched;
 use crate::tree::Tree;
+use entry_writes::{Entry, Touched};
 use ldap_ber::NoMemory;
 use std::alloc::{AllocError, Global};
 use std::collections::{BTreeSet, VecDeque};
@@ -41,34 +40,26 @@ impl From<AllocError> for CommitRefusal {
 impl Tree {
     /// Whether the entries after a commit may be held: they are no more and no heavier than a
     /// directory's may be, and no two of them have one name.
-    pub fn check_commit(
-        &self,
-        alloc: Global,
-        puts: &[Entry],
-        drops: &[u128],
-    ) -> Result<(), CommitRefusal>
+    pub fn check_commit(&self, puts: &[Entry], drops: &[u128]) -> Result<(), CommitRefusal>
         ensures ok { OnOk result (may_be_held (committed self.now puts.now drops.now) ≡ true) }
         ensures refused { IfErr result (Opposes (committed self.now puts.now drops.now)) }
     {
+        let alloc = *self.entries.allocator();
         let after = entries_after(alloc, &self.entries, puts, drops)?;
         check_held(alloc, &after)
     }
 
     /// Drops identities, and then puts entries, each in the place of one of its identity. The answer
     /// is what differs. A refusal leaves the entries.
-    pub(crate) fn commit(
-        &mut self,
-        alloc: Global,
-        puts: &[Entry],
-        drops: &[u128],
-    ) -> Result<Touched, NoMemory>
+    pub(crate) fn commit(&mut self, puts: &[Entry], drops: &[u128]) -> Result<Touched, NoMemory>
         requires light { list_all is_light puts.now ≡ true }
         requires held { may_be_held (committed self.old puts.now drops.now) ≡ true }
         ensures effect { OnOk result (self.new ≡ committed self.old puts.now drops.now) }
         ensures touched { IfOk result (λ touches. touches ≡ touched self.old self.new) }
         ensures err { OnErr result (self.new ≡ self.old) }
     {
-        let touches = self.preview_commit(alloc, puts, drops)?;
+        let alloc = *self.entries.allocator();
+        let touches = self.preview_commit(puts, drops)?;
         let dropped = id_set(alloc, drops)?;
         let copied = copies(alloc, puts)?;
         self.entries.reserve(puts.len())?;
@@ -79,31 +70,22 @@ impl Tree {
     }
 
     /// What a commit would change.
-    pub(crate) fn preview_commit(
-        &self,
-        alloc: Global,
-        puts: &[Entry],
-        drops: &[u128],
-    ) -> Result<Touched, NoMemory>
+    pub(crate) fn preview_commit(&self, puts: &[Entry], drops: &[u128]) -> Result<Touched, NoMemory>
         ensures { IfOk result (λ touches. touches ≡ touched self.now (committed self.now puts.now drops.now)) }
     {
+        let alloc = *self.entries.allocator();
         let after = entries_after(alloc, &self.entries, puts, drops)?;
         let uuids = ids_of(alloc, puts, drops)?;
-        self.differences(alloc, &after, &uuids)
+        self.differences(&after, &uuids)
     }
 
     /// Which of these identities have another entry after a write than now.
-    fn differences(
-        &self,
-        alloc: Global,
-        after: &[&Entry],
-        uuids: &[u128],
-    ) -> Result<Touched, NoMemory>
+    fn differences(&self, after: &[&Entry], uuids: &[u128]) -> Result<Touched, NoMemory>
         requires { state.ascends (map (λ e. e.now) after.now) ≡ true }
         ensures { IfOk result (λ touches.
             touches ≡ filter is_change (map (touch_at self.now (map (λ e. e.now) after.now)) uuids.now)) }
     {
-        let mut touches = Touched::new(alloc);
+        let mut touches = Touched::new(*self.entries.allocator());
         for uuid in uuids {
             touches.push_difference(*uuid, self.get(*uuid), entry_of(after, *uuid))?;
         }

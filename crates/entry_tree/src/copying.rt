@@ -1,18 +1,18 @@
 //! Copies of the entries of a directory.
 ghost use Rattle.std.specs.Prelude.{◌≡◌, IfOk};
 
-use crate::entry::Entry;
 use crate::tree::Tree;
+use entry_writes::Entry;
 use ldap_ber::NoMemory;
 use std::alloc::Global;
 
 impl Tree {
     /// The same entries a second time.
-    pub fn copy(&self, alloc: Global) -> Result<Tree, NoMemory>
+    pub fn copy(&self) -> Result<Tree, NoMemory>
         ensures { IfOk result (λ copy. copy ≡ self.now) }
     {
         Ok(Tree {
-            entries: copies(alloc, &self.entries)?,
+            entries: copies(*self.entries.allocator(), &self.entries)?,
             weight: self.weight,
         })
     }

@@ -1,43 +1,40 @@
 //! The removal of an entry (RFC 4511, section 4.8).
 ghost use Rattle.std.specs.Prelude.{◌≡◌, ◌≤◌, not, None, filter, map, IfOk, IfErr, OnOk, OnErr};
-ghost use Rattle.entry_tree.specs.Codes.{delete_code};
-ghost use Rattle.entry_tree.specs.Fault.{Tells};
-ghost use Rattle.entry_tree.specs.State as state;
-ghost use Rattle.entry_tree.specs.Touched.{touched};
+ghost use Rattle.entry_writes.specs.Codes.{delete_code};
+ghost use Rattle.entry_writes.specs.Fault.{Tells};
+ghost use Rattle.entry_writes.specs.State as state;
+ghost use Rattle.entry_writes.specs.Touched.{touched};
 
-use crate::checks::check_delete;
-use crate::entry::Entry;
-use crate::fault::OpFault;
-use crate::touched::{Touch, Touched};
 use crate::tree::Tree;
 use dn_names::Dn;
+use entry_writes::{Entry, OpFault, Touch, Touched, check_delete};
 use ldap_ber::NoMemory;
 use std::alloc::Global;
 
 impl Tree {
     /// Removes the entry of that name, or tells the first code that is against it. The answer is
     /// what differs. A refusal leaves the entries.
-    pub(crate) fn delete(&mut self, alloc: Global, dn: &Dn) -> Result<Touched, OpFault>
+    pub(crate) fn delete(&mut self, dn: &Dn) -> Result<Touched, OpFault>
         ensures accepted { OnOk result (delete_code self.old dn.now ≡ None) }
         ensures effect { OnOk result (self.new ≡ filter (λ e. not (state.is_named dn.now e)) self.old) }
         ensures touched { IfOk result (λ touches. touches ≡ touched self.old self.new) }
         ensures refused { IfErr result (Tells (delete_code self.old dn.now)) }
         ensures err { OnErr result (self.new ≡ self.old) }
     {
-        let touches = self.preview_delete(alloc, dn)?;
+        let touches = self.preview_delete(dn)?;
         self.weight -= named_weight(&self.entries, dn);
         remove_named(&mut self.entries, dn);
         Ok(touches)
     }
 
     /// What differs without the entry of that name, or the first code that is against its removal.
-    pub(crate) fn preview_delete(&self, alloc: Global, dn: &Dn) -> Result<Touched, OpFault>
+    pub(crate) fn preview_delete(&self, dn: &Dn) -> Result<Touched, OpFault>
         ensures accepted { OnOk result (delete_code self.now dn.now ≡ None) }
         ensures touched { IfOk result (λ touches. touches ≡ touched self.now (filter (λ e. not (state.is_named dn.now e)) self.now)) }
         ensures refused { IfErr result (Tells (delete_code self.now dn.now)) }
     {
         check_delete(&self.entries, dn)?;
-        Ok(removals(alloc, &self.entries, dn)?)
+        Ok(removals(*self.entries.allocator(), &self.entries, dn)?)
     }
 }
 

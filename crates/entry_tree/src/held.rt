@@ -4,11 +4,10 @@ ghost use Rattle.std.specs.Option.{option_or};
 ghost use Rattle.dn_names.specs.Keys.{name_key};
 ghost use Rattle.dn_names.specs.Sound.{IsName};
 ghost use Rattle.entry_tree.specs.Fitting.{may_be_held, Opposes};
-ghost use Rattle.entry_tree.specs.State as state;
+ghost use Rattle.entry_writes.specs.State as state;
 
-use crate::checks::{MOST_ENTRIES, MOST_WEIGHT};
 use crate::commit::CommitRefusal;
-use crate::entry::Entry;
+use entry_writes::{Entry, MOST_ENTRIES, MOST_WEIGHT};
 use ldap_ber::NoMemory;
 use std::alloc::Global;
 use std::collections::BTreeMap;

@@ -1,36 +1,51 @@
-//! Entries, the writes of a directory with their codes and effects, and the entries that a
+//! The entries of a directory as a tree, on which writes are made, and the entries that a
 //! specification selects (RFC 4511, sections 4.5 to 4.9).
 #![tactic(auto)]
 
 mod add;
 mod after;
-mod bytes;
-mod changing;
-mod checks;
 mod commit;
 mod copying;
 mod delete;
-mod edit;
-mod entry;
-mod fault;
 mod held;
 mod modify;
-mod op;
-mod reading;
 mod rename;
 mod spec;
-mod target;
-mod touched;
 mod tree;
+
+/// Edits of an entry's attributes, as `entry_writes` has them.
+pub mod edit {
+    pub use entry_writes::{Edit, Edits};
+}
+
+/// Entries, as `entry_writes` has them.
+pub mod entry {
+    pub use entry_writes::{Entry, EntryList};
+}
+
+/// Why a write is refused, as `entry_writes` has it.
+pub mod fault {
+    pub use entry_writes::OpFault;
+}
+
+/// Writes, as `entry_writes` has them.
+pub mod op {
+    pub use entry_writes::{Op, Write};
+}
+
+/// What a write changes, as `entry_writes` has it.
+pub mod touched {
+    pub use entry_writes::{Touch, Touched};
+}
 
 pub use commit::CommitRefusal;
 pub use edit::{Edit, Edits};
 pub use entry::{Entry, EntryList};
+pub use entry_writes::read_op;
 pub use fault::OpFault;
 pub use held::check_held;
 pub use ldap_ber::NoMemory;
 pub use op::{Op, Write};
-pub use reading::read_op;
 pub use spec::{Scope, Spec};
 pub use touched::{Touch, Touched};
 pub use tree::Tree;

@@ -1,41 +1,22 @@
 //! The move of an entry with all below it (RFC 4511, section 4.9).
-ghost use Rattle.std.specs.Prelude.{◌≡◌, ◌≤◌, ◌&&◌, true, false, None, Some, [], ◌∷◌, filter, map, length, nat_lt, if◌then◌else◌, IfOk, IfErr, OnOk, OnErr};
+ghost use Rattle.std.specs.Prelude.{◌≡◌, ◌≤◌, None, Some, IfOk, IfErr, OnOk, OnErr};
 ghost use Rattle.std.specs.Option.{option_or};
 ghost use Rattle.schema_rules.specs.Attributes.{entry_code, weight_of};
-ghost use Rattle.dn_names.specs.Names.{is_at_or_below, moved_name};
-ghost use Rattle.dn_names.specs.Sound.{most_rdns};
-ghost use Rattle.entry_tree.specs.Codes as codes;
-ghost use Rattle.entry_tree.specs.Effects as effects;
-ghost use Rattle.entry_tree.specs.Fault.{Tells};
-ghost use Rattle.entry_tree.specs.State as state;
-ghost use Rattle.entry_tree.specs.Touched.{is_change, touched};
+ghost use Rattle.entry_writes.specs.Codes as codes;
+ghost use Rattle.entry_writes.specs.Effects as effects;
+ghost use Rattle.entry_writes.specs.Fault.{Tells};
+ghost use Rattle.entry_writes.specs.State as state;
+ghost use Rattle.entry_writes.specs.Touched.{touched};
 
 use crate::add::weight_without;
-use crate::changing::{own_pairs, with_new_rdn};
-use crate::checks::check_weight;
-use crate::entry::Entry;
-use crate::fault::{ADMIN_LIMIT_EXCEEDED, NO_SUCH_OBJECT, OpFault};
-use crate::target::{check_target, name_above, name_below};
-use crate::touched::Touched;
 use crate::tree::Tree;
 use csn_cookie::Csn;
-use dn_names::{Dn, NameFault, Rdn};
-use schema_rules::{Attrs, check_entry};
-use std::alloc::Global;
-
-/// The new name of an entry, and its new attributes.
-#[derive(Drop)]
-struct Renamed {
-    name: Dn,
-    attrs: Attrs,
-}
-
-/// The entries after a Rename, and what differs.
-#[derive(Drop)]
-struct Moved {
-    entries: Vec<Entry>,
-    touches: Touched,
-}
+use dn_names::{Dn, Rdn};
+use entry_writes::{
+    ADMIN_LIMIT_EXCEEDED, Entry, Moved, NO_SUCH_OBJECT, OpFault, Renamed, Touched, check_target,
+    check_weight, moved_entries, name_above, name_below, own_pairs, with_new_rdn,
+};
+use schema_rules::check_entry;
 
 /// The entries after a Rename with what differs, and what they weigh.
 #[derive(Drop)]
@@ -50,7 +31,6 @@ impl Tree {
     /// answer is what differs. A refusal leaves the entries.
     pub(crate) fn rename(
         &mut self,
-        alloc: Global,
         suffix: &Dn,
         dn: &Dn,
         rdn: &Rdn,
@@ -67,7 +47,7 @@ impl Tree {
         let Renaming {
             moved: Moved { entries, touches },
             weight,
-        } = self.renaming(alloc, suffix, dn, rdn, deletes, superior, csn)?;
+        } = self.renaming(suffix, dn, rdn, deletes, superior, csn)?;
         self.entries = entries;
         self.weight = weight;
         Ok(touches)
@@ -76,7 +56,6 @@ impl Tree {
     /// What differs after that rename, or the first code that is against it.
     pub(crate) fn preview_rename(
         &self,
-        alloc: Global,
         suffix: &Dn,
         dn: &Dn,
         rdn: &Rdn,
@@ -89,7 +68,7 @@ impl Tree {
             touches ≡ touched self.now (effects.renamed self.now (state.entry_named self.now dn.now) rdn.now deletes superior.now csn)) }
         ensures refused { IfErr result (Tells (codes.rename_code suffix.now self.now (state.entry_named self.now dn.now) rdn.now deletes superior.now)) }
     {
-        let Renaming { moved, .. } = self.renaming(alloc, suffix, dn, rdn, deletes, superior, csn)?;
+        let Renaming { moved, .. } = self.renaming(suffix, dn, rdn, deletes, superior, csn)?;
         Ok(moved.touches)
     }
 
@@ -97,7 +76,6 @@ impl Tree {
     /// is against them.
     fn renaming(
         &self,
-        alloc: Global,
         suffix: &Dn,
         dn: &Dn,
         rdn: &Rdn,
@@ -116,8 +94,8 @@ impl Tree {
         let Some(top) = self.find(dn) else {
             return Err(OpFault::Code(NO_SUCH_OBJECT));
         };
-        let renamed = self.renamed(alloc, suffix, top, rdn, deletes, superior)?;
-        let moved = moved_entries(alloc, entries, top, &renamed, csn)?;
+        let renamed = self.renamed(suffix, top, rdn, deletes, superior)?;
+        let moved = moved_entries(*entries.allocator(), entries, top, &renamed, csn)?;
         let weight = weight_without(self.weight, Some(top)) + renamed.attrs.weight();
         Ok(Renaming { moved, weight })
     }
@@ -126,7 +104,6 @@ impl Tree {
     /// the names below is not looked at.
     fn renamed(
         &self,
-        alloc: Global,
         suffix: &Dn,
         top: &Entry,
         rdn: &Rdn,
@@ -144,6 +121,7 @@ impl Tree {
         ensures refused { IfErr result (Tells (codes.moved_code suffix.now self.now top.now
             (effects.new_name top.now rdn.now superior.now) (effects.new_attributes top.now rdn.now deletes) superior.now)) }
     {
+        let alloc = *self.entries.allocator();
         let above = name_above(alloc, &top.dn, superior)?;
         let name = name_below(&above, rdn)?;
         check_target(&self.entries, suffix, top, rdn, &above, &name, superior)?;
@@ -153,74 +131,6 @@ impl Tree {
         match name {
             None => Err(OpFault::Code(ADMIN_LIMIT_EXCEEDED)),
             Some(name) => Ok(Renamed { name, attrs }),
-        }
-    }
-}
-
-/// The entries after the one is renamed, or the code of a name that would be too long.
-fn moved_entries(
-    alloc: Global,
-    entries: &[Entry],
-    top: &Entry,
-    renamed: &Renamed,
-    csn: Csn,
-) -> Result<Moved, OpFault>
-    ensures entries { IfOk result (λ moved. moved.entries.items ≡ map (effects.moved top.now renamed.now.name renamed.now.attrs csn) entries.now) }
-    ensures touches { IfOk result (λ moved. moved.touches ≡ filter is_change
-        (map (λ e. record { uuid = e.uuid; was = Some e; now = Some (effects.moved top.now renamed.now.name renamed.now.attrs csn e) }) entries.now)) }
-    ensures accepted { OnOk result (codes.length_code entries.now top.now renamed.now.name ≡ None) }
-    ensures refused { IfErr result (Tells (codes.length_code entries.now top.now renamed.now.name)) }
-{
-    let mut moved = Moved {
-        entries: Vec::new(alloc),
-        touches: Touched::new(alloc),
-    };
-    for entry in entries {
-        let now = moved_entry(entry, top, renamed, csn)?;
-        moved.touches.push_change(Some(entry), &now)?;
-        moved.entries.push(now)?;
-    }
-    Ok(moved)
-}
-
-/// An entry after the one is renamed, or the code of a name that would be too long.
-fn moved_entry(entry: &Entry, top: &Entry, renamed: &Renamed, csn: Csn) -> Result<Entry, OpFault>
-    ensures value { IfOk result (λ moved. moved ≡ effects.moved top.now renamed.now.name renamed.now.attrs csn entry.now) }
-    ensures short { OnOk result (
-        (is_at_or_below entry.now.dn top.now.dn && nat_lt most_rdns (length (moved_name entry.now.dn top.now.dn renamed.now.name))) ≡ false) }
-    ensures refused { IfErr result (Tells (
-        if is_at_or_below entry.now.dn top.now.dn && nat_lt most_rdns (length (moved_name entry.now.dn top.now.dn renamed.now.name)) then Some 11 else None)) }
-{
-    if !entry.dn.is_at_or_below(&top.dn) {
-        return Ok(entry.copy()?);
-    }
-    let uuid = entry.uuid;
-    let dn = moved_dn(&entry.dn, &top.dn, &renamed.name)?;
-    let attrs = if uuid == top.uuid {
-        renamed.attrs.copy()?
-    } else {
-        entry.attrs.copy()?
-    };
-    Ok(Entry {
-        uuid,
-        csn,
-        dn,
-        attrs,
-    })
-}
-
-/// The name with `to` in place of its suffix that equals `from`, or the code of too long a name.
-fn moved_dn(dn: &Dn, from: &Dn, to: &Dn) -> Result<Dn, OpFault>
-    requires { is_at_or_below dn.now from.now ≡ true }
-    ensures value { IfOk result (λ moved. moved ≡ moved_name dn.now from.now to.now) }
-    ensures short { OnOk result (nat_lt most_rdns (length (moved_name dn.now from.now to.now)) ≡ false) }
-    ensures refused { IfErr result (Tells (if nat_lt most_rdns (length (moved_name dn.now from.now to.now)) then Some 11 else None)) }
-{
-    match dn.moved(from, to) {
-        Ok(moved) => Ok(moved),
-        Err(NameFault::NoMemory) => Err(OpFault::NoMemory),
-        Err(NameFault::BadName(_) | NameFault::UnknownType(_) | NameFault::TooLong(_)) => {
-            Err(OpFault::Code(ADMIN_LIMIT_EXCEEDED))
         }
     }
 }

@@ -2,8 +2,8 @@
 ghost use Rattle.std.specs.Prelude.{◌≡◌, IfOk};
 ghost use Rattle.entry_tree.specs.Selection.{is_in_scope, is_selected, is_same_scope, is_same_search, search_of};
 
-use crate::entry::Entry;
 use dn_names::Dn;
+use entry_writes::Entry;
 use ldap_ber::NoMemory;
 use ldap_filter::{Filter, Truth};
 use std::alloc::Global;

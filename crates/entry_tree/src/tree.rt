@@ -1,22 +1,19 @@
 //! The entries of a directory.
 ghost use Rattle.std.specs.Prelude.{◌≡◌, ◌≤◌, true, None, [], length, find, IfOk, OnOk, OnErr, IfErr};
 ghost use Rattle.std.specs.Option.{option_copied};
-ghost use Rattle.entry_tree.specs.Codes.{code_of};
-ghost use Rattle.entry_tree.specs.Effects.{effect};
-ghost use Rattle.entry_tree.specs.Fault.{Tells};
+ghost use Rattle.entry_writes.specs.Codes.{code_of};
+ghost use Rattle.entry_writes.specs.Effects.{effect};
+ghost use Rattle.entry_writes.specs.Fault.{Tells};
 ghost use Rattle.entry_tree.specs.Fitting.{fits};
 ghost use Rattle.entry_tree.specs.Selection.{search_of, select};
-ghost use Rattle.entry_tree.specs.Sound.{is_sound_op};
-ghost use Rattle.entry_tree.specs.State as state;
-ghost use Rattle.entry_tree.specs.Touched.{touched};
+ghost use Rattle.entry_writes.specs.Sound.{is_sound_op};
+ghost use Rattle.entry_writes.specs.State as state;
+ghost use Rattle.entry_writes.specs.Touched.{touched};
 
-use crate::entry::{Entry, EntryList};
-use crate::fault::OpFault;
-use crate::op::Op;
 use crate::spec::Spec;
-use crate::touched::Touched;
 use csn_cookie::Csn;
 use dn_names::Dn;
+use entry_writes::{Entry, EntryList, Op, OpFault, Touched};
 use ldap_ber::NoMemory;
 use std::alloc::Global;
 use std::marker::Model;
@@ -31,8 +28,8 @@ pub struct Tree {
 /// Contracts see the entries in ascending order of identity.
 impl Model for Tree {
     ghost use Rattle.std.specs.Prelude.{List};
-    ghost use Rattle.entry_tree.specs.declared.entry.Entry.{Entry};
-    ghost use Rattle.entry_tree.specs.State.{IsDirectory};
+    ghost use Rattle.entry_writes.specs.declared.entry.Entry.{Entry};
+    ghost use Rattle.entry_writes.specs.State.{IsDirectory};
 
     ghost Value = { List Entry };
 
@@ -96,14 +93,7 @@ impl Tree {
     /// An entry that is added gets the identity, and each entry that is added or changed the stamp;
     /// what a commit puts keeps its own, and `check_commit` tells whether there is room for it. The
     /// answer is what differs, with what was and what is. A refusal leaves the entries.
-    pub fn apply(
-        &mut self,
-        alloc: Global,
-        op: &Op,
-        suffix: &Dn,
-        uuid: u128,
-        csn: Csn,
-    ) -> Result<Touched, OpFault>
+    pub fn apply(&mut self, op: &Op, suffix: &Dn, uuid: u128, csn: Csn) -> Result<Touched, OpFault>
         requires sound { is_sound_op op.now ≡ true }
         requires fits { fits self.old op.now ≡ true }
         ensures accepted { OnOk result (code_of suffix.now self.old op.now ≡ None) }
@@ -113,25 +103,18 @@ impl Tree {
         ensures err { OnErr result (self.new ≡ self.old) }
     {
         match op {
-            Op::Add(dn, attrs) => self.add(alloc, suffix, dn, attrs, uuid, csn),
-            Op::Delete(dn) => self.delete(alloc, dn),
-            Op::Modify(dn, edits) => self.modify(alloc, dn, edits, csn),
+            Op::Add(dn, attrs) => self.add(suffix, dn, attrs, uuid, csn),
+            Op::Delete(dn) => self.delete(dn),
+            Op::Modify(dn, edits) => self.modify(dn, edits, csn),
             Op::Rename(dn, rdn, deletes, superior) => {
-                self.rename(alloc, suffix, dn, rdn, *deletes, superior, csn)
+                self.rename(suffix, dn, rdn, *deletes, superior, csn)
             }
-            Op::Commit(puts, drops) => Ok(self.commit(alloc, puts.list(), drops.list())?),
+            Op::Commit(puts, drops) => Ok(self.commit(puts.list(), drops.list())?),
         }
     }
 
     /// What `apply` would answer. The entries stay as they are.
-    pub fn preview(
-        &self,
-        alloc: Global,
-        op: &Op,
-        suffix: &Dn,
-        uuid: u128,
-        csn: Csn,
-    ) -> Result<Touched, OpFault>
+    pub fn preview(&self, op: &Op, suffix: &Dn, uuid: u128, csn: Csn) -> Result<Touched, OpFault>
         requires sound { is_sound_op op.now ≡ true }
         requires fits { fits self.now op.now ≡ true }
         ensures accepted { OnOk result (code_of suffix.now self.now op.now ≡ None) }
@@ -139,20 +122,21 @@ impl Tree {
         ensures refused { IfErr result (Tells (code_of suffix.now self.now op.now)) }
     {
         match op {
-            Op::Add(dn, attrs) => self.preview_add(alloc, suffix, dn, attrs, uuid, csn),
-            Op::Delete(dn) => self.preview_delete(alloc, dn),
-            Op::Modify(dn, edits) => self.preview_modify(alloc, dn, edits, csn),
+            Op::Add(dn, attrs) => self.preview_add(suffix, dn, attrs, uuid, csn),
+            Op::Delete(dn) => self.preview_delete(dn),
+            Op::Modify(dn, edits) => self.preview_modify(dn, edits, csn),
             Op::Rename(dn, rdn, deletes, superior) => {
-                self.preview_rename(alloc, suffix, dn, rdn, *deletes, superior, csn)
+                self.preview_rename(suffix, dn, rdn, *deletes, superior, csn)
             }
-            Op::Commit(puts, drops) => Ok(self.preview_commit(alloc, puts.list(), drops.list())?),
+            Op::Commit(puts, drops) => Ok(self.preview_commit(puts.list(), drops.list())?),
         }
     }
 
     /// The entries that are wanted, in ascending order of identity.
-    pub fn select(&self, alloc: Global, spec: &Spec) -> Result<EntryList, NoMemory>
+    pub fn select(&self, spec: &Spec) -> Result<EntryList, NoMemory>
         ensures { IfOk result (λ found. found ≡ select (search_of spec.now) self.now) }
     {
+        let alloc = *self.entries.allocator();
         let mut found = EntryList::new(alloc);
         for entry in &self.entries {
             if spec.takes(alloc, entry)? {

@@ -27,6 +27,14 @@ end_with (innermost ∷ others) body = record { opened = others; bytes = innermo
 abbrev pub after_end : Written → Written
 after_end w = end_with w.opened w.bytes
 
+-- the innermost element is not there, and what was written in it neither
+abbrev pub without : List Opened → List ℕ → Written
+without [] body = record { opened = []; bytes = body }
+without (innermost ∷ others) body = record { opened = others; bytes = innermost.before }
+
+abbrev pub before_begin : Written → Written
+before_begin w = without w.opened w.bytes
+
 -- the element is small enough for four length octets
 abbrev pub IsSmall : List ℕ → Type 0
 IsSmall spelling = length spelling < 2 ^ 32

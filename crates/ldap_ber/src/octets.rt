@@ -106,6 +106,14 @@ impl OctetsList {
         Ok(())
     }
 
+    /// Puts the strings at the end, or none of them.
+    pub fn append(&mut self, mut more: OctetsList) -> Result<(), NoMemory>
+        ensures ok { OnOk result (self.new ≡ self.old ++ more) }
+        ensures err { OnErr result (self.new ≡ self.old) }
+    {
+        self.items.append(&mut more.items)
+    }
+
     pub fn list(&self) -> &[Octets]
         ensures { result.now ≡ self.now }
     {

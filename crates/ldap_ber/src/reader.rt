@@ -57,6 +57,16 @@ impl<'a> Reader<'a> {
         }
     }
 
+    /// A reader of the same bytes, which goes on by itself.
+    pub fn copy(&self) -> Reader<'a>
+        ensures { result ≡ self.now }
+    {
+        Reader {
+            left: self.left,
+            stop: self.stop,
+        }
+    }
+
     /// The place of the next octet.
     pub fn place(&self) -> usize
         ensures { result ≡ self.now.stop - length self.now.left }
@@ -206,10 +216,7 @@ impl<'a> Reader<'a> {
         ensures stop { self.new.stop ≡ self.old.stop }
         ensures err { OnErr result (self.new ≡ self.old) }
     {
-        let mut ahead = Reader {
-            left: self.left,
-            stop: self.stop,
-        };
+        let mut ahead = self.copy();
         while !ahead.is_empty() {
             ahead.next()?;
         }

@@ -1,8 +1,8 @@
 //! Writing elements, each in its one canonical spelling.
 
-ghost use Rattle.std.specs.Prelude.{◌≡◌, ◌≢◌, ◌<◌, ◌^◌, [], ◌∷◌, ◌++◌, length, OnOk, OnErr};
+ghost use Rattle.std.specs.Prelude.{◌≡◌, ◌≢◌, ◌<◌, ◌^◌, [], ◌∷◌, ◌++◌, length, IsOk, OnOk, OnErr};
 ghost use Rattle.ldap_ber.specs.Canonical.{element, length_octets, is_needless, shortest, integer_octets, boolean_octets, flag_octets};
-ghost use Rattle.ldap_ber.specs.Writer.{after_bytes, after_begin, after_end, IsSmall, EndsSmall};
+ghost use Rattle.ldap_ber.specs.Writer.{after_bytes, after_begin, after_end, before_begin, IsSmall, EndsSmall};
 
 use crate::octets::{NoMemory, Octets};
 use std::alloc::{AllocError, Global};
@@ -126,6 +126,35 @@ impl Writer {
                     Ok(())
                 }
             },
+        }
+    }
+
+    /// Ends the innermost open element where its body was written. After an `Err`, of the body's or
+    /// of the end's, the writer is as before the element's `begin`.
+    pub fn end_after(&mut self, body: Result<(), NoMemory>) -> Result<(), NoMemory>
+        requires { self.old.opened ≢ [] }
+        ensures ok { OnOk result (self.new ≡ after_end self.old) }
+        ensures body { OnOk result (IsOk body) }
+        ensures small { OnOk result (EndsSmall self.old) }
+        ensures err { OnErr result (self.new ≡ before_begin self.old) }
+    {
+        let ended = match body {
+            Ok(()) => self.end(),
+            Err(error) => Err(error),
+        };
+        if ended.is_err() {
+            self.undo_begin();
+        }
+        ended
+    }
+
+    /// Drops the innermost open element with its body.
+    fn undo_begin(&mut self)
+        requires { self.old.opened ≢ [] }
+        ensures { self.new ≡ before_begin self.old }
+    {
+        if let Some(last) = self.unfinished.pop() {
+            self.bytes = last.before;
         }
     }
 

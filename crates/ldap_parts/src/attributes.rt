@@ -9,11 +9,13 @@
 //!                      partialAttribute PartialAttribute
 //! ```
 
-ghost use Rattle.std.specs.Prelude.{◌≡◌, ◌<◌, length, OnOk};
+ghost use Rattle.std.specs.Prelude.{◌≡◌, ◌<◌, ◌++◌, length, OnOk, OnErr};
 ghost use Rattle.std.specs.List.{flat_map};
+ghost use Rattle.ldap_ber.specs.Canonical.{element};
 ghost use Rattle.ldap_ber.specs.Reading.{many_at};
 ghost use Rattle.ldap_ber.specs.Writer.{after_bytes};
 ghost use Rattle.ldap_parts.specs.Gives.{Gives};
+ghost use Rattle.ldap_parts.specs.Components.{strings_octets};
 ghost use Rattle.ldap_parts.specs.Attributes.{attribute_at, attributes_at, attribute_octets, attributes_octets};
 
 use crate::component::string_of;
@@ -30,12 +32,15 @@ pub fn attribute_of(alloc: Global, reader: &mut Reader) -> Result<RawAttribute, 
         (attribute_at reader.old.stop reader.old.left) }
     ensures stop { reader.new.stop ≡ reader.old.stop }
     ensures shorter { OnOk result (length reader.new.left < length reader.old.left) }
+    ensures err { OnErr result (reader.new ≡ reader.old) }
 {
-    let whole = reader.expect(0x30)?;
+    let mut ahead = reader.copy();
+    let whole = ahead.expect(0x30)?;
     let mut inner = Reader::inside(&whole);
     let name = string_of(alloc, &mut inner, 0x04)?;
     let values = strings_of(alloc, &mut inner, 0x31)?;
     inner.skip()?;
+    *reader = ahead;
     Ok(RawAttribute { name, values })
 }
 
@@ -44,10 +49,14 @@ pub fn attributes_of(alloc: Global, reader: &mut Reader) -> Result<RawList, Part
     ensures exact { Gives (λ attributes. (attributes, reader.new.left)) result
         (attributes_at reader.old.stop reader.old.left) }
     ensures stop { reader.new.stop ≡ reader.old.stop }
+    ensures err { OnErr result (reader.new ≡ reader.old) }
 {
-    let whole = reader.expect(0x30)?;
+    let mut ahead = reader.copy();
+    let whole = ahead.expect(0x30)?;
     let mut inner = Reader::inside(&whole);
-    attributes_in(alloc, &mut inner)
+    let attributes = attributes_in(alloc, &mut inner)?;
+    *reader = ahead;
+    Ok(attributes)
 }
 
 /// The attributes that are left.
@@ -67,28 +76,39 @@ fn attributes_in(alloc: Global, reader: &mut Reader) -> Result<RawList, PartFaul
 /// Writes an attribute.
 #[tactic(auto, unfolding(crate::specs::Attributes::attribute_octets))]
 pub fn put_attribute(writer: &mut Writer, attribute: &RawAttribute) -> Result<(), NoMemory>
-    ensures { OnOk result
+    ensures ok { OnOk result
         (writer.new ≡ after_bytes writer.old (attribute_octets attribute.now)) }
+    ensures err { OnErr result (writer.new ≡ writer.old) }
 {
     writer.begin(0x30)?;
+    let body = put_body(writer, attribute);
+    writer.end_after(body)
+}
+
+fn put_body(writer: &mut Writer, attribute: &RawAttribute) -> Result<(), NoMemory>
+    ensures ok { OnOk result (writer.new ≡ after_bytes writer.old
+        (element 4 attribute.now.name ++ strings_octets 49 attribute.now.values)) }
+    ensures opened { OnErr result (writer.new.opened ≡ writer.old.opened) }
+{
     writer.octets(0x04, attribute.name.as_slice())?;
-    put_strings(writer, 0x31, attribute.values.list())?;
-    writer.end()
+    put_strings(writer, 0x31, attribute.values.list())
 }
 
 /// Writes a list of attributes.
 pub fn put_attributes(writer: &mut Writer, attributes: &[RawAttribute]) -> Result<(), NoMemory>
-    ensures { OnOk result
+    ensures ok { OnOk result
         (writer.new ≡ after_bytes writer.old (attributes_octets attributes.now)) }
+    ensures err { OnErr result (writer.new ≡ writer.old) }
 {
     writer.begin(0x30)?;
-    put_each(writer, attributes)?;
-    writer.end()
+    let body = put_each(writer, attributes);
+    writer.end_after(body)
 }
 
 fn put_each(writer: &mut Writer, attributes: &[RawAttribute]) -> Result<(), NoMemory>
-    ensures { OnOk result
+    ensures ok { OnOk result
         (writer.new ≡ after_bytes writer.old (flat_map attribute_octets attributes.now)) }
+    ensures opened { OnErr result (writer.new.opened ≡ writer.old.opened) }
 {
     for attribute in attributes {
         put_attribute(writer, attribute)?;

@@ -15,7 +15,7 @@
 //!                       -- [RFC4514]
 //! ```
 
-ghost use Rattle.std.specs.Prelude.{◌≡◌, ◌<◌, ◌≤◌, length, IfOk, OnOk};
+ghost use Rattle.std.specs.Prelude.{◌≡◌, ◌<◌, ◌≤◌, length, IfOk, OnOk, OnErr};
 ghost use Rattle.ldap_ber.specs.Writer.{after_bytes};
 ghost use Rattle.ldap_parts.specs.Gives.{Gives};
 ghost use Rattle.ldap_parts.specs.Components.{string_at, number_at, truth_at, range_at, option_at, number_octets, string_octets};
@@ -30,9 +30,12 @@ pub fn string_of(alloc: Global, reader: &mut Reader, tag: u8) -> Result<Octets, 
         (string_at tag reader.old.stop reader.old.left) }
     ensures stop { reader.new.stop ≡ reader.old.stop }
     ensures shorter { OnOk result (length reader.new.left < length reader.old.left) }
+    ensures err { OnErr result (reader.new ≡ reader.old) }
 {
-    let octets = reader.octets(tag)?;
-    Ok(Octets::from_slice(alloc, octets)?)
+    let mut ahead = reader.copy();
+    let string = Octets::from_slice(alloc, ahead.octets(tag)?)?;
+    *reader = ahead;
+    Ok(string)
 }
 
 /// The octet string with this tag, where one comes next.
@@ -40,6 +43,7 @@ pub fn option_of(alloc: Global, reader: &mut Reader, tag: u8) -> Result<Option<O
     ensures exact { Gives (λ option. (option, reader.new.left)) result
         (option_at tag reader.old.stop reader.old.left) }
     ensures stop { reader.new.stop ≡ reader.old.stop }
+    ensures err { OnErr result (reader.new ≡ reader.old) }
 {
     if reader.has(tag) {
         return Ok(Some(string_of(alloc, reader, tag)?));
@@ -52,6 +56,7 @@ pub fn number_of(reader: &mut Reader, tag: u8) -> Result<i64, PartFault>
     ensures exact { Gives (λ number. (number, reader.new.left)) result
         (number_at tag reader.old.stop reader.old.left) }
     ensures stop { reader.new.stop ≡ reader.old.stop }
+    ensures err { OnErr result (reader.new ≡ reader.old) }
 {
     let number = reader.integer(tag)?;
     Ok(number)
@@ -62,6 +67,7 @@ pub fn truth_of(reader: &mut Reader) -> Result<bool, PartFault>
     ensures exact { Gives (λ truth. (truth, reader.new.left)) result
         (truth_at reader.old.stop reader.old.left) }
     ensures stop { reader.new.stop ≡ reader.old.stop }
+    ensures err { OnErr result (reader.new ≡ reader.old) }
 {
     let truth = reader.boolean(0x01)?;
     Ok(truth)
@@ -73,14 +79,17 @@ pub fn range_of(reader: &mut Reader, tag: u8, least: u32, most: u32) -> Result<u
         (range_at least most tag reader.old.stop reader.old.left) }
     ensures stop { reader.new.stop ≡ reader.old.stop }
     ensures most { IfOk result (λ number. number ≤ most) }
+    ensures err { OnErr result (reader.new ≡ reader.old) }
 {
     let place = reader.place();
-    let number = number_of(reader, tag)?;
+    let mut ahead = reader.copy();
+    let number = number_of(&mut ahead, tag)?;
     if number < 0 {
         return Err(PartFault::Refused(place));
     }
     let size = number as u64;
     if (least as u64) <= size && size <= (most as u64) {
+        *reader = ahead;
         return Ok(size as u32);
     }
     Err(PartFault::Refused(place))
@@ -88,7 +97,8 @@ pub fn range_of(reader: &mut Reader, tag: u8, least: u32, most: u32) -> Result<u
 
 /// Writes an octet string where there is one.
 pub fn put_option(writer: &mut Writer, tag: u8, option: &Option<Octets>) -> Result<(), NoMemory>
-    ensures { OnOk result (writer.new ≡ after_bytes writer.old (string_octets tag option.now)) }
+    ensures ok { OnOk result (writer.new ≡ after_bytes writer.old (string_octets tag option.now)) }
+    ensures err { OnErr result (writer.new ≡ writer.old) }
 {
     match option {
         Some(string) => writer.octets(tag, string.as_slice()),
@@ -98,7 +108,8 @@ pub fn put_option(writer: &mut Writer, tag: u8, option: &Option<Octets>) -> Resu
 
 /// Writes a number.
 pub fn put_number(writer: &mut Writer, tag: u8, number: u32) -> Result<(), NoMemory>
-    ensures { OnOk result (writer.new ≡ after_bytes writer.old (number_octets tag number)) }
+    ensures ok { OnOk result (writer.new ≡ after_bytes writer.old (number_octets tag number)) }
+    ensures err { OnErr result (writer.new ≡ writer.old) }
 {
     writer.integer(tag, number as i64)
 }

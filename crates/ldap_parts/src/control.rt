@@ -9,11 +9,13 @@
 //!      controlValue            OCTET STRING OPTIONAL }
 //! ```
 
-ghost use Rattle.std.specs.Prelude.{◌≡◌, ◌<◌, [], ◌∷◌, ◌++◌, length, OnOk, OnErr};
+ghost use Rattle.std.specs.Prelude.{◌≡◌, ◌<◌, [], ◌∷◌, ◌++◌, false, length, OnOk, OnErr};
 ghost use Rattle.std.specs.List.{flat_map};
+ghost use Rattle.ldap_ber.specs.Canonical.{element, flag_octets};
 ghost use Rattle.ldap_ber.specs.Reading.{many_at};
 ghost use Rattle.ldap_ber.specs.Writer.{after_bytes};
 ghost use Rattle.ldap_parts.specs.Gives.{Gives};
+ghost use Rattle.ldap_parts.specs.Components.{string_octets};
 ghost use Rattle.ldap_parts.specs.Controls.{control_at, controls_at, control_octets, controls_octets};
 
 use crate::component::{option_of, put_option, string_of};
@@ -75,13 +77,17 @@ pub fn controls_of(alloc: Global, reader: &mut Reader) -> Result<ControlList, Pa
     ensures exact { Gives (λ controls. (controls, reader.new.left)) result
         (controls_at reader.old.stop reader.old.left) }
     ensures stop { reader.new.stop ≡ reader.old.stop }
+    ensures err { OnErr result (reader.new ≡ reader.old) }
 {
-    if reader.has(0xA0) {
-        let whole = reader.expect(0xA0)?;
-        let mut inner = Reader::inside(&whole);
-        return controls_in(alloc, &mut inner);
+    if !reader.has(0xA0) {
+        return Ok(ControlList::new(alloc));
     }
-    Ok(ControlList::new(alloc))
+    let mut ahead = reader.copy();
+    let whole = ahead.expect(0xA0)?;
+    let mut inner = Reader::inside(&whole);
+    let controls = controls_in(alloc, &mut inner)?;
+    *reader = ahead;
+    Ok(controls)
 }
 
 /// The controls that are left.
@@ -121,22 +127,24 @@ fn control_of(alloc: Global, reader: &mut Reader) -> Result<Control, PartFault>
 
 /// Writes the controls of a message, where there are any.
 pub fn put_controls(writer: &mut Writer, controls: &[Control]) -> Result<(), NoMemory>
-    ensures { OnOk result
+    ensures ok { OnOk result
         (writer.new ≡ after_bytes writer.old (controls_octets controls.now)) }
+    ensures err { OnErr result (writer.new ≡ writer.old) }
 {
     match controls {
         [] => Ok(()),
         [_, ..] => {
             writer.begin(0xA0)?;
-            put_each(writer, controls)?;
-            writer.end()
+            let body = put_each(writer, controls);
+            writer.end_after(body)
         }
     }
 }
 
 fn put_each(writer: &mut Writer, controls: &[Control]) -> Result<(), NoMemory>
-    ensures { OnOk result
+    ensures ok { OnOk result
         (writer.new ≡ after_bytes writer.old (flat_map control_octets controls.now)) }
+    ensures opened { OnErr result (writer.new.opened ≡ writer.old.opened) }
 {
     for control in controls {
         put_control(writer, control)?;
@@ -146,11 +154,21 @@ fn put_each(writer: &mut Writer, controls: &[Control]) -> Result<(), NoMemory>
 
 #[tactic(auto, unfolding(crate::specs::Controls::control_octets))]
 fn put_control(writer: &mut Writer, control: &Control) -> Result<(), NoMemory>
-    ensures { OnOk result (writer.new ≡ after_bytes writer.old (control_octets control.now)) }
+    ensures ok { OnOk result (writer.new ≡ after_bytes writer.old (control_octets control.now)) }
+    ensures err { OnErr result (writer.new ≡ writer.old) }
 {
     writer.begin(0x30)?;
+    let body = put_body(writer, control);
+    writer.end_after(body)
+}
+
+fn put_body(writer: &mut Writer, control: &Control) -> Result<(), NoMemory>
+    ensures ok { OnOk result (writer.new ≡ after_bytes writer.old
+        (element 4 control.now.name
+        ++ (flag_octets 1 false control.now.critical ++ string_octets 4 control.now.value))) }
+    ensures opened { OnErr result (writer.new.opened ≡ writer.old.opened) }
+{
     writer.octets(0x04, control.name.as_slice())?;
     writer.boolean_unless(0x01, false, control.critical)?;
-    put_option(writer, 0x04, &control.value)?;
-    writer.end()
+    put_option(writer, 0x04, &control.value)
 }

@@ -27,7 +27,7 @@
 //!      }
 //! ```
 
-ghost use Rattle.std.specs.Prelude.{◌≡◌, ◌<◌, ◌≤◌, length, map, IfOk, OnOk};
+ghost use Rattle.std.specs.Prelude.{◌≡◌, ◌<◌, ◌≤◌, length, map, IfOk, OnOk, OnErr};
 ghost use Rattle.ldap_ber.specs.Reading.{many_at, list_at, made_at, tagged_at};
 ghost use Rattle.ldap_filter.specs.Tree.{tree_of, parts_of};
 ghost use Rattle.ldap_parts.specs.Gives.{Gives, place_of};
@@ -48,6 +48,7 @@ pub fn filter_of(alloc: Global, reader: &mut Reader, levels: usize) -> Result<Fi
         (filter_in levels reader.old.stop reader.old.left) }
     ensures stop { reader.new.stop ≡ reader.old.stop }
     ensures shorter { OnOk result (length reader.new.left < length reader.old.left) }
+    ensures err { OnErr result (reader.new ≡ reader.old) }
 {
     if levels == 0 {
         return Err(PartFault::Refused(reader.place()));
@@ -59,8 +60,11 @@ pub fn filter_of(alloc: Global, reader: &mut Reader, levels: usize) -> Result<Fi
         return Ok(Filter::Or(list_of(alloc, reader, 0xA1, levels - 1)?));
     }
     if reader.has(0xA2) {
-        let part = negated_of(alloc, reader, levels - 1)?;
-        return Ok(Filter::Not(Box::new(alloc, part)?));
+        let mut ahead = reader.copy();
+        let part = negated_of(alloc, &mut ahead, levels - 1)?;
+        let filter = Filter::Not(Box::new(alloc, part)?);
+        *reader = ahead;
+        return Ok(filter);
     }
     item_of(alloc, reader)
 }
@@ -77,10 +81,14 @@ fn list_of(
         (list_at place_of tag (filter_in levels) reader.old.stop reader.old.left) }
     ensures stop { reader.new.stop ≡ reader.old.stop }
     ensures shorter { OnOk result (length reader.new.left < length reader.old.left) }
+    ensures err { OnErr result (reader.new ≡ reader.old) }
 {
-    let whole = reader.expect(tag)?;
+    let mut ahead = reader.copy();
+    let whole = ahead.expect(tag)?;
     let mut inner = Reader::inside(&whole);
-    filters_in(alloc, &mut inner, levels)
+    let filters = filters_in(alloc, &mut inner, levels)?;
+    *reader = ahead;
+    Ok(filters)
 }
 
 /// The filters that are left.
@@ -120,6 +128,7 @@ fn item_of(alloc: Global, reader: &mut Reader) -> Result<Filter, PartFault>
         (item_at reader.old.stop reader.old.left) }
     ensures stop { reader.new.stop ≡ reader.old.stop }
     ensures shorter { OnOk result (length reader.new.left < length reader.old.left) }
+    ensures err { OnErr result (reader.new ≡ reader.old) }
 {
     if reader.has(0xA3) {
         let (name, value) = assertion_of(alloc, reader, 0xA3)?;
@@ -156,12 +165,15 @@ pub fn assertion_of(
         (assertion_at tag reader.old.stop reader.old.left) }
     ensures stop { reader.new.stop ≡ reader.old.stop }
     ensures shorter { OnOk result (length reader.new.left < length reader.old.left) }
+    ensures err { OnErr result (reader.new ≡ reader.old) }
 {
-    let whole = reader.expect(tag)?;
+    let mut ahead = reader.copy();
+    let whole = ahead.expect(tag)?;
     let mut inner = Reader::inside(&whole);
     let name = string_of(alloc, &mut inner, 0x04)?;
     let value = string_of(alloc, &mut inner, 0x04)?;
     inner.skip()?;
+    *reader = ahead;
     Ok((name, value))
 }
 
@@ -171,12 +183,15 @@ fn substrings_of(alloc: Global, reader: &mut Reader) -> Result<Filter, PartFault
         (made_at substrings_with substrings_at reader.old.stop reader.old.left) }
     ensures stop { reader.new.stop ≡ reader.old.stop }
     ensures shorter { OnOk result (length reader.new.left < length reader.old.left) }
+    ensures err { OnErr result (reader.new ≡ reader.old) }
 {
-    let whole = reader.expect(0xA4)?;
+    let mut ahead = reader.copy();
+    let whole = ahead.expect(0xA4)?;
     let mut inner = Reader::inside(&whole);
     let name = string_of(alloc, &mut inner, 0x04)?;
     let pieces = pieces_of(alloc, &mut inner)?;
     inner.skip()?;
+    *reader = ahead;
     Ok(Filter::Substrings(name, pieces))
 }
 

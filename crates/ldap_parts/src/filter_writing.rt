@@ -1,9 +1,12 @@
 //! Filters, written (RFC 4511, section 4.5.1.7).
 
-ghost use Rattle.std.specs.Prelude.{◌≡◌, true, map, OnOk};
+ghost use Rattle.std.specs.Prelude.{◌≡◌, ◌++◌, true, map, OnOk, OnErr};
+ghost use Rattle.std.specs.List.{flat_map};
+ghost use Rattle.ldap_ber.specs.Canonical.{element};
 ghost use Rattle.ldap_ber.specs.Writer.{after_bytes};
 ghost use Rattle.ldap_filter.specs.Tree.{tree_of, trees};
 ghost use Rattle.ldap_filter.specs.Pieces.{has_piece};
+ghost use Rattle.ldap_parts.specs.Components.{string_octets};
 ghost use Rattle.ldap_parts.specs.Filters.{pieces_octets, assertion_octets, substrings_octets, filter_octets, filters_octets, have_piece, all_have_piece};
 
 use crate::component::put_option;
@@ -17,22 +20,23 @@ pub fn put_filter(writer: &mut Writer, filter: &Filter) -> Result<(), NoMemory>
     ensures ok { OnOk result
         (writer.new ≡ after_bytes writer.old (filter_octets (tree_of filter.now))) }
     ensures pieces { OnOk result (have_piece (tree_of filter.now) ≡ true) }
+    ensures err { OnErr result (writer.new ≡ writer.old) }
 {
     match filter {
         Filter::And(parts) => {
             writer.begin(0xA0)?;
-            put_each(writer, parts.list())?;
-            writer.end()
+            let body = put_each(writer, parts.list());
+            writer.end_after(body)
         }
         Filter::Or(parts) => {
             writer.begin(0xA1)?;
-            put_each(writer, parts.list())?;
-            writer.end()
+            let body = put_each(writer, parts.list());
+            writer.end_after(body)
         }
         Filter::Not(part) => {
             writer.begin(0xA2)?;
-            put_filter(writer, part)?;
-            writer.end()
+            let body = put_filter(writer, part);
+            writer.end_after(body)
         }
         Filter::Equal(name, value) => put_assertion(writer, 0xA3, name, value),
         Filter::Substrings(name, pieces) => put_substrings(writer, name, pieces),
@@ -49,6 +53,7 @@ fn put_each(writer: &mut Writer, filters: &[Filter]) -> Result<(), NoMemory>
     ensures ok { OnOk result (writer.new
         ≡ after_bytes writer.old (filters_octets (trees (map tree_of filters.now)))) }
     ensures pieces { OnOk result (all_have_piece (trees (map tree_of filters.now)) ≡ true) }
+    ensures opened { OnErr result (writer.new.opened ≡ writer.old.opened) }
 {
     for filter in filters {
         put_filter(writer, filter)?;
@@ -63,33 +68,61 @@ pub fn put_assertion(
     name: &Octets,
     value: &Octets,
 ) -> Result<(), NoMemory>
-    ensures { OnOk result
+    ensures ok { OnOk result
         (writer.new ≡ after_bytes writer.old (assertion_octets tag (name.now, value.now))) }
+    ensures err { OnErr result (writer.new ≡ writer.old) }
 {
     writer.begin(tag)?;
+    let body = put_pair(writer, name, value);
+    writer.end_after(body)
+}
+
+fn put_pair(writer: &mut Writer, name: &Octets, value: &Octets) -> Result<(), NoMemory>
+    ensures ok { OnOk result
+        (writer.new ≡ after_bytes writer.old (element 4 name.now ++ element 4 value.now)) }
+    ensures opened { OnErr result (writer.new.opened ≡ writer.old.opened) }
+{
     writer.octets(0x04, name.as_slice())?;
-    writer.octets(0x04, value.as_slice())?;
-    writer.end()
+    writer.octets(0x04, value.as_slice())
 }
 
 fn put_substrings(writer: &mut Writer, name: &Octets, pieces: &Pieces) -> Result<(), NoMemory>
     ensures ok { OnOk result (writer.new ≡ after_bytes writer.old (substrings_octets
         (name.now, (pieces.now.initial, (pieces.now.middle, pieces.now.last))))) }
     ensures pieces { has_piece pieces.now.initial pieces.now.middle pieces.now.last ≡ true }
+    ensures err { OnErr result (writer.new ≡ writer.old) }
 {
     writer.begin(0xA4)?;
+    let body = put_substrings_body(writer, name, pieces);
+    writer.end_after(body)
+}
+
+fn put_substrings_body(writer: &mut Writer, name: &Octets, pieces: &Pieces) -> Result<(), NoMemory>
+    ensures ok { OnOk result (writer.new ≡ after_bytes writer.old (element 4 name.now
+        ++ pieces_octets (pieces.now.initial, (pieces.now.middle, pieces.now.last)))) }
+    ensures opened { OnErr result (writer.new.opened ≡ writer.old.opened) }
+{
     writer.octets(0x04, name.as_slice())?;
-    put_pieces(writer, pieces)?;
-    writer.end()
+    put_pieces(writer, pieces)
 }
 
 fn put_pieces(writer: &mut Writer, pieces: &Pieces) -> Result<(), NoMemory>
-    ensures { OnOk result (writer.new ≡ after_bytes writer.old
+    ensures ok { OnOk result (writer.new ≡ after_bytes writer.old
         (pieces_octets (pieces.now.initial, (pieces.now.middle, pieces.now.last)))) }
+    ensures err { OnErr result (writer.new ≡ writer.old) }
 {
     writer.begin(0x30)?;
+    let body = put_each_piece(writer, pieces);
+    writer.end_after(body)
+}
+
+fn put_each_piece(writer: &mut Writer, pieces: &Pieces) -> Result<(), NoMemory>
+    ensures ok { OnOk result (writer.new ≡ after_bytes writer.old
+        (string_octets 128 pieces.now.initial ++ (flat_map (element 129) pieces.now.middle
+        ++ string_octets 130 pieces.now.last))) }
+    ensures opened { OnErr result (writer.new.opened ≡ writer.old.opened) }
+{
     put_option(writer, 0x80, &pieces.initial)?;
     lists::put_each(writer, 0x81, pieces.middle.list())?;
-    put_option(writer, 0x82, &pieces.last)?;
-    writer.end()
+    put_option(writer, 0x82, &pieces.last)
 }

@@ -6,6 +6,8 @@
 //! canonical spelling. In a SEQUENCE OF or SET OF no element is unknown. A refused place is
 //! the first octet of the first element that the grammar refuses; a missing element is refused
 //! where it had to begin.
+//!
+//! After a refusal, and where memory runs out, the reader or the writer is as before.
 #![tactic(auto)]
 
 mod attributes;

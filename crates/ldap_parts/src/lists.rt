@@ -1,6 +1,6 @@
 //! Lists of octet strings.
 
-ghost use Rattle.std.specs.Prelude.{◌≡◌, OnOk};
+ghost use Rattle.std.specs.Prelude.{◌≡◌, OnOk, OnErr};
 ghost use Rattle.std.specs.List.{flat_map};
 ghost use Rattle.ldap_ber.specs.Reading.{many_at};
 ghost use Rattle.ldap_ber.specs.Canonical.{element};
@@ -18,10 +18,14 @@ pub fn strings_of(alloc: Global, reader: &mut Reader, tag: u8) -> Result<OctetsL
     ensures exact { Gives (λ strings. (strings, reader.new.left)) result
         (strings_at tag reader.old.stop reader.old.left) }
     ensures stop { reader.new.stop ≡ reader.old.stop }
+    ensures err { OnErr result (reader.new ≡ reader.old) }
 {
-    let whole = reader.expect(tag)?;
+    let mut ahead = reader.copy();
+    let whole = ahead.expect(tag)?;
     let mut inner = Reader::inside(&whole);
-    strings_in(alloc, &mut inner)
+    let strings = strings_in(alloc, &mut inner)?;
+    *reader = ahead;
+    Ok(strings)
 }
 
 /// The octet strings that are left.
@@ -40,18 +44,20 @@ fn strings_in(alloc: Global, reader: &mut Reader) -> Result<OctetsList, PartFaul
 
 /// Writes an element of octet strings.
 pub fn put_strings(writer: &mut Writer, tag: u8, strings: &[Octets]) -> Result<(), NoMemory>
-    ensures { OnOk result
+    ensures ok { OnOk result
         (writer.new ≡ after_bytes writer.old (strings_octets tag strings.now)) }
+    ensures err { OnErr result (writer.new ≡ writer.old) }
 {
     writer.begin(tag)?;
-    put_each(writer, 0x04, strings)?;
-    writer.end()
+    let body = put_each(writer, 0x04, strings);
+    writer.end_after(body)
 }
 
-/// Writes octet strings one after the other.
+/// Writes octet strings one after the other. After an `Err` only the open element is changed.
 pub(crate) fn put_each(writer: &mut Writer, tag: u8, strings: &[Octets]) -> Result<(), NoMemory>
-    ensures { OnOk result
+    ensures ok { OnOk result
         (writer.new ≡ after_bytes writer.old (flat_map (element tag) strings.now)) }
+    ensures opened { OnErr result (writer.new.opened ≡ writer.old.opened) }
 {
     for string in strings {
         writer.octets(tag, string.as_slice())?;

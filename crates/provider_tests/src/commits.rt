@@ -1,4 +1,5 @@
-//! Commits, put together from names.
+//! Commits, in words: units that are put, each its identity, `:` and its name; and `-` before an identity that
+//! is dropped.
 ghost use Rattle.std.specs.Prelude.{◌≡◌, true, nat_le, IfOk};
 ghost use Rattle.std.specs.List.{list_all};
 ghost use Rattle.entry_tree.specs.Fitting.{is_light};
@@ -6,70 +7,110 @@ ghost use Rattle.entry_tree.specs.Sound.{is_sound_attribute, is_sound_put};
 ghost use Rattle.entry_tree.specs.State.{most_entry_weight};
 ghost use Rattle.schema_rules.specs.Attributes.{weight_of};
 
-use crate::sync_provider_tests::{attribute, discard};
+use crate::rows::{discard, number, push_counted, push_word};
+use crate::writes::{raw_list, unit};
 use csn_cookie::Csn;
 use dn_names::Dn;
 use entry_tree::{Entry, EntryList};
 use ldap_ber::NoMemory;
-use schema_rules::{Attrs, RawList};
+use schema_rules::Attrs;
 use std::alloc::Global;
 use std::test::Fail;
 use sync_messages::IdList;
-use sync_provider::{CommitFault, Provider};
+use sync_provider::{CommitFault, Provider, StagedCommit};
 
 /// The stamp of each entry, which is of the provider with the number 2.
-pub(crate) const STAMP: &[u8] = b"20260101000000.000000Z#000007#002#000000";
+const STAMP: &[u8] = b"20260101000000.000000Z#000007#002#000000";
 
 /// The most that the attributes of an entry weigh.
 const MOST_WEIGHT: u64 = 65_536;
 
-/// An organizational unit: its identity, its name and the value of its attribute.
-pub(crate) struct Put(
-    pub(crate) u64,
-    pub(crate) &'static str,
-    pub(crate) &'static str,
-);
-
-/// What a commit of these entries and of these dropped identities answers.
-pub(crate) fn committed(
+/// Tells `w` and the number of writes, or what is against the commit.
+pub(crate) fn commit(
     alloc: Global,
     provider: &mut Provider,
-    puts: &[Put],
-    drops: &[u64],
-) -> Result<Result<u64, CommitFault>, Fail> {
-    let puts = puts_of(alloc, puts)?;
-    let drops = drops_of(alloc, drops)?;
-    Ok(provider.commit(alloc, puts, drops, 0))
+    of: &str,
+    text: &mut String,
+) -> Result<(), Fail> {
+    let puts = puts_of(alloc, of)?;
+    let drops = drops_of(alloc, of)?;
+    match provider.commit(puts, drops, 0) {
+        Ok(number) => Ok(push_counted(alloc, text, "w", number)?),
+        Err(fault) => push_refusal(alloc, text, fault),
+    }
+}
+
+/// Two commits, with ` & ` between them, all or none.
+pub(crate) fn commit_both(
+    alloc: Global,
+    provider: &mut Provider,
+    of: &str,
+    text: &mut String,
+) -> Result<(), Fail> {
+    let (first, second) = of.split_once(" & ").ok_or(of)?;
+    let first = staged(alloc, first)?;
+    let second = staged(alloc, second)?;
+    let commits = vec![in alloc; first, second]?;
+    match provider.commit_each(commits, 0) {
+        Ok(number) => Ok(push_counted(alloc, text, "w", number)?),
+        Err(fault) => push_refusal(alloc, text, fault),
+    }
+}
+
+fn staged(alloc: Global, of: &str) -> Result<StagedCommit, Fail>
+    ensures sound { IfOk result (λ commit. list_all is_sound_put commit.puts ≡ true) }
+    ensures light { IfOk result (λ commit. list_all is_light commit.puts ≡ true) }
+{
+    Ok(StagedCommit {
+        puts: puts_of(alloc, of)?,
+        drops: drops_of(alloc, of)?,
+    })
+}
+
+/// Tells `same` and the numbers of two entries of one name, `limit` and a limit, or `root`.
+fn push_refusal(alloc: Global, text: &mut String, fault: CommitFault) -> Result<(), Fail> {
+    match fault {
+        CommitFault::DuplicateName(one, other) => {
+            push_word(text, &format!(in alloc; "same{one},{other}")?)?;
+        }
+        CommitFault::LimitReached(limit) => push_counted(alloc, text, "limit", limit)?,
+        CommitFault::NotAReplica => push_word(text, "root")?,
+        CommitFault::NoMemory => return Err(Fail::from("out of memory")),
+    }
+    Ok(())
 }
 
 #[tactic(auto, using(crate::proofs::Puts::one_more))]
-fn puts_of(alloc: Global, puts: &[Put]) -> Result<EntryList, Fail>
+pub(crate) fn puts_of(alloc: Global, of: &str) -> Result<EntryList, Fail>
     ensures sound { IfOk result (λ puts. list_all is_sound_put puts ≡ true) }
     ensures light { IfOk result (λ puts. list_all is_light puts ≡ true) }
 {
     let mut entries = EntryList::new(alloc);
-    for put in puts {
-        entries.push(entry_of(alloc, put)?)?;
+    for put in of.split(' ') {
+        if let Some((uuid, name)) = put.split_once(':') {
+            entries.push(entry_of(alloc, number(uuid), name)?)?;
+        }
     }
     Ok(entries)
 }
 
-fn drops_of(alloc: Global, drops: &[u64]) -> Result<IdList, NoMemory> {
+pub(crate) fn drops_of(alloc: Global, of: &str) -> Result<IdList, NoMemory> {
     let mut uuids = IdList::new(alloc);
-    for uuid in drops {
-        uuids.push(u128::from(*uuid))?;
+    for word in of.split(' ') {
+        if let Some(uuid) = word.strip_prefix('-') {
+            uuids.push(u128::from(number(uuid)))?;
+        }
     }
     Ok(uuids)
 }
 
-fn entry_of(alloc: Global, put: &Put) -> Result<Entry, Fail>
+fn entry_of(alloc: Global, uuid: u64, name: &str) -> Result<Entry, Fail>
     ensures sound { IfOk result (λ entry. is_sound_put entry ≡ true) }
     ensures light { IfOk result (λ entry. is_light entry ≡ true) }
 {
-    let Put(uuid, name, unit) = put;
-    let attrs = attributes(alloc, unit)?;
+    let attrs = attributes(alloc, &unit(alloc, name)?)?;
     Ok(Entry {
-        uuid: u128::from(*uuid),
+        uuid: u128::from(uuid),
         csn: Csn::parse(STAMP)?,
         dn: Dn::parse(alloc, name.as_bytes())?,
         attrs,
@@ -77,13 +118,11 @@ fn entry_of(alloc: Global, put: &Put) -> Result<Entry, Fail>
 }
 
 #[tactic(auto, using(crate::proofs::Puts::sound_attributes))]
-fn attributes(alloc: Global, unit: &str) -> Result<Attrs, Fail>
+fn attributes(alloc: Global, text: &str) -> Result<Attrs, Fail>
     ensures sound { IfOk result (λ attrs. list_all is_sound_attribute attrs ≡ true) }
     ensures light { IfOk result (λ attrs. nat_le (weight_of attrs) most_entry_weight ≡ true) }
 {
-    let mut list = RawList::new(alloc);
-    list.push(attribute(alloc, b"objectClass", &[b"organizationalUnit"])?)?;
-    list.push(attribute(alloc, b"ou", &[unit.as_bytes()])?)?;
+    let list = raw_list(alloc, text)?;
     let attrs = Attrs::read(alloc, &list);
     discard(list);
     match attrs {

@@ -3,18 +3,18 @@
 #![tactic(auto)]
 
 #[cfg(test)]
-mod commit_tests;
-#[cfg(test)]
 mod commits;
 #[cfg(test)]
 mod directory_writes_tests;
 #[cfg(test)]
-mod persist_tests;
+mod messages;
 #[cfg(test)]
-mod refresh_tests;
+mod rows;
 #[cfg(test)]
-mod steps;
+mod searches;
+#[cfg(test)]
+mod spellings;
 #[cfg(test)]
 mod sync_provider_tests;
 #[cfg(test)]
-mod telling;
+mod writes;

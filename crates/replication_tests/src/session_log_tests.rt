@@ -31,14 +31,14 @@ fn push_step(
     step: &str,
 ) -> Result<(), AllocError> {
     let (change, number) = step.rsplit_once(' ').unwrap_or((step, ""));
-    make(alloc, log, change)?;
+    make(log, change)?;
     let since = since(log, number.parse::<u64>().unwrap_or(0))?;
     text.push_str(&format!(in alloc; "{} {:?};", log.floor(), since.as_deref())?)
 }
 
-fn make(alloc: Global, log: &mut SessionLog, change: &str) -> Result<(), AllocError> {
+fn make(log: &mut SessionLog, change: &str) -> Result<(), AllocError> {
     if change == "copy" {
-        *log = log.copy(alloc)?;
+        *log = log.copy()?;
         return Ok(());
     }
     let (change, last) = change.rsplit_once(' ').unwrap_or((change, ""));

@@ -1,5 +1,5 @@
 //! Lists of attributes (RFC 4512, section 2.2).
-ghost use Rattle.std.specs.Prelude.{◌≡◌, ◌-◌, ◌^◌, ◌==◌, true, [], ◌++◌, min, position, Ok, None, Some, IfOk, IfErr, OnOk};
+ghost use Rattle.std.specs.Prelude.{◌≡◌, ◌-◌, ◌^◌, ◌==◌, true, [], ◌++◌, min, position, Ok, None, Some, IfOk, IfErr, OnOk, OnErr};
 ghost use Rattle.std.specs.List.{AllPass, filter_map, list_any, list_all};
 ghost use Rattle.std.specs.Result.{result_err};
 ghost use Rattle.schema_rules.specs.Attributes as spec;
@@ -179,21 +179,24 @@ fn checked_type(alloc: Global, raw: &RawAttribute) -> Result<AttributeType, Sche
     Ok(kind)
 }
 
-/// Puts values of a type behind its other values, or behind all attributes.
+/// Puts values of a type behind its other values, or behind all attributes. After an `Err` the list
+/// is as before.
 pub fn add_values(
     attributes: &mut Vec<Attribute>,
     kind: AttributeType,
     values: &[Octets],
 ) -> Result<(), NoMemory>
-    ensures { OnOk result (attributes.new.items ≡ spec.with_values attributes.old.items kind values.now) }
+    ensures ok { OnOk result (attributes.new.items ≡ spec.with_values attributes.old.items kind values.now) }
+    ensures err { OnErr result (attributes.new.items ≡ attributes.old.items) }
 {
+    let copies = copies_of(*attributes.allocator(), values)?;
     if let Some(place) = place_of(attributes, kind) {
-        let attribute = &mut attributes[place];
-        return push_copies(&mut attribute.values, values);
+        return attributes[place].values.append(copies);
     }
-    let mut list = OctetsList::new(*attributes.allocator());
-    push_copies(&mut list, values)?;
-    attributes.push(Attribute { kind, values: list })?;
+    attributes.push(Attribute {
+        kind,
+        values: copies,
+    })?;
     Ok(())
 }
 
@@ -205,13 +208,14 @@ fn place_of(attributes: &[Attribute], kind: AttributeType) -> Option<usize>
         .position(|attribute| attribute.kind == kind)
 }
 
-fn push_copies(list: &mut OctetsList, values: &[Octets]) -> Result<(), NoMemory>
-    ensures { OnOk result (list.new ≡ list.old ++ values.now) }
+fn copies_of(alloc: Global, values: &[Octets]) -> Result<OctetsList, NoMemory>
+    ensures { IfOk result (λ copies. copies ≡ values.now) }
 {
+    let mut copies = OctetsList::new(alloc);
     for value in values {
-        list.push(value.copy()?)?;
+        copies.push(value.copy()?)?;
     }
-    Ok(())
+    Ok(copies)
 }
 
 /// Whether two values of the attribute are equal.

@@ -50,10 +50,10 @@ impl SessionLog {
     }
 
     /// A log that goes on as this one does.
-    pub fn copy(&self, alloc: Global) -> Result<SessionLog, NoMemory>
+    pub fn copy(&self) -> Result<SessionLog, NoMemory>
         ensures { IfOk result (λ copy. copy.log ≡ self.now.log) }
     {
-        let mut notes = VecDeque::new(alloc);
+        let mut notes = VecDeque::new(*self.notes.allocator());
         for note in &self.notes {
             notes.push_back(*note)?;
         }

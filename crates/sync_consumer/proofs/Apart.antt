@@ -4,15 +4,14 @@ use Rattle.std.specs.Prelude.{◌||◌, is_some, option_map}
 use Rattle.std.specs.List.{filter, list_all}
 use Rattle.std.specs.Option.{option_or}
 use Rattle.std.proofs.lemmas.Bool.{and_parts, and_from, eqb-true, ltb-true, le-ltb}
-use Rattle.std.proofs.lemmas.List.Elements.{All-filter}
 use Rattle.std.proofs.lemmas.List.Folds.{list_all-append}
-use Rattle.std.proofs.lemmas.List.Sums.{AllPass-from_list_all, list_all-from_AllPass}
 use Rattle.dn_names.specs.Keys.{name_key}
 use Rattle.dn_names.proofs.Equality.{sets-from_same_name}
 use Rattle.dn_names.proofs.KeyTexts.{name_key-from_sets}
 use Rattle.entry_tree.specs.declared.entry.Entry.{Entry}
 use Rattle.entry_tree.specs.State.{ascends, is_crowded, is_identified, is_named, entry_named, same_named}
 use Rattle.entry_tree.proofs.Identities.{above}
+use Rattle.entry_tree.proofs.Passing.{list_all-filter}
 use Rattle.sync_model.specs.Copy.Fault.{StageFull, DuplicateName}
 use Rattle.sync_model.specs.Copy.{Fault, Stage, effected, puts_of}
 use Rattle.sync_model.specs.Within.{against}
@@ -95,21 +94,18 @@ all_clear (e ∷ es) up none =
 
 -- ---- what holds of the entries before and of those that are put holds of all that a stage leaves
 
-all_filter : (test p : Entry → Bool) (es : List Entry) → list_all test es ≡ true → list_all test (filter p es) ≡ true
-all_filter test p es all = list_all-from_AllPass test (filter p es) (All-filter p (λ (e : Entry). test e ≡ true) es (AllPass-from_list_all test es all))
-
 all_effected : (test : Entry → Bool) (stage : Stage) (held : List Entry) → list_all test held ≡ true → list_all test (puts_of stage) ≡ true → list_all test (effected held stage) ≡ true
 all_effected test [] held all puts = all
 all_effected test ((k, None) ∷ stage) held all puts =
-    all_filter test (λ (entry : Entry). not (is_identified k entry)) (effected held stage) (all_effected test stage held all puts)
+    list_all-filter test (λ (entry : Entry). not (is_identified k entry)) (effected held stage) (all_effected test stage held all puts)
 all_effected test ((k, Some e) ∷ stage) held all puts =
     let p = and_parts (test e) (list_all test (puts_of stage)) puts in
     let rest = all_effected test stage held all p.1 in
     list_all-append test (filter (λ (entry : Entry). nat_lt entry.uuid e.uuid) (effected held stage)) (e ∷ filter (λ (entry : Entry). nat_lt e.uuid entry.uuid) (effected held stage))
     ∙ and_from (list_all test (filter (λ (entry : Entry). nat_lt entry.uuid e.uuid) (effected held stage))) (list_all test (e ∷ filter (λ (entry : Entry). nat_lt e.uuid entry.uuid) (effected held stage)))
-    (all_filter test (λ (entry : Entry). nat_lt entry.uuid e.uuid) (effected held stage) rest)
+    (list_all-filter test (λ (entry : Entry). nat_lt entry.uuid e.uuid) (effected held stage) rest)
     (and_from (test e) (list_all test (filter (λ (entry : Entry). nat_lt e.uuid entry.uuid) (effected held stage))) p.0
-    (all_filter test (λ (entry : Entry). nat_lt e.uuid entry.uuid) (effected held stage) rest))
+    (list_all-filter test (λ (entry : Entry). nat_lt e.uuid entry.uuid) (effected held stage) rest))
 
 -- ---- names that are noted with identities, one with all that are the same
 

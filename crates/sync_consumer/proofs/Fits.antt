@@ -1,13 +1,14 @@
--- What a message stages and puts passes a test, where the entry that it brings does.
-use Rattle.std.proofs.Common.{◌≡◌, ℕ, Bool, true, false, not, ◌&&◌, cond, nat_eq, List, [], ◌∷◌, Option, Some, None, Result, Ok, Err, refl, sym, subst, Ordering, Less, Equal, Greater, nat_cmp}
+-- What a message stages is ready to take effect, where the entry that it brings is fit, and what takes effect is a commit.
+use Rattle.std.proofs.Common.{◌≡◌, ℕ, Bool, true, false, not, ◌&&◌, cond, List, [], ◌∷◌, Option, Some, None, Result, Ok, Err, refl, Ordering, Less, Equal, Greater, nat_cmp}
 use Rattle.std.specs.Prelude.{⊤, pos, ◌||◌, ◌==◌, find}
 use Rattle.std.specs.List.{list_all, cons_option}
 use Rattle.std.specs.Ordering.{int_eq, match_ordering}
-use Rattle.std.proofs.lemmas.Bool.{and_parts, and_from}
+use Rattle.std.proofs.lemmas.Bool.{and_parts, and_from, eq-eqb}
 use Rattle.entry_tree.specs.declared.entry.Entry.{Entry}
+use Rattle.entry_tree.specs.Effects.{committed}
 use Rattle.entry_tree.specs.Fitting.{is_light}
 use Rattle.entry_tree.specs.Sound.{is_sound_put}
-use Rattle.ldap_messages.specs.declared.message.Message.{Message}
+use Rattle.entry_tree.specs.State.{ascends}
 use Rattle.ldap_messages.specs.declared.protocol.Protocol.{Protocol}
 use Rattle.ldap_messages.specs.declared.protocol.Protocol.TheVariants as op
 use Rattle.ldap_parts.specs.declared.control.Control.{Control}
@@ -20,26 +21,18 @@ use Rattle.sync_messages.specs.declared.state.SyncState.{SyncState}
 use Rattle.sync_model.specs.Message.{Cookie, SyncMessage}
 use Rattle.sync_model.specs.Message.SyncMessage.{Put, Gone, Present, IdSet, NewCookie, PhaseEnds, Done, Passed}
 use Rattle.sync_model.specs.Copy as model
-use Rattle.sync_model.specs.Copy.{Answer as answer, Fault as fault, Copy, Running, Stage, staged, all_dropped, puts_of, unspoken, is_known, refused, goes_on, with_cookie, refreshed, over, named_unless, taken_names, ends_phase, persists_on, taken_info, taken_done, taken_in, taken}
-use Rattle.sync_model.specs.Within.{puts_entry, staged_puts, limit_fault, refused_by, taken_within}
-use Rattle.sync_wire.specs.Hearing.{is_present, contents, entry_said, info_said, is_sync_info, control_said, operation_said, said}
+use Rattle.sync_model.specs.Copy.{Answer as answer, Fault as fault, Copy, Running, Stage, staged, all_dropped, effected, puts_of, unspoken, is_known, refused, goes_on, with_cookie, refreshed, over, named_unless, taken_names, ends_phase, persists_on, taken_info, taken_done, taken_in, taken}
+use Rattle.sync_model.specs.Within.{puts_entry, limit_fault, refused_by, taken_within}
+use Rattle.sync_wire.specs.Hearing.{is_present, contents, entry_said, info_said, is_sync_info, control_said, operation_said}
 use Rattle.sync_wire.specs.Refusals.{and_then, on_ok}
 use Rattle.sync_wire.specs.Values.{sync_state, sync_done, sync_info}
 use Rattle.sync_wire.specs.WireEntry.{checked_uuid, entry_of}
 use Rattle.sync_wire.specs.declared.fault.HearingFault.{HearingFault}
 use Rattle.sync_wire.specs.declared.fault.HearingFault.TheVariants.{OutOfPlace}
-use Rattle.sync_wire.specs.Kind.{tag_of}
-use Rattle.sync_consumer.specs.declared.consumer.Taken.{Taken}
-use Rattle.sync_consumer.specs.declared.consumer.Taken.TheVariants as taken
-use Rattle.sync_consumer.specs.declared.fault.PeerFault.TheVariants as peer
-use Rattle.sync_consumer.specs.declared.fault.Refusal.{Refusal}
-use Rattle.sync_consumer.specs.declared.fault.Refusal.TheVariants as refusal
-use Rattle.sync_consumer.specs.declared.held.Held.{Held}
-use Rattle.sync_consumer.specs.declared.running.Running as kept
-use Rattle.sync_consumer.specs.declared.running.Step.{Step}
-use Rattle.sync_consumer.specs.Running.{copy_with, taken_by_search}
-use Rattle.sync_consumer.specs.Taking.{AreFit, PutsFit, Takes, refusal_of, told, told_refusal, without_search, taken_as, taken_by, taken_of}
-use Rattle.sync_consumer.proofs.Takings.{after_step, told_by, step_kept}
+use Rattle.sync_consumer.specs.Committing.{is_of, stage_in, IsReady}
+use Rattle.sync_consumer.specs.Taking.{AreFit}
+use Rattle.sync_consumer.proofs.Committing.{own-staged, stage_commits}
+use Rattle.sync_consumer.proofs.Keyed.{rises-laid}
 use Rattle.sync_consumer.proofs.Wired.{IsFit, EntryFits, entry_fits}
 
 -- ---- lists of fit entries
@@ -67,83 +60,101 @@ rest_fit (Some entry) entries all =
 
 -- ---- stages
 
-abbrev StageFits : Stage → Type 0
-StageFits stage = AreFit (puts_of stage)
+abbrev PutsAreFit : Stage → Type 0
+PutsAreFit stage = AreFit (puts_of stage)
 
-staged_fits : (stage : Stage) (uuid : ℕ) (change : Option Entry) → FitOption change → StageFits stage → StageFits (staged uuid change stage)
-staged_fits [] uuid change fit all = more_fit change [] fit none_fit
-staged_fits (c ∷ stage) uuid change fit all =
+puts_fit : (stage : Stage) (uuid : ℕ) (change : Option Entry) → FitOption change → PutsAreFit stage → PutsAreFit (staged uuid change stage)
+puts_fit [] uuid change fit all = more_fit change [] fit none_fit
+puts_fit (c ∷ stage) uuid change fit all =
     let parts = rest_fit c.1 (puts_of stage) all in
-    by (nat_cmp uuid c.0) parts.1 (more_fit c.1 (puts_of (staged uuid change stage)) parts.0 (staged_fits stage uuid change fit parts.1))
+    by (nat_cmp uuid c.0) parts.1 (more_fit c.1 (puts_of (staged uuid change stage)) parts.0 (puts_fit stage uuid change fit parts.1))
   where
-    by : (o : Ordering) → StageFits stage → StageFits (c ∷ staged uuid change stage)
-        → StageFits (match_ordering o ((uuid, change) ∷ c ∷ stage) ((c.0, change) ∷ stage) (c ∷ staged uuid change stage))
+    by : (o : Ordering) → PutsAreFit stage → PutsAreFit (c ∷ staged uuid change stage)
+        → PutsAreFit (match_ordering o ((uuid, change) ∷ c ∷ stage) ((c.0, change) ∷ stage) (c ∷ staged uuid change stage))
     by Less rest more = more_fit change (puts_of (c ∷ stage)) fit all
     by Equal rest more = more_fit change (puts_of stage) fit rest
     by Greater rest more = more
 
-dropped_fits : (uuids : List ℕ) (stage : Stage) → StageFits stage → StageFits (all_dropped stage uuids)
-dropped_fits [] stage all = all
-dropped_fits (uuid ∷ uuids) stage all = dropped_fits uuids (staged uuid None stage) (staged_fits stage uuid None tt all)
+pub none_ready : IsReady []
+none_ready = record { ordered = refl; own = refl; fit = none_fit }
+
+staged_ready : (stage : Stage) (uuid : ℕ) (change : Option Entry) → is_of uuid change ≡ true → FitOption change → IsReady stage → IsReady (staged uuid change stage)
+staged_ready stage uuid change own fit all = record {
+  ordered = rises-laid stage uuid change all.ordered;
+  own = own-staged stage uuid change own all.own;
+  fit = puts_fit stage uuid change fit all.fit;
+}
+
+dropped_ready : (uuids : List ℕ) (stage : Stage) → IsReady stage → IsReady (all_dropped stage uuids)
+dropped_ready [] stage all = all
+dropped_ready (uuid ∷ uuids) stage all = dropped_ready uuids (staged uuid None stage) (staged_ready stage uuid None refl tt all)
 
 -- ---- outcomes
 
-abbrev AnswerFits : model.Answer → Type 0
-AnswerFits answer.Staged = ⊤
-AnswerFits (answer.Stored commit) = AreFit commit.puts
-AnswerFits (answer.Copied commit) = AreFit commit.puts
-AnswerFits (answer.Over code) = ⊤
-AnswerFits (answer.Refused found) = ⊤
+-- what a commit puts is fit, and it leaves these entries
+abbrev pub Leaves : List Entry → List Entry → model.Commit → Type 0
+Leaves before after commit = AreFit commit.puts × (ascends before ≡ true → committed before commit.puts commit.drops ≡ after)
 
--- what is staged, and what is put
-abbrev Fits : Copy × model.Answer → Type 0
-Fits outcome = AreFit (staged_puts outcome.0.running) × AnswerFits outcome.1
+abbrev pub AnswerFits : List Entry → List Entry → model.Answer → Type 0
+AnswerFits before after answer.Staged = ⊤
+AnswerFits before after (answer.Stored commit) = Leaves before after commit
+AnswerFits before after (answer.Copied commit) = Leaves before after commit
+AnswerFits before after (answer.Over code) = ⊤
+AnswerFits before after (answer.Refused found) = ⊤
 
-either : (b : Bool) (one other : Copy × model.Answer) → Fits one → Fits other → Fits (cond b one other)
-either true one other fit fit' = fit
-either false one other fit fit' = fit'
+-- what is staged, and what took effect
+abbrev pub Fits : Copy → Copy × model.Answer → Type 0
+Fits before outcome = IsReady (stage_in outcome.0.running) × AnswerFits before.held outcome.0.held outcome.1
 
-with_cookie_fits : (copy : Copy) (running : Running) (cookie : Option Cookie) → StageFits running.stage → Fits (with_cookie copy running cookie)
+-- where a stage takes effect
+took_effect : (held : List Entry) (stage : Stage) (cookie : Option Cookie) → IsReady stage → Leaves held (effected held stage) (model.commit_of stage cookie)
+took_effect held stage cookie all = (all.fit, stage_commits held stage all.ordered all.own)
+
+either : (b : Bool) (before : Copy) (one other : Copy × model.Answer) → Fits before one → Fits before other → Fits before (cond b one other)
+either true before one other fit fit' = fit
+either false before one other fit fit' = fit'
+
+with_cookie_fits : (copy : Copy) (running : Running) (cookie : Option Cookie) → IsReady running.stage → Fits copy (with_cookie copy running cookie)
 with_cookie_fits copy running None all = (all, tt)
-with_cookie_fits copy running (Some cookie) all = either running.persisting _ (goes_on copy running) (none_fit, all) (all, tt)
+with_cookie_fits copy running (Some cookie) all = either running.persisting copy _ (goes_on copy running) (none_ready, took_effect copy.held running.stage (Some cookie) all) (all, tt)
 
 refreshed_fits : (copy : Copy) (running : Running) (cookie : Option Cookie) (next : Option Running)
-    → StageFits running.stage → AreFit (staged_puts next) → Fits (refreshed copy running cookie next)
-refreshed_fits copy running None next all none = (none, all)
-refreshed_fits copy running (Some cookie) next all none = (none, all)
+    → IsReady running.stage → IsReady (stage_in next) → Fits copy (refreshed copy running cookie next)
+refreshed_fits copy running None next all none = (none, took_effect copy.held running.stage None all)
+refreshed_fits copy running (Some cookie) next all none = (none, took_effect copy.held running.stage (Some cookie) all)
 
-named_fits : (copy : Copy) (running : Running) (uuids : List ℕ) (unknown : Option ℕ) → StageFits running.stage → Fits (named_unless unknown copy running uuids)
+named_fits : (copy : Copy) (running : Running) (uuids : List ℕ) (unknown : Option ℕ) → IsReady running.stage → Fits copy (named_unless unknown copy running uuids)
 named_fits copy running uuids None all = (all, tt)
-named_fits copy running uuids (Some uuid) all = (none_fit, tt)
+named_fits copy running uuids (Some uuid) all = (none_ready, tt)
 
-names_fit : (copy : Copy) (running : Running) (uuids : List ℕ) → StageFits running.stage → Fits (taken_names copy running uuids)
+names_fit : (copy : Copy) (running : Running) (uuids : List ℕ) → IsReady running.stage → Fits copy (taken_names copy running uuids)
 names_fit copy running uuids all =
     let unknown : Option ℕ = find (λ uuid. not (is_known copy.held running.stage uuid)) uuids in
-    either running.persisting (refused copy fault.OutOfPlace) (named_unless unknown copy running uuids) (none_fit, tt) (named_fits copy running uuids unknown all)
+    either running.persisting copy (refused copy fault.OutOfPlace) (named_unless unknown copy running uuids) (none_ready, tt) (named_fits copy running uuids unknown all)
 
-ended_fits : (held : List Entry) (running : Running) (deletes : Bool) → StageFits running.stage → StageFits (ends_phase held running deletes).stage
-ended_fits held running true all = all
-ended_fits held running false all = dropped_fits (unspoken running.named running.stage held) running.stage all
+ended_ready : (held : List Entry) (running : Running) (deletes : Bool) → IsReady running.stage → IsReady (ends_phase held running deletes).stage
+ended_ready held running true all = all
+ended_ready held running false all = dropped_ready (unspoken running.named running.stage held) running.stage all
 
-info_fits : (copy : Copy) (running : Running) (deletes done : Bool) (cookie : Option Cookie) → StageFits running.stage → Fits (taken_info copy running deletes done cookie)
+info_fits : (copy : Copy) (running : Running) (deletes done : Bool) (cookie : Option Cookie) → IsReady running.stage → Fits copy (taken_info copy running deletes done cookie)
 info_fits copy running deletes done cookie all =
     let now : Running = ends_phase copy.held running deletes in
-    let fit : StageFits now.stage = ended_fits copy.held running deletes all in
-    either (running.persisting || ((done && not running.persists) || (not deletes && running.ended))) (refused copy fault.OutOfPlace)
+    let ready : IsReady now.stage = ended_ready copy.held running deletes all in
+    either (running.persisting || ((done && not running.persists) || (not deletes && running.ended))) copy (refused copy fault.OutOfPlace)
     (cond done (refreshed copy now cookie (Some (persists_on now))) (goes_on copy now))
-    (none_fit, tt)
-    (either done (refreshed copy now cookie (Some (persists_on now))) (goes_on copy now) (refreshed_fits copy now cookie (Some (persists_on now)) fit none_fit) (fit, tt))
+    (none_ready, tt)
+    (either done copy (refreshed copy now cookie (Some (persists_on now))) (goes_on copy now) (refreshed_fits copy now cookie (Some (persists_on now)) ready none_ready) (ready, tt))
 
-done_fits : (copy : Copy) (running : Running) (control : Option (Bool × Option Cookie)) → StageFits running.stage → Fits (taken_done copy running control)
-done_fits copy running None all = (none_fit, tt)
+done_fits : (copy : Copy) (running : Running) (control : Option (Bool × Option Cookie)) → IsReady running.stage → Fits copy (taken_done copy running control)
+done_fits copy running None all = (none_ready, tt)
 done_fits copy running (Some control) all =
-    either (not control.0 && running.ended) (refused copy fault.OutOfPlace) (refreshed copy (ends_phase copy.held running control.0) control.1 None)
-    (none_fit, tt) (refreshed_fits copy (ends_phase copy.held running control.0) control.1 None (ended_fits copy.held running control.0 all) none_fit)
+    either (not control.0 && running.ended) copy (refused copy fault.OutOfPlace) (refreshed copy (ends_phase copy.held running control.0) control.1 None)
+    (none_ready, tt) (refreshed_fits copy (ends_phase copy.held running control.0) control.1 None (ended_ready copy.held running control.0 all) none_ready)
 
 -- ---- messages
 
 -- the entry that a message brings is fit
-abbrev Brings : SyncMessage → Type 0
+abbrev pub Brings : SyncMessage → Type 0
 Brings (Put adds entry cookie) = IsFit entry
 Brings (Gone uuid name cookie) = ⊤
 Brings (Present uuid cookie) = ⊤
@@ -153,39 +164,39 @@ Brings (PhaseEnds deletes done cookie) = ⊤
 Brings (Done code control) = ⊤
 Brings Passed = ⊤
 
-in_fits : (copy : Copy) (running : Running) (message : SyncMessage) → Brings message → StageFits running.stage → Fits (taken_in copy running message)
+in_fits : (copy : Copy) (running : Running) (message : SyncMessage) → Brings message → IsReady running.stage → Fits copy (taken_in copy running message)
 in_fits copy running (Put adds entry cookie) fit all =
-    with_cookie_fits copy (record running { stage = staged entry.uuid (Some entry) running.stage }) cookie (staged_fits running.stage entry.uuid (Some entry) fit all)
+    with_cookie_fits copy (record running { stage = staged entry.uuid (Some entry) running.stage }) cookie (staged_ready running.stage entry.uuid (Some entry) (eq-eqb entry.uuid entry.uuid refl) fit all)
 in_fits copy running (Gone uuid name cookie) fit all =
-    with_cookie_fits copy (record running { stage = staged uuid None running.stage }) cookie (staged_fits running.stage uuid None tt all)
+    with_cookie_fits copy (record running { stage = staged uuid None running.stage }) cookie (staged_ready running.stage uuid None refl tt all)
 in_fits copy running (Present uuid cookie) fit all = names_fit copy running (uuid ∷ []) all
 in_fits copy running (IdSet deletes uuids cookie) fit all =
     let dropped : Running = record running { stage = all_dropped running.stage uuids } in
-    either deletes (with_cookie copy dropped cookie) (taken_names copy running uuids)
-    (with_cookie_fits copy dropped cookie (dropped_fits uuids running.stage all)) (names_fit copy running uuids all)
+    either deletes copy (with_cookie copy dropped cookie) (taken_names copy running uuids)
+    (with_cookie_fits copy dropped cookie (dropped_ready uuids running.stage all)) (names_fit copy running uuids all)
 in_fits copy running (NewCookie cookie) fit all = with_cookie_fits copy running (Some cookie) all
 in_fits copy running (PhaseEnds deletes done cookie) fit all = info_fits copy running deletes done cookie all
 in_fits copy running (Done code control) fit all =
-    either (running.persists || not (int_eq code (pos 0))) (over copy code) (taken_done copy running control) (none_fit, tt) (done_fits copy running control all)
+    either (running.persists || not (int_eq code (pos 0))) copy (over copy code) (taken_done copy running control) (none_ready, tt) (done_fits copy running control all)
 in_fits copy running Passed fit all = (all, tt)
 
-by_fits : (search : Option Running) (id : ℕ) (copy : Copy) (message : SyncMessage) → Brings message → AreFit (staged_puts search) → Fits (model.taken_by search id copy message)
-by_fits None id copy message fit all = (none_fit, tt)
+by_fits : (search : Option Running) (id : ℕ) (copy : Copy) (message : SyncMessage) → Brings message → IsReady (stage_in search) → Fits copy (model.taken_by search id copy message)
+by_fits None id copy message fit all = (none_ready, tt)
 by_fits (Some running) id copy message fit all =
-    either (id == running.id) (taken_in copy running message) (refused copy fault.OutOfPlace) (in_fits copy running message fit all) (none_fit, tt)
+    either (id == running.id) copy (taken_in copy running message) (refused copy fault.OutOfPlace) (in_fits copy running message fit all) (none_ready, tt)
 
-limits_fit : (copy : Copy) (found : Option model.Fault) (outcome : Copy × model.Answer) → Fits outcome → Fits (refused_by found copy outcome)
+limits_fit : (copy : Copy) (found : Option model.Fault) (outcome : Copy × model.Answer) → Fits copy outcome → Fits copy (refused_by found copy outcome)
 limits_fit copy None outcome fit = fit
-limits_fit copy (Some found) outcome fit = (none_fit, tt)
+limits_fit copy (Some found) outcome fit = (none_ready, tt)
 
-taking_fits : (id : ℕ) (copy : Copy) (message : SyncMessage) → Brings message → AreFit (staged_puts copy.running) → Fits (taken_within id copy message)
+pub taking_fits : (id : ℕ) (copy : Copy) (message : SyncMessage) → Brings message → IsReady (stage_in copy.running) → Fits copy (taken_within id copy message)
 taking_fits id copy message fit all =
     limits_fit copy (limit_fault (puts_entry message) (taken id copy message).0 (taken id copy message).1) (taken id copy message) (by_fits copy.running id copy message fit all)
 
 -- ---- what is heard
 
 -- what is said, if anything, brings no entry that is not fit
-abbrev Says : Result SyncMessage HearingFault → Type 0
+abbrev pub Says : Result SyncMessage HearingFault → Type 0
 Says (Ok message) = Brings message
 Says (Err found) = ⊤
 
@@ -223,7 +234,7 @@ says_info (info.RefreshDelete cookie done) = tt
 says_info (info.RefreshPresent cookie done) = tt
 says_info (info.IdSet cookie deletes uuids) = tt
 
-says_operation : (persisting : Bool) (controls : List Control) (operation : Protocol) → Says (operation_said persisting controls operation)
+pub says_operation : (persisting : Bool) (controls : List Control) (operation : Protocol) → Says (operation_said persisting controls operation)
 says_operation persisting controls (op.SearchResultEntry name raws) =
     says_then (sync_state controls) (entry_said persisting name raws) (λ sync. says_entry persisting name raws sync)
 says_operation persisting controls (op.SearchResultReference uris) = tt
@@ -244,58 +255,3 @@ says_operation persisting controls (op.CompareResponse result) = tt
 says_operation persisting controls (op.AbandonRequest id) = tt
 says_operation persisting controls (op.ExtendedRequest name value) = tt
 says_operation persisting controls (op.ExtendedResponse result name value) = tt
-
--- ---- what the consumer makes of it
-
-abbrev TakenFits : Copy × Taken → Type 0
-TakenFits outcome = AreFit (staged_puts outcome.0.running) × PutsFit outcome.1
-
-told_fits : (tag : ℕ) (given : model.Answer) → AnswerFits given → PutsFit (told tag given)
-told_fits tag answer.Staged fit = tt
-told_fits tag (answer.Stored commit) fit = fit
-told_fits tag (answer.Copied commit) fit = fit
-told_fits tag (answer.Over code) fit = tt
-told_fits tag (answer.Refused found) fit = tt
-
-refusal_fits : (tag : ℕ) (found : Refusal) → PutsFit (told_refusal tag found)
-refusal_fits tag refusal.OutOfPlace = tt
-refusal_fits tag (refusal.Fault found) = tt
-refusal_fits tag refusal.NoMemory = tt
-
-as_fits : (tag id : ℕ) (copy : Copy) (what : Result SyncMessage HearingFault) → Says what → AreFit (staged_puts copy.running) → TakenFits (taken_as tag id copy what)
-as_fits tag id copy (Err found) says all = (none_fit, refusal_fits tag (refusal_of found))
-as_fits tag id copy (Ok message) says all =
-    let fit = taking_fits id copy message says all in
-    (fit.0, told_fits tag (taken_within id copy message).1 fit.1)
-
-own_fits : (own : Bool) (one other : Copy × Taken) → TakenFits one → TakenFits other → TakenFits (cond own one other)
-own_fits true one other fit fit' = fit
-own_fits false one other fit fit' = fit'
-
-taken_fits : (search : Option Running) (copy : Copy) (message : Message) → AreFit (staged_puts copy.running) → TakenFits (taken_by search copy message)
-taken_fits None copy message all = (none_fit, tt)
-taken_fits (Some running) copy message all =
-    own_fits (nat_eq message.id running.id) (taken_as (tag_of message.op) message.id copy (said running.persisting message))
-    (without_search copy, taken.Fault (peer.OutOfPlace (tag_of message.op)))
-    (as_fits (tag_of message.op) message.id copy (said running.persisting message) (says_operation running.persisting message.controls message.op) all) (none_fit, tt)
-
-outcome_fits : (before after : Copy) (message : Message) (result : Taken) → (after, result) ≡ taken_of before message → AreFit (staged_puts before.running) → TakenFits (after, result)
-outcome_fits before after message result is all = subst TakenFits (sym is) (taken_fits before.running before message all)
-
--- what is staged after a message is fit, and what its stage put that took effect
-pub takes_fits : (result : Taken) (before : Copy) (message : Message) (after : Copy)
-    → Takes before message after result → AreFit (staged_puts before.running) → AreFit (staged_puts after.running) × PutsFit result
-takes_fits taken.NoMemory before message after is all = (subst (λ (c : Copy). AreFit (staged_puts c.running)) (sym is) all, tt)
-takes_fits taken.Staged before message after is all = outcome_fits before after message taken.Staged is all
-takes_fits (taken.Stored commit) before message after is all = outcome_fits before after message (taken.Stored commit) is all
-takes_fits (taken.Copied commit) before message after is all = outcome_fits before after message (taken.Copied commit) is all
-takes_fits (taken.Over code) before message after is all = outcome_fits before after message (taken.Over code) is all
-takes_fits (taken.Fault found) before message after is all = outcome_fits before after message (taken.Fault found) is all
-
--- and so by a step of its search
-pub step_fits : (step : Step) (held : Held) (running : kept.Running) (held' : Held) (running' : kept.Running) (message : Message) (before after : Copy)
-    → before ≡ copy_with held running → after ≡ after_step step held' running'
-    → taken_by_search held running held' running' (Ok step) message
-    → AreFit (staged_puts before.running) → AreFit (staged_puts after.running) × PutsFit (told_by step)
-step_fits step held running held' running' message before after was is by all =
-    takes_fits (told_by step) before message after (step_kept step held running held' running' message before after was is by).0 all

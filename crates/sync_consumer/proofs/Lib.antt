@@ -1,11 +1,13 @@
 -- Lemmas of the crate.
 pub mod Apart
+pub mod Committing
 pub mod Cuts
 pub mod Fits
 pub mod Fronts
 pub mod Heeding
 pub mod Keyed
 pub mod Merging
+pub mod Naming
 pub mod Noting
 pub mod Opposing
 pub mod Outcomes
@@ -17,4 +19,5 @@ pub mod Settling
 pub mod Stages
 pub mod Takings
 pub mod Turns
+pub mod Upholding
 pub mod Wired

@@ -1,4 +1,5 @@
 -- What a consumer keeps of its search, and what it makes of each message.
+pub mod Committing
 pub mod Holding
 pub mod Names
 pub mod Running

@@ -1,6 +1,7 @@
 //! The consumer.
 
-ghost use Rattle.std.specs.Prelude.{◌≡◌, Ok, None, Some, option_map, is_some, IfOk, OnOk, OnErr};
+ghost use Rattle.std.specs.Prelude.{◌≡◌, true, Ok, None, Some, option_map, is_some, IfOk, OnOk, OnErr};
+ghost use Rattle.entry_tree.specs.Fitting.{may_be_held};
 ghost use Rattle.entry_tree.specs.Selection.{search_of};
 ghost use Rattle.ldap_messages.specs.Whole.{whole_of};
 ghost use Rattle.sync_model.specs.Copy as model;
@@ -10,6 +11,7 @@ ghost use Rattle.sync_consumer.specs.declared.consumer.Taken.TheVariants.{Fault}
 ghost use Rattle.sync_consumer.specs.declared.fault.PeerFault.TheVariants.{OutOfPlace};
 ghost use Rattle.sync_consumer.specs.Running.{running_of};
 ghost use Rattle.sync_messages.specs.Request.{request_of, request_octets};
+ghost use Rattle.sync_consumer.specs.Committing.{AreNamedApart, CanBeCommitted};
 ghost use Rattle.sync_consumer.specs.Taking as taking;
 
 use crate::commit::Commit;
@@ -57,9 +59,9 @@ impl Model for Consumer {
     ghost use Rattle.std.specs.Coded.{codes};
     ghost use Rattle.entry_tree.specs.FilterCode.{tree_code};
     ghost use Rattle.entry_tree.specs.Selection.{search_of};
-    ghost use Rattle.sync_model.specs.Within.{staged_puts};
+    ghost use Rattle.sync_consumer.specs.Committing.{IsKept, stage_in};
     ghost use Rattle.sync_consumer.specs.Running.{running_of, copy_of};
-    ghost use Rattle.sync_consumer.specs.Taking.{AreFit, Following};
+    ghost use Rattle.sync_consumer.specs.Taking.{Following};
 
     ghost Value = { Following };
 
@@ -71,11 +73,12 @@ impl Model for Consumer {
       copy = copy_of c.held (option_map running_of c.running);
     } };
 
-    ghost invariant = { λ c. AreFit (staged_puts (option_map running_of c.running)) };
+    ghost invariant = { λ c. IsKept c.held.entries (stage_in (option_map running_of c.running)) };
 }
 
 impl Consumer {
     /// A consumer without entries, a cookie and a search.
+    #[tactic(auto, using(crate::proofs::Upholding::nothing_kept))]
     pub fn new(alloc: Global, spec: Spec, reload_hint: bool) -> Result<Consumer, NoMemory>
         ensures { result ≡ Ok (record { spec = search_of spec; reload = reload_hint; copy = taking.nothing }) }
     {
@@ -88,6 +91,7 @@ impl Consumer {
     }
 
     /// A consumer that goes on as this one does.
+    #[tactic(auto, using(crate::proofs::Upholding::same_kept))]
     pub fn copy(&self) -> Result<Consumer, NoMemory>
         ensures { IfOk result (λ copy. copy ≡ self.now) }
     {
@@ -136,6 +140,12 @@ impl Consumer {
         ensures cookie { taking.KeepsCookie self.old.copy self.new.copy result }
         // What is put may be put by a commit of a replica: sound values, and no entry too heavy.
         ensures fit { taking.PutsFit result }
+        // Whatever came of the message, no name is there twice, and a directory may have the entries.
+        ensures names { AreNamedApart self.new.copy.held }
+        ensures clear { may_be_held self.new.copy.held ≡ true }
+        // The puts and drops of a stage that took effect are a commit: a directory with the entries
+        // before has room for it, and is left with those after it.
+        ensures committed { CanBeCommitted self.old.copy self.new.copy result }
         ensures spec { self.new.spec ≡ self.old.spec }
         ensures reload { self.new.reload ≡ self.old.reload }
     {
@@ -176,6 +186,7 @@ impl Consumer {
     }
 
     /// Ends the search, and drops what is staged.
+    #[tactic(auto, using(crate::proofs::Upholding::idle_kept))]
     pub fn cut(&mut self)
         ensures { self.new ≡ record self.old { copy = taking.without_search self.old.copy } }
     {

@@ -6,6 +6,7 @@ pub mod Deciding
 pub mod Filling
 pub mod Groups
 pub mod Growing
+pub mod Growths
 pub mod Held
 pub mod Incrementally
 pub mod Judged
@@ -16,6 +17,9 @@ pub mod Numbers
 pub mod Overflows
 pub mod Places
 pub mod Refreshes
+pub mod Refusals
+pub mod Returns
+pub mod Rooted
 pub mod Saying
 pub mod Sets
 pub mod Streams

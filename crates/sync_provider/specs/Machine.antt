@@ -1,5 +1,6 @@
 -- A provider as a machine: what each call does to its directory and its open searches, where memory suffices.
 use Rattle.std.specs.Prelude.{ℕ, List, [], ◌∷◌, map, Option, Some, None, Result, Ok, Err}
+use Rattle.std.specs.Option.{option_or}
 use Rattle.dn_names.specs.Names.{TypeAndValue}
 use Rattle.entry_tree.specs.declared.entry.Entry.{Entry}
 use Rattle.entry_tree.specs.declared.op.Op.{Op}
@@ -13,6 +14,7 @@ use Rattle.sync_provider.specs.HandingOut as handing
 use Rattle.sync_provider.specs.HandingOut.{turn_at, closed}
 use Rattle.sync_provider.specs.Queueing.{informed}
 use Rattle.sync_provider.specs.Search.{SearchState}
+use Rattle.sync_provider.specs.declared.committing.StagedCommit.{StagedCommit}
 use Rattle.sync_provider.specs.declared.provider.Kind.{Kind}
 use Rattle.sync_provider.specs.declared.provider.Kind.TheVariants.{Root, Replica}
 use Rattle.sync_provider.specs.declared.searches.SyncSearch.{SyncSearch}
@@ -109,3 +111,19 @@ called p (SetsQueueLimit limit) = queue_limited p limit
 abbrev pub run : ProviderState → List Call → ProviderState
 run p [] = p
 run p (call ∷ calls) = run (called p call) calls
+
+-- ---- commits that are staged
+
+-- one call for each of them
+abbrev pub commit_calls : List StagedCommit → ℕ → List Call
+commit_calls commits now = map (λ commit. Commits commit.puts commit.drops now) commits
+
+-- the provider after commits one after another
+abbrev pub committed_each : ProviderState → List StagedCommit → ℕ → ProviderState
+committed_each p commits now = run p (commit_calls commits now)
+
+-- what is first against one of these commits, each judged on what the ones before it left
+abbrev pub refusal_of_each : ProviderState → List StagedCommit → ℕ → Option CommitFault
+refusal_of_each p [] now = None
+refusal_of_each p (commit ∷ commits) now =
+    option_or (commit_refusal p.kind p.directory commit.puts commit.drops now) (refusal_of_each (committed p commit.puts commit.drops now) commits now)

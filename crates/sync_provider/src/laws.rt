@@ -1,5 +1,6 @@
 //! What holds of a provider, over every list of calls.
 
+ghost use Rattle.sync_provider.specs.Answering.{RefusalsCountAsNone};
 ghost use Rattle.sync_provider.specs.Law.{
   CookiesNameTheirPrefix,
   LogsTellWhatWasTouched,
@@ -10,6 +11,7 @@ ghost use Rattle.sync_provider.specs.Law.{
   SearchesTellTheirStreams,
   WritesWereAccepted,
 };
+ghost use Rattle.sync_provider.specs.Returning.{ReturnsCountAsNone};
 
 /// After every list of calls whose writes and commits are sound, each write that is kept was accepted
 /// on the entries before it.
@@ -61,4 +63,18 @@ pub fn queues_overflow_exactly()
 /// of writes that the cookie of the refresh's end names.
 pub fn refreshes_are_incremental()
     ensures { RefreshesAreIncremental }
+{}
+
+/// Over every list of calls with returns to the searches of earlier moments, each to a moment since
+/// which no write came, the provider is as after the calls that count alone: those that were returned
+/// over do not, but for changes of limits.
+pub fn returns_count_as_none()
+    ensures { ReturnsCountAsNone }
+{}
+
+/// Over every list of calls, whatever they answered, the provider is as after those alone that were
+/// not refused. Want of memory is such a refusal. What a call may leave by its answer is what its
+/// clause `leaves` promises.
+pub fn refusals_count_as_none()
+    ensures { RefusalsCountAsNone }
 {}

@@ -16,11 +16,11 @@
 #![tactic(auto)]
 
 mod change;
+mod committing;
 mod gathering;
 mod handed;
 mod later;
 mod laws;
-mod moment;
 mod open_search;
 mod open_searches;
 mod parts;
@@ -33,14 +33,15 @@ mod staging;
 mod telling;
 mod writing;
 
+pub use committing::StagedCommit;
 pub use handed::Handed;
 pub use laws::{
     cookies_name_their_prefix, logs_tell_what_was_touched, numbers_tell_what_was_touched,
-    queues_overflow_exactly, refreshes_are_incremental, searches_keep_their_place,
-    searches_tell_their_streams, writes_were_accepted,
+    queues_overflow_exactly, refreshes_are_incremental, refusals_count_as_none,
+    returns_count_as_none, searches_keep_their_place, searches_tell_their_streams,
+    writes_were_accepted,
 };
 pub use ldap_ber::NoMemory;
-pub use moment::ProviderMoment;
 pub use open_search::OpenSearch;
 pub use open_searches::OpenSearches;
 pub use provider::{Kind, Provider};

@@ -31,6 +31,7 @@ const BUSY: u32 = 51;
 /// those of later writes, as far as they were not handed out.
 #[derive(Drop)]
 pub struct OpenSearch {
+    alloc: Global,
     /// What its messages are numbered with.
     id: u32,
     spec: Spec,
@@ -115,6 +116,7 @@ impl OpenSearch {
         ensures staged { result.staged ≡ None }
     {
         OpenSearch {
+            alloc,
             id: asked.id,
             spec: asked.spec,
             start: asked.start,
@@ -128,13 +130,14 @@ impl OpenSearch {
     }
 
     /// A search that goes on as this one does.
-    pub(crate) fn copy(&self, alloc: Global) -> Result<OpenSearch, NoMemory>
+    pub(crate) fn copy(&self) -> Result<OpenSearch, NoMemory>
         ensures search { IfOk result (λ copy. copy.search ≡ self.now.search) }
     {
-        let rest = copy_of_rest(alloc, &self.rest)?;
-        let queue = copy_of_queue(alloc, &self.queue)?;
+        let rest = copy_of_rest(self.alloc, &self.rest)?;
+        let queue = copy_of_queue(self.alloc, &self.queue)?;
         let spec = copy_of(&self.spec)?;
         Ok(OpenSearch {
+            alloc: self.alloc,
             id: self.id,
             spec,
             start: self.start,
@@ -156,7 +159,7 @@ impl OpenSearch {
 
     /// The message that is pending first, which counts as handed out where it is not the last.
     #[tactic(auto, using(crate::proofs::Turns::over_turn, crate::proofs::Turns::over_has_message, crate::proofs::Turns::rest_has_message, crate::proofs::Turns::part_turn, crate::proofs::Turns::part_state, crate::proofs::Turns::end_turn, crate::proofs::Turns::end_state, crate::proofs::Turns::last_turn))]
-    pub(crate) fn hand_out(&mut self, alloc: Global) -> Handed
+    pub(crate) fn hand_out(&mut self) -> Handed
         ensures turn { IfSome (turn_of result)
             (λ turn. turn ≡ turn_of_pending self.old.search.id (pending self.old.search)) }
         ensures memory { result ≡ Handed.NoMemory
@@ -164,16 +167,16 @@ impl OpenSearch {
         ensures state { self.new.search ≡ after_own_turn self.old.search (turn_of result) }
     {
         if self.over {
-            return match done_message(alloc, self.id, BUSY) {
+            return match done_message(self.alloc, self.id, BUSY) {
                 Ok(message) => Handed::Ended(BUSY, message),
                 Err(_) => Handed::NoMemory,
             };
         }
         let Some(rest) = &mut self.rest else {
-            return self.hand_out_later(alloc);
+            return self.hand_out_later();
         };
         let deletes = self.start.deletes();
-        let Ok(message) = rest.message(alloc, self.id, self.persists, deletes) else {
+        let Ok(message) = rest.message(self.alloc, self.id, self.persists, deletes) else {
             return Handed::NoMemory;
         };
         if !rest.is_end() {
@@ -189,7 +192,7 @@ impl OpenSearch {
 
     /// The first message of later writes, once the refresh is handed out.
     #[tactic(auto, using(crate::proofs::Turns::later_turn, crate::proofs::Turns::due_has_message, crate::proofs::Turns::later_state, crate::proofs::Turns::none_turn))]
-    fn hand_out_later(&mut self, alloc: Global) -> Handed
+    fn hand_out_later(&mut self) -> Handed
         requires rest { self.old.search.rest ≡ [] }
         requires over { self.old.search.over ≡ false }
         ensures turn { IfSome (turn_of result)
@@ -201,7 +204,7 @@ impl OpenSearch {
         let Some(later) = self.queue.get(0) else {
             return Handed::Nothing;
         };
-        let Ok(message) = later.message(alloc, self.id) else {
+        let Ok(message) = later.message(self.alloc, self.id) else {
             return Handed::NoMemory;
         };
         let _ = self.queue.pop();
@@ -210,39 +213,29 @@ impl OpenSearch {
 
     /// Makes the messages that a write sends, and the room for them in the queue. They are not
     /// pending before the write is accepted.
-    pub(crate) fn stage(
-        &mut self,
-        alloc: Global,
-        touched: &[Touch],
-        cookie: Cookie,
-    ) -> Result<(), NoMemory>
+    pub(crate) fn stage(&mut self, touched: &[Touch], cookie: Cookie) -> Result<(), NoMemory>
         requires rid { cookie.rid < 1000 }
         requires sid { cookie.sid < 4096 }
         ensures { IsTried touched.now (cookie_text cookie) self.old self.new }
     {
         discard(self.staged.take());
-        let messages = self.messages_of(alloc, touched, cookie)?;
+        let messages = self.messages_of(touched, cookie)?;
         self.queue.reserve(messages.len())?;
         discard(self.staged.replace(messages));
         Ok(())
     }
 
     /// The messages that a write sends it.
-    fn messages_of(
-        &self,
-        alloc: Global,
-        touched: &[Touch],
-        cookie: Cookie,
-    ) -> Result<Vec<Later>, NoMemory>
+    fn messages_of(&self, touched: &[Touch], cookie: Cookie) -> Result<Vec<Later>, NoMemory>
         requires rid { cookie.rid < 1000 }
         requires sid { cookie.sid < 4096 }
         ensures { IfOk result (λ messages.
             messages.items ≡ staged_for self.now.search touched.now (cookie_text cookie)) }
     {
         if self.is_queueing() {
-            messages_for(alloc, &self.spec, touched, cookie)
+            messages_for(self.alloc, &self.spec, touched, cookie)
         } else {
-            Ok(Vec::new(alloc))
+            Ok(Vec::new(self.alloc))
         }
     }
 

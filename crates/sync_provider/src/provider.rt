@@ -3,6 +3,7 @@
 ghost use Rattle.std.specs.Prelude.{◌≡◌, ◌≤◌, ◌-◌, ◌<◌, ◌^◌, true, length, slice_get, is_some, Some, IfOk, IfSome};
 ghost use Rattle.csn_cookie.specs.Csn as csns;
 ghost use Rattle.directory_writes.specs.Directory as directory;
+ghost use Rattle.sync_provider.specs.Answering.{HandOutLeaves, DropLeaves};
 ghost use Rattle.sync_provider.specs.HandingOut as handing;
 ghost use Rattle.sync_provider.specs.Machine as machine;
 
@@ -32,6 +33,7 @@ pub enum Kind {
 /// A directory with the searches that are open on it, by their numbers.
 #[derive(Drop)]
 pub struct Provider {
+    pub(crate) alloc: Global,
     pub(crate) kind: Kind,
     pub(crate) directory: Directory,
     pub(crate) searches: BTreeMap<u64, OpenSearch>,
@@ -71,6 +73,7 @@ impl Provider {
         ensures { IfOk result (λ provider. provider ≡ machine.fresh suffix sid history kind) }
     {
         Ok(Provider {
+            alloc,
             kind,
             directory: Directory::new(alloc, suffix, sid, history),
             searches: BTreeMap::new(alloc),
@@ -78,10 +81,17 @@ impl Provider {
         })
     }
 
+    /// Where its writes come from.
+    pub fn kind(&self) -> Kind
+        ensures { result ≡ self.now.kind }
+    {
+        self.kind
+    }
+
     /// The next message of the search with this number. Where memory runs out the same message is
     /// still pending; where there is no message none is asked for.
     #[tactic(auto, using(crate::proofs::Turns::closed_after, crate::proofs::Turns::open_after, crate::proofs::Turns::found_has_message, crate::proofs::Held::turn_found, crate::proofs::Held::search_found, crate::proofs::Held::search_none))]
-    pub fn hand_out(&mut self, alloc: Global, number: u64) -> Handed
+    pub fn hand_out(&mut self, number: u64) -> Handed
         ensures turn { IfSome (handing.turn_of result)
             (λ turn. turn ≡ handing.turn_at self.old.searches number) }
         ensures memory { result ≡ Handed.NoMemory
@@ -89,11 +99,12 @@ impl Provider {
         ensures state { self.new ≡ record self.old {
           searches = handing.after_answer self.old.searches number (handing.turn_of result);
         } }
+        ensures leaves { HandOutLeaves self.old number result self.new }
     {
         let Some(search) = self.searches.get_mut(&number) else {
             return Handed::NoSuchSearch;
         };
-        let handed = search.hand_out(alloc);
+        let handed = search.hand_out();
         if handed.is_end() {
             discard(self.searches.remove(&number));
         }
@@ -105,6 +116,7 @@ impl Provider {
     pub fn drop_search(&mut self, number: u64) -> bool
         ensures open { result ≡ is_some (handing.search_at self.old.searches number) }
         ensures state { self.new ≡ machine.dropped self.old number }
+        ensures leaves { DropLeaves self.old number result self.new }
     {
         let removed = self.searches.remove(&number);
         let was_open = removed.is_some();

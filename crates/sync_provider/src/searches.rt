@@ -7,6 +7,7 @@ ghost use Rattle.sync_messages.specs.Request.{request_of};
 ghost use Rattle.sync_wire.specs.Requesting.{persists};
 ghost use Rattle.std.specs.BTreeMap.{insert_entry};
 ghost use Rattle.sync_provider.specs.Accepting as accepting;
+ghost use Rattle.sync_provider.specs.Answering.{AcceptLeaves};
 ghost use Rattle.directory_writes.specs.Starting.{IsServed};
 ghost use Rattle.directory_writes.specs.Starting.{start_of};
 ghost use Rattle.sync_provider.specs.Search.{opening};
@@ -19,7 +20,6 @@ use csn_cookie::is_blank;
 use directory_writes::{ADMIN_LIMIT_EXCEEDED, Start};
 use entry_tree::Spec;
 use ldap_ber::{NoMemory, Octets};
-use std::alloc::Global;
 use sync_messages::{Mode, SyncFault, SyncRequest};
 
 /// protocolError: the control's value is outside its grammar.
@@ -72,15 +72,16 @@ impl Provider {
     /// A cookie is servable where it is of the directory's history and its stamp is not above the
     /// last one. The search then begins with the content after the writes that it names.
     #[tactic(auto, using(crate::proofs::Asking::value_refused, crate::proofs::Asking::value_read))]
-    pub fn accept(&mut self, alloc: Global, ask: SyncSearch) -> Accepted
+    pub fn accept(&mut self, ask: SyncSearch) -> Accepted
         ensures answer { accepting.Answers result
             (accepting.answer_to self.old.directory self.old.searches ask) }
         ensures state { self.new ≡ record self.old {
           searches = accepting.after_answer self.old.directory self.old.searches ask result;
         } }
+        ensures leaves { AcceptLeaves self.old ask result self.new }
     {
-        match SyncRequest::read(alloc, ask.control.as_slice()) {
-            Ok(request) => self.accept_request(alloc, &request, ask),
+        match SyncRequest::read(self.alloc, ask.control.as_slice()) {
+            Ok(request) => self.accept_request(&request, ask),
             Err(fault) => {
                 discard(ask);
                 match fault {
@@ -92,7 +93,7 @@ impl Provider {
     }
 
     /// The same, with the request that the control's value spells.
-    fn accept_request(&mut self, alloc: Global, request: &SyncRequest, ask: SyncSearch) -> Accepted
+    fn accept_request(&mut self, request: &SyncRequest, ask: SyncSearch) -> Accepted
         requires { request_of ask.control ≡ Ok request.now }
         ensures answer { accepting.Answers result
             (accepting.answer_to_request self.old.directory self.old.searches ask (Ok request.now)) }
@@ -108,7 +109,7 @@ impl Provider {
                     start: admitted.start,
                     persists: persists(request.mode),
                 };
-                match self.open(alloc, admitted.number, asked) {
+                match self.open(admitted.number, asked) {
                     Ok(writes) => Accepted::Opened(admitted.number, writes),
                     Err(_) => Accepted::NoMemory,
                 }
@@ -145,7 +146,7 @@ impl Provider {
 
     /// Opens a search with this number, and answers how many writes the directory has.
     #[tactic(auto, using(crate::proofs::Held::held_opened))]
-    fn open(&mut self, alloc: Global, number: u64, asked: Asked) -> Result<u64, NoMemory>
+    fn open(&mut self, number: u64, asked: Asked) -> Result<u64, NoMemory>
         requires { IsServed self.old.directory (start_of asked.start) }
         ensures writes { IfOk result (λ writes. writes ≡ length self.old.directory.writes) }
         ensures ok { OnOk result (self.new ≡ record self.old {
@@ -154,11 +155,11 @@ impl Provider {
         }) }
         ensures err { OnErr result (self.new ≡ self.old) }
     {
-        match refresh(alloc, &self.directory, &asked.spec, asked.start) {
+        match refresh(self.alloc, &self.directory, &asked.spec, asked.start) {
             Ok(parts) => {
                 let accepted = self.writes();
                 let cookie = self.directory.cookie();
-                let search = OpenSearch::new(alloc, asked, accepted, parts, cookie);
+                let search = OpenSearch::new(self.alloc, asked, accepted, parts, cookie);
                 discard(self.searches.insert(number, search)?);
                 Ok(accepted)
             }

@@ -19,14 +19,13 @@ use crate::open_search::{OpenSearch, discard};
 use csn_cookie::Cookie;
 use directory_writes::Directory;
 use entry_tree::{Op, OpFault, Touch};
-use std::alloc::{AllocError, Global};
+use std::alloc::AllocError;
 use std::collections::BTreeMap;
 
 /// Makes the messages of the write that this operation would be, or tells the code that is against
 /// it.
 pub(crate) fn stage_write(
     searches: &mut BTreeMap<u64, OpenSearch>,
-    alloc: Global,
     directory: &Directory,
     op: &Op,
     now: u64,
@@ -37,12 +36,12 @@ pub(crate) fn stage_write(
     ensures staged { OnOk result (IsToldAhead directory.now op.now now searches.new.entries) }
     ensures refused { IfErr result (Refuses (judged directory.now op.now now)) }
 {
-    let preview = directory.preview(alloc, op, now)?;
+    let preview = directory.preview(op, now)?;
     let cookie = Cookie {
         csn: preview.csn,
         ..directory.cookie()
     };
-    let staged = stage_each(searches, alloc, preview.touched.list(), cookie);
+    let staged = stage_each(searches, preview.touched.list(), cookie);
     discard(preview);
     match staged {
         Ok(()) => Ok(()),
@@ -53,7 +52,6 @@ pub(crate) fn stage_write(
 /// Makes the messages of a write with these touches and this cookie.
 fn stage_each(
     searches: &mut BTreeMap<u64, OpenSearch>,
-    alloc: Global,
     touched: &[Touch],
     cookie: Cookie,
 ) -> Result<(), NoMemory>
@@ -63,7 +61,7 @@ fn stage_each(
     ensures staged { OnOk result (AreStaged touched.now (cookie_text cookie) searches.new.entries) }
 {
     searches.retain(|_, search| {
-        let _ = search.stage(alloc, touched, cookie);
+        let _ = search.stage(touched, cookie);
         true
     });
     if are_staged(searches) {

@@ -7,6 +7,7 @@ ghost use Rattle.directory_writes.specs.Commits as commits;
 ghost use Rattle.directory_writes.specs.Directory as directory;
 ghost use Rattle.entry_tree.specs.Fitting.{fits, is_light};
 ghost use Rattle.entry_tree.specs.Sound.{is_commit, is_sound_op, is_sound_put};
+ghost use Rattle.sync_provider.specs.Answering.{WriteLeaves, CommitLeaves};
 ghost use Rattle.sync_provider.specs.Committing.{commit_refusal, fault_of, Opposes};
 ghost use Rattle.sync_provider.specs.Machine as machine;
 ghost use Rattle.sync_provider.specs.declared.writing.CommitFault.TheVariants as faults;
@@ -16,7 +17,7 @@ use crate::open_search::discard;
 use crate::provider::{Kind, Provider};
 use crate::staging::{any_queueing, push_each, stage_write};
 use entry_tree::{EntryList, Op, OpFault};
-use std::alloc::{AllocError, Global};
+use std::alloc::AllocError;
 use sync_messages::IdList;
 
 /// unwillingToPerform (RFC 4511, appendix A.1): a replica takes no writes of clients.
@@ -65,15 +66,16 @@ impl Provider {
     /// moment of 1970 on, and tells it to the searches that go on and whose content it changes. A
     /// write that is not accepted leaves all as it was. A replica accepts none.
     #[tactic(auto, using(crate::proofs::Told::unwritten_all))]
-    pub fn write(&mut self, alloc: Global, op: Op, now: u64) -> Reply
+    pub fn write(&mut self, op: Op, now: u64) -> Reply
         requires sound { is_sound_op op ≡ true }
         requires asked { is_commit op ≡ false }
         ensures code { result.code ≢ 80 → result.code ≡ machine.write_code self.old op now }
         ensures state { result.code ≢ 80 → self.new ≡ machine.wrote self.old op now }
         ensures err { result.code ≡ 80 → self.new ≡ self.old }
         ensures number { result.number ≡ length self.new.directory.writes }
+        ensures leaves { WriteLeaves self.old op now result self.new }
     {
-        let code = match self.take_write(alloc, op, now) {
+        let code = match self.take_write(op, now) {
             Ok(code) => code,
             Err(_) => OTHER,
         };
@@ -85,7 +87,7 @@ impl Provider {
 
     /// The code of a client's write.
     #[tactic(auto, using(crate::proofs::Commits::asked_fits))]
-    fn take_write(&mut self, alloc: Global, op: Op, now: u64) -> Result<u32, NoMemory>
+    fn take_write(&mut self, op: Op, now: u64) -> Result<u32, NoMemory>
         requires sound { is_sound_op op ≡ true }
         requires asked { is_commit op ≡ false }
         ensures code { IfOk result (λ code. code ≡ machine.write_code self.old op now) }
@@ -93,7 +95,7 @@ impl Provider {
         ensures err { OnErr result (self.new ≡ self.old) }
     {
         match self.kind {
-            Kind::Root => self.write_and_tell(alloc, op, now),
+            Kind::Root => self.write_and_tell(op, now),
             Kind::Replica => {
                 discard(op);
                 Ok(UNWILLING_TO_PERFORM)
@@ -105,13 +107,7 @@ impl Provider {
     /// these identities, where the clock shows `now`. It is told as a client's write is. The answer
     /// is the number of accepted writes after it. The entries keep their stamps; the write has a
     /// stamp of this directory. A commit that is refused leaves all as it was.
-    pub fn commit(
-        &mut self,
-        alloc: Global,
-        puts: EntryList,
-        drops: IdList,
-        now: u64,
-    ) -> Result<u64, CommitFault>
+    pub fn commit(&mut self, puts: EntryList, drops: IdList, now: u64) -> Result<u64, CommitFault>
         requires sound { list_all is_sound_put puts ≡ true }
         requires light { list_all is_light puts ≡ true }
         ensures accepted { OnOk result (commit_refusal self.old.kind self.old.directory puts drops now ≡ None) }
@@ -121,17 +117,17 @@ impl Provider {
         ensures err { OnErr result (self.new ≡ self.old) }
         ensures number { IfOk result (λ number. number ≡ length self.new.directory.writes) }
         ensures one { IfOk result (λ number. number ≡ length self.old.directory.writes + 1) }
+        ensures leaves { CommitLeaves self.old puts drops now result self.new }
     {
         match self.kind {
             Kind::Root => Err(CommitFault::NotAReplica),
-            Kind::Replica => Ok(self.take_commit(alloc, puts, drops, now)?),
+            Kind::Replica => Ok(self.take_commit(puts, drops, now)?),
         }
     }
 
     /// The same at a replica.
     fn take_commit(
         &mut self,
-        alloc: Global,
         puts: EntryList,
         drops: IdList,
         now: u64,
@@ -146,15 +142,14 @@ impl Provider {
         ensures number { IfOk result (λ number. number ≡ length self.new.directory.writes) }
         ensures one { IfOk result (λ number. number ≡ length self.old.directory.writes + 1) }
     {
-        self.directory
-            .check_commit(alloc, puts.list(), drops.list(), now)?;
-        self.write_and_tell(alloc, Op::Commit(puts, drops), now)?;
+        self.directory.check_commit(puts.list(), drops.list(), now)?;
+        self.write_and_tell(Op::Commit(puts, drops), now)?;
         Ok(self.writes())
     }
 
     /// Applies a write, whoever asks for it, and tells it. The answer is its code.
     #[tactic(auto, using(crate::proofs::Told::refused_view, crate::proofs::Told::code_none))]
-    fn write_and_tell(&mut self, alloc: Global, op: Op, now: u64) -> Result<u32, NoMemory>
+    fn write_and_tell(&mut self, op: Op, now: u64) -> Result<u32, NoMemory>
         requires sound { is_sound_op op ≡ true }
         requires fits { fits (directory.entries_of self.old.directory) op ≡ true }
         ensures code { IfOk result (λ code. code ≡ directory.write_code self.old.directory op now) }
@@ -162,11 +157,11 @@ impl Provider {
         ensures err { OnErr result (self.new ≡ self.old) }
     {
         if !any_queueing(&self.searches) {
-            return self.directory.write(alloc, op, now);
+            return self.directory.write(op, now);
         }
-        match stage_write(&mut self.searches, alloc, &self.directory, &op, now) {
+        match stage_write(&mut self.searches, &self.directory, &op, now) {
             Ok(()) => {
-                let code = self.directory.write(alloc, op, now)?;
+                let code = self.directory.write(op, now)?;
                 push_each(&mut self.searches, self.queue_limit);
                 Ok(code)
             }

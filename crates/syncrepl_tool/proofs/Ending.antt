@@ -28,10 +28,12 @@ front_kept {script} {a} {b} f c k = record {
   end = f.end;
   rest = f.rest;
   run = f.run;
+  given = f.given;
   right = f.right;
   traced = f.traced;
   held = f.held;
   written = (f.written.0, f.written.1, f.written.2, Appends-kept a b c f.written.0 f.written.3 k);
+  torn = f.torn;
 }
 
 report_kept : {script : Reader} {a b : Option (List ℕ)} {end : State} {rest : Reader} → WritesReport script a b end rest → (c : Option (List ℕ)) → Keeps b c → WritesReport script a c end rest
@@ -39,6 +41,7 @@ report_kept {script} {a} {b} w c k = record {
   orders = w.orders;
   report = w.report;
   run = w.run;
+  given = w.given;
   right = w.right;
   traced = w.traced;
   held = w.held;

@@ -16,6 +16,7 @@ use Rattle.cascade_world.specs.Report.{Told, lines_text, report_text}
 use Rattle.cascade_laws.specs.Run.{Runs}
 use Rattle.cascade_world.specs.World.{State, no_nodes, step, IsStep}
 use Rattle.cascade_laws.proofs.HeadlineHolds.{runs_lines_right, runs_held}
+use Rattle.cascade_laws.proofs.Reported.{runs_reported}
 use Rattle.cascade_laws.proofs.Runs.{runs-more, step_told}
 use Rattle.cascade_laws.proofs.Traces.{runs_traced}
 use Rattle.syncrepl_tool.specs.declared.run.Outcome.{Outcome}
@@ -54,6 +55,7 @@ written_report {script} {reader} {state} s = record {
   orders = s.orders;
   report = s.report;
   run = s.run;
+  given = runs_reported script s.orders s.report state reader s.run;
   right = runs_lines_right script s.orders s.report state reader s.run;
   traced = runs_traced script s.orders s.report state reader s.run;
   held = runs_held script s.orders s.report state reader s.run;
@@ -67,10 +69,12 @@ front_so_far {script} {reader} {state} s = record {
   end = state;
   rest = reader;
   run = s.run;
+  given = runs_reported script s.orders s.report state reader s.run;
   right = runs_lines_right script s.orders s.report state reader s.run;
   traced = runs_traced script s.orders s.report state reader s.run;
   held = runs_held script s.orders s.report state reader s.run;
   written = (report_text s.report, [], sym (append-nil (report_text s.report)), s.written);
+  torn = inl refl;
 }
 
 -- a front of the lines of one more order
@@ -80,22 +84,24 @@ pub front_of_next : {script reader : Reader} {state : State} {old new : Option (
 front_of_next {script} {reader} {state} {old} {new} s line order more next text held reads steps front =
     let told = step_told (step state order) next text steps in
     let run = runs-more no_nodes script s.orders s.report state reader s.run line order told.0 next more reads told.1 in
+    let whole : lines_text told.0 ≡ front.0 ++ front.1 = sym told.2 ∙ front.2 in
     record {
       orders = s.orders ++ order ∷ [];
       report = s.report ++ told.0 ∷ [];
       end = next;
       rest = more;
       run = run;
+      given = runs_reported script (s.orders ++ order ∷ []) (s.report ++ told.0 ∷ []) next more run;
       right = runs_lines_right script (s.orders ++ order ∷ []) (s.report ++ told.0 ∷ []) next more run;
       traced = runs_traced script (s.orders ++ order ∷ []) (s.report ++ told.0 ∷ []) next more run;
       held = runs_held script (s.orders ++ order ∷ []) (s.report ++ told.0 ∷ []) next more run;
-      written =
-          let whole : lines_text told.0 ≡ front.0 ++ front.1 = sym told.2 ∙ front.2 in (
-            report_text s.report ++ front.0,
-            front.1,
-            sym (report_text-push s.report told.0) ∙ ap (λ t. report_text s.report ++ t) whole ∙ sym (append_assoc (report_text s.report) front.0 front.1),
-            Appends-trans old new held (report_text s.report) front.0 s.written front.3,
-          );
+      written = (
+        report_text s.report ++ front.0,
+        front.1,
+        sym (report_text-push s.report told.0) ∙ ap (λ t. report_text s.report ++ t) whole ∙ sym (append_assoc (report_text s.report) front.0 front.1),
+        Appends-trans old new held (report_text s.report) front.0 s.written front.3,
+      );
+      torn = inr (s.report, told.0, front.0, front.1, refl, whole, refl);
     }
 
 -- the script is read to its end

@@ -9,11 +9,12 @@ use Rattle.sync_io.specs.Sink.{AppendsFront}
 use Rattle.cascade_script.specs.declared.fault.Cause.{Cause}
 use Rattle.cascade_script.specs.declared.fault.Cause.TheVariants.{LimitReached}
 use Rattle.cascade_laws.specs.Headline.{LinesAreRight}
+use Rattle.cascade_laws.specs.Reports.{AreReportsOf}
 use Rattle.cascade_script.specs.Lines.{most_bytes}
 use Rattle.cascade_script.specs.Orders.{Order}
 use Rattle.cascade_script.specs.Reader.{Reader, next_in}
 use Rattle.cascade_script.specs.Reader.Next.{Ended}
-use Rattle.cascade_world.specs.Report.{Told, report_text}
+use Rattle.cascade_world.specs.Report.{Told, lines_text, report_text}
 use Rattle.cascade_laws.specs.Run.{Runs, IsRefusal, IsScript, AreHeld}
 use Rattle.cascade_world.specs.Trace.{AreTraced, all_lines}
 use Rattle.cascade_world.specs.World.{State, no_nodes}
@@ -24,23 +25,33 @@ use Rattle.syncrepl_tool.specs.declared.run.Outcome.TheVariants.{Done, Refused, 
 use Rattle.syncrepl_tool.specs.declared.run.Input.{Input}
 use Rattle.syncrepl_tool.specs.declared.run.Input.TheVariants.{Text, Failed}
 
--- The headline: of the report of the first orders of the script a front was written, which may end in the midst of a line, and each of these lines is right. The wire is used: these lines tell all that happened to the links and the copies of the consumers. And what they tell last of each consumer is what it holds.
+-- the text of a report, or that of the lines of all its orders but the last and then a front of the last one's
+abbrev pub EndsInLast : List (List Told) → List ℕ → Type 0
+EndsInLast report text =
+    (text ≡ report_text report)
+    ⊎ ((whole : List (List Told)) × (last : List Told) × (front : List ℕ) × (rest : List ℕ)
+    × (report ≡ whole ++ last ∷ []) × (lines_text last ≡ front ++ rest) × (text ≡ report_text whole ++ front))
+
+-- The headline: of the report of the first orders of the script a front was written, which may end in the midst of the last order's lines. Each order has the lines that belong to it, and each of these is right. The wire is used: these lines tell all that happened to the links and the copies of the consumers. And what they tell last of each consumer is what it holds.
 pub record WritesFront (script : Reader) (old new : Option (List ℕ)) : Type 0 where
   pub orders : List Order
   pub report : List (List Told)
   pub end : State
   pub rest : Reader
   pub run : Runs no_nodes script orders report end rest
+  pub given : AreReportsOf orders report
   pub right : LinesAreRight [] [] orders report
   pub traced : AreTraced (all_lines report) end.followers
   pub held : AreHeld (all_lines report) end
   pub written : AppendsFront old new (report_text report)
+  pub torn : EndsInLast report written.0
 
 -- the whole report of the first orders of the script was written, and the state is that which these orders leave
 pub record WritesReport (script : Reader) (old new : Option (List ℕ)) (end : State) (rest : Reader) : Type 0 where
   pub orders : List Order
   pub report : List (List Told)
   pub run : Runs no_nodes script orders report end rest
+  pub given : AreReportsOf orders report
   pub right : LinesAreRight [] [] orders report
   pub traced : AreTraced (all_lines report) end.followers
   pub held : AreHeld (all_lines report) end

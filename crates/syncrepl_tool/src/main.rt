@@ -2,16 +2,8 @@
 #![tactic(auto)]
 
 #[cfg(test)]
-mod cascade_tests;
-#[cfg(test)]
-mod cookie_tests;
-#[cfg(test)]
-mod link_tests;
-#[cfg(test)]
-mod persist_tests;
+mod cut_tests;
 mod run;
-#[cfg(test)]
-mod short;
 #[cfg(test)]
 mod tests;
 
@@ -52,13 +44,18 @@ fn out_of_memory<E: Sink>(errors: &mut E) -> ExitCode {
     ExitCode::from(NO_MEMORY)
 }
 
-/// The words after the program's name. Where they can't be read there are none.
+/// The words after the program's name, or none of them where one is no text; an `Err` where there is no
+/// memory for them.
 fn words_of(rt: &HostRuntime) -> Result<Vec<String>, AllocError> {
     let mut words = Vec::new(rt.alloc());
-    if let Ok(args) = env::args(rt) {
-        for word in args.skip(1) {
-            words.push(word)?;
+    match env::args(rt) {
+        Ok(args) => {
+            for word in args.skip(1) {
+                words.push(word)?;
+            }
         }
+        Err(error) if error.kind() == io::ErrorKind::OutOfMemory => return Err(AllocError),
+        Err(_) => {}
     }
     Ok(words)
 }

@@ -44,7 +44,8 @@ pub fn run<R: Threads + Wait + Sync, I: Source, O: Sink, E: Sink>(
     // when the search was opened, and what the line tells is all that the specification selects from
     // it, and no more. It is what the consumer holds, and a `show` prints, up to its next line. A
     // search is refused with 4096 exactly where the consumer's cookie is in its way. Each consumer
-    // is what the lines of its messages make of it.
+    // is what the lines of its messages make of it. Each event gives the lines that belong to it, and
+    // no others.
     ensures headline { IfSome (I.bytes_left input.old) (λ text.
         WritesFront (reader_of text) (O.bytes_held output.old) (O.bytes_held output.new)) }
 
@@ -144,7 +145,8 @@ pub fn run_cascade<I: Source, O: Sink, E: Sink>(
     // when the search was opened, and what the line tells is all that the specification selects from
     // it, and no more. It is what the consumer holds, and a `show` prints, up to its next line. A
     // search is refused with 4096 exactly where the consumer's cookie is in its way. Each consumer
-    // is what the lines of its messages make of it.
+    // is what the lines of its messages make of it. Each event gives the lines that belong to it, and
+    // no others.
     ensures headline { IfSome (I.bytes_left input.old) (λ text.
         WritesFront (reader_of text) (O.bytes_held output.old) (O.bytes_held output.new)) }
 

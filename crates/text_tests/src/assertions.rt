@@ -12,3 +12,10 @@ pub(crate) fn assert_same<T: PartialEq + Debug>(rt: &impl Abort, row: &str, foun
 
 /// Drops a value through its bound, so that no proof goes through the cases of its type.
 pub(crate) fn discard<T: Drop>(_value: T) {}
+
+/// What is asked, and what is told of it.
+pub(crate) type Row = (&'static str, &'static str);
+
+pub(crate) fn utf8(bytes: &[u8]) -> &str {
+    str::from_utf8(bytes).unwrap_or("?")
+}

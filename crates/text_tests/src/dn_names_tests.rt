@@ -1,13 +1,12 @@
 //! Names read and written, and names against each other.
-use crate::assertions::assert_same;
+use crate::assertions::{Row, assert_same, utf8};
 use dn_names::{Dn, NameFault, Rdn};
-use ldap_ber::NoMemory;
 use std::alloc::Global;
 use std::process::Abort;
 use std::test::Fail;
 
 /// Texts of names, and how the names are written.
-const WRITTEN: [(&str, &str); 19] = [
+const WRITTEN: [Row; 19] = [
     ("", ""),
     ("dc=x", "dc=x"),
     (r"CN=Smith\, John , OU=\e2\82\ac", r"cn=Smith\, John,ou=€"),
@@ -38,219 +37,191 @@ const WRITTEN: [(&str, &str); 19] = [
     (r"ou=\<\>\;\=\+", r"ou=\<\>\;=\+"),
 ];
 
-/// The text that a name is written as, or what refuses it.
-fn rewritten(alloc: Global, text: &str) -> Result<String, NameFault> {
-    let name = Dn::parse(alloc, text.as_bytes())?;
-    let written = name.write()?;
-    match String::from_utf8_lossy(alloc, written.as_slice()) {
-        Ok(shown) => Ok(shown),
-        Err(_) => Err(NameFault::NoMemory),
-    }
-}
+/// Texts that are no names, and why.
+const REFUSED: [Row; 31] = [
+    ("ou=a,,b", "BadName(5)"),
+    ("foo=1", "UnknownType(0)"),
+    ("2.5.4.11=a", "UnknownType(0)"),
+    ("1=a", "BadName(0)"),
+    ("02.5=a", "BadName(0)"),
+    ("dc=x,  entryUUID=a", "UnknownType(7)"),
+    ("ou", "BadName(0)"),
+    ("=a", "BadName(0)"),
+    (" ou=a", "BadName(0)"),
+    ("ou=a,", "BadName(5)"),
+    (r"ou=\2c, ", "BadName(8)"),
+    ("ou=a,  ,dc=x", "BadName(7)"),
+    ("ou=a+", "BadName(0)"),
+    ("cn=", "BadName(0)"),
+    ("uidNumber=07", "BadName(0)"),
+    ("dc=é", "BadName(0)"),
+    (r"ou=\c3", "BadName(0)"),
+    (r"ou=a\", "BadName(0)"),
+    (r"ou=a\a", "BadName(0)"),
+    ("ou=a;b", "BadName(0)"),
+    ("ou=\"a\"", "BadName(0)"),
+    ("ou=a\0b", "BadName(0)"),
+    ("cn=#0403486a", "BadName(0)"),
+    ("cn=#0480486a", "BadName(0)"),
+    ("cn=#0485000000024869", "BadName(0)"),
+    ("cn=#24024869", "BadName(0)"),
+    ("cn=#04024869 ", "BadName(0)"),
+    ("cn=#", "BadName(0)"),
+    ("ou=a+OU=A", "BadName(0)"),
+    ("ou=a+ou=a+foo=1", "UnknownType(0)"),
+    (r"ou=\zz+foo=1", "BadName(0)"),
+];
+
+/// Names at the limits: the front, a piece, how often it stands, the end; and why it is refused.
+const LONG: [Row; 5] = [
+    ("|ou=a,|31|ou=a", "none"),
+    ("|ou=a,|32|ou=a", "TooLong(160)"),
+    ("|ou=a,|32|", "BadName(160)"),
+    ("dc=x,ou=|a|1021|", "none"),
+    ("dc=x,ou=\\+|a|1021|", "TooLong(5)"),
+];
+
+/// A name and another: whether they are equal, the first is at or below, or a child, and both have one key.
+const COMPARED: [Row; 12] = [
+    ("|", "true true false true"),
+    ("dc=x|", "false true true false"),
+    (r"OU=a+l=B,dc=X|L=b+ou=\41,dc=x", "true true false true"),
+    ("ou=a+l=b,dc=x|ou=a,dc=x", "false false false false"),
+    ("ou=a  b,dc=x|ou=A B,dc=x", "true true false true"),
+    ("memberUid=a|memberUid=A", "false false false false"),
+    ("ou=s,ou=a,dc=x|ou=A,dc=x", "false true true false"),
+    ("ou=t,ou=s,ou=a,dc=x|ou=a,dc=x", "false true false false"),
+    ("ou=a,dc=x|ou=s,ou=a,dc=x", "false false false false"),
+    ("ou=aa,dc=x|ou=a,dc=x", "false false false false"),
+    ("cn=a,dc=x|sn=a,dc=x", "false false false false"),
+    ("ou=a,ou=b|ou=a+ou=b", "false false false false"),
+];
+
+/// The first RDN of a name: how it is written, how many pairs its copy has, and the key of the first.
+const RDNS: [Row; 1] = [("CN=e + l=b", "cn=e+l=b 2 e")];
+
+/// A name, an RDN that goes below it, a name that it is at or below, and one in the place of that: how the
+/// superior, the name below and the name that is moved are written.
+const BUILT: [Row; 2] = [
+    (
+        "ou=s,OU=A,dc=x|CN=e + l=b|ou=a,dc=x|ou=b",
+        "ou=A,dc=x cn=e+l=b,ou=s,ou=A,dc=x ou=s,ou=b",
+    ),
+    // Below the longest name there is none.
+    (
+        "ou=a,ou=a,ou=a,ou=a,ou=a,ou=a,ou=a,ou=a,ou=a,ou=a,ou=a,ou=a,ou=a,ou=a,ou=a,ou=a,ou=a,ou=a,ou=a,ou=a,ou=a,ou=a,ou=a,ou=a,ou=a,ou=a,ou=a,ou=a,ou=a,ou=a,ou=a,ou=a|ou=a||",
+        "TooLong(0)",
+    ),
+];
 
 #[test]
-fn read_and_written(rt: HostRuntime) -> Result<(), Fail> {
-    for (text, written) in &WRITTEN {
-        let shown = rewritten(rt.alloc(), text)?;
-        assert_same(&rt, text, &shown.as_str(), written);
+fn names(rt: HostRuntime) -> Result<(), Fail> {
+    check_rows(&rt, rt.alloc(), "written", &WRITTEN)?;
+    check_rows(&rt, rt.alloc(), "fault", &REFUSED)?;
+    check_rows(&rt, rt.alloc(), "long", &LONG)?;
+    check_rows(&rt, rt.alloc(), "compared", &COMPARED)?;
+    check_rows(&rt, rt.alloc(), "rdn", &RDNS)?;
+    check_rows(&rt, rt.alloc(), "built", &BUILT)
+}
+
+fn check_rows(rt: &impl Abort, alloc: Global, word: &str, rows: &[Row]) -> Result<(), Fail> {
+    for (asked, wanted) in rows {
+        let told = told(alloc, word, asked)?;
+        assert_same(rt, asked, &told.as_str(), wanted);
     }
     Ok(())
 }
 
-/// Texts that are no names, and why.
-const REFUSED: [(&str, NameFault); 31] = [
-    ("ou=a,,b", NameFault::BadName(5)),
-    ("foo=1", NameFault::UnknownType(0)),
-    ("2.5.4.11=a", NameFault::UnknownType(0)),
-    ("1=a", NameFault::BadName(0)),
-    ("02.5=a", NameFault::BadName(0)),
-    ("dc=x,  entryUUID=a", NameFault::UnknownType(7)),
-    ("ou", NameFault::BadName(0)),
-    ("=a", NameFault::BadName(0)),
-    (" ou=a", NameFault::BadName(0)),
-    ("ou=a,", NameFault::BadName(5)),
-    (r"ou=\2c, ", NameFault::BadName(8)),
-    ("ou=a,  ,dc=x", NameFault::BadName(7)),
-    ("ou=a+", NameFault::BadName(0)),
-    ("cn=", NameFault::BadName(0)),
-    ("uidNumber=07", NameFault::BadName(0)),
-    ("dc=é", NameFault::BadName(0)),
-    (r"ou=\c3", NameFault::BadName(0)),
-    (r"ou=a\", NameFault::BadName(0)),
-    (r"ou=a\a", NameFault::BadName(0)),
-    ("ou=a;b", NameFault::BadName(0)),
-    ("ou=\"a\"", NameFault::BadName(0)),
-    ("ou=a\0b", NameFault::BadName(0)),
-    ("cn=#0403486a", NameFault::BadName(0)),
-    ("cn=#0480486a", NameFault::BadName(0)),
-    ("cn=#0485000000024869", NameFault::BadName(0)),
-    ("cn=#24024869", NameFault::BadName(0)),
-    ("cn=#04024869 ", NameFault::BadName(0)),
-    ("cn=#", NameFault::BadName(0)),
-    ("ou=a+OU=A", NameFault::BadName(0)),
-    ("ou=a+ou=a+foo=1", NameFault::UnknownType(0)),
-    (r"ou=\zz+foo=1", NameFault::BadName(0)),
-];
-
-fn fault_of(alloc: Global, text: &str) -> Option<NameFault> {
-    Dn::parse(alloc, text.as_bytes()).err()
-}
-
-#[test]
-fn refused_at_a_place(rt: HostRuntime) {
-    for (text, fault) in &REFUSED {
-        assert_same(&rt, text, &fault_of(rt.alloc(), text), &Some(*fault));
+/// What is told of the text, or the fault that refuses it.
+fn told(alloc: Global, word: &str, text: &str) -> Result<String, Fail> {
+    let told = match word {
+        "written" => rewritten(alloc, text),
+        "long" => long(alloc, text),
+        "compared" => compared(alloc, text),
+        "rdn" => rdn(alloc, text),
+        "built" => built(alloc, text),
+        _ => read(alloc, text),
+    };
+    match told {
+        Ok(told) => Ok(told),
+        Err(fault) => Ok(format!(in alloc; "{fault:?}")?),
     }
 }
 
-/// As many times the piece behind the front, and then the end.
-fn repeated(
-    alloc: Global,
-    front: &str,
-    piece: &str,
-    count: usize,
-    end: &str,
-) -> Result<String, NoMemory> {
-    let mut text = String::new(alloc);
-    text.push_str(front)?;
-    for _ in 0..count {
+fn read(alloc: Global, text: &str) -> Result<String, NameFault> {
+    Dn::parse(alloc, text.as_bytes())?;
+    Ok("none".to_string(alloc)?)
+}
+
+fn rewritten(alloc: Global, text: &str) -> Result<String, NameFault> {
+    let name = Dn::parse(alloc, text.as_bytes())?;
+    Ok(utf8(name.write()?.as_slice()).to_string(alloc)?)
+}
+
+/// The text before the first bar, and that behind it.
+fn parted(text: &str) -> (&str, &str) {
+    text.split_once('|').unwrap_or((text, ""))
+}
+
+/// What is told of a front, as many times a piece, and an end.
+fn long(alloc: Global, text: &str) -> Result<String, NameFault> {
+    let (front, rest) = parted(text);
+    let (piece, rest) = parted(rest);
+    let (count, end) = parted(rest);
+    let mut text = front.to_string(alloc)?;
+    for _ in 0..count.parse::<u64>().unwrap_or(0) {
         text.push_str(piece)?;
     }
     text.push_str(end)?;
-    Ok(text)
+    read(alloc, &text)
 }
 
-/// Names at the limits: the front, a piece, how often it stands, the end, and why it is refused.
-const LONG: [(&str, &str, usize, &str, Option<NameFault>); 5] = [
-    ("", "ou=a,", 31, "ou=a", None),
-    ("", "ou=a,", 32, "ou=a", Some(NameFault::TooLong(160))),
-    ("", "ou=a,", 32, "", Some(NameFault::BadName(160))),
-    ("dc=x,ou=", "a", 1021, "", None),
-    ("dc=x,ou=\\+", "a", 1021, "", Some(NameFault::TooLong(5))),
-];
-
-#[test]
-fn too_long(rt: HostRuntime) -> Result<(), Fail> {
-    for (front, piece, count, end, fault) in &LONG {
-        let text = repeated(rt.alloc(), front, piece, *count, end)?;
-        assert_same(&rt, front, &fault_of(rt.alloc(), text.as_str()), fault);
-    }
-    Ok(())
-}
-
-/// How many RDNs the longest name has, and why there is none below it.
-fn deepest(alloc: Global) -> Result<(usize, Option<NameFault>), NameFault> {
-    let text = repeated(alloc, "", "ou=a,", 31, "ou=a")?;
-    let name = Dn::parse(alloc, text.as_bytes())?;
-    let rdn = Rdn::parse(alloc, b"ou=a")?;
-    Ok((name.rdns().len(), name.below(&rdn).err()))
-}
-
-#[test]
-fn too_deep(rt: HostRuntime) -> Result<(), Fail> {
-    let wanted = (32, Some(NameFault::TooLong(0)));
-    assert_same(&rt, "deepest", &deepest(rt.alloc())?, &wanted);
-    Ok(())
-}
-
-/// A name, another, whether they are equal, whether the first is at or below, whether a child.
-type Relation = (bool, bool, bool);
-
-const COMPARED: [(&str, &str, Relation); 12] = [
-    ("", "", (true, true, false)),
-    ("dc=x", "", (false, true, true)),
-    ("OU=a+l=B,dc=X", r"L=b+ou=\41,dc=x", (true, true, false)),
-    ("ou=a+l=b,dc=x", "ou=a,dc=x", (false, false, false)),
-    ("ou=a  b,dc=x", "ou=A B,dc=x", (true, true, false)),
-    ("memberUid=a", "memberUid=A", (false, false, false)),
-    ("ou=s,ou=a,dc=x", "ou=A,dc=x", (false, true, true)),
-    ("ou=t,ou=s,ou=a,dc=x", "ou=a,dc=x", (false, true, false)),
-    ("ou=a,dc=x", "ou=s,ou=a,dc=x", (false, false, false)),
-    ("ou=aa,dc=x", "ou=a,dc=x", (false, false, false)),
-    ("cn=a,dc=x", "sn=a,dc=x", (false, false, false)),
-    ("ou=a,ou=b", "ou=a+ou=b", (false, false, false)),
-];
-
-/// Whether the names are equal, the first is at or below, and is a child.
-fn relation(name: &Dn, base: &Dn) -> Relation {
-    (
-        name.same(base),
-        name.is_at_or_below(base),
-        name.is_child_of(base),
-    )
-}
-
-/// Whether both have one key.
-fn have_one_key(name: &Dn, other: &Dn) -> Result<bool, NoMemory> {
-    let key = name.key()?;
-    Ok(key == other.key()?)
-}
-
-/// How the names stand, and whether both have one key.
-fn compared_as(alloc: Global, one: &str, other: &str) -> Result<(Relation, bool), NameFault> {
+fn compared(alloc: Global, text: &str) -> Result<String, NameFault> {
+    let (one, other) = parted(text);
     let name = Dn::parse(alloc, one.as_bytes())?;
     let base = Dn::parse(alloc, other.as_bytes())?;
-    Ok((relation(&name, &base), have_one_key(&name, &base)?))
+    let (is_same, is_below) = (name.same(&base), name.is_at_or_below(&base));
+    let has_key = name.key()? == base.key()?;
+    Ok(format!(in alloc;
+        "{is_same} {is_below} {} {has_key}",
+        name.is_child_of(&base)
+    )?)
 }
 
-#[test]
-fn compared(rt: HostRuntime) -> Result<(), Fail> {
-    for (one, other, relation) in &COMPARED {
-        let found = compared_as(rt.alloc(), one, other)?;
-        assert_same(&rt, one, &found, &(*relation, relation.0));
+fn rdn(alloc: Global, text: &str) -> Result<String, NameFault> {
+    let rdn = Rdn::parse(alloc, text.as_bytes())?.copy()?;
+    let written = rdn.write()?;
+    let (count, first) = (rdn.list().len(), utf8(rdn.list()[0].key()));
+    Ok(format!(in alloc; "{} {count} {first}", utf8(written.as_slice()))?)
+}
+
+fn built(alloc: Global, text: &str) -> Result<String, NameFault> {
+    let (name, rest) = parted(text);
+    let (rdn, rest) = parted(rest);
+    let (from, to) = parted(rest);
+    let name = Dn::parse(alloc, name.as_bytes())?.copy()?;
+    let below = name.below(&Rdn::parse(alloc, rdn.as_bytes())?)?.write()?;
+    let moved = moved(alloc, &name, from, to)?.write()?;
+    let (below, moved) = (utf8(below.as_slice()), utf8(moved.as_slice()));
+    Ok(format!(in alloc; "{} {below} {moved}", superior(alloc, &name)?)?)
+}
+
+/// How the name of the superior is written, if there is one.
+fn superior(alloc: Global, name: &Dn) -> Result<String, NameFault> {
+    if name.rdns().is_empty() {
+        return Ok(String::new(alloc));
     }
-    Ok(())
+    let superior = name.parent()?.write()?;
+    Ok(utf8(superior.as_slice()).to_string(alloc)?)
 }
 
-/// Asserts how the name is written.
-fn assert_written(rt: &impl Abort, name: &Dn, wanted: &str) -> Result<(), NoMemory> {
-    let text = name.write()?;
-    assert_same(rt, wanted, &text.as_slice(), &wanted.as_bytes());
-    Ok(())
-}
-
-#[test]
-fn an_rdn_is_written(rt: HostRuntime) -> Result<(), Fail> {
-    let rdn = Rdn::parse(rt.alloc(), b"CN=e + l=b")?;
-    let text = rdn.write()?;
-    assert_same(&rt, "written", &text.as_slice(), &b"cn=e+l=b".as_slice());
-    Ok(())
-}
-
-#[test]
-fn an_rdn_is_copied(rt: HostRuntime) -> Result<(), Fail> {
-    let rdn = Rdn::parse(rt.alloc(), b"CN=e + l=b")?.copy()?;
-    assert_same(&rt, "length", &rdn.list().len(), &2);
-    assert_same(&rt, "first", &rdn.list()[0].key(), &b"e".as_slice());
-    Ok(())
-}
-
-#[test]
-fn a_name_has_a_parent(rt: HostRuntime) -> Result<(), Fail> {
-    let name = Dn::parse(rt.alloc(), b"ou=s,OU=A,dc=x")?;
-    assert!(rt; !name.rdns().is_empty());
-    Ok(assert_written(&rt, &name.parent()?, "ou=A,dc=x")?)
-}
-
-#[test]
-fn an_rdn_goes_below_a_name(rt: HostRuntime) -> Result<(), Fail> {
-    let name = Dn::parse(rt.alloc(), b"ou=s,OU=A,dc=x")?;
-    let rdn = Rdn::parse(rt.alloc(), b"CN=e + l=b")?;
-    let below = name.below(&rdn)?;
-    Ok(assert_written(&rt, &below, "cn=e+l=b,ou=s,ou=A,dc=x")?)
-}
-
-/// The name with the second in place of the first at its end.
-fn moved(rt: &impl Abort, name: &Dn, from: &Dn, to: &Dn) -> Result<Dn, NameFault> {
-    assert!(rt; name.is_at_or_below(from));
-    name.moved(from, to)
-}
-
-#[test]
-fn a_name_is_moved(rt: HostRuntime) -> Result<(), Fail> {
-    let name = Dn::parse(rt.alloc(), b"ou=s,OU=A,dc=x")?;
-    let from = Dn::parse(rt.alloc(), b"ou=a,dc=x")?;
-    let to = Dn::parse(rt.alloc(), b"ou=b")?;
-    let moved = moved(&rt, &name.copy()?, &from, &to)?;
-    Ok(assert_written(&rt, &moved, "ou=s,ou=b")?)
+/// The name with the second in place of the first at its end, or itself where the first is not there.
+fn moved(alloc: Global, name: &Dn, from: &str, to: &str) -> Result<Dn, NameFault> {
+    let from = Dn::parse(alloc, from.as_bytes())?;
+    let to = Dn::parse(alloc, to.as_bytes())?;
+    if name.is_at_or_below(&from) {
+        name.moved(&from, &to)
+    } else {
+        Ok(name.copy()?)
+    }
 }

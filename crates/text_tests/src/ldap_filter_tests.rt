@@ -1,382 +1,367 @@
 //! Filters as text, and what they say of an entry.
-use crate::assertions::{assert_same, discard};
+use crate::assertions::{Row, assert_same, discard, utf8};
 use ldap_ber::{NoMemory, Octets, OctetsList};
-use ldap_filter::{Filter, FilterFault, FilterList, Truth};
+use ldap_filter::{Filter, FilterFault, FilterList};
 use schema_rules::{Attrs, RawAttribute, RawList};
 use std::alloc::Global;
+use std::process::Abort;
 use std::test::Fail;
 
-// What these calls answer is compared when the tests run: the proofs of the tests know nothing of it.
+/// Texts, and of each whether its copy is the same and its text is read as the same, and how that is written. The
+/// first of them are the examples of RFC 4515, section 4, but for the extensible ones.
+const WRITTEN: [Row; 24] = [
+    ("(cn=Babs Jensen)", "true (cn=Babs Jensen)"),
+    ("(!(cn=Tim Howes))", "true (!(cn=Tim Howes))"),
+    (
+        "(&(objectClass=Person)(|(sn=Jensen)(cn=Babs J*)))",
+        "true (&(objectClass=Person)(|(sn=Jensen)(cn=Babs J*)))",
+    ),
+    ("(o=univ*of*mich*)", "true (o=univ*of*mich*)"),
+    ("(seeAlso=)", "true (seeAlso=)"),
+    (
+        "(o=Parens R Us \\28for all your parenthetical needs\\29)",
+        "true (o=Parens R Us \\28for all your parenthetical needs\\29)",
+    ),
+    ("(cn=*\\2A*)", "true (cn=*\\2a*)"),
+    ("(filename=C:\\5cMyFile)", "true (filename=C:\\5cMyFile)"),
+    ("(bin=\\00\\00\\00\\04)", "true (bin=\\00\\00\\00\u{4})"),
+    ("(sn=Lu\\c4\\8di\\c4\\87)", "true (sn=Lučić)"),
+    (
+        "(1.3.6.1.4.1.1466.0=\\04\\02\\48\\69)",
+        "true (1.3.6.1.4.1.1466.0=\u{4}\u{2}Hi)",
+    ),
+    ("(&)", "true (&)"),
+    ("(|)", "true (|)"),
+    ("(&(cn=a\\2ab)(!(ou=*)))", "true (&(cn=a\\2ab)(!(ou=*)))"),
+    ("(cn~=a)", "true (cn~=a)"),
+    ("(uidNumber>=-1)", "true (uidNumber>=-1)"),
+    ("(uidNumber<=7)", "true (uidNumber<=7)"),
+    ("(cn;lang-de=a=b~<>)", "true (cn;lang-de=a=b~<>)"),
+    ("(cn=*a)", "true (cn=*a)"),
+    ("(cn=a*)", "true (cn=a*)"),
+    ("(cn=a*b*c*d)", "true (cn=a*b*c*d)"),
+    ("(cn= * )", "true (cn= * )"),
+    ("(cn=\\c3\\28\\FF)", "true (cn=\\c3\\28\\ff)"),
+    ("(cn=\\c3\\a9\\e2\\82\\e2\\82\\ac)", "true (cn=é\\e2\\82€)"),
+];
 
-fn read(alloc: Global, text: &[u8]) -> Result<Filter, FilterFault> {
-    Filter::read_text(alloc, text)
+/// Texts that are no filters, and why: the place of the first byte that cannot stand there. The first of them are
+/// the extensible examples of RFC 4515, section 4.
+const REFUSED: [Row; 32] = [
+    ("(cn:caseExactMatch:=Fred Flintstone)", "BadFilter(3)"),
+    ("(cn:=Betty Rubble)", "BadFilter(3)"),
+    ("(sn:dn:2.4.6.8.10:=Barney Rubble)", "BadFilter(3)"),
+    ("(o:dn:=Ace Industry)", "BadFilter(2)"),
+    ("(:1.2.3:=Wilma Flintstone)", "BadFilter(1)"),
+    ("(:DN:2.4.6.8.10:=Dino)", "BadFilter(1)"),
+    ("", "BadFilter(0)"),
+    ("(", "BadFilter(1)"),
+    ("()", "BadFilter(1)"),
+    ("cn=a", "BadFilter(0)"),
+    (" (cn=a)", "BadFilter(0)"),
+    ("(cn=a", "BadFilter(5)"),
+    ("(cn=a)x", "BadFilter(6)"),
+    ("(cn=a))", "BadFilter(6)"),
+    ("(a)", "BadFilter(2)"),
+    ("(=a)", "BadFilter(1)"),
+    ("(c n=a)", "BadFilter(2)"),
+    ("(cn>a)", "BadFilter(4)"),
+    ("(cn~*)", "BadFilter(4)"),
+    ("(cn>=a*)", "BadFilter(6)"),
+    ("(cn~=a*b)", "BadFilter(6)"),
+    ("(cn=a(b)", "BadFilter(5)"),
+    ("(cn=a\0)", "BadFilter(5)"),
+    ("(cn=\\2)", "BadFilter(6)"),
+    ("(cn=\\g0)", "BadFilter(5)"),
+    ("(cn=\\", "BadFilter(5)"),
+    ("(!)", "BadFilter(2)"),
+    ("(!(cn=a)(cn=b))", "BadFilter(8)"),
+    ("(& (cn=a))", "BadFilter(2)"),
+    ("(&(cn=a)", "BadFilter(8)"),
+    ("(&(cn=a)x)", "BadFilter(8)"),
+    ("(cé=a)", "BadFilter(2)"),
+];
+
+/// Bytes that are no text.
+const NO_TEXTS: [(&[u8], &str); 3] = [
+    (b"(cn=\xff)", "BadFilter(4)"),
+    (b"(cn=a\xe2\x82)", "BadFilter(5)"),
+    (b"(cn=a)\xff", "BadFilter(6)"),
+];
+
+/// How often a front stands before an item, and `)` behind it; and why that is refused.
+const LEVELS: [Row; 6] = [
+    ("31 (! (cn=a)", "none"),
+    ("32 (! (cn=a)", "TooDeep"),
+    ("32 (& ", "none"),
+    ("33 (& ", "TooDeep"),
+    ("31 (|(cn=a) (|)", "none"),
+    ("32 (|(cn=a) (|)", "TooDeep"),
+];
+
+/// How often a piece stands behind a front. Long lists take no more of the stack than short ones.
+const LONG: [Row; 2] = [
+    ("10000 (cn=a) (|", "true true"),
+    ("10000 *b (cn=a", "true true"),
+];
+
+/// Filters of this text have none of their own.
+const WITHOUT_TEXT: [Row; 4] = [
+    ("(cn=a**b)", "NoText"),
+    ("(cn=**)", "NoText"),
+    ("(!(&(cn=a)(cn=**b)))", "NoText"),
+    ("(cn=***)", "NoText"),
+];
+
+/// Names that are no types, so that their presence has no text.
+const NO_TYPES: [Row; 3] = [("", "NoText"), ("c n", "NoText"), ("é", "NoText")];
+
+/// A list of an extensible filter has no text, and such a filter no truth.
+const NO_LISTS: [Row; 1] = [("", "NoText")];
+
+const NO_TRUTHS: [Row; 1] = [("", "Undefined")];
+
+/// Two filters, and whether each is the same as the other.
+const PAIRS: [Row; 12] = [
+    ("(cn=a) (CN=a)", "true true"),
+    ("(&(cn=a)(sn=b)) (&(cn=a)(sn=b))", "true true"),
+    ("(cn=*) (Cn=*)", "true true"),
+    ("(cn=a) (cn=A)", "false false"),
+    ("(cn=a) (cn~=a)", "false false"),
+    ("(cn=a) (sn=a)", "false false"),
+    ("(cn>=a) (cn<=a)", "false false"),
+    ("(&(cn=a)(sn=b)) (&(sn=b)(cn=a))", "false false"),
+    ("(&(cn=a)) (&(cn=a)(cn=a))", "false false"),
+    ("(&) (|)", "false false"),
+    ("(cn=a*b) (cn=a\\2ab)", "false false"),
+    ("(cn=a*b*) (cn=a*b)", "false false"),
+];
+
+const ENTRY: &str = "cn=Ann  Lee|cn=bab|uidNumber=7|gidNumber=-12|syncActive=TRUE\
+    |syncExpiry=20291231235959Z|memberUid=x|mail=a@x|objectClass=posixAccount";
+
+/// Numbers go by number, times by text, and text has no order. Pieces stand in order and without
+/// overlap.
+const TRUTHS: [Row; 50] = [
+    ("(cn=ann lee)", "True"),
+    ("(cn=*N L*)", "True"),
+    ("(uidNumber>=7)", "True"),
+    ("(syncActive=TRUE)", "True"),
+    ("(syncExpiry<=20300101000000Z)", "True"),
+    ("(memberUid=X)", "False"),
+    ("(uidNumber>=x)", "Undefined"),
+    ("(!(foo=1))", "Undefined"),
+    ("(&)", "True"),
+    ("(|)", "False"),
+    ("(uidNumber>=10)", "False"),
+    ("(uidNumber<=10)", "True"),
+    ("(gidNumber<=-2)", "True"),
+    ("(gidNumber>=-13)", "True"),
+    ("(uidNumber>=07)", "Undefined"),
+    ("(syncExpiry>=20291231235959Z)", "True"),
+    ("(syncExpiry>=20300101000000Z)", "False"),
+    ("(cn>=a)", "Undefined"),
+    ("(syncActive<=TRUE)", "Undefined"),
+    ("(sn<=a)", "Undefined"),
+    ("(cn~=ANN LEE)", "True"),
+    ("(sn=a)", "False"),
+    ("(cn=)", "Undefined"),
+    ("(mail=é)", "Undefined"),
+    ("(cn=\\ff)", "Undefined"),
+    ("(objectClass=POSIXACCOUNT)", "True"),
+    ("(objectClass=person)", "False"),
+    ("(objectClass=thing)", "Undefined"),
+    ("(CN=*)", "True"),
+    ("(sn=*)", "False"),
+    ("(foo=*)", "Undefined"),
+    ("(entryUUID=*)", "Undefined"),
+    ("(entryCSN=1)", "Undefined"),
+    ("(cn=b*b)", "True"),
+    ("(cn=ba*ab)", "False"),
+    ("(cn=b*a*b)", "True"),
+    ("(cn=*b*b*)", "True"),
+    ("(cn=*b*b*b*)", "False"),
+    ("(cn=*b*a*a*)", "False"),
+    ("(cn= *)", "True"),
+    ("(cn=* *)", "True"),
+    ("(cn=*  *)", "True"),
+    ("(mail=* *)", "False"),
+    ("(cn=*\\ff*)", "Undefined"),
+    ("(mail=*é)", "Undefined"),
+    ("(memberUid=X*)", "False"),
+    ("(uidNumber=7*)", "Undefined"),
+    ("(&(cn=bab)(foo=1)(cn=x))", "False"),
+    ("(|(foo=1)(cn=x)(cn=bab))", "True"),
+    ("(|(cn=x)(!(&(cn=bab)(foo=1))))", "Undefined"),
+];
+
+#[test]
+fn texts_of_filters(rt: HostRuntime) -> Result<(), Fail> {
+    check_rows(&rt, rt.alloc(), "again", &WRITTEN)?;
+    check_rows(&rt, rt.alloc(), "fault", &REFUSED)?;
+    check_bytes(&rt, rt.alloc())?;
+    check_rows(&rt, rt.alloc(), "nested", &LEVELS)?;
+    check_rows(&rt, rt.alloc(), "long", &LONG)?;
+    check_rows(&rt, rt.alloc(), "again", &WITHOUT_TEXT)?;
+    check_rows(&rt, rt.alloc(), "present", &NO_TYPES)?;
+    check_rows(&rt, rt.alloc(), "list", &NO_LISTS)
 }
 
-fn write(alloc: Global, filter: &Filter) -> Result<Octets, FilterFault> {
-    filter.write_text(alloc)
+#[test]
+fn truths_of_filters(rt: HostRuntime) -> Result<(), Fail> {
+    check_rows(&rt, rt.alloc(), "pair", &PAIRS)?;
+    check_rows(&rt, rt.alloc(), "truth", &TRUTHS)?;
+    check_rows(&rt, rt.alloc(), "extensible", &NO_TRUTHS)
 }
 
-fn copy(filter: &Filter) -> Result<Filter, NoMemory> {
-    filter.copy()
+fn check_rows(rt: &impl Abort, alloc: Global, word: &str, rows: &[Row]) -> Result<(), Fail> {
+    for (asked, wanted) in rows {
+        let told = told(alloc, word, asked)?;
+        assert_same(rt, asked, &told.as_str(), wanted);
+    }
+    Ok(())
 }
 
-fn same(one: &Filter, two: &Filter) -> bool {
-    one.same(two)
+fn check_bytes(rt: &impl Abort, alloc: Global) -> Result<(), Fail> {
+    for (bytes, wanted) in &NO_TEXTS {
+        match read(alloc, bytes) {
+            Ok(_) => return Err(Fail::from("no fault")),
+            Err(fault) => {
+                let told = format!(in alloc; "{fault:?}")?;
+                assert_same(rt, "bytes", &told.as_str(), wanted);
+            }
+        }
+    }
+    Ok(())
 }
 
-fn value(alloc: Global, filter: &Filter, attrs: &Attrs) -> Result<Truth, NoMemory> {
-    filter.value_on(alloc, attrs)
+/// What is told of the text, or the fault that refuses it.
+fn told(alloc: Global, word: &str, text: &str) -> Result<String, Fail> {
+    let told = match word {
+        "again" => again(alloc, text),
+        "nested" => nested(alloc, text),
+        "long" => long(alloc, text),
+        "present" => written(alloc, Filter::Present(octets(alloc, text)?)),
+        "list" => written(alloc, list_of_extensible(alloc)?),
+        "pair" => pair(alloc, text),
+        "truth" => truth(alloc, Filter::read_text(alloc, text.as_bytes())?),
+        "extensible" => truth(alloc, Filter::Extensible(octets(alloc, "")?)),
+        _ => read(alloc, text.as_bytes()),
+    };
+    match told {
+        Ok(told) => Ok(told),
+        Err(fault) => Ok(format!(in alloc; "{fault:?}")?),
+    }
 }
 
-/// Each text with how it is written again, where that differs. The first of them are the examples
-/// of RFC 4515, section 4, but for the extensible ones.
-const TEXTS: &str = "(cn=Babs Jensen)
-(!(cn=Tim Howes))
-(&(objectClass=Person)(|(sn=Jensen)(cn=Babs J*)))
-(o=univ*of*mich*)
-(seeAlso=)
-(o=Parens R Us \\28for all your parenthetical needs\\29)
-(cn=*\\2A*) => (cn=*\\2a*)
-(filename=C:\\5cMyFile)
-(bin=\\00\\00\\00\\04) => (bin=\\00\\00\\00\u{4})
-(sn=Lu\\c4\\8di\\c4\\87) => (sn=Lučić)
-(1.3.6.1.4.1.1466.0=\\04\\02\\48\\69) => (1.3.6.1.4.1.1466.0=\u{4}\u{2}Hi)
-(&)
-(|)
-(&(cn=a\\2ab)(!(ou=*)))
-(cn~=a)
-(uidNumber>=-1)
-(uidNumber<=7)
-(cn;lang-de=a=b~<>)
-(cn=*a)
-(cn=a*)
-(cn=a*b*c*d)
-(cn= * )
-(cn=\\c3\\28\\FF) => (cn=\\c3\\28\\ff)
-(cn=\\c3\\a9\\e2\\82\\e2\\82\\ac) => (cn=é\\e2\\82€)";
+fn octets(alloc: Global, text: &str) -> Result<Octets, NoMemory> {
+    Octets::from_slice(alloc, text.as_bytes())
+}
 
-/// How a copy of the filter is written.
-fn written_copy(alloc: Global, filter: &Filter) -> Result<Octets, FilterFault> {
-    let copied = copy(filter)?;
-    let text = write(alloc, &copied);
+fn read(alloc: Global, text: &[u8]) -> Result<String, FilterFault> {
+    discard(Filter::read_text(alloc, text)?);
+    Ok("none".to_string(alloc)?)
+}
+
+/// Whether a copy is the same and is written as a text of the same, and how.
+fn again(alloc: Global, text: &str) -> Result<String, FilterFault> {
+    let filter = Filter::read_text(alloc, text.as_bytes())?;
+    let copied = copied(alloc, &filter);
+    discard(filter);
+    copied
+}
+
+fn copied(alloc: Global, filter: &Filter) -> Result<String, FilterFault> {
+    let copied = filter.copy()?;
+    let is_same = filter.same(&copied);
+    let text = copied.write_text(alloc);
     discard(copied);
-    text
+    let text = text?;
+    let is_again = is_same && is_read_as(alloc, text.as_slice(), filter)?;
+    Ok(format!(in alloc; "{is_again} {}", utf8(text.as_slice()))?)
 }
 
 /// Whether the text is read as this filter.
 fn is_read_as(alloc: Global, text: &[u8], filter: &Filter) -> Result<bool, FilterFault> {
-    let again = read(alloc, text)?;
-    let is_same = same(&again, filter);
+    let again = Filter::read_text(alloc, text)?;
+    let is_same = again.same(filter);
     discard(again);
     Ok(is_same)
 }
 
-/// How the filter is written, and whether it is read from there as it was.
-fn again(alloc: Global, filter: &Filter) -> Result<(Octets, bool), FilterFault> {
-    let text = written_copy(alloc, filter)?;
-    let is_same = is_read_as(alloc, text.as_slice(), filter)?;
-    Ok((text, is_same))
+/// The text up to the first blank, and that behind it.
+fn parted(text: &str) -> (&str, &str) {
+    text.split_once(' ').unwrap_or((text, ""))
 }
 
-/// The same of the filter of this text.
-fn rewritten(alloc: Global, text: &str) -> Result<(Octets, bool), FilterFault> {
-    let filter = read(alloc, text.as_bytes())?;
-    let found = again(alloc, &filter);
-    discard(filter);
-    found
-}
-
-#[test]
-fn texts_both_ways(rt: HostRuntime) -> Result<(), Fail> {
-    for line in TEXTS.lines() {
-        let (text, written) = line.split_once(" => ").unwrap_or((line, line));
-        let (found, is_same) = rewritten(rt.alloc(), text)?;
-        assert_same(
-            &rt,
-            line,
-            &(found.as_slice(), is_same),
-            &(written.as_bytes(), true),
-        );
-    }
-    Ok(())
-}
-
-/// Texts that are no filters behind the place of the first byte that cannot stand there. The first
-/// of them are the extensible examples of RFC 4515, section 4.
-const REFUSED: &str = "3 (cn:caseExactMatch:=Fred Flintstone)
-3 (cn:=Betty Rubble)
-3 (sn:dn:2.4.6.8.10:=Barney Rubble)
-2 (o:dn:=Ace Industry)
-1 (:1.2.3:=Wilma Flintstone)
-1 (:DN:2.4.6.8.10:=Dino)
-0 \n1 (
-1 ()
-0 cn=a
-0  (cn=a)
-5 (cn=a
-6 (cn=a)x
-6 (cn=a))
-2 (a)
-1 (=a)
-2 (c n=a)
-4 (cn>a)
-4 (cn~*)
-6 (cn>=a*)
-6 (cn~=a*b)
-5 (cn=a(b)
-5 (cn=a\0)
-6 (cn=\\2)
-5 (cn=\\g0)
-5 (cn=\\
-2 (!)
-8 (!(cn=a)(cn=b))
-2 (& (cn=a))
-8 (&(cn=a)
-8 (&(cn=a)x)
-2 (cé=a)";
-
-/// Bytes that are no text, and the place of the first that cannot stand there.
-const NO_TEXTS: [(&[u8], usize); 3] = [
-    (b"(cn=\xff)", 4),
-    (b"(cn=a\xe2\x82)", 5),
-    (b"(cn=a)\xff", 6),
-];
-
-fn fault_of(alloc: Global, text: &[u8]) -> Option<FilterFault> {
-    read(alloc, text).err()
-}
-
-#[test]
-fn texts_refused(rt: HostRuntime) -> Result<(), Fail> {
-    for line in REFUSED.lines() {
-        let (place, text) = line.split_once(' ').ok_or(line)?;
-        let wanted = FilterFault::BadFilter(place.parse::<usize>()?);
-        assert_same(
-            &rt,
-            line,
-            &fault_of(rt.alloc(), text.as_bytes()),
-            &Some(wanted),
-        );
-    }
-    Ok(())
-}
-
-#[test]
-fn bytes_refused(rt: HostRuntime) {
-    for (text, place) in &NO_TEXTS {
-        let wanted = FilterFault::BadFilter(*place);
-        assert_same(&rt, "no text", &fault_of(rt.alloc(), text), &Some(wanted));
-    }
-}
-
-/// So many times `front`, then `item`, then as many times `)`.
-fn nested(alloc: Global, front: &str, item: &str, levels: usize) -> Result<Vec<u8>, NoMemory> {
-    let mut text = Vec::new(alloc);
-    for _ in 0..levels {
-        text.extend_from_slice(front.as_bytes())?;
-    }
-    text.extend_from_slice(item.as_bytes())?;
-    for _ in 0..levels {
-        text.push(b')')?;
+fn repeated(alloc: Global, piece: &str, count: &str) -> Result<String, NoMemory> {
+    let mut text = String::new(alloc);
+    for _ in 0..count.parse::<u64>().unwrap_or(0) {
+        text.push_str(piece)?;
     }
     Ok(text)
 }
 
-/// What is nested, how often, and whether it is read.
-const LEVELS: [(&str, &str, usize, bool); 6] = [
-    ("(!", "(cn=a)", 31, true),
-    ("(!", "(cn=a)", 32, false),
-    ("(&", "", 32, true),
-    ("(&", "", 33, false),
-    ("(|(cn=a)", "(|)", 31, true),
-    ("(|(cn=a)", "(|)", 32, false),
-];
-
-/// What refuses a filter of too many levels.
-fn too_deep(is_read: bool) -> Option<FilterFault> {
-    if is_read {
-        None
-    } else {
-        Some(FilterFault::TooDeep)
-    }
+fn nested(alloc: Global, text: &str) -> Result<String, FilterFault> {
+    let (levels, rest) = parted(text);
+    let (front, item) = parted(rest);
+    let (fronts, ends) = (
+        repeated(alloc, front, levels)?,
+        repeated(alloc, ")", levels)?,
+    );
+    let text = format!(in alloc; "{fronts}{item}{ends}")?;
+    read(alloc, text.as_bytes())
 }
 
-#[test]
-fn levels_of_filters(rt: HostRuntime) -> Result<(), Fail> {
-    for (front, item, levels, is_read) in &LEVELS {
-        let text = nested(rt.alloc(), front, item, *levels)?;
-        assert_same(
-            &rt,
-            front,
-            &fault_of(rt.alloc(), &text),
-            &too_deep(*is_read),
-        );
-    }
-    Ok(())
+/// Whether the copy of a long filter is the same, and is written as its text.
+fn long(alloc: Global, text: &str) -> Result<String, FilterFault> {
+    let (count, rest) = parted(text);
+    let (piece, front) = parted(rest);
+    let text = format!(in alloc; "{front}{})", repeated(alloc, piece, count)?)?;
+    let again = again(alloc, &text)?;
+    let (is_same, written) = parted(&again);
+    Ok(format!(in alloc; "{is_same} {}", written == text.as_str())?)
 }
 
-/// The front, as many times the piece, and the end.
-fn long_text(alloc: Global, front: &str, piece: &str, count: usize) -> Result<Vec<u8>, NoMemory> {
-    let mut text = Vec::from_slice(alloc, front.as_bytes())?;
-    for _ in 0..count {
-        text.extend_from_slice(piece.as_bytes())?;
-    }
-    text.push(b')')?;
-    Ok(text)
-}
-
-/// How a copy of the filter is written, and whether it is the same.
-fn copied(alloc: Global, filter: &Filter) -> Result<(Octets, bool), FilterFault> {
-    let copied = copy(filter)?;
-    let is_same = same(filter, &copied);
-    let text = write(alloc, &copied);
-    discard(copied);
-    Ok((text?, is_same))
-}
-
-/// The same of the filter of this text.
-fn copied_from(alloc: Global, text: &[u8]) -> Result<(Octets, bool), FilterFault> {
-    let filter = read(alloc, text)?;
-    let found = copied(alloc, &filter);
+/// How the filter is written.
+fn written(alloc: Global, filter: Filter) -> Result<String, FilterFault> {
+    let text = filter.write_text(alloc);
     discard(filter);
-    found
-}
-
-const LONG: [(&str, &str); 2] = [("(|", "(cn=a)"), ("(cn=a", "*b")];
-
-/// Long lists take no more of the stack than short ones.
-#[test]
-fn long_filters(rt: HostRuntime) -> Result<(), Fail> {
-    for (front, piece) in &LONG {
-        let text = long_text(rt.alloc(), front, piece, 10_000)?;
-        let (found, is_same) = copied_from(rt.alloc(), &text)?;
-        assert_same(
-            &rt,
-            front,
-            &(found.as_slice(), is_same),
-            &(text.as_slice(), true),
-        );
-    }
-    Ok(())
-}
-
-/// Filters of this text have none of their own.
-const WITHOUT_TEXT: [&str; 4] = ["(cn=a**b)", "(cn=**)", "(!(&(cn=a)(cn=**b)))", "(cn=***)"];
-
-/// Names that are no types.
-const NO_TYPES: [&str; 3] = ["", "c n", "é"];
-
-/// Why the filter is not written. It is dropped.
-fn fault_of_writing(alloc: Global, filter: Filter) -> Option<FilterFault> {
-    let fault = write(alloc, &filter).err();
-    discard(filter);
-    fault
-}
-
-fn fault_of_rewriting(alloc: Global, text: &str) -> Result<Option<FilterFault>, FilterFault> {
-    Ok(fault_of_writing(alloc, read(alloc, text.as_bytes())?))
-}
-
-const NO_TEXT: Option<FilterFault> = Some(FilterFault::NoText);
-
-#[test]
-fn filters_without_text(rt: HostRuntime) -> Result<(), Fail> {
-    for text in &WITHOUT_TEXT {
-        assert_same(&rt, text, &fault_of_rewriting(rt.alloc(), text)?, &NO_TEXT);
-    }
-    Ok(())
-}
-
-fn presence(alloc: Global, name: &str) -> Result<Filter, NoMemory> {
-    Ok(Filter::Present(Octets::from_slice(alloc, name.as_bytes())?))
-}
-
-#[test]
-fn types_without_text(rt: HostRuntime) -> Result<(), Fail> {
-    for name in &NO_TYPES {
-        let filter = presence(rt.alloc(), name)?;
-        assert_same(&rt, name, &fault_of_writing(rt.alloc(), filter), &NO_TEXT);
-    }
-    Ok(())
-}
-
-fn extensible(alloc: Global) -> Result<Filter, NoMemory> {
-    Ok(Filter::Extensible(Octets::from_slice(alloc, b"")?))
+    Ok(utf8(text?.as_slice()).to_string(alloc)?)
 }
 
 fn list_of_extensible(alloc: Global) -> Result<Filter, NoMemory> {
     let mut parts = FilterList::new(alloc);
-    parts.push(extensible(alloc)?)?;
+    parts.push(Filter::Extensible(octets(alloc, "")?))?;
     Ok(Filter::And(parts))
 }
 
-#[test]
-fn extensible_filters_have_no_text(rt: HostRuntime) -> Result<(), Fail> {
-    let filter = list_of_extensible(rt.alloc())?;
-    assert_same(
-        &rt,
-        "extensible",
-        &fault_of_writing(rt.alloc(), filter),
-        &NO_TEXT,
-    );
-    Ok(())
-}
-
-const PAIRS: &str = "same (cn=a) (CN=a)
-same (&(cn=a)(sn=b)) (&(cn=a)(sn=b))
-same (cn=*) (Cn=*)
-different (cn=a) (cn=A)
-different (cn=a) (cn~=a)
-different (cn=a) (sn=a)
-different (cn>=a) (cn<=a)
-different (&(cn=a)(sn=b)) (&(sn=b)(cn=a))
-different (&(cn=a)) (&(cn=a)(cn=a))
-different (&) (|)
-different (cn=a*b) (cn=a\\2ab)
-different (cn=a*b*) (cn=a*b)";
-
-/// Whether each of the filters is the same as the other.
-fn is_same_as(alloc: Global, one: &Filter, other: &str) -> Result<(bool, bool), FilterFault> {
-    let other = read(alloc, other.as_bytes())?;
-    let are_same = (same(one, &other), same(&other, one));
-    discard(other);
-    Ok(are_same)
-}
-
-fn are_same(alloc: Global, one: &str, other: &str) -> Result<(bool, bool), FilterFault> {
-    let one = read(alloc, one.as_bytes())?;
-    let are_same = is_same_as(alloc, &one, other);
+fn pair(alloc: Global, text: &str) -> Result<String, FilterFault> {
+    let (one, other) = parted(text);
+    let one = Filter::read_text(alloc, one.as_bytes())?;
+    let told = compared(alloc, &one, other);
     discard(one);
-    are_same
+    told
 }
 
-#[test]
-fn same_filters(rt: HostRuntime) -> Result<(), Fail> {
-    for line in PAIRS.lines() {
-        let (word, pair) = line.split_once(' ').ok_or(line)?;
-        let (one, other) = pair.split_once(' ').ok_or(line)?;
-        let wanted = word == "same";
-        assert_same(
-            &rt,
-            line,
-            &are_same(rt.alloc(), one, other)?,
-            &(wanted, wanted),
-        );
-    }
-    Ok(())
+fn compared(alloc: Global, one: &Filter, other: &str) -> Result<String, FilterFault> {
+    let other = Filter::read_text(alloc, other.as_bytes())?;
+    let (is_same, is_same_again) = (one.same(&other), other.same(one));
+    discard(other);
+    Ok(format!(in alloc; "{is_same} {is_same_again}")?)
 }
 
 fn attribute(alloc: Global, name: &str, value: &str) -> Result<RawAttribute, NoMemory> {
     let mut values = OctetsList::new(alloc);
-    values.push(Octets::from_slice(alloc, value.as_bytes())?)?;
-    let name = Octets::from_slice(alloc, name.as_bytes())?;
+    values.push(octets(alloc, value)?)?;
+    let name = octets(alloc, name)?;
     Ok(RawAttribute { name, values })
 }
 
-/// The attributes of a line: each piece is one attribute with one value.
-fn attributes(alloc: Global, line: &str) -> Result<RawList, NoMemory> {
+/// The attributes of the entry: each piece is one attribute with one value.
+fn attributes(alloc: Global) -> Result<RawList, NoMemory> {
     let mut raw = RawList::new(alloc);
-    for piece in line.split('|') {
+    for piece in ENTRY.split('|') {
         if let Some((name, value)) = piece.split_once('=') {
             raw.push(attribute(alloc, name, value)?)?;
         }
@@ -384,108 +369,17 @@ fn attributes(alloc: Global, line: &str) -> Result<RawList, NoMemory> {
     Ok(raw)
 }
 
-fn word_of(truth: Truth) -> &'static str {
-    match truth {
-        Truth::True => "True",
-        Truth::False => "False",
-        Truth::Undefined => "Undefined",
-    }
-}
-
-const ENTRY: &str = "cn=Ann  Lee|cn=bab|uidNumber=7|gidNumber=-12|syncActive=TRUE\
-    |syncExpiry=20291231235959Z|memberUid=x|mail=a@x|objectClass=posixAccount";
-
-/// Numbers go by number, times by text, and text has no order. Pieces stand in order and without
-/// overlap.
-const TRUTHS: &str = "True (cn=ann lee)
-True (cn=*N L*)
-True (uidNumber>=7)
-True (syncActive=TRUE)
-True (syncExpiry<=20300101000000Z)
-False (memberUid=X)
-Undefined (uidNumber>=x)
-Undefined (!(foo=1))
-True (&)
-False (|)
-False (uidNumber>=10)
-True (uidNumber<=10)
-True (gidNumber<=-2)
-True (gidNumber>=-13)
-Undefined (uidNumber>=07)
-True (syncExpiry>=20291231235959Z)
-False (syncExpiry>=20300101000000Z)
-Undefined (cn>=a)
-Undefined (syncActive<=TRUE)
-Undefined (sn<=a)
-True (cn~=ANN LEE)
-False (sn=a)
-Undefined (cn=)
-Undefined (mail=é)
-Undefined (cn=\\ff)
-True (objectClass=POSIXACCOUNT)
-False (objectClass=person)
-Undefined (objectClass=thing)
-True (CN=*)
-False (sn=*)
-Undefined (foo=*)
-Undefined (entryUUID=*)
-Undefined (entryCSN=1)
-True (cn=b*b)
-False (cn=ba*ab)
-True (cn=b*a*b)
-True (cn=*b*b*)
-False (cn=*b*b*b*)
-False (cn=*b*a*a*)
-True (cn= *)
-True (cn=* *)
-True (cn=*  *)
-False (mail=* *)
-Undefined (cn=*\\ff*)
-Undefined (mail=*é)
-False (memberUid=X*)
-Undefined (uidNumber=7*)
-False (&(cn=bab)(foo=1)(cn=x))
-True (|(foo=1)(cn=x)(cn=bab))
-Undefined (|(cn=x)(!(&(cn=bab)(foo=1))))";
-
-fn entry(alloc: Global) -> Result<Attrs, Fail> {
-    Ok(Attrs::read(alloc, &attributes(alloc, ENTRY)?)?)
-}
-
-/// The truth of the filter of this text.
-fn truth_of(alloc: Global, text: &str, attrs: &Attrs) -> Result<Truth, FilterFault> {
-    let filter = read(alloc, text.as_bytes())?;
-    let truth = value(alloc, &filter, attrs);
-    discard(filter);
-    Ok(truth?)
-}
-
-#[test]
-fn truth_on_an_entry(rt: HostRuntime) -> Result<(), Fail> {
-    let attrs = entry(rt.alloc())?;
-    for line in TRUTHS.lines() {
-        let (word, text) = line.split_once(' ').ok_or(line)?;
-        assert_same(
-            &rt,
-            line,
-            &word_of(truth_of(rt.alloc(), text, &attrs)?),
-            &word,
-        );
-    }
-    Ok(())
-}
-
-fn truth_of_extensible(alloc: Global, attrs: &Attrs) -> Result<Truth, NoMemory> {
-    let filter = extensible(alloc)?;
-    let truth = value(alloc, &filter, attrs);
+/// The truth of the filter on the entry.
+fn truth(alloc: Global, filter: Filter) -> Result<String, FilterFault> {
+    let truth = truth_of(alloc, &filter);
     discard(filter);
     truth
 }
 
-#[test]
-fn truth_of_an_extensible_filter(rt: HostRuntime) -> Result<(), Fail> {
-    let attrs = entry(rt.alloc())?;
-    let truth = truth_of_extensible(rt.alloc(), &attrs)?;
-    assert_same(&rt, "extensible", &truth, &Truth::Undefined);
-    Ok(())
+fn truth_of(alloc: Global, filter: &Filter) -> Result<String, FilterFault> {
+    let raw = attributes(alloc)?;
+    match Attrs::read(alloc, &raw) {
+        Ok(attrs) => Ok(format!(in alloc; "{:?}", filter.value_on(alloc, &attrs)?)?),
+        Err(_) => Ok("no entry".to_string(alloc)?),
+    }
 }

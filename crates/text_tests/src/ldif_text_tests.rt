@@ -1,5 +1,5 @@
 //! Records and texts from outside: after the examples of RFC 2849, and its rules one by one.
-use crate::assertions::{assert_same, discard};
+use crate::assertions::{Row, assert_same, discard};
 use csn_cookie::Csn;
 use ldap_ber::{NoMemory, Octets, OctetsList};
 use ldif_text::{LdifFault, Records, write_entry};
@@ -151,7 +151,7 @@ fn told(alloc: Global, text: &[u8]) -> Result<Vec<u8>, NoMemory> {
 
 /// The examples 1 to 7 of RFC 2849, and what is read of each. Left out are the empty lines that the
 /// ends of pages put into 4, 5 and 6, one comment of 4, and the line of 6 that has a URL.
-const EXAMPLES: [(&str, &str); 7] = [
+const EXAMPLES: [Row; 7] = [
     (
         "version: 1
 dn: cn=Barbara Jensen, ou=Product Development, dc=airius, dc=com
@@ -377,16 +377,7 @@ end",
     ),
 ];
 
-#[test]
-fn examples_are_read(rt: HostRuntime) -> Result<(), Fail> {
-    for (text, want) in &EXAMPLES {
-        let found = told(rt.alloc(), text.as_bytes())?;
-        assert_same(&rt, text, &found.as_slice(), &want.as_bytes());
-    }
-    Ok(())
-}
-
-const RULES: [(&str, &str); 45] = [
+const RULES: [Row; 45] = [
     ("", "end"),
     ("\n# c\n d\n\n", "end"),
     ("dn: a\r\ncn:  x \r\n", "add a cn|x  @2\nend"),
@@ -476,38 +467,35 @@ const RULES: [(&str, &str); 45] = [
     ),
 ];
 
-#[test]
-fn rules_of_records(rt: HostRuntime) -> Result<(), Fail> {
-    for (text, want) in &RULES {
-        let found = told(rt.alloc(), text.as_bytes())?;
-        assert_same(&rt, text, &found.as_slice(), &want.as_bytes());
+fn check_rows(rt: &impl Abort, alloc: Global, rows: &[Row]) -> Result<(), Fail> {
+    for (text, wanted) in rows {
+        let found = told(alloc, text.as_bytes())?;
+        assert_same(rt, text, &found.as_slice(), &wanted.as_bytes());
     }
     Ok(())
 }
 
-fn fault_of(read: Result<Option<Change>, LdifFault>) -> Option<LdifFault> {
-    read.err()
-}
-
-/// Why the next record is refused, if it is, and the line behind it.
-fn read_next(alloc: Global, records: &mut Records) -> (Option<LdifFault>, u64) {
-    let fault = fault_of(records.next(alloc));
-    (fault, records.line())
-}
-
-const REFUSED_TWICE: [(Option<LdifFault>, u64); 3] = [
-    (None, 8),
-    (Some(LdifFault::BadLine(11)), 8),
-    (Some(LdifFault::BadLine(11)), 8),
-];
-
 #[test]
-fn a_refusal_changes_nothing(rt: HostRuntime) {
+fn records(rt: HostRuntime) -> Result<(), Fail> {
+    check_rows(&rt, rt.alloc(), &EXAMPLES)?;
+    check_rows(&rt, rt.alloc(), &RULES)?;
+    check_refusals(&rt, rt.alloc())?;
+    check_million(&rt, rt.alloc())
+}
+
+/// A refusal changes nothing: what is told of a text that is read on behind it, which begins at line 7.
+const REFUSED_TWICE: &str = "add a cn|x @8\nBadLine(11)BadLine(11)";
+
+fn check_refusals(rt: &impl Abort, alloc: Global) -> Result<(), Fail> {
     let mut records = Records::new(b"dn: a\ncn: x\n\ndn: b\ncn\n", 7);
-    assert_same(&rt, "first line", &records.line(), &7);
-    for wanted in &REFUSED_TWICE {
-        assert_same(&rt, "next", &read_next(rt.alloc(), &mut records), wanted);
+    assert_same(rt, "first line", &records.line(), &7);
+    let mut told = Vec::new(alloc);
+    for _ in 0..3 {
+        push_next(alloc, &mut told, &mut records)?;
     }
+    assert_same(rt, "refusals", &told.as_slice(), &REFUSED_TWICE.as_bytes());
+    assert_same(rt, "last line", &records.line(), &8);
+    Ok(())
 }
 
 /// The types and values of an entry.
@@ -579,22 +567,17 @@ fn written(
     Ok(write_entry(alloc, name, &attrs, marks)?)
 }
 
-#[test]
-fn entries_with_marks(rt: HostRuntime) -> Result<(), Fail> {
-    for (name, lines, uuid, csn, want) in &MARKED {
+fn check_marked(rt: &impl Abort, alloc: Global) -> Result<(), Fail> {
+    for (name, lines, uuid, csn, wanted) in &MARKED {
         let marks = Some((*uuid, Csn::parse(csn)?));
-        assert_same(
-            &rt,
-            "entry",
-            &written(rt.alloc(), name, lines, marks)?.as_slice(),
-            want,
-        );
+        let found = written(alloc, name, lines, marks)?;
+        assert_same(rt, "entry", &found.as_slice(), wanted);
     }
     Ok(())
 }
 
 /// Names, and the lines that they are written on.
-const NAMES: [(&str, &str); 15] = [
+const NAMES: [Row; 15] = [
     ("", "dn: \n\n"),
     ("cn=x", "dn: cn=x\n\n"),
     ("a: b <c>", "dn: a: b <c>\n\n"),
@@ -618,12 +601,17 @@ fn assert_line(rt: &impl Abort, alloc: Global, name: &[u8], want: &str) -> Resul
     Ok(())
 }
 
-#[test]
-fn values_as_lines(rt: HostRuntime) -> Result<(), Fail> {
-    for (name, want) in &NAMES {
-        assert_line(&rt, rt.alloc(), name.as_bytes(), want)?;
+fn check_lines(rt: &impl Abort, alloc: Global) -> Result<(), Fail> {
+    for (name, wanted) in &NAMES {
+        assert_line(rt, alloc, name.as_bytes(), wanted)?;
     }
-    assert_line(&rt, rt.alloc(), b"\xff", "dn:: /w==\n\n")
+    assert_line(rt, alloc, b"\xff", "dn:: /w==\n\n")
+}
+
+#[test]
+fn entries(rt: HostRuntime) -> Result<(), Fail> {
+    check_marked(&rt, rt.alloc())?;
+    check_lines(&rt, rt.alloc())
 }
 
 /// A record of a million lines: comments, values, and what continues those.
@@ -655,10 +643,9 @@ fn first_added(alloc: Global, text: &[u8]) -> Result<(usize, u64), LdifFault> {
     Ok((values, records.line()))
 }
 
-#[test]
-fn a_text_of_a_million_lines(rt: HostRuntime) -> Result<(), Fail> {
-    let text = million_lines(rt.alloc())?;
-    let found = first_added(rt.alloc(), text.as_slice())?;
-    assert_same(&rt, "a million lines", &found, &(333_333, 1_000_000));
+fn check_million(rt: &impl Abort, alloc: Global) -> Result<(), Fail> {
+    let text = million_lines(alloc)?;
+    let found = first_added(alloc, text.as_slice())?;
+    assert_same(rt, "a million lines", &found, &(333_333, 1_000_000));
     Ok(())
 }

@@ -1,7 +1,7 @@
 -- The place that is found by the identity.
 use Rattle.std.proofs.Common.{rules, ◌∙◌}
 use Rattle.std.proofs.lemmas.Fn.{always_returns_same}
-use Rattle.entry_tree.specs.declared.entry.Entry.{Entry}
+use Rattle.entry_writes.specs.declared.entry.Entry.{Entry}
 use Rattle.entry_tree.proofs.Searching.{set_found, insert_found, with_room}
 use Rattle.entry_tree.proofs.add.put_reserved.Goals as goal
 

@@ -1,8 +1,8 @@
 -- Those that stay ascend, and are told by the set of what is dropped.
 use Rattle.std.proofs.Common.{◌∙◌, not, ap}
 use Rattle.std.specs.List.{filter}
-use Rattle.entry_tree.specs.Effects.{is_one_of}
-use Rattle.entry_tree.specs.State.{ascends}
+use Rattle.entry_writes.specs.Effects.{is_one_of}
+use Rattle.entry_writes.specs.State.{ascends}
 use Rattle.entry_tree.proofs.Committing.{put_all, kept_by_set}
 use Rattle.entry_tree.proofs.Directory.{ascends_filter}
 use Rattle.entry_tree.proofs.after.entries_after.Goals as goal

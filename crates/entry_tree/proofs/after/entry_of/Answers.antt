@@ -1,7 +1,7 @@
 -- The place that is found by the identity, or none.
 use Rattle.std.proofs.Common.{rules, Bor}
 use Rattle.std.proofs.lemmas.Fn.{always_returns_same}
-use Rattle.entry_tree.specs.declared.entry.Entry.{Entry}
+use Rattle.entry_writes.specs.declared.entry.Entry.{Entry}
 use Rattle.entry_tree.proofs.References.{held_at_of, held_nowhere_of}
 use Rattle.entry_tree.proofs.after.entry_of.Goals as goal
 

@@ -1,5 +1,5 @@
 use Rattle.std.proofs.Common.{◌≡◌, [], take}
-use Rattle.entry_tree.specs.Touched.{joined}
+use Rattle.entry_writes.specs.Touched.{joined}
 use Rattle.entry_tree.proofs.after.id_set.Given as goal
 
 -- the identities so far are in the set

@@ -1,5 +1,5 @@
 use Rattle.std.proofs.Common.{◌≡◌, [], take}
-use Rattle.entry_tree.specs.Touched.{identities, joined}
+use Rattle.entry_writes.specs.Touched.{identities, joined}
 use Rattle.entry_tree.proofs.after.ids_of.Given as goal
 
 -- the identities of the entries so far are in the set

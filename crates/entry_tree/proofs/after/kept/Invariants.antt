@@ -1,6 +1,6 @@
 use Rattle.std.proofs.Common.{◌≡◌, map, not, take}
 use Rattle.std.specs.List.{filter}
-use Rattle.entry_tree.specs.Effects.{is_one_of}
+use Rattle.entry_writes.specs.Effects.{is_one_of}
 use Rattle.entry_tree.proofs.after.kept.Given as goal
 
 -- those of the entries so far that are not dropped are there

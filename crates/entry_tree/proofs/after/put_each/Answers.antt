@@ -1,7 +1,7 @@
 -- One more entry in its place.
 use Rattle.std.proofs.Common.{◌∙◌, Bor, List, ap, map, sym}
-use Rattle.entry_tree.specs.declared.entry.Entry.{Entry}
-use Rattle.entry_tree.specs.State.{ascends, put}
+use Rattle.entry_writes.specs.declared.entry.Entry.{Entry}
+use Rattle.entry_writes.specs.State.{ascends, put}
 use Rattle.entry_tree.proofs.Committing.{put_more}
 use Rattle.entry_tree.proofs.Putting.{ascends_put}
 use Rattle.entry_tree.proofs.after.put_each.Goals as goal

@@ -1,5 +1,5 @@
 use Rattle.std.proofs.Common.{◌≡◌, true, map, take}
-use Rattle.entry_tree.specs.State.{ascends}
+use Rattle.entry_writes.specs.State.{ascends}
 use Rattle.entry_tree.proofs.Committing.{put_all}
 use Rattle.entry_tree.proofs.after.put_each.Given as goal
 

@@ -1,7 +1,7 @@
 -- The place that is found by the identity.
 use Rattle.std.proofs.Common.{rules, ◌∙◌, ap, map, Bor}
 use Rattle.std.proofs.lemmas.Fn.{always_returns_same}
-use Rattle.entry_tree.specs.declared.entry.Entry.{Entry}
+use Rattle.entry_writes.specs.declared.entry.Entry.{Entry}
 use Rattle.entry_tree.proofs.References.{set_found_of, insert_found_of}
 use Rattle.entry_tree.proofs.after.put_one.Goals as goal
 

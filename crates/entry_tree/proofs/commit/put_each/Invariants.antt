@@ -1,7 +1,7 @@
 use Rattle.std.proofs.Common.{◌≡◌, ◌≤◌, ◌+◌, true, length}
 use Rattle.std.specs.Vec.{vec_capacity, vec_len}
 use Rattle.std.specs.VecDeque.{deque_len}
-use Rattle.entry_tree.specs.State.{ascends}
+use Rattle.entry_writes.specs.State.{ascends}
 use Rattle.entry_tree.proofs.Committing.{put_all}
 use Rattle.entry_tree.proofs.commit.put_each.Given as goal
 

@@ -1,5 +1,5 @@
 use Rattle.std.proofs.Common.{◌≡◌, take}
-use Rattle.entry_tree.specs.State.{total_weight}
+use Rattle.entry_writes.specs.State.{total_weight}
 use Rattle.entry_tree.proofs.commit.total_weight.Given as goal
 
 -- the entries so far weigh so much

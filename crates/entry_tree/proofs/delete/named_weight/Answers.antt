@@ -1,5 +1,5 @@
 use Rattle.std.proofs.Common.{arith}
-use Rattle.entry_tree.specs.State.{is_named}
+use Rattle.entry_writes.specs.State.{is_named}
 use Rattle.entry_tree.proofs.Directory.{passing_more_le}
 use Rattle.entry_tree.proofs.delete.named_weight.Goals as goal
 

@@ -1,6 +1,6 @@
 use Rattle.std.proofs.Common.{◌≡◌, take}
 use Rattle.std.specs.List.{filter}
-use Rattle.entry_tree.specs.State.{is_named, total_weight}
+use Rattle.entry_writes.specs.State.{is_named, total_weight}
 use Rattle.entry_tree.proofs.delete.named_weight.Given as goal
 
 -- those of the name so far weigh so much

@@ -1,6 +1,6 @@
 use Rattle.std.proofs.Common.{◌≡◌, take, map}
 use Rattle.std.specs.List.{filter}
-use Rattle.entry_tree.specs.State.{is_named}
+use Rattle.entry_writes.specs.State.{is_named}
 use Rattle.entry_tree.proofs.Removed.{removed}
 use Rattle.entry_tree.proofs.delete.removals.Given as goal
 

@@ -6,8 +6,8 @@ use Rattle.std.specs.Option.{option_or}
 use Rattle.std.specs.Ordering.{nat_cmp}
 use Rattle.std.proofs.lemmas.Iterator.Adapters.{YieldsList-from_rev_slice}
 use Rattle.std.proofs.lemmas.Iterator.Consumers.{YieldsList-end}
-use Rattle.entry_tree.specs.declared.entry.Entry.{Entry}
-use Rattle.entry_tree.specs.State.{same_named}
+use Rattle.entry_writes.specs.declared.entry.Entry.{Entry}
+use Rattle.entry_writes.specs.State.{same_named}
 use Rattle.entry_tree.proofs.Naming.{Notes, notes-cons, pair-cons}
 use Rattle.entry_tree.proofs.Naming.{noted_more, noted_all}
 use Rattle.entry_tree.proofs.held.same_named.Goals as goal

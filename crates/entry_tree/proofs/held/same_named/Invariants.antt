@@ -2,7 +2,7 @@ use Rattle.std.proofs.Common.{◌≡◌, map, reverse}
 use Rattle.std.specs.BTreeMap.{get}
 use Rattle.std.specs.Cmp.Lexicographic.{slice_cmp}
 use Rattle.std.specs.Ordering.{nat_cmp}
-use Rattle.entry_tree.specs.State.{same_named}
+use Rattle.entry_writes.specs.State.{same_named}
 use Rattle.entry_tree.proofs.Naming.{Notes}
 use Rattle.entry_tree.proofs.held.same_named.Given as goal
 

@@ -1,5 +1,5 @@
 use Rattle.std.proofs.Common.{◌≡◌, ◌-◌, ◌^◌, min, map, take}
-use Rattle.entry_tree.specs.State.{total_weight}
+use Rattle.entry_writes.specs.State.{total_weight}
 use Rattle.entry_tree.proofs.held.total_weight.Given as goal
 
 -- the entries so far are weighed

@@ -12,3 +12,18 @@ pub returns-then-not-flush-clause-front : goal.returns-then-not-flush-clause-fro
 returns-then-not-flush-clause-front g c =
     let front = rw c.new-script.ensures at c.in_ok-outcome.ensures.front in
     front_kept front _ c.flush.ensures.bytes
+
+pub returns-in-Done-clause-front : goal.returns-in-Done-clause-front
+returns-in-Done-clause-front g c =
+    let front = rw c.new-script.ensures at c.in_ok-outcome.ensures.front in
+    front_kept front _ c.if-not-flush.ensures.bytes
+
+pub returns-in-Refused-clause-front : goal.returns-in-Refused-clause-front
+returns-in-Refused-clause-front g c =
+    let front = rw c.new-script.ensures at c.in_ok-outcome.ensures.front in
+    front_kept front _ c.if-not-flush.ensures.bytes
+
+pub returns-clause-front : goal.returns-clause-front
+returns-clause-front g c =
+    let front = rw c.new-script.ensures at c.in_ok-outcome.ensures.front in
+    front_kept front _ c.if-not-flush.ensures.bytes

@@ -1,4 +1,4 @@
-use Rattle.cascade_world.specs.Exchange.{part_of}
+use Rattle.cascade_exchange.specs.Exchange.{part_of}
 use Rattle.cascade_world.proofs.AtPlaces.{supplier_low, follower_low}
 use Rattle.cascade_world.proofs.Steps.{nowhere}
 use Rattle.cascade_world.proofs.world.World.exchange.Goals as goal

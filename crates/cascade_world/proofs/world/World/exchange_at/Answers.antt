@@ -1,8 +1,8 @@
 use Rattle.std.proofs.Common.{◌≡◌, [], sym, ◌∙◌, arith}
 use Rattle.std.specs.Prelude.{Ok, Err}
 use Rattle.std.proofs.lemmas.Result.{err_from_is_err_and}
-use Rattle.cascade_world.specs.Exchange.{part_of}
-use Rattle.cascade_world.proofs.AtPlaces.{no_stages, leaves_at, taken_back}
+use Rattle.cascade_exchange.specs.Exchange.{part_of}
+use Rattle.cascade_world.proofs.AtPlaces.{no_stages, leaves_at, no_write, taken_back}
 use Rattle.cascade_world.proofs.Steps.{exchange_done, exchange_through, exchange_refused, exchange_stopped}
 use Rattle.cascade_world.proofs.world.World.exchange_at.Goals as goal
 
@@ -36,3 +36,8 @@ pub returns-in-Err-clause-err : goal.returns-in-Err-clause-err
 returns-in-Err-clause-err c =
     taken_back c.args.self.now c.perform.new.self _ c.args.supplier c.args.follower (part_of c.args.exchange) c.in_ok-done.done c.index_mut.result.now c.restore.new.provider c.restore.new.follower c.requires.supplier c.requires.follower
     c.in_ok-done.ensures.does (c.self.view_is ∙ c.in-Err.ensures.err) c.index_mut.ensures.value c.restore.ensures.provider c.restore.ensures.follower
+
+pub restore-requires-clause-moment : goal.restore-requires-clause-moment
+restore-requires-clause-moment c =
+    no_write c.args.self.now c.perform.new.self _ c.args.supplier c.args.follower (part_of c.args.exchange) c.in_ok-done.done c.index_mut.result.now c.requires.supplier c.in_ok-done.ensures.does
+    (c.self.view_is ∙ c.in-Err.ensures.err) c.index_mut.ensures.value

@@ -1,5 +1,5 @@
 use Rattle.std.proofs.Common.{◌≡◌}
-use Rattle.cascade_world.specs.Nodes.{is_fed_within}
+use Rattle.cascade_nodes.specs.Nodes.{is_fed_within}
 use Rattle.cascade_world.specs.World.{is_fed}
 use Rattle.cascade_world.proofs.world.World.is_fed.Given as goal
 

@@ -1,10 +1,10 @@
-use Rattle.cascade_world.specs.Exchange.{part_of}
+use Rattle.cascade_exchange.specs.Exchange.{part_of}
 use Rattle.cascade_world.proofs.AtPlaces.{performed_at, unperformed}
 use Rattle.cascade_world.proofs.world.World.perform.Goals as goal
 
 pub returns-in-Ok-clause-does : goal.returns-in-Ok-clause-does
 returns-in-Ok-clause-does c =
-    performed_at c.args.self.now _ c.args.supplier c.args.follower (part_of c.args.exchange) c.index.result.now c.index_mut-from.result.now c.serve.new.self c.index_mut-to.result.now c.serve.new.follower
+    performed_at c.args.self.now _ c.args.supplier c.args.follower (part_of c.args.exchange) c.index.result.now c.index_mut-from.result.now c.serve.new.supplier c.index_mut-to.result.now c.serve.new.follower
     c.in-Ok.top c.serve.result c.self.view_is c.requires.supplier c.requires.follower c.index.ensures c.index_mut-from.ensures.value c.index_mut-to.ensures.value c.in-Ok.ensures
     c.serve.ensures.does c.serve.ensures.before c.serve.ensures.same
 

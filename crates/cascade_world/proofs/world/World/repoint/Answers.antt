@@ -1,7 +1,7 @@
 use Rattle.std.proofs.Common.{ap, sym, subst, ◌∙◌, ◌<◌, length, arith}
 use Rattle.std.proofs.lemmas.Result.{err_from_is_err_and}
 use Rattle.sync_consumer.specs.Taking.{Following}
-use Rattle.cascade_world.specs.declared.exchange.Exchange.TheVariants.{Idle}
+use Rattle.cascade_exchange.specs.declared.exchange.Exchange.TheVariants.{Idle}
 use Rattle.cascade_world.specs.World.{State, is_offered}
 use Rattle.cascade_world.proofs.Pointing.{stand_seen, repoint_unknown, repoint_nowhere, repoint_circle, repoint_outside, repoint_refused, still_within, repointed}
 use Rattle.cascade_world.proofs.world.World.repoint.Goals as goal

@@ -1,5 +1,5 @@
 use Rattle.std.proofs.Common.{◌≡◌}
-use Rattle.cascade_world.specs.Nodes.{top_within}
+use Rattle.cascade_nodes.specs.Nodes.{top_within}
 use Rattle.cascade_world.specs.World.{top_of}
 use Rattle.cascade_world.proofs.world.World.top_of.Given as goal
 

@@ -1,5 +1,5 @@
 use Rattle.std.proofs.Common.{ap}
-use Rattle.entry_tree.specs.declared.entry.Entry.{Entry}
+use Rattle.entry_writes.specs.declared.entry.Entry.{Entry}
 use Rattle.entry_tree.proofs.Limits.{add_where_none}
 use Rattle.entry_tree.proofs.tree.Tree.add.Goals as goal
 

@@ -1,9 +1,9 @@
 -- What is left after the drops ascends, and what is put into it may be held.
 use Rattle.std.proofs.Common.{◌≡◌, ◌≤◌, ◌∙◌, not, true, ap, sym, subst}
-use Rattle.entry_tree.specs.Effects.{committed, is_one_of}
+use Rattle.entry_writes.specs.Effects.{committed, is_one_of}
 use Rattle.entry_tree.specs.Fitting.{may_be_held}
-use Rattle.entry_tree.specs.State as state
-use Rattle.entry_tree.specs.Touched.{touched}
+use Rattle.entry_writes.specs.State as state
+use Rattle.entry_writes.specs.Touched.{touched}
 use Rattle.entry_tree.proofs.Committing.{left_by_steps, committed_by_steps, directory_committed, held_light}
 use Rattle.entry_tree.proofs.Directory.{ascends_filter}
 use Rattle.entry_tree.proofs.tree.Tree.commit.Goals as goal

@@ -1,6 +1,6 @@
 use Rattle.std.proofs.Common.{◌≡◌, ap, ◌∙◌, arith}
 use Rattle.std.specs.List.{filter}
-use Rattle.entry_tree.specs.State.{is_named, total_weight}
+use Rattle.entry_writes.specs.State.{is_named, total_weight}
 use Rattle.entry_tree.proofs.Directory.{total_parts, without_passing}
 use Rattle.entry_tree.proofs.tree.Tree.delete.Goals as goal
 

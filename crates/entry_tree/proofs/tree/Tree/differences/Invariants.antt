@@ -1,6 +1,6 @@
 use Rattle.std.proofs.Common.{◌≡◌, map, take}
 use Rattle.std.specs.List.{filter}
-use Rattle.entry_tree.specs.Touched.{is_change, touch_at}
+use Rattle.entry_writes.specs.Touched.{is_change, touch_at}
 use Rattle.entry_tree.proofs.tree.Tree.differences.Given as goal
 
 -- those of the identities so far that differ are told

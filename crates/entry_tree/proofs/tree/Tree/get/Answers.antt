@@ -1,8 +1,8 @@
 -- The place that is found by the identity, or none.
 use Rattle.std.proofs.Common.{rules, ap, ◌∙◌}
 use Rattle.std.proofs.lemmas.Fn.{always_returns_same}
-use Rattle.entry_tree.specs.declared.entry.Entry.{Entry}
-use Rattle.entry_tree.specs.State.{entry_at}
+use Rattle.entry_writes.specs.declared.entry.Entry.{Entry}
+use Rattle.entry_writes.specs.State.{entry_at}
 use Rattle.entry_tree.proofs.Searching.{held_at, held_nowhere}
 use Rattle.entry_tree.proofs.tree.Tree.get.Goals as goal
 

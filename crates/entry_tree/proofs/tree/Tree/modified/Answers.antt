@@ -3,11 +3,11 @@ use Rattle.std.proofs.Common.{◌≡◌, ◌+◌, None, set, ap, sym, ◌∙◌,
 use Rattle.std.specs.List.{position}
 use Rattle.std.proofs.lemmas.Result.{err_from_is_err_and}
 use Rattle.schema_rules.specs.Attributes.{weight_of}
-use Rattle.entry_tree.specs.declared.entry.Entry.{Entry}
-use Rattle.entry_tree.specs.Codes.{modify_code}
-use Rattle.entry_tree.specs.Fault.{Tells}
-use Rattle.entry_tree.specs.State.{is_named, entry_named, total_weight}
-use Rattle.entry_tree.specs.Touched.{touched}
+use Rattle.entry_writes.specs.declared.entry.Entry.{Entry}
+use Rattle.entry_writes.specs.Codes.{modify_code}
+use Rattle.entry_writes.specs.Fault.{Tells}
+use Rattle.entry_writes.specs.State.{is_named, entry_named, total_weight}
+use Rattle.entry_writes.specs.Touched.{touched}
 use Rattle.entry_tree.proofs.Modifying.{placed_by, within, code_placed, effect_placed, touched_placed}
 use Rattle.entry_tree.proofs.Replacing.{find_no_place, IsDirectory-replaced}
 use Rattle.entry_tree.proofs.tree.Tree.modified.Goals as goal

@@ -1,8 +1,8 @@
 -- What differs is at the identities that are put or dropped.
 use Rattle.std.proofs.Common.{◌≡◌, ◌∙◌, Bor, true, ap, map, sym}
-use Rattle.entry_tree.specs.declared.entry.Entry.{Entry}
-use Rattle.entry_tree.specs.Effects.{committed}
-use Rattle.entry_tree.specs.State.{ascends}
+use Rattle.entry_writes.specs.declared.entry.Entry.{Entry}
+use Rattle.entry_writes.specs.Effects.{committed}
+use Rattle.entry_writes.specs.State.{ascends}
 use Rattle.entry_tree.proofs.Committing.{ascends_committed, ids, touched_committed}
 use Rattle.entry_tree.proofs.tree.Tree.preview_commit.Goals as goal
 

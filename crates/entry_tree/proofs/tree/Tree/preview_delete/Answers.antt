@@ -1,5 +1,5 @@
 use Rattle.std.proofs.Common.{sym}
-use Rattle.entry_tree.specs.State.{is_named}
+use Rattle.entry_writes.specs.State.{is_named}
 use Rattle.entry_tree.proofs.Removed.{touched_removed}
 use Rattle.entry_tree.proofs.tree.Tree.preview_delete.Goals as goal
 

@@ -3,8 +3,8 @@ use Rattle.std.proofs.Common.{◌≡◌, ◌<◌, ◌≤◌, ◌+◌, [], ◌∷
 use Rattle.std.specs.List.{filter}
 use Rattle.std.specs.Option.{option_copied}
 use Rattle.schema_rules.specs.Attributes.{weight_of}
-use Rattle.entry_tree.specs.State.{entry_at, total_weight, most_entries, most_weight}
-use Rattle.entry_tree.specs.Touched.{is_change}
+use Rattle.entry_writes.specs.State.{entry_at, total_weight, most_entries, most_weight}
+use Rattle.entry_writes.specs.Touched.{is_change}
 use Rattle.entry_tree.proofs.Putting.{found_weight, found_le, put_directory, put_touch, touched_put}
 use Rattle.entry_tree.proofs.tree.Tree.put.Goals as goal
 

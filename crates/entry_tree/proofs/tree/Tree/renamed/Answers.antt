@@ -4,10 +4,10 @@ use Rattle.std.specs.Result.{result_ok}
 use Rattle.std.proofs.lemmas.Result.{err_from_is_err_and}
 use Rattle.schema_rules.specs.Attributes.{entry_code, weight_of}
 use Rattle.dn_names.specs.Reading.{limited}
-use Rattle.entry_tree.specs.Codes.{target_code, weight_code, length_code, moved_code}
-use Rattle.entry_tree.specs.Effects.{new_name, new_attributes}
-use Rattle.entry_tree.specs.State.{is_identified, weight_with}
-use Rattle.entry_tree.proofs.Firsts.{Tells-same}
+use Rattle.entry_writes.specs.Codes.{target_code, weight_code, length_code, moved_code}
+use Rattle.entry_writes.specs.Effects.{new_name, new_attributes}
+use Rattle.entry_writes.specs.State.{is_identified, weight_with}
+use Rattle.entry_writes.proofs.Firsts.{Tells-same}
 use Rattle.entry_tree.proofs.Limits.{light_where_none, third_some, three_none, fourth_some}
 use Rattle.entry_tree.proofs.Moving.{held_seen, part_le, weight_judged, target_none, attributes_are, long_where_none, too_long_top}
 use Rattle.entry_tree.proofs.tree.Tree.renamed.Goals as goal

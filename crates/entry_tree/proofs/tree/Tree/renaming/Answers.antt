@@ -1,9 +1,9 @@
 -- The entry that is found moves with all below it.
 use Rattle.std.proofs.Common.{◌≡◌, ◌≤◌, ◌+◌, ap, sym, ◌∙◌, arith, true}
 use Rattle.schema_rules.specs.Attributes.{weight_of}
-use Rattle.entry_tree.specs.Effects.{moved}
-use Rattle.entry_tree.specs.State.{ascends, is_named, weight_with, most_weight}
-use Rattle.entry_tree.proofs.Identities.{touched_mapped}
+use Rattle.entry_writes.specs.Effects.{moved}
+use Rattle.entry_writes.specs.State.{ascends, is_named, weight_with, most_weight}
+use Rattle.entry_writes.proofs.Identities.{touched_mapped}
 use Rattle.entry_tree.proofs.Moving.{held_where_found, held_seen, part_le, moved_keeps, moved_directory}
 use Rattle.entry_tree.proofs.tree.Tree.renaming.Goals as goal
 

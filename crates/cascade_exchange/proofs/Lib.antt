@@ -1,0 +1,13 @@
+pub mod Cuts
+pub mod Decoding
+pub mod Doing
+pub mod Exchanging
+pub mod Giving
+pub mod Hearing
+pub mod Loops
+pub mod Names
+pub mod Openings
+pub mod Pending
+pub mod Performing
+pub mod Sendings
+pub mod Settled

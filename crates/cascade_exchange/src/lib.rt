@@ -1,0 +1,17 @@
+//! What goes on between a consumer and its provider in an event of a script: messages of LDAP as bytes
+//! in a link, which the consumer takes as what they spell.
+#![tactic(auto)]
+
+mod cookies;
+mod cutting;
+mod exchange;
+mod opening;
+mod receiving;
+mod sending;
+mod settling;
+mod taking;
+mod wanting;
+
+pub use cookies::MOST_NODES;
+pub use exchange::{Exchange, Moment, Performed, serve};
+pub use ldap_ber::NoMemory;

@@ -1,0 +1,121 @@
+//! A consumer that is brought up to its provider.
+ghost use Rattle.std.specs.Prelude.{◌≡◌};
+ghost use Rattle.sync_provider.specs.Machine.{ProviderState};
+ghost use Rattle.cascade_exchange.specs.Exchange as spec;
+ghost use Rattle.cascade_exchange.specs.Exchange.{pair_of};
+ghost use Rattle.cascade_report.specs.Origins.{Lineage};
+ghost use Rattle.cascade_exchange.specs.Parts.{Does};
+
+use crate::opening::open_anew;
+use crate::receiving::take_one;
+use crate::sending::send_one;
+use cascade_nodes::{Follower, Source};
+use cascade_report::Telling;
+use cascade_script::Cause;
+use std::alloc::Global;
+
+/// Brings the consumer up to its provider: it takes what its link holds, and what the search that is
+/// open has pending. A consumer whose persistent search has done its refresh is up then; another one
+/// gets there by a new search.
+#[tactic(auto, using(crate::proofs::Settled::settled, crate::proofs::Settled::drain_refused, crate::proofs::Settled::run_refused, crate::proofs::Settled::catching_refused))]
+pub fn settle(
+    alloc: Global,
+    provider: &mut Source,
+    follower: &mut Follower,
+    out: &mut Telling,
+) -> Result<(), Cause>
+    ensures does { Does (spec.settles (pair_of provider.old follower.old out.old.lineage))
+        out.old (pair_of provider.new follower.new out.old.lineage) out.new result }
+    ensures directory { provider.new.directory ≡ provider.old.directory }
+    ensures queue_limit { provider.new.queue_limit ≡ provider.old.queue_limit }
+    ensures kind { provider.new.kind ≡ provider.old.kind }
+{
+    take_all(alloc, provider, follower, out)?;
+    run_search(alloc, provider, follower, out)?;
+    catch_up(alloc, provider, follower, out)?;
+    out.settled(alloc, follower.name.as_slice(), provider.writes())?;
+    Ok(())
+}
+
+/// Opens a new search and runs it to its end, unless the consumer follows on.
+#[tactic(auto, using(crate::proofs::Settled::followed, crate::proofs::Settled::not_followed))]
+fn catch_up(
+    alloc: Global,
+    provider: &mut Source,
+    follower: &mut Follower,
+    out: &mut Telling,
+) -> Result<(), Cause>
+    ensures does { Does (spec.catches_up (pair_of provider.old follower.old out.old.lineage))
+        out.old (pair_of provider.new follower.new out.old.lineage) out.new result }
+    ensures directory { provider.new.directory ≡ provider.old.directory }
+    ensures queue_limit { provider.new.queue_limit ≡ provider.old.queue_limit }
+    ensures kind { provider.new.kind ≡ provider.old.kind }
+{
+    if follows_on(follower) {
+        return Ok(());
+    }
+    refresh(alloc, provider, follower, out)
+}
+
+/// Opens a new search and runs it to its end.
+#[tactic(auto, using(crate::proofs::Doing::refused_first))]
+fn refresh(
+    alloc: Global,
+    provider: &mut Source,
+    follower: &mut Follower,
+    out: &mut Telling,
+) -> Result<(), Cause>
+    ensures does { Does (spec.refreshes (pair_of provider.old follower.old out.old.lineage))
+        out.old (pair_of provider.new follower.new out.old.lineage) out.new result }
+    ensures directory { provider.new.directory ≡ provider.old.directory }
+    ensures queue_limit { provider.new.queue_limit ≡ provider.old.queue_limit }
+    ensures kind { provider.new.kind ≡ provider.old.kind }
+{
+    open_anew(alloc, provider, follower, out)?;
+    run_search(alloc, provider, follower, out)
+}
+
+/// Whether a persistent search of the consumer is open, and its refresh is done.
+fn follows_on(follower: &Follower) -> bool
+    ensures { (provider : ProviderState) → (lineage : Lineage) → result ≡ spec.follows_on (pair_of provider follower.now lineage) }
+{
+    follower.search.is_some() && follower.consumer.inner().is_persisting()
+}
+
+/// Takes all that the link holds.
+#[tactic(auto, using(crate::proofs::Loops::drains_begin, crate::proofs::Loops::drains_on, crate::proofs::Loops::drains_end, crate::proofs::Loops::takes_from_link, crate::proofs::Pending::taking_starves))]
+fn take_all(
+    alloc: Global,
+    provider: &mut Source,
+    follower: &mut Follower,
+    out: &mut Telling,
+) -> Result<(), Cause>
+    ensures does { Does (spec.drains (pair_of provider.old follower.old out.old.lineage))
+        out.old (pair_of provider.new follower.new out.old.lineage) out.new result }
+    ensures directory { provider.new.directory ≡ provider.old.directory }
+    ensures queue_limit { provider.new.queue_limit ≡ provider.old.queue_limit }
+    ensures kind { provider.new.kind ≡ provider.old.kind }
+{
+    while take_one(alloc, provider, follower, out)? {}
+    Ok(())
+}
+
+/// Sends and takes one message after another, as long as one is pending.
+#[tactic(auto, using(crate::proofs::Pending::run_begins, crate::proofs::Pending::run_goes_on, crate::proofs::Pending::run_ends, crate::proofs::Pending::run_leaves_less, crate::proofs::Pending::run_overflows, crate::proofs::Pending::taking_starves))]
+fn run_search(
+    alloc: Global,
+    provider: &mut Source,
+    follower: &mut Follower,
+    out: &mut Telling,
+) -> Result<(), Cause>
+    ensures does { Does (spec.runs (pair_of provider.old follower.old out.old.lineage))
+        out.old (pair_of provider.new follower.new out.old.lineage) out.new result }
+    ensures directory { provider.new.directory ≡ provider.old.directory }
+    ensures queue_limit { provider.new.queue_limit ≡ provider.old.queue_limit }
+    ensures kind { provider.new.kind ≡ provider.old.kind }
+{
+    while send_one(alloc, provider, follower, out)? {
+        take_one(alloc, provider, follower, out)?;
+    }
+    Ok(())
+}

@@ -1,0 +1,177 @@
+-- A provider of a script: its answers, and the message ID of its searches.
+use Rattle.std.proofs.Common.{◌≡◌, ◌≢◌, ◌≤◌, ℕ, Bool, true, false, cond, Option, Some, None, List, [], ◌∷◌, ◌++◌, refl, ap, sym, subst, ◌∙◌, arith, eq-eqb, eqb-true}
+use Rattle.std.specs.BTreeMap.{insert_entry}
+use Rattle.std.specs.Ordering.{nat_cmp}
+use Rattle.std.specs.Prelude.{◌==◌, Ok, Err, Result, IfSome}
+use Rattle.directory_writes.specs.Directory.{DirectoryState, judged}
+use Rattle.entry_tree.specs.declared.entry.Entry.{Entry}
+use Rattle.entry_tree.specs.declared.op.Op.TheVariants.{Commit}
+use Rattle.sync_provider.specs.Committing.{commit_refusal}
+use Rattle.sync_provider.specs.declared.writing.CommitFault.{CommitFault}
+use Rattle.entry_tree.specs.Selection.{search_of}
+use Rattle.entry_tree.specs.declared.op.Op.{Op}
+use Rattle.entry_tree.specs.declared.op.Write.{Write}
+use Rattle.ldap_messages.specs.Whole.{HasSpelling}
+use Rattle.sync_messages.specs.Request.{request_of}
+use Rattle.sync_messages.specs.declared.fault.SyncFault.{SyncFault}
+use Rattle.sync_messages.specs.declared.request.SyncRequest.{SyncRequest}
+use Rattle.sync_model.specs.Message.{SyncMessage}
+use Rattle.sync_model.specs.Message.SyncMessage.{Put, Gone, Present, IdSet, NewCookie, PhaseEnds, Done, Passed}
+use Rattle.sync_provider.specs.Accepting as accepting
+use Rattle.sync_provider.specs.HandingOut.{Turn, turn_of_message, turn_of_pending, turn_of_found, turn_at, turn_of, search_at, without_first, closed, handed_on, after_turn, after_answer}
+use Rattle.sync_provider.specs.HandingOut.Turn.{Hands, Closes, Waits, Unknown}
+use Rattle.sync_provider.specs.Machine.{ProviderState, each_informed, searches_after, judged_by, wrote, after_commit, committed, committed_each}
+use Rattle.sync_provider.specs.Queueing.{overflowed, queued, pushed, informed, is_full, group_of, is_queueing}
+use Rattle.sync_provider.specs.Returning.{SearchesMoment, moment_of}
+use Rattle.sync_provider.specs.Search.{SearchState, pending, opening, advanced}
+use Rattle.sync_provider.specs.declared.committing.StagedCommit.{StagedCommit}
+use Rattle.sync_provider.specs.declared.handed.Handed.{Handed}
+use Rattle.sync_provider.specs.declared.handed.Handed.TheVariants as handed
+use Rattle.sync_provider.specs.declared.searches.Accepted.{Accepted}
+use Rattle.sync_provider.specs.declared.searches.Accepted.TheVariants as accepted
+use Rattle.sync_provider.specs.declared.searches.SyncSearch.{SyncSearch}
+use Rattle.sync_provider.proofs.Looking.{each-opened, each-closed, each-put_on, each-at}
+use Rattle.cascade_nodes.specs.Opening.{message_id, answer_to, answer_to_request, after_accepted}
+use Rattle.cascade_nodes.specs.Ours.{IsOurs, AreOurs, IsSpelled}
+
+-- ---- acceptance
+
+by_request : (p : ProviderState) (ask : SyncSearch) (request : Result SyncRequest SyncFault) → accepting.answer_to_request p.directory p.searches ask request ≡ answer_to_request p (search_of ask.spec) request
+by_request p ask (Err fault) = refl
+by_request p ask (Ok request) = refl
+
+pub answered : (p : ProviderState) (ask : SyncSearch) (answer : Accepted) → accepting.Answers answer (accepting.answer_to p.directory p.searches ask) → accepting.Answers answer (answer_to p (search_of ask.spec) ask.control)
+answered p ask answer h = subst (accepting.Answers answer) (by_request p ask (request_of ask.control)) h
+
+pub accepted_ours : (p : ProviderState) (ask : SyncSearch) (answer : Accepted) → ask.id ≡ message_id → AreOurs p.searches → AreOurs (accepting.after_answer p.directory p.searches ask answer)
+accepted_ours p ask (accepted.Opened number writes) id ours = each-opened IsOurs p.searches number _ ours id
+accepted_ours p ask (accepted.Refused code) id ours = ours
+accepted_ours p ask accepted.NoMemory id ours = ours
+
+-- the searches after it, which the messages of a script number
+pub accepted_state : (p after : ProviderState) (ask : SyncSearch) (answer : Accepted) → ask.id ≡ message_id → after ≡ record p { searches = accepting.after_answer p.directory p.searches ask answer } → after ≡ after_accepted p (search_of ask.spec) ask.control answer
+accepted_state p after ask (accepted.Opened number writes) id is =
+    is ∙ ap (λ n. record p { searches = insert_entry nat_cmp p.searches number (opening p.directory n (search_of ask.spec) (accepting.start_of_ask p.directory ask) (accepting.persists_of_ask ask)) }) id
+accepted_state p after ask (accepted.Refused code) id is = is
+accepted_state p after ask accepted.NoMemory id is = is
+
+-- ---- writes
+
+queued_ours : (limit : ℕ) (s : SearchState) (items : List SyncMessage) → IsOurs s → IsOurs (queued limit s items)
+queued_ours limit s items ours = by (is_full limit items)
+  where
+    by : (full : Bool) → IsOurs (cond full (overflowed s) (record s { due = items }))
+    by true = ours
+    by false = ours
+
+pushed_ours : (limit : ℕ) (s : SearchState) (items : List SyncMessage) → IsOurs s → IsOurs (pushed limit items s)
+pushed_ours limit s [] ours = ours
+pushed_ours limit s (message ∷ messages) ours = queued_ours limit s (s.due ++ message ∷ messages) ours
+
+informed_ours : (limit : ℕ) (d : DirectoryState) (write : Write) (s : SearchState) → IsOurs s → IsOurs (informed limit d write s)
+informed_ours limit d write s ours = by (is_queueing s)
+  where
+    by : (queueing : Bool) → IsOurs (cond queueing (pushed limit (group_of d s write) s) s)
+    by true = pushed_ours limit s (group_of d s write) ours
+    by false = ours
+
+each_ours : (limit : ℕ) (d : DirectoryState) (write : Write) (searches : List (ℕ × SearchState)) → AreOurs searches → AreOurs (each_informed limit d write searches)
+each_ours limit d write [] ours = tt
+each_ours limit d write (search ∷ searches) ours = (informed_ours limit d write search.1 ours.0, each_ours limit d write searches ours.1)
+
+after_ours_by : (p : ProviderState) (found : Result Write ℕ) → AreOurs p.searches → AreOurs (searches_after p found)
+after_ours_by p (Ok write) ours = each_ours p.queue_limit p.directory write p.searches ours
+after_ours_by p (Err code) ours = ours
+
+-- the searches of a provider after a write, or as they were where memory ran out
+pub wrote_ours : (p after : ProviderState) (op : Op) (now code : ℕ) → AreOurs p.searches → (code ≢ 80 → after ≡ wrote p op now) → (code ≡ 80 → after ≡ p) → AreOurs after.searches
+wrote_ours p after op now code ours done starved = by (code == 80) refl
+  where
+    ours_of : (q : ProviderState) → after ≡ q → AreOurs q.searches → AreOurs after.searches
+    ours_of q is there = subst (λ (r : ProviderState). AreOurs r.searches) (sym is) there
+
+    by : (full : Bool) → (code == 80) ≡ full → AreOurs after.searches
+    by true is = ours_of p (starved (eqb-true code 80 is)) ours
+    by false is = ours_of (wrote p op now) (done (λ same. differs is same)) (after_ours_by p (judged_by p.kind p.directory op now) ours)
+      where
+        differs : (code == 80) ≡ false → code ≡ 80 → ⊥
+        differs is same = let hit : (code == 80) ≡ true = eq-eqb code 80 same in cc
+
+-- the searches of a replica after a commit, or as they were where it is refused
+committed_ours_by : (p : ProviderState) (op : Op) (now : ℕ) (refusal : Option CommitFault) → AreOurs p.searches → AreOurs (after_commit p op now refusal).searches
+committed_ours_by p op now None ours = after_ours_by p (judged p.directory op now) ours
+committed_ours_by p op now (Some fault) ours = ours
+
+committed_ours : (p : ProviderState) (puts : List Entry) (drops : List ℕ) (now : ℕ) → AreOurs p.searches → AreOurs (committed p puts drops now).searches
+committed_ours p puts drops now ours = committed_ours_by p (Commit puts drops) now (commit_refusal p.kind p.directory puts drops now) ours
+
+pub each_committed_ours : (p : ProviderState) (commits : List StagedCommit) (now : ℕ) → AreOurs p.searches → AreOurs (committed_each p commits now).searches
+each_committed_ours p [] now ours = ours
+each_committed_ours p (commit ∷ commits) now ours =
+    each_committed_ours (committed p commit.puts commit.drops now) commits now (committed_ours p commit.puts commit.drops now ours)
+
+-- the searches of a moment
+pub ours_then : (p : ProviderState) (moment : SearchesMoment) → moment ≡ moment_of p → AreOurs p.searches → AreOurs moment.searches
+ours_then p moment is ours = subst (λ (m : SearchesMoment). AreOurs m.searches) (sym is) ours
+
+-- ---- turns
+
+first_ours : (s : SearchState) (rest due : List SyncMessage) → IsOurs s → IsOurs (advanced s rest due)
+first_ours s [] [] ours = ours
+first_ours s [] (message ∷ due) ours = ours
+first_ours s (message ∷ rest) due ours = ours
+
+on_ours : (es : List (ℕ × SearchState)) (number : ℕ) (found : Option SearchState) → search_at es number ≡ found → AreOurs es → AreOurs (handed_on es number found)
+on_ours es number None at ours = ours
+on_ours es number (Some s) at ours = each-put_on IsOurs es number (without_first s) ours (first_ours s s.rest s.due (each-at IsOurs es number s ours at))
+
+after_ours : (es : List (ℕ × SearchState)) (number : ℕ) (turn : Turn) → AreOurs es → AreOurs (after_turn es number turn)
+after_ours es number (Hands message) ours = on_ours es number (search_at es number) refl ours
+after_ours es number (Closes code message) ours = each-closed IsOurs es number ours
+after_ours es number Waits ours = ours
+after_ours es number Unknown ours = ours
+
+pub turn_ours : (es : List (ℕ × SearchState)) (number : ℕ) (turn : Option Turn) → AreOurs es → AreOurs (after_answer es number turn)
+turn_ours es number None ours = ours
+turn_ours es number (Some turn) ours = after_ours es number turn ours
+
+pub dropped_ours : (es : List (ℕ × SearchState)) (number : ℕ) → AreOurs es → AreOurs (closed es number)
+dropped_ours es number ours = each-closed IsOurs es number ours
+
+-- ---- spellings
+
+abbrev IsSpelledTurn : Turn → Type 0
+IsSpelledTurn (Hands message) = HasSpelling message
+IsSpelledTurn (Closes code message) = HasSpelling message
+IsSpelledTurn Waits = Unit {0}
+IsSpelledTurn Unknown = Unit {0}
+
+of_message : (id : ℕ) (message : SyncMessage) → id ≤ 2147483647 → IsSpelledTurn (turn_of_message id message)
+of_message id (Put adds entry cookie) small = (small, tt)
+of_message id (Gone uuid name cookie) small = (small, tt)
+of_message id (Present uuid cookie) small = (small, tt)
+of_message id (IdSet deletes uuids cookie) small = (small, tt)
+of_message id (NewCookie cookie) small = (small, tt)
+of_message id (PhaseEnds deletes done cookie) small = (small, tt)
+of_message id (Done code control) small = (small, tt)
+of_message id Passed small = (small, tt)
+
+of_pending : (id : ℕ) (pending : List SyncMessage) → id ≤ 2147483647 → IsSpelledTurn (turn_of_pending id pending)
+of_pending id [] small = tt
+of_pending id (message ∷ rest) small = of_message id message small
+
+of_found : (es : List (ℕ × SearchState)) (number : ℕ) (found : Option SearchState) → search_at es number ≡ found → AreOurs es → IsSpelledTurn (turn_of_found found)
+of_found es number None at ours = tt
+of_found es number (Some s) at ours =
+    let id : s.id ≡ message_id = each-at IsOurs es number s ours at in
+    of_pending s.id (pending s) (omega (arith, id))
+
+turn_spelled : (es : List (ℕ × SearchState)) (number : ℕ) → AreOurs es → IsSpelledTurn (turn_at es number)
+turn_spelled es number ours = of_found es number (search_at es number) refl ours
+
+pub spelled : (es : List (ℕ × SearchState)) (number : ℕ) (found : Handed) → AreOurs es → IfSome (turn_of found) (λ turn. turn ≡ turn_at es number) → IsSpelled found
+spelled es number (handed.Message message) ours is = subst IsSpelledTurn (sym is) (turn_spelled es number ours)
+spelled es number (handed.Ended code message) ours is = subst IsSpelledTurn (sym is) (turn_spelled es number ours)
+spelled es number handed.Nothing ours is = tt
+spelled es number handed.NoSuchSearch ours is = tt
+spelled es number handed.NoMemory ours is = tt

@@ -1,8 +1,0 @@
--- One more value keeps the list of attributes one.
-use Rattle.entry_tree.proofs.AttributeLists.{IsAttributeList-with_value}
-use Rattle.entry_tree.proofs.changing.with_pair.Goals as goal
-
-pub of-requires : goal.of-requires
-of-requires c =
-    rw (c.in_ok-add_values.ensures, c.in_ok-items.ensures, c.list-2.ensures.value, c.from_ref.ensures.value)
-    (IsAttributeList-with_value c.args.attrs.now c.pair.inside.kind c.pair.inside.value c.list-2.ensures.sound)

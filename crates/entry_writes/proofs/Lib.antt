@@ -1,0 +1,7 @@
+-- Lemmas of the crate.
+pub mod AttributeLists
+mod Editing
+pub mod Firsts
+pub mod Identities
+pub mod Passing
+pub mod Same

@@ -1,0 +1,98 @@
+//! The move of entries with one of them (RFC 4511, section 4.9).
+ghost use Rattle.std.specs.Prelude.{◌≡◌, ◌&&◌, true, false, None, Some, filter, map, length, nat_lt, if◌then◌else◌, IfOk, IfErr, OnOk};
+ghost use Rattle.dn_names.specs.Names.{is_at_or_below, moved_name};
+ghost use Rattle.dn_names.specs.Sound.{most_rdns};
+ghost use Rattle.entry_writes.specs.Codes as codes;
+ghost use Rattle.entry_writes.specs.Effects as effects;
+ghost use Rattle.entry_writes.specs.Fault.{Tells};
+ghost use Rattle.entry_writes.specs.Touched.{is_change};
+
+use crate::entry::Entry;
+use crate::fault::{ADMIN_LIMIT_EXCEEDED, OpFault};
+use crate::touched::Touched;
+use csn_cookie::Csn;
+use dn_names::{Dn, NameFault};
+use schema_rules::Attrs;
+use std::alloc::Global;
+
+/// The new name of an entry, and its new attributes.
+#[derive(Drop)]
+pub struct Renamed {
+    pub name: Dn,
+    pub attrs: Attrs,
+}
+
+/// The entries after a Rename, and what differs.
+#[derive(Drop)]
+pub struct Moved {
+    pub entries: Vec<Entry>,
+    pub touches: Touched,
+}
+
+/// The entries after the one is renamed, or the code of a name that would be too long.
+pub fn moved_entries(
+    alloc: Global,
+    entries: &[Entry],
+    top: &Entry,
+    renamed: &Renamed,
+    csn: Csn,
+) -> Result<Moved, OpFault>
+    ensures entries { IfOk result (λ moved. moved.entries.items ≡ map (effects.moved top.now renamed.now.name renamed.now.attrs csn) entries.now) }
+    ensures touches { IfOk result (λ moved. moved.touches ≡ filter is_change
+        (map (λ e. record { uuid = e.uuid; was = Some e; now = Some (effects.moved top.now renamed.now.name renamed.now.attrs csn e) }) entries.now)) }
+    ensures accepted { OnOk result (codes.length_code entries.now top.now renamed.now.name ≡ None) }
+    ensures refused { IfErr result (Tells (codes.length_code entries.now top.now renamed.now.name)) }
+{
+    let mut moved = Moved {
+        entries: Vec::new(alloc),
+        touches: Touched::new(alloc),
+    };
+    for entry in entries {
+        let now = moved_entry(entry, top, renamed, csn)?;
+        moved.touches.push_change(Some(entry), &now)?;
+        moved.entries.push(now)?;
+    }
+    Ok(moved)
+}
+
+/// An entry after the one is renamed, or the code of a name that would be too long.
+fn moved_entry(entry: &Entry, top: &Entry, renamed: &Renamed, csn: Csn) -> Result<Entry, OpFault>
+    ensures value { IfOk result (λ moved. moved ≡ effects.moved top.now renamed.now.name renamed.now.attrs csn entry.now) }
+    ensures short { OnOk result (
+        (is_at_or_below entry.now.dn top.now.dn && nat_lt most_rdns (length (moved_name entry.now.dn top.now.dn renamed.now.name))) ≡ false) }
+    ensures refused { IfErr result (Tells (
+        if is_at_or_below entry.now.dn top.now.dn && nat_lt most_rdns (length (moved_name entry.now.dn top.now.dn renamed.now.name)) then Some 11 else None)) }
+{
+    if !entry.dn.is_at_or_below(&top.dn) {
+        return Ok(entry.copy()?);
+    }
+    let uuid = entry.uuid;
+    let dn = moved_dn(&entry.dn, &top.dn, &renamed.name)?;
+    let attrs = if uuid == top.uuid {
+        renamed.attrs.copy()?
+    } else {
+        entry.attrs.copy()?
+    };
+    Ok(Entry {
+        uuid,
+        csn,
+        dn,
+        attrs,
+    })
+}
+
+/// The name with `to` in place of its suffix that equals `from`, or the code of too long a name.
+fn moved_dn(dn: &Dn, from: &Dn, to: &Dn) -> Result<Dn, OpFault>
+    requires { is_at_or_below dn.now from.now ≡ true }
+    ensures value { IfOk result (λ moved. moved ≡ moved_name dn.now from.now to.now) }
+    ensures short { OnOk result (nat_lt most_rdns (length (moved_name dn.now from.now to.now)) ≡ false) }
+    ensures refused { IfErr result (Tells (if nat_lt most_rdns (length (moved_name dn.now from.now to.now)) then Some 11 else None)) }
+{
+    match dn.moved(from, to) {
+        Ok(moved) => Ok(moved),
+        Err(NameFault::NoMemory) => Err(OpFault::NoMemory),
+        Err(NameFault::BadName(_) | NameFault::UnknownType(_) | NameFault::TooLong(_)) => {
+            Err(OpFault::Code(ADMIN_LIMIT_EXCEEDED))
+        }
+    }
+}

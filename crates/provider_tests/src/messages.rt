@@ -1,0 +1,193 @@
+//! Messages that are handed out, in words: `+`, `~` or `!` for an entry that is added, modified or
+//! deleted, the number of the write that gave its identity, `:` and its name; `-` or `=` and such numbers for
+//! identities that are named as deleted or as present; `deletes` or `presents` for the end of a refresh, with
+//! `on-` before it where the search goes on; `busy` for the end of a search whose queue was full. Behind it,
+//! `@` and the number of writes that its cookie names. Where there is no message: `nothing` or `none`.
+use crate::rows::{discard, number, parted, push_word, utf8};
+use csn_cookie::Cookie;
+use ldap_ber::{NoMemory, Octets};
+use ldap_messages::{Message, Protocol};
+use std::alloc::Global;
+use std::test::Fail;
+use sync_messages::{State, SyncDone, SyncInfo, SyncState};
+use sync_provider::{Handed, Provider};
+
+/// The Sync State control and the Sync Done control.
+const SYNC_STATE: &[u8] = b"1.3.6.1.4.1.4203.1.9.1.2";
+
+const SYNC_DONE: &[u8] = b"1.3.6.1.4.1.4203.1.9.1.3";
+
+/// Tells so many messages of a search, or fewer where it has not so many.
+pub(crate) fn hand_out(
+    alloc: Global,
+    provider: &mut Provider,
+    of: &str,
+    text: &mut String,
+) -> Result<(), Fail> {
+    let (search, count) = parted(of);
+    for _ in 0..number(count) {
+        if !hand_out_next(alloc, provider, number(search), text)? {
+            return Ok(());
+        }
+    }
+    Ok(())
+}
+
+/// Tells the next message. False where nothing more can come.
+fn hand_out_next(
+    alloc: Global,
+    provider: &mut Provider,
+    search: u64,
+    text: &mut String,
+) -> Result<bool, Fail> {
+    let handed = provider.hand_out(search);
+    let goes_on = push_handed(alloc, provider, &handed, text);
+    discard(handed);
+    goes_on
+}
+
+fn push_handed(
+    alloc: Global,
+    provider: &Provider,
+    handed: &Handed,
+    text: &mut String,
+) -> Result<bool, Fail> {
+    match handed {
+        Handed::Message(message) => {
+            push_message(alloc, provider, message, text)?;
+            return Ok(true);
+        }
+        Handed::Ended(code, message) => push_end(alloc, provider, *code, message, text)?,
+        Handed::Nothing => push_word(text, "nothing")?,
+        Handed::NoSuchSearch => push_word(text, "none")?,
+        Handed::NoMemory => return Err(Fail::from("out of memory")),
+    }
+    Ok(false)
+}
+
+fn push_message(
+    alloc: Global,
+    provider: &Provider,
+    message: &Message,
+    text: &mut String,
+) -> Result<(), Fail> {
+    match &message.op {
+        Protocol::SearchResultEntry { name, .. } => {
+            let state = SyncState::read(alloc, value_of(message, SYNC_STATE)?)?;
+            let (mark, number) = (mark_of(state.state), number_of(state.uuid));
+            let entry = format!(in alloc; "{mark}{number}:{}", utf8(name.as_slice()))?;
+            push_word(text, &entry)?;
+            push_cookie(alloc, provider, &state.cookie, text)
+        }
+        Protocol::IntermediateResponse {
+            value: Some(value),
+            ..
+        } => {
+            let info = SyncInfo::read(alloc, value.as_slice())?;
+            push_info(alloc, provider, &info, text)
+        }
+        _ => Err(Fail::from("another message")),
+    }
+}
+
+fn mark_of(state: State) -> &'static str {
+    match state {
+        State::Present => "=",
+        State::Add => "+",
+        State::Modify => "~",
+        State::Delete => "!",
+    }
+}
+
+fn push_info(
+    alloc: Global,
+    provider: &Provider,
+    info: &SyncInfo,
+    text: &mut String,
+) -> Result<(), Fail> {
+    let cookie = match info {
+        SyncInfo::IdSet(cookie, deletes, uuids) => {
+            push_names(alloc, if *deletes { "-" } else { "=" }, uuids.list(), text)?;
+            cookie
+        }
+        SyncInfo::RefreshDelete(cookie, true) => {
+            push_word(text, "on-deletes")?;
+            cookie
+        }
+        SyncInfo::RefreshPresent(cookie, true) => {
+            push_word(text, "on-presents")?;
+            cookie
+        }
+        _ => return Err(Fail::from("another Sync Info message")),
+    };
+    push_cookie(alloc, provider, cookie, text)
+}
+
+fn push_names(
+    alloc: Global,
+    mark: &str,
+    uuids: &[u128],
+    text: &mut String,
+) -> Result<(), NoMemory> {
+    let mut before = mark;
+    text.push(' ')?;
+    for uuid in uuids {
+        let name = format!(in alloc; "{before}{}", number_of(*uuid))?;
+        text.push_str(&name)?;
+        before = ",";
+    }
+    Ok(())
+}
+
+/// The end of a search, which has the code that is told with it.
+fn push_end(
+    alloc: Global,
+    provider: &Provider,
+    code: u32,
+    message: &Message,
+    text: &mut String,
+) -> Result<(), Fail> {
+    match &message.op {
+        Protocol::SearchResultDone(outcome) if outcome.code == 0 && code == 0 => {
+            let done = SyncDone::read(alloc, value_of(message, SYNC_DONE)?)?;
+            let deletes = done.refresh_deletes;
+            push_word(text, if deletes { "deletes" } else { "presents" })?;
+            push_cookie(alloc, provider, &done.cookie, text)
+        }
+        Protocol::SearchResultDone(outcome) if outcome.code == 51 && code == 51 => {
+            Ok(push_word(text, "busy")?)
+        }
+        _ => Err(Fail::from("another end")),
+    }
+}
+
+/// `@` and the number of writes that a cookie names, or nothing where there is none.
+fn push_cookie(
+    alloc: Global,
+    provider: &Provider,
+    cookie: &Option<Octets>,
+    text: &mut String,
+) -> Result<(), Fail> {
+    if let Some(cookie) = cookie {
+        let cookie = Cookie::parse(cookie.as_slice())?;
+        let named = format!(in alloc; "@{}", provider.upto(cookie.csn))?;
+        text.push_str(&named)?;
+    }
+    Ok(())
+}
+
+/// The number of the write that gave the identity: its last 62 bits.
+fn number_of(uuid: u128) -> u64 {
+    (uuid % (1 << 62)) as u64
+}
+
+/// The value of the message's one control, which has this name.
+fn value_of<'a>(message: &'a Message, name: &[u8]) -> Result<&'a [u8], Fail> {
+    match message.controls.list() {
+        [control] if control.name.as_slice() == name => match &control.value {
+            Some(value) => Ok(value.as_slice()),
+            None => Err(Fail::from("a control without a value")),
+        },
+        _ => Err(Fail::from("other controls")),
+    }
+}

@@ -1,0 +1,240 @@
+//! Rows of tests: steps with `; ` between them, and behind ` => ` what is told of them, word by word. A line
+//! that begins with `^` has the steps that the rows below it begin with, and one with `#` says something
+//! of them. What `aside` does to three open searches is undone then.
+//!
+//! A write tells `w` and the number of writes, or `c` and the code that is against it. `add` is of a
+//! unit with the name of its first part, `first` of `dc=x`, `addto` of units up to so many writes.
+//! `replace` gives an attribute one value, `swell` a description of so many octets. `rename` has the name,
+//! the new first part and perhaps a new superior; `swing` lets two first parts take turns.
+ghost use Rattle.std.specs.Prelude.{◌≡◌};
+
+use crate::commits::{commit, commit_both};
+use crate::messages::hand_out;
+use crate::searches::open;
+use crate::spellings::{spell, spell_busy};
+use crate::writes::{add_up_to, swing, write};
+use csn_cookie::Csn;
+use dn_names::Dn;
+use ldap_ber::NoMemory;
+use std::alloc::Global;
+use std::process::Abort;
+use std::test::Fail;
+use sync_provider::{Kind, Provider};
+
+/// Asserts that each row is told as it has it.
+pub(crate) fn check_rows(rt: &impl Abort, alloc: Global, rows: &str) -> Result<(), Fail> {
+    for group in rows.split('^') {
+        let (begun, rows) = group.split_once('\n').unwrap_or((group, ""));
+        check_group(rt, alloc, begun, rows)?;
+    }
+    Ok(())
+}
+
+fn check_group(rt: &impl Abort, alloc: Global, begun: &str, rows: &str) -> Result<(), Fail> {
+    for row in rows.lines() {
+        check_row(rt, alloc, begun, row)?;
+    }
+    Ok(())
+}
+
+fn check_row(rt: &impl Abort, alloc: Global, begun: &str, row: &str) -> Result<(), Fail> {
+    if row.starts_with('#') {
+        return Ok(());
+    }
+    let (steps, wanted) = row.split_once(" => ").ok_or(row)?;
+    let told = told(alloc, begun, steps)?;
+    assert!(rt; told.as_str() == wanted, "{row}: {told}");
+    Ok(())
+}
+
+fn told(alloc: Global, begun: &str, steps: &str) -> Result<String, Fail> {
+    let kind = if begun.starts_with("replica") {
+        Kind::Replica
+    } else {
+        Kind::Root
+    };
+    let suffix = Dn::parse(alloc, b"dc=x")?;
+    let mut provider = Provider::new(alloc, suffix, 1, 1, kind)?;
+    let mut text = String::new(alloc);
+    let done = take_row(alloc, &mut provider, begun, steps, &mut text);
+    discard(provider);
+    done?;
+    Ok(text)
+}
+
+fn take_row(
+    alloc: Global,
+    provider: &mut Provider,
+    begun: &str,
+    steps: &str,
+    text: &mut String,
+) -> Result<(), Fail> {
+    take_steps(alloc, provider, begun, text)?;
+    take_steps(alloc, provider, steps, text)
+}
+
+fn take_steps(
+    alloc: Global,
+    provider: &mut Provider,
+    steps: &str,
+    text: &mut String,
+) -> Result<(), Fail> {
+    for step in steps.split(';') {
+        take_often(alloc, provider, step.trim_ascii(), text)?;
+    }
+    Ok(())
+}
+
+/// A step, or `times`, a number and a step.
+fn take_often(
+    alloc: Global,
+    provider: &mut Provider,
+    step: &str,
+    text: &mut String,
+) -> Result<(), Fail> {
+    let (count, step) = match step.strip_prefix("times ") {
+        Some(often) => parted(often),
+        None => ("1", step),
+    };
+    for _ in 0..number(count) {
+        take_step(alloc, provider, step, text)?;
+    }
+    Ok(())
+}
+
+fn take_step(
+    alloc: Global,
+    provider: &mut Provider,
+    step: &str,
+    text: &mut String,
+) -> Result<(), Fail> {
+    let (word, of) = parted(step);
+    match word {
+        "root" | "replica" => Ok(()),
+        "once" | "stay" | "bad" | "once!" | "stay!" => open(alloc, provider, word, of, text),
+        "hand" => hand_out(alloc, provider, of, text),
+        "spell" => spell(alloc, provider, of, text),
+        "busy" => spell_busy(alloc, text),
+        "aside" => take_aside(alloc, provider, text),
+        "commit" => commit(alloc, provider, of, text),
+        "commits" => commit_both(alloc, provider, of, text),
+        "addto" => add_up_to(alloc, provider, of, text),
+        "swing" => swing(alloc, provider, of, text),
+        "log" | "queue" | "drop" => change(alloc, provider, word, of, text),
+        "size" | "stamp" | "upto" | "of" => look(alloc, provider, word, of, text),
+        _ => write(alloc, provider, word, of, text),
+    }
+}
+
+/// Limits, and the drop of a search.
+fn change(
+    alloc: Global,
+    provider: &mut Provider,
+    word: &str,
+    of: &str,
+    text: &mut String,
+) -> Result<(), Fail> {
+    match word {
+        "log" => provider.set_log_limit(number(of)),
+        "queue" => provider.set_queue_limit(number(of)),
+        _ => drop_search(provider, number(of), text)?,
+    }
+    Ok(())
+}
+
+fn drop_search(provider: &mut Provider, search: u64, text: &mut String) -> Result<(), Fail>
+    ensures { provider.new.directory ≡ provider.old.directory }
+{
+    let was_open = provider.drop_search(search);
+    Ok(push_word(text, if was_open { "dropped" } else { "none" })?)
+}
+
+/// Tells what the first two of three searches hand out up to their ends, and drops the third. Then the
+/// searches are again those before.
+#[tactic(auto, using(sync_provider::proofs::Returns::no_write_came))]
+fn take_aside(alloc: Global, provider: &mut Provider, text: &mut String) -> Result<(), Fail> {
+    let searches = provider.open_searches()?;
+    let done = end_searches(alloc, provider, text);
+    provider.return_to(searches);
+    done
+}
+
+fn end_searches(alloc: Global, provider: &mut Provider, text: &mut String) -> Result<(), Fail>
+    ensures { provider.new.directory ≡ provider.old.directory }
+{
+    spell(alloc, provider, "1", text)?;
+    spell(alloc, provider, "2", text)?;
+    spell(alloc, provider, "1", text)?;
+    drop_search(provider, 3, text)
+}
+
+/// The numbers of writes and entries with the history, the stamp of a write or of an entry, or the number
+/// of writes up to a stamp.
+fn look(
+    alloc: Global,
+    provider: &Provider,
+    word: &str,
+    of: &str,
+    text: &mut String,
+) -> Result<(), Fail> {
+    match word {
+        "size" => {
+            let (writes, entries) = (provider.writes(), provider.tree().len());
+            let size = format!(in alloc; "{writes}/{entries}/{}", provider.history())?;
+            push_word(text, &size)?;
+        }
+        "upto" => push_counted(alloc, text, "", provider.upto(Csn::parse(of.as_bytes())?))?,
+        _ => push_stamp(text, stamp_of(provider, word, number(of))?)?,
+    }
+    Ok(())
+}
+
+fn stamp_of(provider: &Provider, word: &str, number: u64) -> Result<Csn, Fail> {
+    if word == "of" {
+        let entry = provider.tree().get(u128::from(number)).ok_or("no entry")?;
+        return Ok(entry.csn);
+    }
+    if number == 0 || provider.writes() < number {
+        return Err(Fail::from("no write"));
+    }
+    Ok(provider.write_at(number).csn)
+}
+
+/// Puts the word at the end, with a space before it where it is not the first.
+pub(crate) fn push_word(text: &mut String, word: &str) -> Result<(), NoMemory> {
+    if !text.is_empty() {
+        text.push(' ')?;
+    }
+    text.push_str(word)
+}
+
+/// Puts a word and the number at the end.
+pub(crate) fn push_counted(
+    alloc: Global,
+    text: &mut String,
+    word: &str,
+    number: u64,
+) -> Result<(), NoMemory> {
+    let counted = format!(in alloc; "{word}{number}")?;
+    push_word(text, &counted)
+}
+
+pub(crate) fn push_stamp(text: &mut String, stamp: Csn) -> Result<(), NoMemory> {
+    push_word(text, utf8(&stamp.write()))
+}
+
+/// The first word of the text, and what is behind it.
+pub(crate) fn parted(text: &str) -> (&str, &str) {
+    text.split_once(' ').unwrap_or((text, ""))
+}
+
+pub(crate) fn number(text: &str) -> u64 {
+    text.parse::<u64>().unwrap_or(0)
+}
+
+pub(crate) fn utf8(bytes: &[u8]) -> &str {
+    str::from_utf8(bytes).unwrap_or("?")
+}
+
+/// Drops a value through its bound, so that no proof goes through the cases of its type.
+pub(crate) fn discard<T: Drop>(_value: T) {}

@@ -1,0 +1,129 @@
+//! A refresh of 300 entries is cut behind each of its messages, and a settling behind it changes nothing. The report of
+//! each would be long, so these are steps of a world, over objects in memory.
+use crate::tests::started;
+use cascade_world::{Script, World, read_event};
+use ldap_ber::{NoMemory, Octets};
+use std::alloc::Global;
+use std::test::Fail;
+
+/// The last lines of a settling with 300 entries.
+const LARGE_CONTENT: &str =
+    "stored c 300 entries 300 sha256 ba9a3ddceb2d32efebce8cd21cf1b57ee5de250918df0b577fb80232bac12619 origin p 300\nsettled c 300\n";
+
+/// The start, and 299 units.
+fn large_script(alloc: Global) -> Result<Vec<u8>, NoMemory> {
+    let mut script = started(alloc, b"")?;
+    for k in 0..299u32 {
+        let record = format!(in alloc;
+            "write p\ndn: ou=u{k},dc=x\nobjectClass: organizationalUnit\nou: u{k}\n\n"
+        )?;
+        script.extend_from_slice(record.as_bytes())?;
+    }
+    Ok(script)
+}
+
+/// More events than the scripts of these tests have.
+const MOST_EVENTS: u32 = 1_000;
+
+/// The lines of the next event of a script, or None at its end.
+fn next_lines(
+    alloc: Global,
+    world: &mut World,
+    script: &mut Script,
+) -> Result<Option<Octets>, Fail> {
+    match read_event(alloc, script) {
+        Ok(Some(event)) => match world.step(event) {
+            Ok(lines) => Ok(Some(lines)),
+            Err(_) => Err(Fail::from("the event is refused")),
+        },
+        Ok(None) => Ok(None),
+        Err(_) => Err(Fail::from("the script is refused")),
+    }
+}
+
+/// The lines of the last event of a script.
+pub(crate) fn last_lines(alloc: Global, world: &mut World, text: &[u8]) -> Result<Octets, Fail> {
+    let mut script = Script::new(Octets::from_slice(alloc, text)?);
+    let mut last = Octets::from_slice(alloc, b"")?;
+    for _ in 0..MOST_EVENTS {
+        match next_lines(alloc, world, &mut script)? {
+            Some(lines) => last = lines,
+            None => return Ok(last),
+        }
+    }
+    Err(Fail::from("the script goes on"))
+}
+
+fn large_world(alloc: Global) -> Result<World, Fail> {
+    let mut world = World::new(alloc)?;
+    let script = large_script(alloc)?;
+    last_lines(alloc, &mut world, script.as_slice())?;
+    Ok(world)
+}
+
+/// Whether the refresh of 300 entries, cut behind so many messages, changes nothing of a settling. Both
+/// are without a cookie.
+fn is_settled(alloc: Global, world: &mut World, count: u32) -> Result<bool, Fail> {
+    let script = format!(in alloc;
+        "lose c\nopen c once\nsend c {count}\ntake c {count}\ncut c\nlose c\nsettle c\n"
+    )?;
+    let lines = last_lines(alloc, world, script.as_bytes())?;
+    Ok(lines.as_slice().ends_with(LARGE_CONTENT.as_bytes()))
+}
+
+/// The number of messages, from the first and up to before the last, behind which a cut changes nothing.
+fn settled(alloc: Global, first: u32, last: u32) -> Result<u32, Fail> {
+    let mut world = large_world(alloc)?;
+    let count = count_settled(alloc, &mut world, first, last);
+    discard(world);
+    count
+}
+
+fn count_settled(alloc: Global, world: &mut World, first: u32, last: u32) -> Result<u32, Fail> {
+    let mut count = 0_u32;
+    for messages in first..last {
+        if is_settled(alloc, world, messages)? {
+            count = count.saturating_add(1);
+        }
+    }
+    Ok(count)
+}
+
+/// Drops a value through its bound, so that no proof goes through the cases of its type.
+fn discard<T: Drop>(_value: T) {}
+
+#[test]
+fn cuts_behind_messages_1_to_68_change_no_settling(rt: HostRuntime) -> Result<(), Fail> {
+    assert!(rt; settled(rt.alloc(), 1, 69)? == 68);
+    Ok(())
+}
+
+#[test]
+fn cuts_behind_messages_69_to_125_change_no_settling(rt: HostRuntime) -> Result<(), Fail> {
+    assert!(rt; settled(rt.alloc(), 69, 126)? == 57);
+    Ok(())
+}
+
+#[test]
+fn cuts_behind_messages_126_to_175_change_no_settling(rt: HostRuntime) -> Result<(), Fail> {
+    assert!(rt; settled(rt.alloc(), 126, 176)? == 50);
+    Ok(())
+}
+
+#[test]
+fn cuts_behind_messages_176_to_221_change_no_settling(rt: HostRuntime) -> Result<(), Fail> {
+    assert!(rt; settled(rt.alloc(), 176, 222)? == 46);
+    Ok(())
+}
+
+#[test]
+fn cuts_behind_messages_222_to_262_change_no_settling(rt: HostRuntime) -> Result<(), Fail> {
+    assert!(rt; settled(rt.alloc(), 222, 263)? == 41);
+    Ok(())
+}
+
+#[test]
+fn cuts_behind_messages_263_to_301_change_no_settling(rt: HostRuntime) -> Result<(), Fail> {
+    assert!(rt; settled(rt.alloc(), 263, 302)? == 39);
+    Ok(())
+}
