@@ -6,26 +6,28 @@ use Rattle.sync_consumer.specs.Taking.{Following, wanting}
 use Rattle.sync_provider.specs.Machine.{ProviderState}
 use Rattle.cascade_script.specs.declared.fault.Cause.{Cause}
 use Rattle.cascade_script.specs.declared.fault.Cause.TheVariants.{BadCommand, UnknownNode, NameTaken, BadRecord, LimitReached, OutsideSuffix, LaterCookie, Circle, NoMemory}
-use Rattle.cascade_nodes.specs.declared.node.Follower.{Follower}
+use Rattle.cascade_nodes.specs.declared.node.ConsumerNode.{ConsumerNode}
 use Rattle.cascade_exchange.specs.Cookies.{is_later}
-use Rattle.cascade_exchange.specs.Exchange.{pair_of, with_text, holding, lost, given, wanted}
+use Rattle.cascade_exchange.specs.Exchange.{agreement_of, with_text, holding, lost, given, wanted}
 use Rattle.cascade_report.specs.Origins.{Lineage}
 use Rattle.cascade_exchange.specs.Parts.{Does, Gives}
-use Rattle.cascade_report.specs.Telling.{Telling}
-use Rattle.cascade_report.proofs.Tells.{said-none}
-use Rattle.cascade_report.specs.Report.Told.{Holds}
+use Rattle.cascade_report.specs.Report.{Report}
+use Rattle.cascade_report.proofs.Reports.{said-none}
+use Rattle.cascade_report.specs.ReportLines.ReportLine.{Holds}
 
-holding_does : (lin : Lineage) (p : ProviderState) (f after : Follower) (cookie : Option (List ℕ)) (old : Telling) → after ≡ with_text f cookie → Does (holding (pair_of p f lin) cookie) old (pair_of p after lin) old (Ok tt)
-holding_does lin p f after cookie old is = (Holds f.name cookie ∷ [], ap (λ g. Ok (pair_of p g lin, Holds f.name cookie ∷ [])) (sym is), sym (said-none old))
+holding_does : (lin : Lineage) (p : ProviderState) (f after : ConsumerNode) (cookie : Option (List ℕ)) (old : Report) → after ≡ with_text f cookie → Does (holding (agreement_of p f lin) cookie) old (agreement_of p after lin) old (Ok tt)
+holding_does lin p f after cookie old is = (Holds f.name cookie ∷ [], ap (λ g. Ok (agreement_of p g lin, Holds f.name cookie ∷ [])) (sym is), sym (said-none old))
 
-pub lost_does : (lin : Lineage) (p : ProviderState) (f after : Follower) (old : Telling) → after ≡ with_text f None → Does (lost (pair_of p f lin)) old (pair_of p after lin) old (Ok tt)
+-- losing the cookie is the part of an event that does so
+pub lost_does : (lin : Lineage) (p : ProviderState) (f after : ConsumerNode) (old : Report) → after ≡ with_text f None → Does (lost (agreement_of p f lin)) old (agreement_of p after lin) old (Ok tt)
 lost_does lin p f after old is = holding_does lin p f after None old is
 
 -- the text is later than what is held
-refuses : (lin : Lineage) (p : ProviderState) (f : Follower) (text : List ℕ) (cause : Cause) → is_later f.consumer.copy.cookie text ≡ true → cause ≡ LaterCookie f.consumer.copy.cookie text → given text (pair_of p f lin) ≡ Err cause
+refuses : (lin : Lineage) (p : ProviderState) (f : ConsumerNode) (text : List ℕ) (cause : Cause) → is_later f.consumer.copy.cookie text ≡ true → cause ≡ LaterCookie f.consumer.copy.cookie text → given text (agreement_of p f lin) ≡ Err cause
 refuses lin p f text cause later is = rw later (ap Err (sym is))
 
-pub given_does : (lin : Lineage) (p : ProviderState) (f after : Follower) (text : List ℕ) (old : Telling) (result : Result (Unit {0}) Cause) → Gives f text after result → Does (given text (pair_of p f lin)) old (pair_of p after lin) old result
+-- giving a cookie is the part of an event that does so
+pub given_does : (lin : Lineage) (p : ProviderState) (f after : ConsumerNode) (text : List ℕ) (old : Report) (result : Result (Unit {0}) Cause) → Gives f text after result → Does (given text (agreement_of p f lin)) old (agreement_of p after lin) old result
 given_does lin p f after text old (Ok done) h = rw h.0 (holding_does lin p f after (Some text) old h.1)
 given_does lin p f after text old (Err BadCommand) h = refuses lin p f text BadCommand h.0 h.1
 given_does lin p f after text old (Err UnknownNode) h = refuses lin p f text UnknownNode h.0 h.1
@@ -38,7 +40,7 @@ given_does lin p f after text old (Err Circle) h = refuses lin p f text Circle h
 given_does lin p f after text old (Err NoMemory) h = tt
 
 -- something else is wanted
-pub wanted_does : (lin : Lineage) (p : ProviderState) (f : Follower) (after : Following) (search : Search) (old : Telling) → after ≡ wanting f.consumer search
-    → Does (wanted search (pair_of p f lin)) old (pair_of p (record f { consumer = after }) lin) old (Ok tt)
+pub wanted_does : (lin : Lineage) (p : ProviderState) (f : ConsumerNode) (after : Following) (search : Search) (old : Report) → after ≡ wanting f.consumer search
+    → Does (wanted search (agreement_of p f lin)) old (agreement_of p (record f { consumer = after }) lin) old (Ok tt)
 wanted_does lin p f after search old is =
-    (Holds f.name None ∷ [], ap (λ c. Ok (pair_of p (record f { consumer = c }) lin, Holds f.name None ∷ [])) (sym is), sym (said-none old))
+    (Holds f.name None ∷ [], ap (λ c. Ok (agreement_of p (record f { consumer = c }) lin, Holds f.name None ∷ [])) (sym is), sym (said-none old))

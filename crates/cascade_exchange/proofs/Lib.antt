@@ -3,11 +3,13 @@ pub mod Decoding
 pub mod Doing
 pub mod Exchanging
 pub mod Giving
-pub mod Hearing
+pub mod Reception
 pub mod Loops
 pub mod Names
 pub mod Openings
+pub mod Owns
 pub mod Pending
 pub mod Performing
 pub mod Sendings
 pub mod Settled
+pub mod Silence

@@ -15,7 +15,8 @@ is_of_node cookie = nat_le 1 cookie.history && nat_le cookie.history most_nodes
 -- what is held is a cookie of the given one's history, and its CSN is not less
 abbrev pub is_not_before : Cookie → Option Cookie → Bool
 is_not_before given None = false
-is_not_before given (Some held) = held.history == given.history && not (is_before held.csn given.csn)
+is_not_before given (Some held) =
+    held.history == given.history && not (is_before held.csn given.csn)
 
 abbrev pub goes_beyond : Option Cookie → Option Cookie → Bool
 goes_beyond held None = false

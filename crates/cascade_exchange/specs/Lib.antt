@@ -2,7 +2,7 @@
 pub mod Cookies
 pub mod Exchange
 pub mod Going
-pub mod Hearing
+pub mod Reception
 pub mod Naming
 pub mod Parts
 pub mod Trace

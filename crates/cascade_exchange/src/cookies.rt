@@ -5,7 +5,7 @@ ghost use Rattle.cascade_exchange.specs.Cookies as spec;
 ghost use Rattle.cascade_exchange.specs.Exchange.{with_text};
 ghost use Rattle.cascade_exchange.specs.Parts.{Gives};
 
-use cascade_nodes::Follower;
+use cascade_nodes::ConsumerNode;
 use cascade_script::Cause;
 use csn_cookie::Cookie;
 use ldap_ber::{NoMemory, Octets};
@@ -15,21 +15,21 @@ use std::alloc::Global;
 pub const MOST_NODES: usize = 16;
 
 /// The consumer loses its cookie.
-pub fn lose(follower: &mut Follower)
-    ensures { follower.new ≡ with_text follower.old None }
+pub fn lose(consumer_node: &mut ConsumerNode)
+    ensures { consumer_node.new ≡ with_text consumer_node.old None }
 {
-    follower.consumer.lose_cookie();
+    consumer_node.consumer.lose_cookie();
 }
 
 /// The consumer gets this text for its cookie, unless the text is later than what it holds.
-pub fn give(alloc: Global, follower: &mut Follower, text: Octets) -> Result<(), Cause>
-    ensures { Gives follower.old text follower.new result }
+pub fn give(alloc: Global, consumer_node: &mut ConsumerNode, text: Octets) -> Result<(), Cause>
+    ensures { Gives consumer_node.old text consumer_node.new result }
 {
-    if is_later(follower.consumer.inner().cookie(), text.as_slice()) {
-        let held = copy_of(alloc, follower.consumer.inner().cookie())?;
+    if is_later(consumer_node.consumer.inner().cookie(), text.as_slice()) {
+        let held = copy_of(alloc, consumer_node.consumer.inner().cookie())?;
         return Err(Cause::LaterCookie(held, text));
     }
-    follower.consumer.set_cookie(text.as_slice())?;
+    consumer_node.consumer.set_cookie(text.as_slice())?;
     Ok(())
 }
 
@@ -59,7 +59,9 @@ fn is_of_node(cookie: &Cookie) -> bool
 
 /// Whether what is held is a cookie of the same history whose CSN is not less.
 fn is_not_before(given: &Cookie, held: Option<&[u8]>) -> bool
-    ensures { result ≡ spec.is_not_before given.now (spec.held_cookie (option_map (λ text. text.now) held.entry)) }
+    ensures { result
+        ≡ spec.is_not_before given.now
+        (spec.held_cookie (option_map (λ text. text.now) held.entry)) }
 {
     let Some(text) = held else {
         return false;

@@ -1,50 +1,57 @@
 //! The end of what goes on between a consumer and its provider.
 ghost use Rattle.std.specs.Prelude.{◌≡◌, Some};
 ghost use Rattle.cascade_exchange.specs.Exchange as spec;
-ghost use Rattle.cascade_exchange.specs.Exchange.{pair_of};
+ghost use Rattle.cascade_exchange.specs.Exchange.{agreement_of};
 ghost use Rattle.cascade_report.specs.Origins.{Lineage};
 ghost use Rattle.cascade_exchange.specs.Parts.{Does};
 
-use cascade_nodes::{Follower, Source};
-use cascade_report::Telling;
+use cascade_nodes::{ConsumerNode, ScriptProvider};
+use cascade_report::Report;
 use cascade_script::Cause;
 
 /// Whether a search of the consumer is open or runs, or its link holds a message.
-pub fn is_busy(follower: &Follower) -> bool
-    ensures { result ≡ spec.is_busy follower.now }
+pub fn is_busy(consumer_node: &ConsumerNode) -> bool
+    ensures { result ≡ spec.is_busy consumer_node.now }
 {
-    follower.search.is_some() || follower.consumer.inner().is_running() || !follower.link.is_empty()
+    consumer_node.search.is_some()
+        || consumer_node.consumer.inner().has_session()
+        || !consumer_node.link.is_empty()
 }
 
 /// Drops the search, and what the link and the stage hold.
-pub fn drop_all(provider: &mut Source, follower: &mut Follower)
-    ensures does { (lineage : Lineage) → pair_of provider.new follower.new lineage
-        ≡ spec.given_up (pair_of provider.old follower.old lineage) follower.old.consumer.copy }
+pub fn drop_all(provider: &mut ScriptProvider, consumer_node: &mut ConsumerNode)
+    ensures does { (lineage : Lineage) → agreement_of provider.new consumer_node.new lineage
+        ≡ spec.given_up (agreement_of provider.old consumer_node.old lineage)
+        consumer_node.old.consumer.copy }
     ensures directory { provider.new.directory ≡ provider.old.directory }
     ensures queue_limit { provider.new.queue_limit ≡ provider.old.queue_limit }
     ensures kind { provider.new.kind ≡ provider.old.kind }
 {
-    if let Some(number) = follower.search {
+    if let Some(number) = consumer_node.search {
         provider.drop_search(number);
     }
-    follower.search = None;
-    follower.link.clear();
-    follower.consumer.cut();
+    consumer_node.search = None;
+    consumer_node.link.clear();
+    consumer_node.consumer.cut();
 }
 
 /// Cuts a busy consumer.
-pub fn cut(provider: &mut Source, follower: &mut Follower, out: &mut Telling) -> Result<(), Cause>
-    ensures does { Does (spec.cut (pair_of provider.old follower.old out.old.lineage))
-        out.old (pair_of provider.new follower.new out.old.lineage) out.new result }
+pub fn cut(
+    provider: &mut ScriptProvider,
+    consumer_node: &mut ConsumerNode,
+    out: &mut Report,
+) -> Result<(), Cause>
+    ensures does { Does (spec.cut (agreement_of provider.old consumer_node.old out.old.lineage))
+        out.old (agreement_of provider.new consumer_node.new out.old.lineage) out.new result }
     ensures directory { provider.new.directory ≡ provider.old.directory }
     ensures queue_limit { provider.new.queue_limit ≡ provider.old.queue_limit }
     ensures kind { provider.new.kind ≡ provider.old.kind }
 {
-    if !is_busy(follower) {
-        out.nothing(follower.name.as_slice())?;
+    if !is_busy(consumer_node) {
+        out.nothing(consumer_node.name.as_slice())?;
         return Ok(());
     }
-    drop_all(provider, follower);
-    out.cut(follower.name.as_slice())?;
+    drop_all(provider, consumer_node);
+    out.cut(consumer_node.name.as_slice())?;
     Ok(())
 }

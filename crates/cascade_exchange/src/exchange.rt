@@ -1,7 +1,7 @@
 //! What an event does to a consumer and its provider.
 ghost use Rattle.std.specs.Prelude.{◌≡◌, IfOk, OnErr};
-ghost use Rattle.sync_provider.specs.Returning.{moment_of, HasNoWriteSince};
-ghost use Rattle.cascade_exchange.specs.Exchange.{pair_of, part_of};
+ghost use Rattle.sync_provider.specs.Returning.{snapshot_of, HasNoWriteSince};
+ghost use Rattle.cascade_exchange.specs.Exchange.{agreement_of, part_of};
 ghost use Rattle.cascade_nodes.specs.Ours.{AreOurs};
 ghost use Rattle.cascade_exchange.specs.Parts as parts;
 ghost use Rattle.cascade_exchange.specs.Parts.{Performs, IsBefore};
@@ -13,8 +13,8 @@ use crate::receiving::take;
 use crate::sending::send;
 use crate::settling::settle;
 use crate::wanting::want;
-use cascade_nodes::{Follower, Source, Supplier, discard};
-use cascade_report::{Stage, Telling};
+use cascade_nodes::{ConsumerNode, ProviderNode, ScriptProvider, discard};
+use cascade_report::{Report, StoredStage};
 use cascade_script::Cause;
 use entry_tree::Spec;
 use ldap_ber::{NoMemory, Octets};
@@ -50,103 +50,119 @@ impl Exchange {
     pub(crate) fn perform(
         self,
         alloc: Global,
-        provider: &mut Source,
-        follower: &mut Follower,
-        out: &mut Telling,
+        provider: &mut ScriptProvider,
+        consumer_node: &mut ConsumerNode,
+        out: &mut Report,
     ) -> Result<(), Cause>
-        ensures does { parts.Does (part_of self (pair_of provider.old follower.old out.old.lineage))
-            out.old (pair_of provider.new follower.new out.old.lineage) out.new result }
+        ensures does { parts.Does
+            (part_of self (agreement_of provider.old consumer_node.old out.old.lineage))
+            out.old (agreement_of provider.new consumer_node.new out.old.lineage) out.new result }
         ensures directory { provider.new.directory ≡ provider.old.directory }
         ensures queue_limit { provider.new.queue_limit ≡ provider.old.queue_limit }
         ensures kind { provider.new.kind ≡ provider.old.kind }
     {
         match self {
-            Exchange::Open(mode) => open_search(alloc, provider, follower, mode, out),
-            Exchange::Send(count) => send(alloc, provider, follower, count, out),
-            Exchange::Take(count) => take(alloc, provider, follower, count, out),
-            Exchange::Cut => cut(provider, follower, out),
-            Exchange::Settle => settle(alloc, provider, follower, out),
+            Exchange::Open(mode) => open_search(alloc, provider, consumer_node, mode, out),
+            Exchange::Send(count) => send(alloc, provider, consumer_node, count, out),
+            Exchange::Take(count) => take(alloc, provider, consumer_node, count, out),
+            Exchange::Cut => cut(provider, consumer_node, out),
+            Exchange::Settle => settle(alloc, provider, consumer_node, out),
             Exchange::Lose => {
-                lose(follower);
+                lose(consumer_node);
                 Ok(())
             }
-            Exchange::Give(text) => give(alloc, follower, text),
-            Exchange::Idle => cut_if_busy(provider, follower, out),
-            Exchange::Want(wanted) => want(provider, follower, wanted, out),
+            Exchange::Give(text) => give(alloc, consumer_node, text),
+            Exchange::Idle => cut_if_busy(provider, consumer_node, out),
+            Exchange::Want(wanted) => want(provider, consumer_node, wanted, out),
         }
     }
 }
 
 /// A consumer and the open searches of its provider as they stood at one moment.
 #[derive(Drop)]
-pub struct Moment {
+pub struct Snapshot {
     searches: OpenSearches,
-    follower: Follower,
+    consumer_node: ConsumerNode,
 }
 
-impl Moment {
-    /// How they stand now.
-    pub fn of(alloc: Global, provider: &Source, follower: &Follower) -> Result<Moment, NoMemory>
-        ensures searches { IfOk result (λ moment. moment.searches ≡ moment_of provider.now) }
-        ensures ours { IfOk result (λ moment. AreOurs moment.searches.searches) }
-        ensures follower { IfOk result (λ moment. moment.follower ≡ follower.now) }
+impl Snapshot {
+    /// How they stand now. It is `NoMemory` where memory runs out.
+    pub fn of(provider: &ScriptProvider, consumer_node: &ConsumerNode) -> Result<Snapshot, NoMemory>
+        ensures searches { IfOk result (λ snapshot. snapshot.searches ≡ snapshot_of provider.now) }
+        ensures ours { IfOk result (λ snapshot. AreOurs snapshot.searches.searches) }
+        ensures consumer_node { IfOk result (λ snapshot.
+            snapshot.consumer_node ≡ consumer_node.now) }
     {
-        Ok(Moment {
+        Ok(Snapshot {
             searches: provider.open_searches()?,
-            follower: follower.copy(alloc)?,
+            consumer_node: consumer_node.copy()?,
         })
     }
 
     /// Brings both back to this moment, since which the provider got no write.
-    pub fn restore(self, provider: &mut Source, follower: &mut Follower)
-        requires moment { HasNoWriteSince provider.old.directory self.searches }
+    pub fn restore(self, provider: &mut ScriptProvider, consumer_node: &mut ConsumerNode)
+        requires snapshot { HasNoWriteSince provider.old.directory self.searches }
         requires ours { AreOurs self.searches.searches }
-        ensures provider { provider.new ≡ record provider.old { searches = self.searches.searches } }
-        ensures follower { follower.new ≡ self.follower }
+        ensures provider { provider.new
+            ≡ record provider.old { searches = self.searches.searches } }
+        ensures consumer_node { consumer_node.new ≡ self.consumer_node }
     {
         provider.return_to(self.searches);
-        *follower = self.follower;
+        *consumer_node = self.consumer_node;
     }
 }
 
-/// What an exchange told, the stages that took effect in it, and how the two stood before it.
+/// What an exchange reported, the stages that took effect in it, and how the two stood before it.
 #[derive(Drop)]
 pub struct Performed {
     pub text: Vec<u8>,
-    pub stages: Vec<Stage>,
-    pub before: Moment,
+    pub stages: Vec<StoredStage>,
+    pub before: Snapshot,
 }
 
 /// Does what goes on between a provider and a consumer, where this root stands at the top of the
-/// provider's providers. After a refusal the two are as before.
-#[tactic(auto, using(crate::proofs::Performing::performed, crate::proofs::Performing::refused, crate::proofs::Performing::unwritten, crate::proofs::Performing::back))]
+/// provider's providers. The answer has the text of the lines and the stages that took effect. It
+/// is `LimitReached` where the link is full, `LaterCookie` for a cookie that may not be given, or
+/// `NoMemory`, and then the two are as before.
+#[tactic(auto, using(crate::proofs::Performing::performed, crate::proofs::Performing::refused, sync_provider::proofs::Returns::no_write_came, crate::proofs::Performing::back))]
 pub fn serve(
     alloc: Global,
-    supplier: &mut Supplier,
+    provider_node: &mut ProviderNode,
     top: Octets,
-    follower: &mut Follower,
+    consumer_node: &mut ConsumerNode,
     exchange: Exchange,
 ) -> Result<Performed, Cause>
-    ensures does { Performs (part_of exchange (pair_of supplier.old.provider follower.old (record { top = top; notes = supplier.old.notes })))
-        (pair_of supplier.new.provider follower.new (record { top = top; notes = supplier.old.notes })) result }
-    ensures before { IfOk result (λ done. IsBefore supplier.old.provider follower.old supplier.new.provider done.before) }
-    ensures same { supplier.new ≡ record supplier.old { provider = supplier.new.provider } }
-    ensures err { OnErr result (supplier.new ≡ supplier.old) }
-    ensures follower_err { OnErr result (follower.new ≡ follower.old) }
+    ensures does { Performs
+        (part_of exchange (agreement_of provider_node.old.provider consumer_node.old
+        (record { top = top; notes = provider_node.old.notes })))
+        (agreement_of provider_node.new.provider consumer_node.new
+        (record { top = top; notes = provider_node.old.notes })) result }
+    ensures before { IfOk result (λ done.
+        IsBefore provider_node.old.provider consumer_node.old
+        provider_node.new.provider done.before) }
+    ensures same { provider_node.new
+        ≡ record provider_node.old { provider = provider_node.new.provider } }
+    ensures err { OnErr result (provider_node.new ≡ provider_node.old) }
+    ensures consumer_node_err { OnErr result (consumer_node.new ≡ consumer_node.old) }
 {
-    let Ok(before) = Moment::of(alloc, &supplier.provider, follower) else {
+    let Ok(before) = Snapshot::of(&provider_node.provider, consumer_node) else {
         discard(exchange);
         return Err(Cause::NoMemory);
     };
-    let mut telling = Telling::new(alloc, top, &supplier.notes);
-    match exchange.perform(alloc, &mut supplier.provider, follower, &mut telling) {
+    let mut report = Report::new(alloc, top, &provider_node.notes);
+    match exchange.perform(
+        alloc,
+        &mut provider_node.provider,
+        consumer_node,
+        &mut report,
+    ) {
         Ok(()) => Ok(Performed {
-            text: telling.text,
-            stages: telling.stages,
+            text: report.text,
+            stages: report.stages,
             before,
         }),
         Err(cause) => {
-            before.restore(&mut supplier.provider, follower);
+            before.restore(&mut provider_node.provider, consumer_node);
             Err(cause)
         }
     }

@@ -13,5 +13,5 @@ mod taking;
 mod wanting;
 
 pub use cookies::MOST_NODES;
-pub use exchange::{Exchange, Moment, Performed, serve};
+pub use exchange::{Exchange, Performed, Snapshot, serve};
 pub use ldap_ber::NoMemory;

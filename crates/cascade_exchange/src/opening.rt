@@ -5,41 +5,40 @@ ghost use Rattle.sync_consumer.specs.Taking.{asked_of};
 ghost use Rattle.sync_messages.specs.Request.{request_of};
 ghost use Rattle.sync_wire.specs.Requesting.{persists};
 ghost use Rattle.cascade_exchange.specs.Exchange as spec;
-ghost use Rattle.cascade_exchange.specs.Hearing as hearing;
-ghost use Rattle.cascade_exchange.specs.Exchange.{pair_of};
+ghost use Rattle.cascade_exchange.specs.Reception as decoding;
+ghost use Rattle.cascade_exchange.specs.Exchange.{agreement_of};
 ghost use Rattle.cascade_exchange.specs.Parts.{Does, Opens, Refuses, first_value};
 
 use crate::cutting::{cut, is_busy};
-use cascade_nodes::{Follower, MESSAGE_ID, Source, copy_wanted, discard};
-use cascade_report::{Digested, Telling};
+use cascade_nodes::{ConsumerNode, MESSAGE_ID, ScriptProvider, copy_wanted, discard};
+use cascade_report::{Digested, Report};
 use cascade_script::Cause;
 use ldap_ber::{NoMemory, Octets};
+use ldap_constants::E_SYNC_REFRESH_REQUIRED;
 use ldap_messages::Message;
 use std::alloc::{AllocError, Global};
 use sync_consumer::Taken;
 use sync_messages::Mode;
 use sync_provider::{Accepted, done_message};
 
-/// e-syncRefreshRequired (RFC 4533, section 2.6): the cookie does not serve.
-const REFRESH_REQUIRED: u32 = 4096;
-
 /// Opens a search that ends with its refresh, or goes on after it; a busy consumer is cut first.
 #[tactic(auto, using(crate::proofs::Doing::refused_first))]
 pub fn open_search(
     alloc: Global,
-    provider: &mut Source,
-    follower: &mut Follower,
+    provider: &mut ScriptProvider,
+    consumer_node: &mut ConsumerNode,
     mode: Mode,
-    out: &mut Telling,
+    out: &mut Report,
 ) -> Result<(), Cause>
-    ensures does { Does (spec.opens mode (pair_of provider.old follower.old out.old.lineage))
-        out.old (pair_of provider.new follower.new out.old.lineage) out.new result }
+    ensures does { Does
+        (spec.opens mode (agreement_of provider.old consumer_node.old out.old.lineage))
+        out.old (agreement_of provider.new consumer_node.new out.old.lineage) out.new result }
     ensures directory { provider.new.directory ≡ provider.old.directory }
     ensures queue_limit { provider.new.queue_limit ≡ provider.old.queue_limit }
     ensures kind { provider.new.kind ≡ provider.old.kind }
 {
-    cut_if_busy(provider, follower, out)?;
-    ask_once(alloc, provider, follower, mode, out)
+    cut_if_busy(provider, consumer_node, out)?;
+    ask_once(alloc, provider, consumer_node, mode, out)
 }
 
 /// Opens a search that ends with its refresh, and asks for it a second time where the cookie does not
@@ -47,36 +46,38 @@ pub fn open_search(
 #[tactic(auto, using(crate::proofs::Doing::refused_first))]
 pub fn open_anew(
     alloc: Global,
-    provider: &mut Source,
-    follower: &mut Follower,
-    out: &mut Telling,
+    provider: &mut ScriptProvider,
+    consumer_node: &mut ConsumerNode,
+    out: &mut Report,
 ) -> Result<(), Cause>
-    ensures does { Does (spec.opens_anew (pair_of provider.old follower.old out.old.lineage))
-        out.old (pair_of provider.new follower.new out.old.lineage) out.new result }
+    ensures does { Does
+        (spec.opens_anew (agreement_of provider.old consumer_node.old out.old.lineage))
+        out.old (agreement_of provider.new consumer_node.new out.old.lineage) out.new result }
     ensures directory { provider.new.directory ≡ provider.old.directory }
     ensures queue_limit { provider.new.queue_limit ≡ provider.old.queue_limit }
     ensures kind { provider.new.kind ≡ provider.old.kind }
 {
-    cut_if_busy(provider, follower, out)?;
-    ask_again(alloc, provider, follower, out)
+    cut_if_busy(provider, consumer_node, out)?;
+    ask_again(alloc, provider, consumer_node, out)
 }
 
 /// Opens the search of a consumer that is not busy.
 #[tactic(auto, using(crate::proofs::Openings::asked_refused))]
 fn ask_once(
     alloc: Global,
-    provider: &mut Source,
-    follower: &mut Follower,
+    provider: &mut ScriptProvider,
+    consumer_node: &mut ConsumerNode,
     mode: Mode,
-    out: &mut Telling,
+    out: &mut Report,
 ) -> Result<(), Cause>
-    ensures does { Does (spec.opened_idle mode (pair_of provider.old follower.old out.old.lineage))
-        out.old (pair_of provider.new follower.new out.old.lineage) out.new result }
+    ensures does { Does
+        (spec.opened_idle mode (agreement_of provider.old consumer_node.old out.old.lineage))
+        out.old (agreement_of provider.new consumer_node.new out.old.lineage) out.new result }
     ensures directory { provider.new.directory ≡ provider.old.directory }
     ensures queue_limit { provider.new.queue_limit ≡ provider.old.queue_limit }
     ensures kind { provider.new.kind ≡ provider.old.kind }
 {
-    open_idle(alloc, provider, follower, mode, out)?;
+    open_idle(alloc, provider, consumer_node, mode, out)?;
     Ok(())
 }
 
@@ -84,18 +85,19 @@ fn ask_once(
 #[tactic(auto, using(crate::proofs::Openings::again_refused))]
 fn ask_again(
     alloc: Global,
-    provider: &mut Source,
-    follower: &mut Follower,
-    out: &mut Telling,
+    provider: &mut ScriptProvider,
+    consumer_node: &mut ConsumerNode,
+    out: &mut Report,
 ) -> Result<(), Cause>
-    ensures does { Does (spec.asked_again (pair_of provider.old follower.old out.old.lineage))
-        out.old (pair_of provider.new follower.new out.old.lineage) out.new result }
+    ensures does { Does
+        (spec.asked_again (agreement_of provider.old consumer_node.old out.old.lineage))
+        out.old (agreement_of provider.new consumer_node.new out.old.lineage) out.new result }
     ensures directory { provider.new.directory ≡ provider.old.directory }
     ensures queue_limit { provider.new.queue_limit ≡ provider.old.queue_limit }
     ensures kind { provider.new.kind ≡ provider.old.kind }
 {
-    if open_idle(alloc, provider, follower, Mode::RefreshOnly, out)? {
-        return ask_once(alloc, provider, follower, Mode::RefreshOnly, out);
+    if open_idle(alloc, provider, consumer_node, Mode::RefreshOnly, out)? {
+        return ask_once(alloc, provider, consumer_node, Mode::RefreshOnly, out);
     }
     Ok(())
 }
@@ -103,18 +105,18 @@ fn ask_again(
 /// Cuts a consumer that is busy.
 #[tactic(auto, using(crate::proofs::Openings::idle_cut, crate::proofs::Cuts::idle_free))]
 pub fn cut_if_busy(
-    provider: &mut Source,
-    follower: &mut Follower,
-    out: &mut Telling,
+    provider: &mut ScriptProvider,
+    consumer_node: &mut ConsumerNode,
+    out: &mut Report,
 ) -> Result<(), Cause>
-    ensures does { Does (spec.idle (pair_of provider.old follower.old out.old.lineage))
-        out.old (pair_of provider.new follower.new out.old.lineage) out.new result }
+    ensures does { Does (spec.idle (agreement_of provider.old consumer_node.old out.old.lineage))
+        out.old (agreement_of provider.new consumer_node.new out.old.lineage) out.new result }
     ensures directory { provider.new.directory ≡ provider.old.directory }
     ensures queue_limit { provider.new.queue_limit ≡ provider.old.queue_limit }
     ensures kind { provider.new.kind ≡ provider.old.kind }
 {
-    if is_busy(follower) {
-        return cut(provider, follower, out);
+    if is_busy(consumer_node) {
+        return cut(provider, consumer_node, out);
     }
     Ok(())
 }
@@ -123,63 +125,71 @@ pub fn cut_if_busy(
 /// does not serve.
 fn open_idle(
     alloc: Global,
-    provider: &mut Source,
-    follower: &mut Follower,
+    provider: &mut ScriptProvider,
+    consumer_node: &mut ConsumerNode,
     mode: Mode,
-    out: &mut Telling,
+    out: &mut Report,
 ) -> Result<bool, Cause>
-    ensures does { Opens mode (pair_of provider.old follower.old out.old.lineage)
-        out.old (pair_of provider.new follower.new out.old.lineage) out.new result }
+    ensures does { Opens mode (agreement_of provider.old consumer_node.old out.old.lineage)
+        out.old (agreement_of provider.new consumer_node.new out.old.lineage) out.new result }
     ensures directory { provider.new.directory ≡ provider.old.directory }
     ensures queue_limit { provider.new.queue_limit ≡ provider.old.queue_limit }
     ensures kind { provider.new.kind ≡ provider.old.kind }
 {
-    let control = asked(alloc, follower, mode)?;
-    let wanted = copy_wanted(follower.consumer.inner().spec())?;
+    let control = asked(alloc, consumer_node, mode)?;
+    let wanted = copy_wanted(consumer_node.consumer.inner().spec())?;
     match provider.accept(wanted, control) {
         Accepted::Opened(number, writes) => {
-            follower.search = Some(number);
-            out.opened(alloc, follower.name.as_slice(), writes)?;
+            consumer_node.search = Some(number);
+            out.opened(consumer_node.name.as_slice(), writes)?;
             Ok(false)
         }
-        Accepted::Refused(code) => refuse(alloc, follower, code, out),
+        Accepted::Refused(code) => refuse(alloc, consumer_node, code, out),
         Accepted::NoMemory => Err(Cause::NoMemory),
     }
 }
 
 /// Asks for a search, and answers the value of the request's control.
 #[tactic(auto, using(crate::proofs::Openings::asked_value))]
-fn asked(alloc: Global, follower: &mut Follower, mode: Mode) -> Result<Octets, NoMemory>
-    ensures value { IfOk result (λ value. request_of value ≡ Ok (asked_of follower.old.consumer mode)) }
-    ensures ok { OnOk result (follower.new ≡ spec.with_copy follower.old (spec.asking (persists mode) follower.old.consumer.copy)) }
+fn asked(alloc: Global, consumer_node: &mut ConsumerNode, mode: Mode) -> Result<Octets, NoMemory>
+    ensures value { IfOk result (λ value.
+        request_of value ≡ Ok (asked_of consumer_node.old.consumer mode)) }
+    ensures ok { OnOk result
+        (consumer_node.new
+        ≡ spec.with_copy consumer_node.old
+        (spec.asking (persists mode) consumer_node.old.consumer.copy)) }
 {
-    let request = follower.consumer.request(MESSAGE_ID, mode)?;
+    let request = consumer_node.consumer.request(MESSAGE_ID, mode)?;
     let control = control_of(alloc, &request);
     discard(request);
     control
 }
 
-/// Tells that a search is refused, which its consumer takes at once. True where the cookie does not
+/// Reports that a search is refused, which its consumer takes at once. True where the cookie does not
 /// serve.
 fn refuse(
     alloc: Global,
-    follower: &mut Follower,
+    consumer_node: &mut ConsumerNode,
     code: u32,
-    out: &mut Telling,
+    out: &mut Report,
 ) -> Result<bool, Cause>
-    ensures { Refuses follower.old code out.old follower.new out.new result }
+    ensures { Refuses consumer_node.old code out.old consumer_node.new out.new result }
 {
     let done = done_message(alloc, MESSAGE_ID, code)?;
-    let taken = take_whatever(&mut follower.consumer, &done);
+    let taken = take_whatever(&mut consumer_node.consumer, &done);
     discard(done);
     taken?;
-    out.refused(alloc, follower.name.as_slice(), code)?;
-    Ok(code == REFRESH_REQUIRED)
+    out.refused(consumer_node.name.as_slice(), code)?;
+    Ok(code == E_SYNC_REFRESH_REQUIRED)
 }
 
 /// Takes a message, whatever comes of it.
 fn take_whatever(consumer: &mut Digested, message: &Message) -> Result<(), NoMemory>
-    ensures { OnOk result (consumer.new ≡ record consumer.old { copy = (hearing.heard_of consumer.old.copy (Some (whole_of message.now))).0 }) }
+    ensures { OnOk result
+        (consumer.new
+        ≡ record consumer.old {
+          copy = (decoding.received_of consumer.old.copy (Some (whole_of message.now))).0;
+        }) }
 {
     match consumer.take(message) {
         Taken::Staged => Ok(()),

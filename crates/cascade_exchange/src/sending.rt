@@ -2,36 +2,37 @@
 ghost use Rattle.std.specs.Prelude.{◌≡◌, Some, IfOk, IfSome};
 ghost use Rattle.ldap_messages.specs.Whole.{HasSpelling, whole_of, message_octets};
 ghost use Rattle.cascade_exchange.specs.Exchange as spec;
-ghost use Rattle.cascade_exchange.specs.Exchange.{pair_of};
+ghost use Rattle.cascade_exchange.specs.Exchange.{agreement_of};
 ghost use Rattle.cascade_report.specs.Origins.{Lineage};
 ghost use Rattle.cascade_exchange.specs.Parts.{Does, SendsOne, HandsOut, Links};
 
-use cascade_nodes::{Follower, Source, discard};
-use cascade_report::Telling;
+use cascade_nodes::{ConsumerNode, ScriptProvider, discard};
+use cascade_report::Report;
 use cascade_script::Cause;
 use ldap_messages::Message;
 use std::alloc::Global;
 use sync_provider::Handed;
 
-/// Hands out so many messages into the link, up to where nothing is pending.
+/// Hands out n messages into the link, up to where nothing is pending.
 #[tactic(auto, using(crate::proofs::Loops::begins, crate::proofs::Loops::sent_all))]
 pub fn send(
     alloc: Global,
-    provider: &mut Source,
-    follower: &mut Follower,
+    provider: &mut ScriptProvider,
+    consumer_node: &mut ConsumerNode,
     count: u64,
-    out: &mut Telling,
+    out: &mut Report,
 ) -> Result<(), Cause>
-    ensures does { Does (spec.sent count (pair_of provider.old follower.old out.old.lineage))
-        out.old (pair_of provider.new follower.new out.old.lineage) out.new result }
+    ensures does { Does
+        (spec.sent count (agreement_of provider.old consumer_node.old out.old.lineage))
+        out.old (agreement_of provider.new consumer_node.new out.old.lineage) out.new result }
     ensures directory { provider.new.directory ≡ provider.old.directory }
     ensures queue_limit { provider.new.queue_limit ≡ provider.old.queue_limit }
     ensures kind { provider.new.kind ≡ provider.old.kind }
 {
     let mut left = count;
     while left > 0 {
-        if !send_one(alloc, provider, follower, out)? {
-            out.nothing(follower.name.as_slice())?;
+        if !send_one(alloc, provider, consumer_node, out)? {
+            out.nothing(consumer_node.name.as_slice())?;
             return Ok(());
         }
         left -= 1;
@@ -42,20 +43,21 @@ pub fn send(
 /// Hands out one message into the link. False where nothing is pending.
 pub fn send_one(
     alloc: Global,
-    provider: &mut Source,
-    follower: &mut Follower,
-    out: &mut Telling,
+    provider: &mut ScriptProvider,
+    consumer_node: &mut ConsumerNode,
+    out: &mut Report,
 ) -> Result<bool, Cause>
-    ensures does { SendsOne (pair_of provider.old follower.old out.old.lineage) (spec.sending (pair_of provider.old follower.old out.old.lineage))
-        out.old (pair_of provider.new follower.new out.old.lineage) out.new result }
+    ensures does { SendsOne (agreement_of provider.old consumer_node.old out.old.lineage)
+        (spec.sending (agreement_of provider.old consumer_node.old out.old.lineage))
+        out.old (agreement_of provider.new consumer_node.new out.old.lineage) out.new result }
     ensures directory { provider.new.directory ≡ provider.old.directory }
     ensures queue_limit { provider.new.queue_limit ≡ provider.old.queue_limit }
     ensures kind { provider.new.kind ≡ provider.old.kind }
 {
-    let Some(message) = next_message(provider, follower)? else {
+    let Some(message) = next_message(provider, consumer_node)? else {
         return Ok(false);
     };
-    let linked = put_into_link(alloc, follower, &message, out);
+    let linked = put_into_link(alloc, consumer_node, &message, out);
     discard(message);
     match linked {
         Ok(()) => Ok(true),
@@ -64,21 +66,27 @@ pub fn send_one(
 }
 
 /// The next message of the search, which is closed with its last one.
-fn next_message(provider: &mut Source, follower: &mut Follower) -> Result<Option<Message>, Cause>
-    ensures exact { (lineage : Lineage) → HandsOut (pair_of provider.old follower.old lineage)
-        (spec.turn_of provider.old follower.old.search) (pair_of provider.new follower.new lineage) result }
-    ensures spelled { IfOk result (λ found. IfSome found (λ message. HasSpelling (whole_of message))) }
+fn next_message(
+    provider: &mut ScriptProvider,
+    consumer_node: &mut ConsumerNode,
+) -> Result<Option<Message>, Cause>
+    ensures exact { (lineage : Lineage)
+        → HandsOut (agreement_of provider.old consumer_node.old lineage)
+        (spec.turn_of provider.old consumer_node.old.search)
+        (agreement_of provider.new consumer_node.new lineage) result }
+    ensures spelled { IfOk result (λ found.
+        IfSome found (λ message. HasSpelling (whole_of message))) }
     ensures directory { provider.new.directory ≡ provider.old.directory }
     ensures queue_limit { provider.new.queue_limit ≡ provider.old.queue_limit }
     ensures kind { provider.new.kind ≡ provider.old.kind }
 {
-    let Some(number) = follower.search else {
+    let Some(number) = consumer_node.search else {
         return Ok(None);
     };
     match provider.hand_out(number) {
         Handed::Message(message) => Ok(Some(message)),
         Handed::Ended(_, message) => {
-            follower.search = None;
+            consumer_node.search = None;
             Ok(Some(message))
         }
         Handed::Nothing => Ok(None),
@@ -90,15 +98,15 @@ fn next_message(provider: &mut Source, follower: &mut Follower) -> Result<Option
 /// Puts the spelling of a message at the end of the link.
 fn put_into_link(
     alloc: Global,
-    follower: &mut Follower,
+    consumer_node: &mut ConsumerNode,
     message: &Message,
-    out: &mut Telling,
+    out: &mut Report,
 ) -> Result<(), Cause>
     requires { HasSpelling (whole_of message.now) }
-    ensures { Links follower.old (message_octets (whole_of message.now))
-        out.old follower.new out.new result }
+    ensures { Links consumer_node.old (message_octets (whole_of message.now))
+        out.old consumer_node.new out.new result }
 {
     let bytes = message.write(alloc)?;
-    out.sent(alloc, follower.name.as_slice(), bytes.as_slice())?;
-    follower.link.push(bytes)
+    out.sent(consumer_node.name.as_slice(), bytes.as_slice())?;
+    consumer_node.link.push(bytes)
 }

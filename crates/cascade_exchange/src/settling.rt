@@ -2,15 +2,15 @@
 ghost use Rattle.std.specs.Prelude.{◌≡◌};
 ghost use Rattle.sync_provider.specs.Machine.{ProviderState};
 ghost use Rattle.cascade_exchange.specs.Exchange as spec;
-ghost use Rattle.cascade_exchange.specs.Exchange.{pair_of};
+ghost use Rattle.cascade_exchange.specs.Exchange.{agreement_of};
 ghost use Rattle.cascade_report.specs.Origins.{Lineage};
 ghost use Rattle.cascade_exchange.specs.Parts.{Does};
 
 use crate::opening::open_anew;
 use crate::receiving::take_one;
 use crate::sending::send_one;
-use cascade_nodes::{Follower, Source};
-use cascade_report::Telling;
+use cascade_nodes::{ConsumerNode, ScriptProvider};
+use cascade_report::Report;
 use cascade_script::Cause;
 use std::alloc::Global;
 
@@ -20,20 +20,20 @@ use std::alloc::Global;
 #[tactic(auto, using(crate::proofs::Settled::settled, crate::proofs::Settled::drain_refused, crate::proofs::Settled::run_refused, crate::proofs::Settled::catching_refused))]
 pub fn settle(
     alloc: Global,
-    provider: &mut Source,
-    follower: &mut Follower,
-    out: &mut Telling,
+    provider: &mut ScriptProvider,
+    consumer_node: &mut ConsumerNode,
+    out: &mut Report,
 ) -> Result<(), Cause>
-    ensures does { Does (spec.settles (pair_of provider.old follower.old out.old.lineage))
-        out.old (pair_of provider.new follower.new out.old.lineage) out.new result }
+    ensures does { Does (spec.settles (agreement_of provider.old consumer_node.old out.old.lineage))
+        out.old (agreement_of provider.new consumer_node.new out.old.lineage) out.new result }
     ensures directory { provider.new.directory ≡ provider.old.directory }
     ensures queue_limit { provider.new.queue_limit ≡ provider.old.queue_limit }
     ensures kind { provider.new.kind ≡ provider.old.kind }
 {
-    take_all(alloc, provider, follower, out)?;
-    run_search(alloc, provider, follower, out)?;
-    catch_up(alloc, provider, follower, out)?;
-    out.settled(alloc, follower.name.as_slice(), provider.writes())?;
+    take_all(alloc, provider, consumer_node, out)?;
+    run_search(alloc, provider, consumer_node, out)?;
+    catch_up(alloc, provider, consumer_node, out)?;
+    out.settled(consumer_node.name.as_slice(), provider.writes())?;
     Ok(())
 }
 
@@ -41,62 +41,65 @@ pub fn settle(
 #[tactic(auto, using(crate::proofs::Settled::followed, crate::proofs::Settled::not_followed))]
 fn catch_up(
     alloc: Global,
-    provider: &mut Source,
-    follower: &mut Follower,
-    out: &mut Telling,
+    provider: &mut ScriptProvider,
+    consumer_node: &mut ConsumerNode,
+    out: &mut Report,
 ) -> Result<(), Cause>
-    ensures does { Does (spec.catches_up (pair_of provider.old follower.old out.old.lineage))
-        out.old (pair_of provider.new follower.new out.old.lineage) out.new result }
+    ensures does { Does
+        (spec.catches_up (agreement_of provider.old consumer_node.old out.old.lineage))
+        out.old (agreement_of provider.new consumer_node.new out.old.lineage) out.new result }
     ensures directory { provider.new.directory ≡ provider.old.directory }
     ensures queue_limit { provider.new.queue_limit ≡ provider.old.queue_limit }
     ensures kind { provider.new.kind ≡ provider.old.kind }
 {
-    if follows_on(follower) {
+    if follows_on(consumer_node) {
         return Ok(());
     }
-    refresh(alloc, provider, follower, out)
+    refresh(alloc, provider, consumer_node, out)
 }
 
 /// Opens a new search and runs it to its end.
 #[tactic(auto, using(crate::proofs::Doing::refused_first))]
 fn refresh(
     alloc: Global,
-    provider: &mut Source,
-    follower: &mut Follower,
-    out: &mut Telling,
+    provider: &mut ScriptProvider,
+    consumer_node: &mut ConsumerNode,
+    out: &mut Report,
 ) -> Result<(), Cause>
-    ensures does { Does (spec.refreshes (pair_of provider.old follower.old out.old.lineage))
-        out.old (pair_of provider.new follower.new out.old.lineage) out.new result }
+    ensures does { Does
+        (spec.refreshes (agreement_of provider.old consumer_node.old out.old.lineage))
+        out.old (agreement_of provider.new consumer_node.new out.old.lineage) out.new result }
     ensures directory { provider.new.directory ≡ provider.old.directory }
     ensures queue_limit { provider.new.queue_limit ≡ provider.old.queue_limit }
     ensures kind { provider.new.kind ≡ provider.old.kind }
 {
-    open_anew(alloc, provider, follower, out)?;
-    run_search(alloc, provider, follower, out)
+    open_anew(alloc, provider, consumer_node, out)?;
+    run_search(alloc, provider, consumer_node, out)
 }
 
 /// Whether a persistent search of the consumer is open, and its refresh is done.
-fn follows_on(follower: &Follower) -> bool
-    ensures { (provider : ProviderState) → (lineage : Lineage) → result ≡ spec.follows_on (pair_of provider follower.now lineage) }
+fn follows_on(consumer_node: &ConsumerNode) -> bool
+    ensures { (provider : ProviderState) → (lineage : Lineage)
+        → result ≡ spec.follows_on (agreement_of provider consumer_node.now lineage) }
 {
-    follower.search.is_some() && follower.consumer.inner().is_persisting()
+    consumer_node.search.is_some() && consumer_node.consumer.inner().is_persisting()
 }
 
 /// Takes all that the link holds.
 #[tactic(auto, using(crate::proofs::Loops::drains_begin, crate::proofs::Loops::drains_on, crate::proofs::Loops::drains_end, crate::proofs::Loops::takes_from_link, crate::proofs::Pending::taking_starves))]
 fn take_all(
     alloc: Global,
-    provider: &mut Source,
-    follower: &mut Follower,
-    out: &mut Telling,
+    provider: &mut ScriptProvider,
+    consumer_node: &mut ConsumerNode,
+    out: &mut Report,
 ) -> Result<(), Cause>
-    ensures does { Does (spec.drains (pair_of provider.old follower.old out.old.lineage))
-        out.old (pair_of provider.new follower.new out.old.lineage) out.new result }
+    ensures does { Does (spec.drains (agreement_of provider.old consumer_node.old out.old.lineage))
+        out.old (agreement_of provider.new consumer_node.new out.old.lineage) out.new result }
     ensures directory { provider.new.directory ≡ provider.old.directory }
     ensures queue_limit { provider.new.queue_limit ≡ provider.old.queue_limit }
     ensures kind { provider.new.kind ≡ provider.old.kind }
 {
-    while take_one(alloc, provider, follower, out)? {}
+    while take_one(alloc, provider, consumer_node, out)? {}
     Ok(())
 }
 
@@ -104,18 +107,18 @@ fn take_all(
 #[tactic(auto, using(crate::proofs::Pending::run_begins, crate::proofs::Pending::run_goes_on, crate::proofs::Pending::run_ends, crate::proofs::Pending::run_leaves_less, crate::proofs::Pending::run_overflows, crate::proofs::Pending::taking_starves))]
 fn run_search(
     alloc: Global,
-    provider: &mut Source,
-    follower: &mut Follower,
-    out: &mut Telling,
+    provider: &mut ScriptProvider,
+    consumer_node: &mut ConsumerNode,
+    out: &mut Report,
 ) -> Result<(), Cause>
-    ensures does { Does (spec.runs (pair_of provider.old follower.old out.old.lineage))
-        out.old (pair_of provider.new follower.new out.old.lineage) out.new result }
+    ensures does { Does (spec.runs (agreement_of provider.old consumer_node.old out.old.lineage))
+        out.old (agreement_of provider.new consumer_node.new out.old.lineage) out.new result }
     ensures directory { provider.new.directory ≡ provider.old.directory }
     ensures queue_limit { provider.new.queue_limit ≡ provider.old.queue_limit }
     ensures kind { provider.new.kind ≡ provider.old.kind }
 {
-    while send_one(alloc, provider, follower, out)? {
-        take_one(alloc, provider, follower, out)?;
+    while send_one(alloc, provider, consumer_node, out)? {
+        take_one(alloc, provider, consumer_node, out)?;
     }
     Ok(())
 }

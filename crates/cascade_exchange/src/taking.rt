@@ -1,9 +1,9 @@
-//! What is told of a message that was taken.
+//! What is reported of a message that was taken.
 ghost use Rattle.std.specs.Prelude.{◌≡◌, option_map};
 ghost use Rattle.cascade_exchange.specs.Exchange.{stored_number};
 ghost use Rattle.cascade_exchange.specs.Naming.{peer_name};
 
-use cascade_nodes::Source;
+use cascade_nodes::ScriptProvider;
 use csn_cookie::Cookie;
 use sync_consumer::PeerFault;
 
@@ -25,9 +25,10 @@ pub fn fault_name(fault: PeerFault) -> &'static [u8]
     }
 }
 
-/// How many of the provider's writes have a stamp that is not greater than that of the cookie.
-pub fn stored_number(provider: &Source, cookie: Option<&[u8]>) -> u64
-    ensures { result ≡ stored_number provider.now.directory (option_map (λ text. text.now) cookie.entry) }
+/// How many of the provider's writes have a CSN that is not greater than that of the cookie.
+pub fn stored_number(provider: &ScriptProvider, cookie: Option<&[u8]>) -> u64
+    ensures { result
+        ≡ stored_number provider.now.directory (option_map (λ text. text.now) cookie.entry) }
 {
     match cookie {
         Some(text) => match Cookie::parse(text) {

@@ -8,51 +8,55 @@ use Rattle.ldap_messages.specs.Whole.{message_octets}
 use Rattle.csn_cookie.specs.Cookie.{cookie_text}
 use Rattle.csn_cookie.specs.Csn.{start}
 use Rattle.csn_cookie.specs.declared.cookie.Cookie.{Cookie}
-use Rattle.directory_writes.specs.Directory.{cookie_at, entries_after, last_stamp}
+use Rattle.directory_writes.specs.Directory.{cookie_at, entries_after, last_csn}
+use Rattle.directory_writes.proofs.Promised.{content_at}
 use Rattle.dn_names.specs.Names.{TypeAndValue}
 use Rattle.entry_tree.specs.Selection.{select}
 use Rattle.entry_tree.specs.declared.entry.Entry.{Entry}
 use Rattle.entry_tree.specs.declared.op.Write.{Write}
 use Rattle.sync_model.specs.Copy.{Copy}
 use Rattle.sync_model.specs.Message.{SyncMessage}
-use Rattle.sync_model.specs.Message.SyncMessage.{Put, Gone, Present, IdSet, NewCookie, PhaseEnds, Done, Passed}
-use Rattle.sync_model.specs.Stream.{Session, content_after, later}
+use Rattle.sync_model.specs.Stream.{SyncOperation, content_after, later}
 use Rattle.sync_model.proofs.Histories.{ascends-state_of}
 use Rattle.sync_consumer.specs.Taking.{is_persisting}
-use Rattle.sync_provider.specs.HandingOut.{Turn, turn_of_message, turn_of_pending, turn_of_found, search_at}
+use Rattle.sync_provider.specs.HandingOut.{Turn, turn_of_pending, turn_of_found, search_at}
 use Rattle.sync_provider.specs.HandingOut.Turn.{Hands, Closes, Waits, Unknown}
 use Rattle.sync_provider.specs.Machine.{ProviderState}
 use Rattle.sync_provider.specs.Search.{SearchState, pending}
-use Rattle.cascade_nodes.specs.declared.node.Follower.{Follower}
-use Rattle.cascade_world.specs.Exchange.{Pair, pair_of, Outcome, after_lines, and_then, copy_of, name_of, Sending, Sends, Rests, Overflows, turn_of, handed, linked, fits, sending_by, sending, taking, taken_as, taken_from, taken_before, taken_some, pending_count, left_to_send, ran_before, ran_some, runs, drains, follows_on, opens_anew, refreshes, catches_up, settled_told}
+use Rattle.sync_provider.proofs.Advanced.{IsIdle, never_idle}
+use Rattle.sync_provider.proofs.Whereabouts.{InRefresh, AtWhole, InGroup}
+use Rattle.cascade_nodes.specs.declared.node.ConsumerNode.{ConsumerNode}
+use Rattle.cascade_nodes.proofs.Fed.{waits, HasRoom, HasPending, IsAtRest}
+use Rattle.cascade_world.specs.Exchange.{Agreement, agreement_of, ExchangeOutcome, after_lines, and_then, copy_of, name_of, Sending, Sends, Rests, Overflows, turn_of, handed, linked, fits, sending_by, sending, taking, taken_as, taken_from, taken_before, taken_some, pending_count, left_to_send, ran_before, ran_some, runs, drains, follows_on, opens_anew, refreshes, catches_up, settled_reported}
 use Rattle.cascade_laws.specs.Headline.{Opening, Known, with_sent, known_after, session_over, octets_of, busy}
-use Rattle.cascade_world.specs.Hearing.{Came, heard}
-use Rattle.cascade_world.specs.Hearing.{Came as came}
+use Rattle.cascade_world.specs.Reception.{Came, received}
+use Rattle.cascade_world.specs.Reception.{Came as came}
 use Rattle.cascade_world.specs.Origins.{Lineage}
-use Rattle.cascade_world.specs.Report.{Told}
-use Rattle.cascade_world.specs.Report.{Told as told}
-use Rattle.cascade_laws.proofs.Composing.{IsKeptIn, known_by_lines, room_after, kept-still, kept-told, kept-then, kept-lines}
-use Rattle.cascade_laws.proofs.Feeding.{Remains, waits, IsSource, HasRoom, HasPending, InRefresh, AtWhole, InGroup, GoesOn, IsAtRest, IsGoing, IsFed, Frame, IsKept, content_at}
+use Rattle.cascade_world.specs.ReportLines.{ReportLine}
+use Rattle.cascade_world.specs.ReportLines.{ReportLine as reported}
+use Rattle.cascade_laws.proofs.Composing.{IsKeptIn, known_by_lines, kept-still, kept-reported, kept-then, kept-lines}
+use Rattle.cascade_laws.proofs.Feeding.{Remains, IsSource, GoesOn, IsGoing, IsFed, Frame, IsKept}
 use Rattle.cascade_laws.proofs.FedOpening.{OpenedIn, opens_anew_opens}
 use Rattle.cascade_laws.proofs.FedSending.{own_sent, GoingSent, going_sent}
 use Rattle.cascade_laws.proofs.FedTaking.{IsTaken, GoingTaken, going_taken}
-use Rattle.cascade_laws.proofs.Past as past
+use Rattle.sync_provider.proofs.Past as past
 use Rattle.cascade_exchange.proofs.Pending.{Left, LeavesLess, leaves_less}
+use Rattle.cascade_exchange.proofs.Owns.{room_after}
 
 abbrev Name : Type 0
 Name = List (List TypeAndValue)
 
 -- what is wanted of all the writes
-abbrev pub all_content : ℕ → ProviderState → Follower → List Entry
+abbrev pub all_content : ℕ → ProviderState → ConsumerNode → List Entry
 all_content number p f = select f.consumer.spec (entries_after number p.directory.writes)
 
-content_of_all : (number : ℕ) (p : ProviderState) (f : Follower) → content_at number f.consumer.spec p.directory.writes (length p.directory.writes) ≡ all_content number p f
+content_of_all : (number : ℕ) (p : ProviderState) (f : ConsumerNode) → content_at number f.consumer.spec p.directory.writes (length p.directory.writes) ≡ all_content number p f
 content_of_all number p f = ap (λ (ws : List Write). select f.consumer.spec (entries_after number ws)) (take-length p.directory.writes)
 
 -- ---- nothing is in the link, and nothing is pending
 
-pub record IsDrained (pair : Pair) : Type 0 where
-  pub link : pair.follower.link ≡ []
+pub record IsDrained (pair : Agreement) : Type 0 where
+  pub link : pair.consumer_node.link ≡ []
   pub none : Left pair ≡ 0
 
 map_none : (link : List SyncMessage) → map octets_of link ≡ [] → link ≡ []
@@ -64,12 +68,12 @@ length_none [] same = refl
 length_none (x ∷ xs) same = absurd (omega (arith, same))
 
 -- the messages that are pending are counted
-pending_counted : (lin : Lineage) (p : ProviderState) (f : Follower) (mode cut : Bool) (own : Option ℕ) (messages : List SyncMessage) → HasPending p.searches f.consumer.spec mode cut own messages
-    → left_to_send (pair_of p f lin) own ≡ length messages
+pending_counted : (lin : Lineage) (p : ProviderState) (f : ConsumerNode) (mode cut : Bool) (own : Option ℕ) (messages : List SyncMessage) → HasPending p.searches f.consumer.spec mode cut own messages
+    → left_to_send (agreement_of p f lin) own ≡ length messages
 pending_counted lin p f mode cut None messages has = ap length (sym has.0)
 pending_counted lin p f mode cut (Some at) messages has = ap pending_count has.found ∙ ap length has.same
 
-module _ (lin : Lineage) (number : ℕ) (p : ProviderState) (f : Follower) (opening : Opening) (entries : List Entry) (goes : GoesOn number p f opening entries) (drained : IsDrained (pair_of p f lin)) where
+module _ (lin : Lineage) (number : ℕ) (p : ProviderState) (f : ConsumerNode) (opening : Opening) (entries : List Entry) (goes : GoesOn number p f opening entries) (drained : IsDrained (agreement_of p f lin)) where
   no_link : goes.linked ≡ []
   no_link = map_none goes.linked (sym goes.link ∙ drained.link)
 
@@ -83,9 +87,9 @@ module _ (lin : Lineage) (number : ℕ) (p : ProviderState) (f : Follower) (open
   pub all_taken : (goes.cut ≡ false) × (goes.ahead ≡ [])
   all_taken = by goes.cut refl (subst (Remains goes.cut goes.ahead) nothing_left goes.left)
     where
-      filled : (front : List SyncMessage) → [] ≡ front ++ busy ∷ [] → ⊥
+      filled : (prefix : List SyncMessage) → [] ≡ prefix ++ busy ∷ [] → ⊥
       filled [] same = cc
-      filled (m ∷ front) same = cc
+      filled (m ∷ prefix) same = cc
 
       by : (cut : Bool) → goes.cut ≡ cut → Remains cut goes.ahead [] → (goes.cut ≡ false) × (goes.ahead ≡ [])
       by false is left = (is, sym left)
@@ -93,101 +97,82 @@ module _ (lin : Lineage) (number : ℕ) (p : ProviderState) (f : Follower) (open
 
 -- ---- a consumer whose search goes on, and has nothing left, is up to its provider
 
-module _ (lin : Lineage) (number : ℕ) (suffix : Name) (p : ProviderState) (f : Follower) (opening : Opening) (entries : List Entry) (source : IsSource number suffix p) (goes : GoesOn number p f opening entries)
-    (drained : IsDrained (pair_of p f lin)) where
+module _ (lin : Lineage) (number : ℕ) (suffix : Name) (p : ProviderState) (f : ConsumerNode) (opening : Opening) (entries : List Entry) (source : IsSource number suffix p) (goes : GoesOn number p f opening entries)
+    (drained : IsDrained (agreement_of p f lin)) where
   abbrev writes : List Write
   writes = p.directory.writes
 
-  abbrev session : Session
-  session = session_over number f.consumer.spec writes opening
+  abbrev operation : SyncOperation
+  operation = session_over number f.consumer.spec writes opening
 
-  texts : (count : ℕ) → (cookie : Cookie) × (session.cookies count ≡ cookie_text cookie)
-  texts count = (cookie_at number number (last_stamp (start number) (take count writes)), refl)
+  texts : (count : ℕ) → (cookie : Cookie) × (operation.cookies count ≡ cookie_text cookie)
+  texts count = (cookie_at number number (last_csn (start number) (take count writes)), refl)
 
   none_ahead : goes.ahead ≡ []
   none_ahead = (all_taken lin number p f opening entries goes drained).1
 
-  in_refresh : InRefresh session goes.start opening.writes goes.count entries f.consumer.copy goes.taken goes.ahead → ⊥
-  in_refresh is = let bad : [] ≡ is.some.next ∷ (is.some.later ++ cond session.persists (later session opening.writes goes.count) []) =
-      sym none_ahead ∙ is.behind ∙ ap (λ ms. ms ++ cond session.persists (later session opening.writes goes.count) []) is.some.same in
+  in_refresh : InRefresh operation goes.start opening.writes goes.count entries f.consumer.copy goes.taken goes.ahead → ⊥
+  in_refresh is = let bad : [] ≡ is.some.next ∷ (is.some.later ++ cond operation.persists (later operation opening.writes goes.count) []) =
+      sym none_ahead ∙ is.beyond ∙ ap (λ ms. ms ++ cond operation.persists (later operation opening.writes goes.count) []) is.some.same in
       let never : ⊥ = cc in
       never
 
   at_end : (persists : opening.persists ≡ true) → opening.writes + goes.count ≡ length writes
   at_end persists = goes.all ((λ i. waits (persists i) ((all_taken lin number p f opening entries goes drained).0 i)))
 
-  whole_is : opening.persists ≡ true → AtWhole session opening.writes goes.count entries f.consumer.copy goes.ahead → entries ≡ all_content number p f
+  whole_is : opening.persists ≡ true → AtWhole operation opening.writes goes.count entries f.consumer.copy goes.ahead → entries ≡ all_content number p f
   whole_is persists is =
       is.content
-      ∙ past.none_left session (λ n. ascends-state_of number writes n) (λ n. (source.good n).within)
-      (λ n. (source.good n).sent) texts opening.writes goes.count is.more is.number (sym is.behind ∙ none_ahead)
-      ∙ ap (content_after session) (is.sum ∙ at_end persists)
+      ∙ past.none_left operation (λ n. ascends-state_of number writes n) (λ n. (source.good n).within)
+      (λ n. (source.good n).sent) texts opening.writes goes.count is.more is.number (sym is.beyond ∙ none_ahead)
+      ∙ ap (content_after operation) (is.sum ∙ at_end persists)
       ∙ content_of_all number p f
 
-  group_is : InGroup session opening.writes goes.count entries f.consumer.copy goes.ahead → ⊥
+  group_is : InGroup operation opening.writes goes.count entries f.consumer.copy goes.ahead → ⊥
   group_is is =
-      past.group_filled session (λ n. ascends-state_of number writes n) (λ n. (source.good n).within)
+      past.group_filled operation (λ n. ascends-state_of number writes n) (λ n. (source.good n).within)
       (λ n. (source.good n).sent) texts opening.writes goes.count entries f.consumer.copy
-      (subst (InGroup session opening.writes goes.count entries f.consumer.copy) none_ahead is)
+      (subst (InGroup operation opening.writes goes.count entries f.consumer.copy) none_ahead is)
 
   pub up_to_date : entries ≡ all_content number p f
   up_to_date = by goes.place
     where
-      by_past : opening.persists ≡ true → AtWhole session opening.writes goes.count entries f.consumer.copy goes.ahead ⊎ InGroup session opening.writes goes.count entries f.consumer.copy goes.ahead → entries ≡ all_content number p f
+      by_past : opening.persists ≡ true → AtWhole operation opening.writes goes.count entries f.consumer.copy goes.ahead ⊎ InGroup operation opening.writes goes.count entries f.consumer.copy goes.ahead → entries ≡ all_content number p f
       by_past persists (inl is) = whole_is persists is
       by_past persists (inr is) = absurd (group_is is)
 
-      by : InRefresh session goes.start opening.writes goes.count entries f.consumer.copy goes.taken goes.ahead
-          ⊎ ((session.persists ≡ true) × (AtWhole session opening.writes goes.count entries f.consumer.copy goes.ahead ⊎ InGroup session opening.writes goes.count entries f.consumer.copy goes.ahead))
+      by : InRefresh operation goes.start opening.writes goes.count entries f.consumer.copy goes.taken goes.ahead
+          ⊎ ((operation.persists ≡ true) × (AtWhole operation opening.writes goes.count entries f.consumer.copy goes.ahead ⊎ InGroup operation opening.writes goes.count entries f.consumer.copy goes.ahead))
           → entries ≡ all_content number p f
       by (inl is) = absurd (in_refresh is)
       by (inr is) = by_past is.0 is.1
 
 -- ---- what runs, and what of it is drained
 
-abbrev pub DrainedIn : Outcome → Type 0
+abbrev pub DrainedIn : ExchangeOutcome → Type 0
 DrainedIn (Ok next) = IsDrained next.0
 DrainedIn (Err cause) = Unit {0}
 
-drained_lines : (lines : List Told) (outcome : Outcome) → DrainedIn outcome → DrainedIn (after_lines lines outcome)
+drained_lines : (lines : List ReportLine) (outcome : ExchangeOutcome) → DrainedIn outcome → DrainedIn (after_lines lines outcome)
 drained_lines lines (Ok next) drained = drained
 drained_lines lines (Err cause) drained = tt
 
--- ---- how much is pending
-
--- nothing is handed out where nothing is pending
-abbrev IsIdle : Turn → Type 0
-IsIdle (Hands whole) = ⊥
-IsIdle (Closes code whole) = ⊥
-IsIdle Waits = Unit {0}
-IsIdle Unknown = Unit {0}
-
-idle_turn : (pair : Pair) (turn : Turn) → sending_by pair turn ≡ Rests → IsIdle turn
-idle_turn pair (Hands whole) is = by (fits pair.follower (message_octets whole)) is
+idle_turn : (pair : Agreement) (turn : Turn) → sending_by pair turn ≡ Rests → IsIdle turn
+idle_turn pair (Hands whole) is = by (fits pair.consumer_node (message_octets whole)) is
   where
-    by : (room : Bool) → cond room (Sends (pair_of (handed pair.provider pair.follower.search) (linked pair.follower pair.follower.search (message_octets whole)) pair.lineage) (message_octets whole)) Overflows ≡ Rests → ⊥
+    by : (room : Bool) → cond room (Sends (agreement_of (handed pair.provider pair.consumer_node.search) (linked pair.consumer_node pair.consumer_node.search (message_octets whole)) pair.lineage) (message_octets whole)) Overflows ≡ Rests → ⊥
     by true is = cc
     by false is = cc
-idle_turn pair (Closes code whole) is = by (fits pair.follower (message_octets whole)) is
+idle_turn pair (Closes code whole) is = by (fits pair.consumer_node (message_octets whole)) is
   where
-    by : (room : Bool) → cond room (Sends (pair_of (handed pair.provider pair.follower.search) (linked pair.follower None (message_octets whole)) pair.lineage) (message_octets whole)) Overflows ≡ Rests → ⊥
+    by : (room : Bool) → cond room (Sends (agreement_of (handed pair.provider pair.consumer_node.search) (linked pair.consumer_node None (message_octets whole)) pair.lineage) (message_octets whole)) Overflows ≡ Rests → ⊥
     by true is = cc
     by false is = cc
 idle_turn pair Waits is = tt
 idle_turn pair Unknown is = tt
 
-never_idle : (id : ℕ) (m : SyncMessage) → IsIdle (turn_of_message id m) → ⊥
-never_idle id (Put adds entry cookie) idle = idle
-never_idle id (Gone uuid name cookie) idle = idle
-never_idle id (Present uuid cookie) idle = idle
-never_idle id (IdSet deletes uuids cookie) idle = idle
-never_idle id (NewCookie cookie) idle = idle
-never_idle id (PhaseEnds deletes done cookie) idle = idle
-never_idle id (Done code control) idle = idle
-never_idle id Passed idle = idle
-
-rests_none : (pair : Pair) → sending pair ≡ Rests → Left pair ≡ 0
-rests_none pair is = by pair.follower.search refl
+rests_none : (pair : Agreement) → sending pair ≡ Rests → Left pair ≡ 0
+rests_none pair is = by pair.consumer_node.search refl
   where
     waiting : (s : SearchState) (messages : List SyncMessage) → IsIdle (turn_of_pending s.id messages) → length messages ≡ 0
     waiting s [] idle = refl
@@ -197,118 +182,118 @@ rests_none pair is = by pair.follower.search refl
     found None idle = refl
     found (Some s) idle = waiting s (pending s) idle
 
-    by : (own : Option ℕ) → pair.follower.search ≡ own → left_to_send pair own ≡ 0
+    by : (own : Option ℕ) → pair.consumer_node.search ≡ own → left_to_send pair own ≡ 0
     by None at = refl
     by (Some number) at = found (search_at pair.provider.searches number) (idle_turn pair (turn_of pair.provider (Some number)) (ap (λ o. sending_by pair (turn_of pair.provider o)) (sym at) ∙ is))
 
-abbrev LinksOne : Pair → Sending → Type 0
-LinksOne pair (Sends after message) = after.follower.link ≡ pair.follower.link ++ message ∷ []
+abbrev LinksOne : Agreement → Sending → Type 0
+LinksOne pair (Sends after message) = after.consumer_node.link ≡ pair.consumer_node.link ++ message ∷ []
 LinksOne pair Rests = Unit {0}
 LinksOne pair Overflows = Unit {0}
 
-links_one : (pair : Pair) (turn : Turn) → LinksOne pair (sending_by pair turn)
-links_one pair (Hands whole) = by (fits pair.follower (message_octets whole))
+links_one : (pair : Agreement) (turn : Turn) → LinksOne pair (sending_by pair turn)
+links_one pair (Hands whole) = by (fits pair.consumer_node (message_octets whole))
   where
-    by : (room : Bool) → LinksOne pair (cond room (Sends (pair_of (handed pair.provider pair.follower.search) (linked pair.follower pair.follower.search (message_octets whole)) pair.lineage) (message_octets whole)) Overflows)
+    by : (room : Bool) → LinksOne pair (cond room (Sends (agreement_of (handed pair.provider pair.consumer_node.search) (linked pair.consumer_node pair.consumer_node.search (message_octets whole)) pair.lineage) (message_octets whole)) Overflows)
     by true = refl
     by false = tt
-links_one pair (Closes code whole) = by (fits pair.follower (message_octets whole))
+links_one pair (Closes code whole) = by (fits pair.consumer_node (message_octets whole))
   where
-    by : (room : Bool) → LinksOne pair (cond room (Sends (pair_of (handed pair.provider pair.follower.search) (linked pair.follower None (message_octets whole)) pair.lineage) (message_octets whole)) Overflows)
+    by : (room : Bool) → LinksOne pair (cond room (Sends (agreement_of (handed pair.provider pair.consumer_node.search) (linked pair.consumer_node None (message_octets whole)) pair.lineage) (message_octets whole)) Overflows)
     by true = refl
     by false = tt
 links_one pair Waits = tt
 links_one pair Unknown = tt
 
 -- a taking leaves the rest of the link, or nothing, and no more pending
-record IsShorter (pair : Pair) (rest : List (List ℕ)) (after : Pair) : Type 0 where
-  link : length after.follower.link ≤ length rest
+record IsShorter (pair : Agreement) (rest : List (List ℕ)) (after : Agreement) : Type 0 where
+  link : length after.consumer_node.link ≤ length rest
   left : Left after ≤ Left pair
 
-as_shorter : (pair : Pair) (rest : List (List ℕ)) (copy : Copy) (found : Came) → IsShorter pair rest (taken_as pair rest copy found).0
+as_shorter : (pair : Agreement) (rest : List (List ℕ)) (copy : Copy) (found : Came) → IsShorter pair rest (taken_as pair rest copy found).0
 as_shorter pair rest copy came.Staged = record { link = omega arith; left = omega arith }
 as_shorter pair rest copy (came.Stored commit) = record { link = omega arith; left = omega arith }
 as_shorter pair rest copy came.Copied = record { link = omega arith; left = omega arith }
 as_shorter pair rest copy (came.Over code) = record { link = omega arith; left = omega arith }
 as_shorter pair rest copy (came.Refused fault) = record { link = omega arith; left = omega arith }
 
-took_some : (count : ℕ) (idle : List Told) (pair : Pair) → length pair.follower.link ≤ count → ((taken_some count idle pair).0.follower.link ≡ []) × (Left (taken_some count idle pair).0 ≤ Left pair)
-took_some zero idle pair few = (length_none pair.follower.link (omega (arith, few)), omega arith)
-took_some (suc count) idle pair few = by (λ next. took_some count idle next) pair.follower.link refl
+took_some : (count : ℕ) (idle : List ReportLine) (pair : Agreement) → length pair.consumer_node.link ≤ count → ((taken_some count idle pair).0.consumer_node.link ≡ []) × (Left (taken_some count idle pair).0 ≤ Left pair)
+took_some zero idle pair few = (length_none pair.consumer_node.link (omega (arith, few)), omega arith)
+took_some (suc count) idle pair few = by (λ next. took_some count idle next) pair.consumer_node.link refl
   where
-    Took : Pair × List Told → Type 0
-    Took taken = (taken.0.follower.link ≡ []) × (Left taken.0 ≤ Left pair)
+    Took : Agreement × List ReportLine → Type 0
+    Took taken = (taken.0.consumer_node.link ≡ []) × (Left taken.0 ≤ Left pair)
 
-    by : ((next : Pair) → length next.follower.link ≤ count → ((taken_some count idle next).0.follower.link ≡ []) × (Left (taken_some count idle next).0 ≤ Left next)) → (link : List (List ℕ)) → pair.follower.link ≡ link
-        → Took (taken_before (λ after. taken_some count idle after) pair idle (taken_from pair pair.follower.link))
+    by : ((next : Agreement) → length next.consumer_node.link ≤ count → ((taken_some count idle next).0.consumer_node.link ≡ []) × (Left (taken_some count idle next).0 ≤ Left next)) → (link : List (List ℕ)) → pair.consumer_node.link ≡ link
+        → Took (taken_before (λ after. taken_some count idle after) pair idle (taken_from pair pair.consumer_node.link))
     by more [] is = subst (λ l. Took (taken_before (λ after. taken_some count idle after) pair idle (taken_from pair l))) (sym is) (is, omega arith)
     by more (message ∷ rest) is =
-        let first = as_shorter pair rest (heard (copy_of pair.follower) message).0 (heard (copy_of pair.follower) message).1 in
-        let next = (taken_as pair rest (heard (copy_of pair.follower) message).0 (heard (copy_of pair.follower) message).1).0 in
+        let first = as_shorter pair rest (received (copy_of pair.consumer_node) message).0 (received (copy_of pair.consumer_node) message).1 in
+        let next = (taken_as pair rest (received (copy_of pair.consumer_node) message).0 (received (copy_of pair.consumer_node) message).1).0 in
         let short : length rest ≤ count = omega (arith, few, ap (λ (l : List (List ℕ)). length l) is) in
         let then = more next (omega (arith, first.link, short)) in
         subst (λ l. Took (taken_before (λ after. taken_some count idle after) pair idle (taken_from pair l))) (sym is) (then.0, omega (arith, then.1, first.left))
 
-ran_drained : (count : ℕ) (pair : Pair) → pair.follower.link ≡ [] → Left pair ≤ count → DrainedIn (ran_some count pair)
+ran_drained : (count : ℕ) (pair : Agreement) → pair.consumer_node.link ≡ [] → Left pair ≤ count → DrainedIn (ran_some count pair)
 ran_drained zero pair link few = record { link = link; none = omega (arith, few) }
-ran_drained (suc count) pair link few = by (λ next. ran_drained count next) (sending pair) refl (leaves_less pair) (links_one pair (turn_of pair.provider pair.follower.search))
+ran_drained (suc count) pair link few = by (λ next. ran_drained count next) (sending pair) refl (leaves_less pair) (links_one pair (turn_of pair.provider pair.consumer_node.search))
   where
-    by : ((next : Pair) → next.follower.link ≡ [] → Left next ≤ count → DrainedIn (ran_some count next)) → (s : Sending) → sending pair ≡ s → LeavesLess (Left pair) (sending pair) → LinksOne pair (sending pair)
+    by : ((next : Agreement) → next.consumer_node.link ≡ [] → Left next ≤ count → DrainedIn (ran_some count next)) → (s : Sending) → sending pair ≡ s → LeavesLess (Left pair) (sending pair) → LinksOne pair (sending pair)
         → DrainedIn (ran_before (λ after. ran_some count after) pair s)
     by more Rests is less one = record { link = link; none = rests_none pair is }
     by more Overflows is less one = tt
     by more (Sends after message) is less one =
         let fewer : Left after < Left pair = subst (LeavesLess (Left pair)) is less in
-        let long : after.follower.link ≡ message ∷ [] = subst (LinksOne pair) is one ∙ ap (λ l. l ++ message ∷ []) link in
+        let long : after.consumer_node.link ≡ message ∷ [] = subst (LinksOne pair) is one ∙ ap (λ l. l ++ message ∷ []) link in
         let took = took_some 1 [] after (omega (arith, ap (λ (l : List (List ℕ)). length l) long)) in
-        drained_lines (told.Sent (name_of pair) message ∷ (taken_some 1 [] after).1) (ran_some count (taken_some 1 [] after).0)
+        drained_lines (reported.Sent (name_of pair) message ∷ (taken_some 1 [] after).1) (ran_some count (taken_some 1 [] after).0)
         (more (taken_some 1 [] after).0 took.0 (omega (arith, took.1, fewer, few)))
 
 -- what is left after the link and the search were drained
-pub drains_drained : (pair : Pair) → DrainedIn (and_then (drains pair) runs)
+pub drains_drained : (pair : Agreement) → DrainedIn (and_then (drains pair) runs)
 drains_drained pair =
-    let took = took_some (length pair.follower.link) [] pair (omega arith) in
-    let after = (taken_some (length pair.follower.link) [] pair).0 in
-    drained_lines (taken_some (length pair.follower.link) [] pair).1 (runs after) (ran_drained (Left after) after took.0 (omega arith))
+    let took = took_some (length pair.consumer_node.link) [] pair (omega arith) in
+    let after = (taken_some (length pair.consumer_node.link) [] pair).0 in
+    drained_lines (taken_some (length pair.consumer_node.link) [] pair).1 (runs after) (ran_drained (Left after) after took.0 (omega arith))
 
 -- ---- a search that ends with its refresh, and was opened after all writes, runs to its end
 
-pub record Catches (number : ℕ) (p : ProviderState) (f : Follower) (known : Known) : Type 0 where
+pub record Catches (number : ℕ) (p : ProviderState) (f : ConsumerNode) (known : Known) : Type 0 where
   pub opening : Opening
   pub latest : known.opening ≡ Some opening
   pub all : opening.writes ≡ length p.directory.writes
   pub ends : opening.persists ≡ false
   pub state : GoesOn number p f opening known.entries ⊎ (IsAtRest f × (known.entries ≡ content_at number f.consumer.spec p.directory.writes opening.writes))
 
-abbrev CatchesIn : ℕ → Name → Pair → Known → Outcome → Type 0
-CatchesIn number suffix pair known (Ok next) = IsKept number suffix pair next.0 next.1 known × Catches number next.0.provider next.0.follower (known_by_lines pair.follower.name known next.1)
+abbrev CatchesIn : ℕ → Name → Agreement → Known → ExchangeOutcome → Type 0
+CatchesIn number suffix pair known (Ok next) = IsKept number suffix pair next.0 next.1 known × Catches number next.0.provider next.0.consumer_node (known_by_lines pair.consumer_node.name known next.1)
 CatchesIn number suffix pair known (Err cause) = Unit {0}
 
 -- the writes are the same
-same_writes : (number : ℕ) (suffix : Name) (pair after : Pair) (lines : List Told) (known : Known) → IsKept number suffix pair after lines known → after.provider.directory.writes ≡ pair.provider.directory.writes
+same_writes : (number : ℕ) (suffix : Name) (pair after : Agreement) (lines : List ReportLine) (known : Known) → IsKept number suffix pair after lines known → after.provider.directory.writes ≡ pair.provider.directory.writes
 same_writes number suffix pair after lines known kept = ap (λ (frame : Frame). frame.writes) kept.same
 
-same_spec : (number : ℕ) (suffix : Name) (pair after : Pair) (lines : List Told) (known : Known) → IsKept number suffix pair after lines known → after.follower.consumer.spec ≡ pair.follower.consumer.spec
+same_spec : (number : ℕ) (suffix : Name) (pair after : Agreement) (lines : List ReportLine) (known : Known) → IsKept number suffix pair after lines known → after.consumer_node.consumer.spec ≡ pair.consumer_node.consumer.spec
 same_spec number suffix pair after lines known kept = ap (λ (frame : Frame). frame.spec) kept.same
 
 -- one message is sent
-catches_sent : (number : ℕ) (suffix : Name) (pair : Pair) (known : Known) → IsSource number suffix pair.provider → IsFed number pair.provider pair.follower known → (is : Catches number pair.provider pair.follower known)
-    → (after : Pair) (message : List ℕ) → sending pair ≡ Sends after message
-    → IsKept number suffix pair after (told.Sent (name_of pair) message ∷ []) known × Catches number after.provider after.follower (known_after pair.follower.name known (told.Sent (name_of pair) message))
+catches_sent : (number : ℕ) (suffix : Name) (pair : Agreement) (known : Known) → IsSource number suffix pair.provider → IsFed number pair.provider pair.consumer_node known → (is : Catches number pair.provider pair.consumer_node known)
+    → (after : Agreement) (message : List ℕ) → sending pair ≡ Sends after message
+    → IsKept number suffix pair after (reported.Sent (name_of pair) message ∷ []) known × Catches number after.provider after.consumer_node (known_after pair.consumer_node.name known (reported.Sent (name_of pair) message))
 catches_sent number suffix pair known source fed is after message sends' = by is.state
   where
-    by : GoesOn number pair.provider pair.follower is.opening known.entries ⊎ (IsAtRest pair.follower × (known.entries ≡ content_at number pair.follower.consumer.spec pair.provider.directory.writes is.opening.writes))
-        → IsKept number suffix pair after (told.Sent (name_of pair) message ∷ []) known × Catches number after.provider after.follower (known_after pair.follower.name known (told.Sent (name_of pair) message))
+    by : GoesOn number pair.provider pair.consumer_node is.opening known.entries ⊎ (IsAtRest pair.consumer_node × (known.entries ≡ content_at number pair.consumer_node.consumer.spec pair.provider.directory.writes is.opening.writes))
+        → IsKept number suffix pair after (reported.Sent (name_of pair) message ∷ []) known × Catches number after.provider after.consumer_node (known_after pair.consumer_node.name known (reported.Sent (name_of pair) message))
     by (inl goes) =
-        let sent = subst (GoingSent number suffix pair known is.opening) sends' (going_sent pair.lineage number suffix pair.provider pair.follower known is.opening is.latest source fed goes) in
-        let same = own_sent pair.follower.name message known in (
+        let sent = subst (GoingSent number suffix pair known is.opening) sends' (going_sent pair.lineage number suffix pair.provider pair.consumer_node known is.opening is.latest source fed goes) in
+        let same = own_sent pair.consumer_node.name message known in (
           sent.0,
           record {
             opening = with_sent message is.opening;
             latest = ap (λ (k : Known). k.opening) same ∙ ap (option_map (with_sent message)) is.latest;
-            all = is.all ∙ ap (λ (ws : List Write). length ws) (sym (same_writes number suffix pair after (told.Sent (name_of pair) message ∷ []) known sent.0));
+            all = is.all ∙ ap (λ (ws : List Write). length ws) (sym (same_writes number suffix pair after (reported.Sent (name_of pair) message ∷ []) known sent.0));
             ends = is.ends;
-            state = inl (subst (λ (k : Known). GoesOn number after.provider after.follower (with_sent message is.opening) k.entries) (sym same) sent.1);
+            state = inl (subst (λ (k : Known). GoesOn number after.provider after.consumer_node (with_sent message is.opening) k.entries) (sym same) sent.1);
           },
         )
     by (inr rest) =
@@ -317,20 +302,20 @@ catches_sent number suffix pair known source fed is after message sends' = by is
         let never : ⊥ = cc in
         absurd never
 
-none_some : (next : Pair × Told) → None ≡ Some next → ⊥
+none_some : (next : Agreement × ReportLine) → None ≡ Some next → ⊥
 none_some next same = cc
 
 -- and one is taken
-catches_taken : (number : ℕ) (suffix : Name) (pair : Pair) (known : Known) → IsSource number suffix pair.provider → IsFed number pair.provider pair.follower known → Catches number pair.provider pair.follower known
-    → (after : Pair) (line : Told) → taking pair ≡ Some (after, line)
-    → IsKept number suffix pair after (line ∷ []) known × Catches number after.provider after.follower (known_after pair.follower.name known line)
+catches_taken : (number : ℕ) (suffix : Name) (pair : Agreement) (known : Known) → IsSource number suffix pair.provider → IsFed number pair.provider pair.consumer_node known → Catches number pair.provider pair.consumer_node known
+    → (after : Agreement) (line : ReportLine) → taking pair ≡ Some (after, line)
+    → IsKept number suffix pair after (line ∷ []) known × Catches number after.provider after.consumer_node (known_after pair.consumer_node.name known line)
 catches_taken number suffix pair known source fed is after line takes' = by is.state
   where
     writes : List Write
     writes = pair.provider.directory.writes
 
-    by : GoesOn number pair.provider pair.follower is.opening known.entries ⊎ (IsAtRest pair.follower × (known.entries ≡ content_at number pair.follower.consumer.spec writes is.opening.writes))
-        → IsKept number suffix pair after (line ∷ []) known × Catches number after.provider after.follower (known_after pair.follower.name known line)
+    by : GoesOn number pair.provider pair.consumer_node is.opening known.entries ⊎ (IsAtRest pair.consumer_node × (known.entries ≡ content_at number pair.consumer_node.consumer.spec writes is.opening.writes))
+        → IsKept number suffix pair after (line ∷ []) known × Catches number after.provider after.consumer_node (known_after pair.consumer_node.name known line)
     by (inl goes) = (
       taken.kept,
       record {
@@ -342,116 +327,116 @@ catches_taken number suffix pair known source fed is after line takes' = by is.s
       },
     )
       where
-        taken : IsTaken pair.lineage number suffix pair.provider pair.follower known is.opening is.latest source fed goes after line
-        taken = subst (GoingTaken pair.lineage number suffix pair.provider pair.follower known is.opening is.latest source fed goes) takes' (going_taken pair.lineage number suffix pair.provider pair.follower known is.opening is.latest source fed goes)
+        taken : IsTaken pair.lineage number suffix pair.provider pair.consumer_node known is.opening is.latest source fed goes after line
+        taken = subst (GoingTaken pair.lineage number suffix pair.provider pair.consumer_node known is.opening is.latest source fed goes) takes' (going_taken pair.lineage number suffix pair.provider pair.consumer_node known is.opening is.latest source fed goes)
 
-        there : content_at number after.follower.consumer.spec after.provider.directory.writes is.opening.writes ≡ content_at number pair.follower.consumer.spec writes is.opening.writes
+        there : content_at number after.consumer_node.consumer.spec after.provider.directory.writes is.opening.writes ≡ content_at number pair.consumer_node.consumer.spec writes is.opening.writes
         there = λ i. content_at number (same_spec number suffix pair after (line ∷ []) known taken.kept i) (same_writes number suffix pair after (line ∷ []) known taken.kept i) is.opening.writes
 
-        whole : (known_after pair.follower.name known line).entries ≡ content_at number pair.follower.consumer.spec writes is.opening.writes
-            → (known_after pair.follower.name known line).entries ≡ content_at number after.follower.consumer.spec after.provider.directory.writes is.opening.writes
+        whole : (known_after pair.consumer_node.name known line).entries ≡ content_at number pair.consumer_node.consumer.spec writes is.opening.writes
+            → (known_after pair.consumer_node.name known line).entries ≡ content_at number after.consumer_node.consumer.spec after.provider.directory.writes is.opening.writes
         whole same = same ∙ sym there
 
-        content : (is.opening.persists ≡ true) ⊎ ((known_after pair.follower.name known line).entries ≡ content_at number pair.follower.consumer.spec writes is.opening.writes)
-            → (known_after pair.follower.name known line).entries ≡ content_at number after.follower.consumer.spec after.provider.directory.writes is.opening.writes
+        content : (is.opening.persists ≡ true) ⊎ ((known_after pair.consumer_node.name known line).entries ≡ content_at number pair.consumer_node.consumer.spec writes is.opening.writes)
+            → (known_after pair.consumer_node.name known line).entries ≡ content_at number after.consumer_node.consumer.spec after.provider.directory.writes is.opening.writes
         content (inl persists) = absurd (true≢false (sym persists ∙ is.ends))
         content (inr same) = whole same
 
-        now : GoesOn number after.provider after.follower is.opening (known_after pair.follower.name known line).entries
-            ⊎ (IsAtRest after.follower × ((is.opening.persists ≡ true) ⊎ ((known_after pair.follower.name known line).entries ≡ content_at number pair.follower.consumer.spec writes is.opening.writes)))
-            → GoesOn number after.provider after.follower is.opening (known_after pair.follower.name known line).entries
-            ⊎ (IsAtRest after.follower × ((known_after pair.follower.name known line).entries ≡ content_at number after.follower.consumer.spec after.provider.directory.writes is.opening.writes))
+        now : GoesOn number after.provider after.consumer_node is.opening (known_after pair.consumer_node.name known line).entries
+            ⊎ (IsAtRest after.consumer_node × ((is.opening.persists ≡ true) ⊎ ((known_after pair.consumer_node.name known line).entries ≡ content_at number pair.consumer_node.consumer.spec writes is.opening.writes)))
+            → GoesOn number after.provider after.consumer_node is.opening (known_after pair.consumer_node.name known line).entries
+            ⊎ (IsAtRest after.consumer_node × ((known_after pair.consumer_node.name known line).entries ≡ content_at number after.consumer_node.consumer.spec after.provider.directory.writes is.opening.writes))
         now (inl goes') = inl goes'
         now (inr rest) = inr (rest.0, content rest.1)
     by (inr rest) =
         let none : taking pair ≡ None = ap (taken_from pair) rest.0.link in
         absurd (none_some (after, line) (sym none ∙ takes'))
 
--- what was told of more lines
-known_on : (number : ℕ) (p : ProviderState) (f : Follower) (name other : List ℕ) (known : Known) (lines more : List Told) → other ≡ name
+-- what was reported of more lines
+known_on : (number : ℕ) (p : ProviderState) (f : ConsumerNode) (name other : List ℕ) (known : Known) (lines more : List ReportLine) → other ≡ name
     → Catches number p f (known_by_lines other (known_by_lines name known lines) more) → Catches number p f (known_by_lines name known (lines ++ more))
 known_on number p f name other known lines more same catches =
     subst (Catches number p f) (ap (λ n. known_by_lines n (known_by_lines name known lines) more) same ∙ sym (fold-append (known_after name) known lines more)) catches
 
-catches_on : (number : ℕ) (suffix : Name) (one two : Pair) (lines : List Told) (known : Known) (outcome : Outcome) → IsKept number suffix one two lines known
-    → CatchesIn number suffix two (known_by_lines one.follower.name known lines) outcome → CatchesIn number suffix one known (after_lines lines outcome)
+catches_on : (number : ℕ) (suffix : Name) (one two : Agreement) (lines : List ReportLine) (known : Known) (outcome : ExchangeOutcome) → IsKept number suffix one two lines known
+    → CatchesIn number suffix two (known_by_lines one.consumer_node.name known lines) outcome → CatchesIn number suffix one known (after_lines lines outcome)
 catches_on number suffix one two lines known (Err cause) first then = tt
 catches_on number suffix one two lines known (Ok next) first then = (
   kept-then number suffix one two next.0 lines next.1 known first then.0,
-  known_on number next.0.provider next.0.follower one.follower.name two.follower.name known lines next.1 (ap (λ (frame : Frame). frame.name) first.same) then.1,
+  known_on number next.0.provider next.0.consumer_node one.consumer_node.name two.consumer_node.name known lines next.1 (ap (λ (frame : Frame). frame.name) first.same) then.1,
 )
 
 -- one is taken, if there is one
-took_one : (number : ℕ) (suffix : Name) (pair : Pair) (known : Known) → IsSource number suffix pair.provider → IsFed number pair.provider pair.follower known → Catches number pair.provider pair.follower known
+took_one : (number : ℕ) (suffix : Name) (pair : Agreement) (known : Known) → IsSource number suffix pair.provider → IsFed number pair.provider pair.consumer_node known → Catches number pair.provider pair.consumer_node known
     → CatchesIn number suffix pair known (Ok (taken_some 1 [] pair))
 took_one number suffix pair known source fed is = by (taking pair) refl
   where
-    by : (found : Option (Pair × Told)) → taking pair ≡ found → CatchesIn number suffix pair known (Ok (taken_before (λ after. taken_some 0 [] after) pair [] found))
+    by : (found : Option (Agreement × ReportLine)) → taking pair ≡ found → CatchesIn number suffix pair known (Ok (taken_before (λ after. taken_some 0 [] after) pair [] found))
     by None none = (kept-still number suffix pair known source fed, is)
     by (Some first) some = catches_taken number suffix pair known source fed is first.0 first.1 some
 
-ran_catches : (count : ℕ) (number : ℕ) (suffix : Name) (pair : Pair) (known : Known) → IsSource number suffix pair.provider → IsFed number pair.provider pair.follower known → Catches number pair.provider pair.follower known
+ran_catches : (count : ℕ) (number : ℕ) (suffix : Name) (pair : Agreement) (known : Known) → IsSource number suffix pair.provider → IsFed number pair.provider pair.consumer_node known → Catches number pair.provider pair.consumer_node known
     → CatchesIn number suffix pair known (ran_some count pair)
 ran_catches zero number suffix pair known source fed is = (kept-still number suffix pair known source fed, is)
 ran_catches (suc count) number suffix pair known source fed is = by (ran_catches count number suffix) (sending pair) refl
   where
-    by : ((next : Pair) (k : Known) → IsSource number suffix next.provider → IsFed number next.provider next.follower k → Catches number next.provider next.follower k → CatchesIn number suffix next k (ran_some count next))
+    by : ((next : Agreement) (k : Known) → IsSource number suffix next.provider → IsFed number next.provider next.consumer_node k → Catches number next.provider next.consumer_node k → CatchesIn number suffix next k (ran_some count next))
         → (s : Sending) → sending pair ≡ s → CatchesIn number suffix pair known (ran_before (λ after. ran_some count after) pair s)
     by more Rests rests = (kept-still number suffix pair known source fed, is)
     by more Overflows over = tt
     by more (Sends after message) sends' =
-        let line = told.Sent (name_of pair) message ∷ [] in
+        let line = reported.Sent (name_of pair) message ∷ [] in
         let taken = taken_some 1 [] after in
         let sent = catches_sent number suffix pair known source fed is after message sends' in
-        let one = took_one number suffix after (known_after pair.follower.name known (told.Sent (name_of pair) message)) sent.0.source sent.0.fed sent.1 in
+        let one = took_one number suffix after (known_after pair.consumer_node.name known (reported.Sent (name_of pair) message)) sent.0.source sent.0.fed sent.1 in
         let both = catches_on number suffix pair after line known (Ok taken) sent.0 one in
         catches_on number suffix pair taken.0 (line ++ taken.1) known (ran_some count taken.0) both.0
-        (more taken.0 (known_by_lines pair.follower.name known (line ++ taken.1)) both.0.source both.0.fed both.1)
+        (more taken.0 (known_by_lines pair.consumer_node.name known (line ++ taken.1)) both.0.source both.0.fed both.1)
 
 -- ---- a consumer that was brought up
 
-abbrev pub UpIn : ℕ → Name → Pair → Known → Outcome → Type 0
+abbrev pub UpIn : ℕ → Name → Agreement → Known → ExchangeOutcome → Type 0
 UpIn number suffix pair known (Ok next) =
-    IsKept number suffix pair next.0 next.1 known × ((known_by_lines pair.follower.name known next.1).entries ≡ all_content number next.0.provider next.0.follower)
+    IsKept number suffix pair next.0 next.1 known × ((known_by_lines pair.consumer_node.name known next.1).entries ≡ all_content number next.0.provider next.0.consumer_node)
 UpIn number suffix pair known (Err cause) = Unit {0}
 
-caught_up : (lin : Lineage) (number : ℕ) (suffix : Name) (p : ProviderState) (f : Follower) (known : Known) → IsSource number suffix p → IsDrained (pair_of p f lin) → Catches number p f known → known.entries ≡ all_content number p f
+caught_up : (lin : Lineage) (number : ℕ) (suffix : Name) (p : ProviderState) (f : ConsumerNode) (known : Known) → IsSource number suffix p → IsDrained (agreement_of p f lin) → Catches number p f known → known.entries ≡ all_content number p f
 caught_up lin number suffix p f known source drained is = by is.state
   where
     by : GoesOn number p f is.opening known.entries ⊎ (IsAtRest f × (known.entries ≡ content_at number f.consumer.spec p.directory.writes is.opening.writes)) → known.entries ≡ all_content number p f
     by (inl goes) = up_to_date lin number suffix p f is.opening known.entries source goes drained
     by (inr rest) = rest.1 ∙ ap (content_at number f.consumer.spec p.directory.writes) is.all ∙ content_of_all number p f
 
-up_of : (number : ℕ) (suffix : Name) (pair : Pair) (known : Known) (outcome : Outcome) → CatchesIn number suffix pair known outcome → DrainedIn outcome → UpIn number suffix pair known outcome
+up_of : (number : ℕ) (suffix : Name) (pair : Agreement) (known : Known) (outcome : ExchangeOutcome) → CatchesIn number suffix pair known outcome → DrainedIn outcome → UpIn number suffix pair known outcome
 up_of number suffix pair known (Ok next) is drained =
-    (is.0, caught_up next.0.lineage number suffix next.0.provider next.0.follower (known_by_lines pair.follower.name known next.1) is.0.source drained is.1)
+    (is.0, caught_up next.0.lineage number suffix next.0.provider next.0.consumer_node (known_by_lines pair.consumer_node.name known next.1) is.0.source drained is.1)
 up_of number suffix pair known (Err cause) is drained = tt
 
 -- a new search is opened, and runs
-up_again : (number : ℕ) (suffix : Name) (pair : Pair) (known : Known) → IsSource number suffix pair.provider → IsFed number pair.provider pair.follower known → HasRoom pair.provider pair.follower
+up_again : (number : ℕ) (suffix : Name) (pair : Agreement) (known : Known) → IsSource number suffix pair.provider → IsFed number pair.provider pair.consumer_node known → HasRoom pair.provider pair.consumer_node
     → UpIn number suffix pair known (refreshes pair)
 up_again number suffix pair known source fed room = by (opens_anew pair) (opens_anew_opens number suffix pair known source fed room)
   where
-    by : (outcome : Outcome) → OpenedIn number suffix pair known false outcome → UpIn number suffix pair known (and_then outcome runs)
+    by : (outcome : ExchangeOutcome) → OpenedIn number suffix pair known false outcome → UpIn number suffix pair known (and_then outcome runs)
     by (Err cause) opened = tt
     by (Ok next) opened =
-        let k = known_by_lines pair.follower.name known next.1 in
-        let catches : Catches number next.0.provider next.0.follower k =
+        let k = known_by_lines pair.consumer_node.name known next.1 in
+        let catches : Catches number next.0.provider next.0.consumer_node k =
         record { opening = opened.1.opening; latest = opened.1.latest; all = opened.1.all; ends = opened.1.mode; state = inl opened.1.goes } in
         let ran = ran_catches (Left next.0) number suffix next.0 k opened.0.source opened.0.fed catches in
         up_of number suffix pair known (after_lines next.1 (runs next.0)) (catches_on number suffix pair next.0 next.1 known (runs next.0) opened.0 ran)
         (drained_lines next.1 (runs next.0) (ran_drained (Left next.0) next.0 opened.1.link (omega arith)))
 
 -- or the search that is open is followed
-up_already : (number : ℕ) (suffix : Name) (pair : Pair) (known : Known) → IsSource number suffix pair.provider → IsFed number pair.provider pair.follower known → IsDrained pair → follows_on pair ≡ true
+up_already : (number : ℕ) (suffix : Name) (pair : Agreement) (known : Known) → IsSource number suffix pair.provider → IsFed number pair.provider pair.consumer_node known → IsDrained pair → follows_on pair ≡ true
     → UpIn number suffix pair known (Ok (pair, []))
 up_already number suffix pair known source fed drained follows = (kept-still number suffix pair known source fed, by fed.state)
   where
-    by : IsAtRest pair.follower ⊎ IsGoing number pair.provider pair.follower known → known.entries ≡ all_content number pair.provider pair.follower
-    by (inl rest) = absurd (false≢true (ap (λ own. is_some own && is_persisting (copy_of pair.follower).running) (sym rest.search) ∙ follows))
-    by (inr going) = up_to_date pair.lineage number suffix pair.provider pair.follower going.opening known.entries source going.goes drained
+    by : IsAtRest pair.consumer_node ⊎ IsGoing number pair.provider pair.consumer_node known → known.entries ≡ all_content number pair.provider pair.consumer_node
+    by (inl rest) = absurd (false≢true (ap (λ own. is_some own && is_persisting (copy_of pair.consumer_node).session) (sym rest.search) ∙ follows))
+    by (inr going) = up_to_date pair.lineage number suffix pair.provider pair.consumer_node going.opening known.entries source going.goes drained
 
-pub catches_up_ups : (number : ℕ) (suffix : Name) (pair : Pair) (known : Known) → IsSource number suffix pair.provider → IsFed number pair.provider pair.follower known → HasRoom pair.provider pair.follower
+pub catches_up_ups : (number : ℕ) (suffix : Name) (pair : Agreement) (known : Known) → IsSource number suffix pair.provider → IsFed number pair.provider pair.consumer_node known → HasRoom pair.provider pair.consumer_node
     → IsDrained pair → UpIn number suffix pair known (catches_up pair)
 catches_up_ups number suffix pair known source fed room drained = by (follows_on pair) refl
   where
@@ -460,32 +445,32 @@ catches_up_ups number suffix pair known source fed room drained = by (follows_on
     by false is = up_again number suffix pair known source fed room
 
 -- the line at the end
-pub settled_up : (number : ℕ) (suffix : Name) (pair : Pair) (known : Known) → IsSource number suffix pair.provider → IsFed number pair.provider pair.follower known
-    → known.entries ≡ all_content number pair.provider pair.follower → IsKeptIn number suffix pair known (settled_told pair)
+pub settled_up : (number : ℕ) (suffix : Name) (pair : Agreement) (known : Known) → IsSource number suffix pair.provider → IsFed number pair.provider pair.consumer_node known
+    → known.entries ≡ all_content number pair.provider pair.consumer_node → IsKeptIn number suffix pair known (settled_reported pair)
 settled_up number suffix pair known source fed up =
-    kept-told number suffix pair pair (told.Settled (name_of pair) (length pair.provider.directory.writes)) known (λ name k. refl)
+    kept-reported number suffix pair pair (reported.Settled (name_of pair) (length pair.provider.directory.writes)) known (λ name k. refl)
     (refl, record { all = refl; exactly = up }) (kept-still number suffix pair known source fed)
 
-settled_from : (number : ℕ) (suffix : Name) (pair : Pair) (known : Known) (outcome : Outcome) → UpIn number suffix pair known outcome → IsKeptIn number suffix pair known (and_then outcome settled_told)
+settled_from : (number : ℕ) (suffix : Name) (pair : Agreement) (known : Known) (outcome : ExchangeOutcome) → UpIn number suffix pair known outcome → IsKeptIn number suffix pair known (and_then outcome settled_reported)
 settled_from number suffix pair known (Err cause) up = tt
 settled_from number suffix pair known (Ok next) up =
-    kept-lines number suffix pair next.0 next.1 known (settled_told next.0) up.0
-    (settled_up number suffix next.0 (known_by_lines pair.follower.name known next.1) up.0.source up.0.fed up.1)
+    kept-lines number suffix pair next.0 next.1 known (settled_reported next.0) up.0
+    (settled_up number suffix next.0 (known_by_lines pair.consumer_node.name known next.1) up.0.source up.0.fed up.1)
 
 -- all of a settling, after what drains
-pub settles_from : (number : ℕ) (suffix : Name) (pair : Pair) (known : Known) (outcome : Outcome) → IsKeptIn number suffix pair known outcome → DrainedIn outcome → HasRoom pair.provider pair.follower
-    → IsKeptIn number suffix pair known (and_then (and_then outcome catches_up) settled_told)
+pub settles_from : (number : ℕ) (suffix : Name) (pair : Agreement) (known : Known) (outcome : ExchangeOutcome) → IsKeptIn number suffix pair known outcome → DrainedIn outcome → HasRoom pair.provider pair.consumer_node
+    → IsKeptIn number suffix pair known (and_then (and_then outcome catches_up) settled_reported)
 settles_from number suffix pair known (Err cause) kept drained room = tt
 settles_from number suffix pair known (Ok next) kept drained room =
     settled_from number suffix pair known (after_lines next.1 (catches_up next.0))
-    (up_on (catches_up next.0) (catches_up_ups number suffix next.0 (known_by_lines pair.follower.name known next.1) kept.source kept.fed (room_after pair next.0 kept.owns room) drained))
+    (up_on (catches_up next.0) (catches_up_ups number suffix next.0 (known_by_lines pair.consumer_node.name known next.1) kept.source kept.fed (room_after pair next.0 kept.owns room) drained))
   where
-    up_on : (o : Outcome) → UpIn number suffix next.0 (known_by_lines pair.follower.name known next.1) o → UpIn number suffix pair known (after_lines next.1 o)
+    up_on : (o : ExchangeOutcome) → UpIn number suffix next.0 (known_by_lines pair.consumer_node.name known next.1) o → UpIn number suffix pair known (after_lines next.1 o)
     up_on (Err cause) up = tt
     up_on (Ok last) up = (
       kept-then number suffix pair next.0 last.0 next.1 last.1 known kept up.0,
       ap (λ (k : Known). k.entries)
-          (fold-append (known_after pair.follower.name) known next.1 last.1
-          ∙ ap (λ n. known_by_lines n (known_by_lines pair.follower.name known next.1) last.1) (sym (ap (λ (frame : Frame). frame.name) kept.same)))
+          (fold-append (known_after pair.consumer_node.name) known next.1 last.1
+          ∙ ap (λ n. known_by_lines n (known_by_lines pair.consumer_node.name known next.1) last.1) (sym (ap (λ (frame : Frame). frame.name) kept.same)))
           ∙ up.1,
     )

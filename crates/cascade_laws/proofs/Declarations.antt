@@ -1,6 +1,6 @@
 -- What holds of the nodes after a declaration.
 use Rattle.std.proofs.Common.{◌≡◌, ◌⊎◌, ◌+◌, ◌<◌, ◌≤◌, ℕ, Bool, true, false, Option, Some, None, List, [], ◌∷◌, ◌++◌, length, refl, ap, sym, subst, ◌∙◌, inl, inr, arith, append-nil, length-append}
-use Rattle.std.proofs.lemmas.Bool.{cases_Bool, leb-false}
+use Rattle.std.proofs.lemmas.Bool.{cases_Bool, leb-false, or_parts}
 use Rattle.std.specs.Prelude.{count_by, is_some, map, not, nat_le, option_map, slice_get}
 use Rattle.std.specs.List.{list_any}
 use Rattle.std.specs.Str.{bytes_eq}
@@ -8,44 +8,44 @@ use Rattle.dn_names.specs.Names.{TypeAndValue}
 use Rattle.entry_tree.specs.Selection.{Search}
 use Rattle.sync_provider.specs.declared.provider.Kind.{Kind}
 use Rattle.sync_provider.specs.declared.provider.Kind.TheVariants.{Root, Replica}
-use Rattle.cascade_nodes.specs.declared.node.Supplier.{Supplier}
-use Rattle.cascade_nodes.specs.declared.node.Follower.{Follower}
+use Rattle.cascade_nodes.specs.declared.node.ProviderNode.{ProviderNode}
+use Rattle.cascade_nodes.specs.declared.node.ConsumerNode.{ConsumerNode}
 use Rattle.cascade_world.specs.Cookies.{most_nodes}
 use Rattle.cascade_laws.specs.Headline.{Known, nothing_known, known_of, is_declaration, IsDeclared, stored_of}
 use Rattle.cascade_script.specs.Orders.{Order}
 use Rattle.cascade_script.specs.Orders.{Order as asks}
-use Rattle.cascade_world.specs.Report.{Told}
-use Rattle.cascade_world.specs.World.{State, is_supplier, is_follower, has_node, supplier_named, where_room, new_supplier, with_root, declare_root, new_follower, with_consumer, with_replica, is_offered, follow, declare_follower}
-use Rattle.cascade_laws.proofs.Climbing.{Climbs, Avoids, AllClimb, all_climb_rerouted, found_above}
+use Rattle.cascade_world.specs.ReportLines.{ReportLine}
+use Rattle.cascade_world.specs.World.{WorldState, is_provider_node, is_consumer_node, has_node, provider_node_named, where_room, new_provider_node, with_root, declare_root, new_consumer_node, with_consumer, with_replica, is_offered, follow, declare_consumer_node}
 use Rattle.cascade_laws.proofs.Exchanges.{After}
 use Rattle.cascade_laws.proofs.Feeding.{IsFed, Promises, RestIsFed, FreshIsSource}
-use Rattle.cascade_world.proofs.Finding.{find-more, find-nowhere, IsChanged, found_after, suppliers_by, followers_by, supplier_pushed, follower_pushed}
+use Rattle.cascade_world.proofs.Finding.{find-more, find-nowhere, IsChanged, found_after, provider_nodes_by, consumer_nodes_by, provider_node_pushed, consumer_node_pushed}
 use Rattle.cascade_laws.proofs.Growing.{count_more, AllBecome, grows_itself, sources_changed, rooted_grown, committers_changed, committers_but}
-use Rattle.cascade_laws.proofs.Ordered.{AsksOf, time_still, consumers_still, strangers_still, consumers_asked, strangers_asked, suppliers_declared, supplier_kept}
-use Rattle.cascade_laws.proofs.Owning.{owned_supplier, owned_follower}
+use Rattle.cascade_laws.proofs.Ordered.{AsksOf, time_still, consumers_still, strangers_still, consumers_asked, strangers_asked, provider_nodes_declared, provider_node_kept}
 use Rattle.cascade_laws.proofs.Rooting.{nothing_written}
 use Rattle.cascade_laws.proofs.Saying.{IsLeft, left_for_new}
-use Rattle.cascade_world.proofs.SameNames.{itself, or_parts, same_name}
-use Rattle.cascade_laws.proofs.Traces.{AreTold}
-use Rattle.cascade_laws.proofs.Tracking.{noted, HasCommitted, AreSources, AreNumbered, IsFollower, AreFollowers, AllApart, IsManned, AreManned, Feeds, Tracks}
+use Rattle.cascade_world.proofs.SameNames.{itself, same_name}
+use Rattle.cascade_world.proofs.Climbing.{Climbs, Avoids, AllClimb, all_climb_rerouted, found_above}
+use Rattle.cascade_world.proofs.Owning.{owned_provider_node, owned_consumer_node}
+use Rattle.cascade_world.proofs.Traced.{AreReported}
+use Rattle.cascade_laws.proofs.Tracking.{noted, HasCommitted, AreSources, AreNumbered, IsConsumerNode, AreConsumerNodes, AllApart, IsManned, AreManned, Feeds, Tracks}
 
 -- ---- a new name
 
-pub record IsNew (state : State) (name : List ℕ) : Type 0 where
-  pub supplier : suppliers_by state.suppliers name ≡ None
-  pub follower : followers_by state.followers name ≡ None
+pub record IsNew (state : WorldState) (name : List ℕ) : Type 0 where
+  pub provider_node : provider_nodes_by state.provider_nodes name ≡ None
+  pub consumer_node : consumer_nodes_by state.consumer_nodes name ≡ None
 
-is_new : (state : State) (name : List ℕ) → has_node name state ≡ false → IsNew state name
+is_new : (state : WorldState) (name : List ℕ) → has_node name state ≡ false → IsNew state name
 is_new state name new =
-    let parts = or_parts (list_any (is_supplier name) state.suppliers) (list_any (is_follower name) state.followers) new in
-    record { supplier = find-nowhere (is_supplier name) state.suppliers parts.0; follower = find-nowhere (is_follower name) state.followers parts.1 }
+    let parts = or_parts (list_any (is_provider_node name) state.provider_nodes) (list_any (is_consumer_node name) state.consumer_nodes) new in
+    record { provider_node = find-nowhere (is_provider_node name) state.provider_nodes parts.0; consumer_node = find-nowhere (is_consumer_node name) state.consumer_nodes parts.1 }
 
 -- another node has another name
-other_supplier : (state : State) (name n : List ℕ) (s : Supplier) → IsNew state name → suppliers_by state.suppliers n ≡ Some s → bytes_eq n name ≡ false
-other_supplier state name n s new e = by (bytes_eq n name) refl
+other_provider_node : (state : WorldState) (name n : List ℕ) (s : ProviderNode) → IsNew state name → provider_nodes_by state.provider_nodes n ≡ Some s → bytes_eq n name ≡ false
+other_provider_node state name n s new e = by (bytes_eq n name) refl
   where
     by : (b : Bool) → bytes_eq n name ≡ b → bytes_eq n name ≡ false
-    by true hit = let bad : None ≡ Some s = sym new.supplier ∙ ap (suppliers_by state.suppliers) (sym (same_name n name hit)) ∙ e in let never : ⊥ = cc in absurd never
+    by true hit = let bad : None ≡ Some s = sym new.provider_node ∙ ap (provider_nodes_by state.provider_nodes) (sym (same_name n name hit)) ∙ e in let never : ⊥ = cc in absurd never
     by false miss = miss
 
 -- ---- the number of a node
@@ -58,174 +58,174 @@ counted_now : (before : List Order) (order : Order) (number : ℕ) → is_declar
 counted_now before order number declares count = ap (λ n. n + 1) count ∙ sym (count_more is_declaration before order declares)
 
 -- there is room, or the declaration is refused
-room_after : (before : List Order) (said : List Told) (order : Order) (state after : State) → (state.nodes < most_nodes → Tracks (before ++ order ∷ []) (said ++ []) after) → After before said order (where_room state after)
+room_after : (before : List Order) (said : List ReportLine) (order : Order) (state after : WorldState) → (state.nodes < most_nodes → Tracks (before ++ order ∷ []) (said ++ []) after) → After before said order (where_room state after)
 room_after before said order state after is =
     elim (cases_Bool (nat_le most_nodes state.nodes)) [
       | inl full ↦ rw full tt
       | inr room ↦ rw room (is (leb-false most_nodes state.nodes room), tt)
     ]
 
-nothing_said : (before : List Order) (said : List Told) (state : State) → Tracks before said state → Tracks before (said ++ []) state
+nothing_said : (before : List Order) (said : List ReportLine) (state : WorldState) → Tracks before said state → Tracks before (said ++ []) state
 nothing_said before said state is = subst (λ s. Tracks before s state) (sym (append-nil said)) is
 
 -- ---- one provider more
 
-module _ (fresh_is : FreshIsSource) (state : State) (kind : Kind) (name : List ℕ) (suffix : List (List TypeAndValue)) (new : IsNew state name) (room : state.nodes < most_nodes) where
-  abbrev pub added : Supplier
-  added = new_supplier state kind name suffix
+module _ (fresh_is : FreshIsSource) (state : WorldState) (kind : Kind) (name : List ℕ) (suffix : List (List TypeAndValue)) (new : IsNew state name) (room : state.nodes < most_nodes) where
+  abbrev pub added : ProviderNode
+  added = new_provider_node state kind name suffix
 
-  abbrev pub more : List Supplier
-  more = state.suppliers ++ added ∷ []
+  abbrev pub more : List ProviderNode
+  more = state.provider_nodes ++ added ∷ []
 
-  pub pushed : IsChanged (suppliers_by state.suppliers) (suppliers_by more) name added
-  pushed = supplier_pushed state.suppliers added new.supplier
+  pub pushed : IsChanged (provider_nodes_by state.provider_nodes) (provider_nodes_by more) name added
+  pushed = provider_node_pushed state.provider_nodes added new.provider_node
 
-  pub sources_pushed : AreSources state.suppliers → AreSources more
+  pub sources_pushed : AreSources state.provider_nodes → AreSources more
   sources_pushed is =
       let first : 1 ≤ state.nodes + 1 = omega arith in
       let small : state.nodes + 1 ≤ 16 = omega (arith, room) in
-      sources_changed state.suppliers more name added pushed (fresh_is (state.nodes + 1) suffix kind first small) is
+      sources_changed state.provider_nodes more name added pushed (fresh_is (state.nodes + 1) suffix kind first small) is
 
-  pub numbered_pushed : AreNumbered state.nodes state.suppliers → AreNumbered (state.nodes + 1) more
+  pub numbered_pushed : AreNumbered state.nodes state.provider_nodes → AreNumbered (state.nodes + 1) more
   numbered_pushed is = record {
     within =
-        λ n s e. elim (found_after (suppliers_by state.suppliers) (suppliers_by more) name added pushed n s e) [
-          | inl here ↦ let P : Supplier → Type 0 = λ x. x.provider.directory.history ≤ state.nodes + 1 in subst P here.1 (omega arith)
+        λ n s e. elim (found_after (provider_nodes_by state.provider_nodes) (provider_nodes_by more) name added pushed n s e) [
+          | inl here ↦ let P : ProviderNode → Type 0 = λ x. x.provider.directory.history ≤ state.nodes + 1 in subst P here.1 (omega arith)
           | inr was ↦ let low = is.within n s was.1 in omega (arith, low)
         ];
-    apart = λ n m r s e e' same. by n m r s same (found_after (suppliers_by state.suppliers) (suppliers_by more) name added pushed n r e) (found_after (suppliers_by state.suppliers) (suppliers_by more) name added pushed m s e');
+    apart = λ n m r s e e' same. by n m r s same (found_after (provider_nodes_by state.provider_nodes) (provider_nodes_by more) name added pushed n r e) (found_after (provider_nodes_by state.provider_nodes) (provider_nodes_by more) name added pushed m s e');
   }
     where
-      below : (n : List ℕ) (s t : Supplier) → suppliers_by state.suppliers n ≡ Some s → added ≡ t → s.provider.directory.history ≡ t.provider.directory.history → ⊥
+      below : (n : List ℕ) (s t : ProviderNode) → provider_nodes_by state.provider_nodes n ≡ Some s → added ≡ t → s.provider.directory.history ≡ t.provider.directory.history → ⊥
       below n s t e at same =
           let low = is.within n s e in
-          let number : t.provider.directory.history ≡ state.nodes + 1 = ap (λ (x : Supplier). x.provider.directory.history) (sym at) in
+          let number : t.provider.directory.history ≡ state.nodes + 1 = ap (λ (x : ProviderNode). x.provider.directory.history) (sym at) in
           let never : ⊥ = omega (arith, low, number, same) in
           never
 
-      by : (n m : List ℕ) (r s : Supplier) → r.provider.directory.history ≡ s.provider.directory.history → ((n ≡ name) × (added ≡ r)) ⊎ ((bytes_eq n name ≡ false) × (suppliers_by state.suppliers n ≡ Some r))
-          → ((m ≡ name) × (added ≡ s)) ⊎ ((bytes_eq m name ≡ false) × (suppliers_by state.suppliers m ≡ Some s)) → n ≡ m
+      by : (n m : List ℕ) (r s : ProviderNode) → r.provider.directory.history ≡ s.provider.directory.history → ((n ≡ name) × (added ≡ r)) ⊎ ((bytes_eq n name ≡ false) × (provider_nodes_by state.provider_nodes n ≡ Some r))
+          → ((m ≡ name) × (added ≡ s)) ⊎ ((bytes_eq m name ≡ false) × (provider_nodes_by state.provider_nodes m ≡ Some s)) → n ≡ m
       by n m r s same (inl here) (inl here') = here.0 ∙ sym here'.0
       by n m r s same (inl here) (inr was) = absurd (below m s r was.1 here.1 (sym same))
       by n m r s same (inr was) (inl here) = absurd (below n r s was.1 here.1 same)
       by n m r s same (inr was) (inr was') = is.apart n m r s was.1 was'.1 same
 
-  pub become_pushed : AllBecome (suppliers_by state.suppliers) (suppliers_by more)
-  become_pushed n r e = record { now = r; there = find-more (is_supplier n) state.suppliers added r e; grows = grows_itself r }
+  pub become_pushed : AllBecome (provider_nodes_by state.provider_nodes) (provider_nodes_by more)
+  become_pushed n r e = record { now = r; there = find-more (is_provider_node n) state.provider_nodes added r e; grows = grows_itself r }
 
-  pub follower_grown : (said : List Told) (f : Follower) → IsFollower said state.nodes state.suppliers f → IsFollower said (state.nodes + 1) more f
-  follower_grown said f is = record {
-    supplier = is.supplier;
-    there = find-more (is_supplier f.source) state.suppliers added is.supplier is.there;
+  pub consumer_node_grown : (said : List ReportLine) (f : ConsumerNode) → IsConsumerNode said state.nodes state.provider_nodes f → IsConsumerNode said (state.nodes + 1) more f
+  consumer_node_grown said f is = record {
+    provider_node = is.provider_node;
+    there = find-more (is_provider_node f.source) state.provider_nodes added is.provider_node is.there;
     fed = is.fed;
     promised =
-        λ n s e. elim (found_after (suppliers_by state.suppliers) (suppliers_by more) name added pushed n s e) [
+        λ n s e. elim (found_after (provider_nodes_by state.provider_nodes) (provider_nodes_by more) name added pushed n s e) [
           | inl here ↦
               let above : state.nodes < state.nodes + 1 = omega arith in
               let small : state.nodes + 1 ≤ 16 = omega (arith, room) in
-              let P : Supplier → Type 0 = λ x. Promises x.provider.directory.history f.consumer.spec x.provider.directory.writes (known_of f.name said) in
+              let P : ProviderNode → Type 0 = λ x. Promises x.provider.directory.history f.consumer.spec x.provider.directory.writes (known_of f.name said) in
               subst P here.1 (is.undeclared (state.nodes + 1) above small)
           | inr was ↦ is.promised n s was.1
         ];
     undeclared = λ number above low. let above' : state.nodes < number = omega (arith, above) in is.undeclared number above' low;
   }
 
-  pub supplier_avoids : (n : List ℕ) (s : Supplier) → suppliers_by state.suppliers n ≡ Some s → bytes_eq n name ≡ false
-  supplier_avoids n s e = other_supplier state name n s new e
+  pub provider_node_avoids : (n : List ℕ) (s : ProviderNode) → provider_nodes_by state.provider_nodes n ≡ Some s → bytes_eq n name ≡ false
+  provider_node_avoids n s e = other_provider_node state name n s new e
 
 -- ---- one consumer more
 
-follower_later : (said : List Told) (nodes : ℕ) (suppliers : List Supplier) (f : Follower) → IsFollower said nodes suppliers f → IsFollower said (nodes + 1) suppliers f
-follower_later said nodes suppliers f is = record {
-  supplier = is.supplier;
+consumer_node_later : (said : List ReportLine) (nodes : ℕ) (provider_nodes : List ProviderNode) (f : ConsumerNode) → IsConsumerNode said nodes provider_nodes f → IsConsumerNode said (nodes + 1) provider_nodes f
+consumer_node_later said nodes provider_nodes f is = record {
+  provider_node = is.provider_node;
   there = is.there;
   fed = is.fed;
   promised = is.promised;
   undeclared = λ number above low. let above' : nodes < number = omega (arith, above) in is.undeclared number above' low;
 }
 
-numbered_later : (nodes : ℕ) (suppliers : List Supplier) → AreNumbered nodes suppliers → AreNumbered (nodes + 1) suppliers
-numbered_later nodes suppliers is = record { within = λ n s e. let low = is.within n s e in omega (arith, low); apart = is.apart }
+numbered_later : (nodes : ℕ) (provider_nodes : List ProviderNode) → AreNumbered nodes provider_nodes → AreNumbered (nodes + 1) provider_nodes
+numbered_later nodes provider_nodes is = record { within = λ n s e. let low = is.within n s e in omega (arith, low); apart = is.apart }
 
-module _ (rest_is : RestIsFed) (said : List Told) (state : State) (name source : List ℕ) (search : Search) (reload : Bool) (r : Supplier) (new : IsNew state name) (left : IsLeft name said)
-    (e : supplier_named source state ≡ Some r) (below : is_offered search r ≡ true) where
-  abbrev pub comer : Follower
-  comer = new_follower name source search reload
+module _ (rest_is : RestIsFed) (said : List ReportLine) (state : WorldState) (name source : List ℕ) (search : Search) (reload : Bool) (r : ProviderNode) (new : IsNew state name) (left : IsLeft name said)
+    (e : provider_node_named source state ≡ Some r) (below : is_offered search r ≡ true) where
+  abbrev pub comer : ConsumerNode
+  comer = new_consumer_node name source search reload
 
-  abbrev pub comers : List Follower
-  comers = state.followers ++ comer ∷ []
+  abbrev pub comers : List ConsumerNode
+  comers = state.consumer_nodes ++ comer ∷ []
 
-  pub came : IsChanged (followers_by state.followers) (followers_by comers) name comer
-  came = follower_pushed state.followers comer new.follower
+  pub came : IsChanged (consumer_nodes_by state.consumer_nodes) (consumer_nodes_by comers) name comer
+  came = consumer_node_pushed state.consumer_nodes comer new.consumer_node
 
   nothing : known_of name said ≡ nothing_known
   nothing = left.known nothing_known
 
   -- among these providers
-  pub new_follower_is : (nodes : ℕ) (suppliers : List Supplier) → suppliers_by suppliers source ≡ Some r → IsFollower said nodes suppliers comer
-  new_follower_is nodes suppliers there =
+  pub new_consumer_node_is : (nodes : ℕ) (provider_nodes : List ProviderNode) → provider_nodes_by provider_nodes source ≡ Some r → IsConsumerNode said nodes provider_nodes comer
+  new_consumer_node_is nodes provider_nodes there =
       let number = r.provider.directory.history in
       let fed : IsFed number r.provider comer nothing_known = rest_is number r.provider comer refl refl refl refl refl below in
       record {
-        supplier = r;
+        provider_node = r;
         there = there;
         fed = subst (IsFed number r.provider comer) (sym nothing) fed;
         promised = λ n s found. subst (Promises s.provider.directory.history search s.provider.directory.writes) (sym nothing) tt;
         undeclared = λ number' above low. subst (Promises number' search []) (sym nothing) tt;
       }
 
-  pub followers_came : (nodes : ℕ) (suppliers : List Supplier) → suppliers_by suppliers source ≡ Some r → AreFollowers said nodes suppliers state.followers → AreFollowers said nodes suppliers comers
-  followers_came nodes suppliers there is n g found =
-      elim (found_after (followers_by state.followers) (followers_by comers) name comer came n g found) [
-        | inl here ↦ subst (IsFollower said nodes suppliers) here.1 (new_follower_is nodes suppliers there)
+  pub consumer_nodes_came : (nodes : ℕ) (provider_nodes : List ProviderNode) → provider_nodes_by provider_nodes source ≡ Some r → AreConsumerNodes said nodes provider_nodes state.consumer_nodes → AreConsumerNodes said nodes provider_nodes comers
+  consumer_nodes_came nodes provider_nodes there is n g found =
+      elim (found_after (consumer_nodes_by state.consumer_nodes) (consumer_nodes_by comers) name comer came n g found) [
+        | inl here ↦ subst (IsConsumerNode said nodes provider_nodes) here.1 (new_consumer_node_is nodes provider_nodes there)
         | inr was ↦ is n g was.1
       ]
 
   -- it has no search
-  pub apart_came : AllApart state.followers → AllApart comers
+  pub apart_came : AllApart state.consumer_nodes → AllApart comers
   apart_came is n m g h found found' differs alike =
-      elim (found_after (followers_by state.followers) (followers_by comers) name comer came n g found) [
+      elim (found_after (consumer_nodes_by state.consumer_nodes) (consumer_nodes_by comers) name comer came n g found) [
         | inl here ↦ λ at one two. no_search g at here.1 one
         | inr was ↦
-            elim (found_after (followers_by state.followers) (followers_by comers) name comer came m h found') [
+            elim (found_after (consumer_nodes_by state.consumer_nodes) (consumer_nodes_by comers) name comer came m h found') [
               | inl here' ↦ λ at one two. no_search h at here'.1 two
               | inr was' ↦ is n m g h was.1 was'.1 differs alike
             ]
       ]
     where
-      no_search : (x : Follower) (at : ℕ) → comer ≡ x → x.search ≡ Some at → ⊥
-      no_search x at same has = let bad : None ≡ Some at = ap (λ (y : Follower). y.search) same ∙ has in cc
+      no_search : (x : ConsumerNode) (at : ℕ) → comer ≡ x → x.search ≡ Some at → ⊥
+      no_search x at same has = let bad : None ≡ Some at = ap (λ (y : ConsumerNode). y.search) same ∙ has in cc
 
   -- the providers above it have other names
-  above_avoids : Feeds said state → (path : List (List ℕ)) (n top : List ℕ) (s : Supplier) → suppliers_by state.suppliers n ≡ Some s → Climbs state.followers n path top → Avoids name (n ∷ path)
-  above_avoids feeds [] n top s there c = (other_supplier state name n s new there, tt)
+  above_avoids : Feeds said state → (path : List (List ℕ)) (n top : List ℕ) (s : ProviderNode) → provider_nodes_by state.provider_nodes n ≡ Some s → Climbs state.consumer_nodes n path top → Avoids name (n ∷ path)
+  above_avoids feeds [] n top s there c = (other_provider_node state name n s new there, tt)
   above_avoids feeds (next ∷ path) n top s there c =
-      let is = found_above (followers_by state.followers n) next c.0 in
-      let f = feeds.followers n is.follower is.there in
-      (other_supplier state name n s new there, above_avoids feeds path next top f.supplier (ap (suppliers_by state.suppliers) (sym is.source) ∙ f.there) c.1)
+      let is = found_above (consumer_nodes_by state.consumer_nodes n) next c.0 in
+      let f = feeds.consumer_nodes n is.consumer_node is.there in
+      (other_provider_node state name n s new there, above_avoids feeds path next top f.provider_node (ap (provider_nodes_by state.provider_nodes) (sym is.source) ∙ f.there) c.1)
 
   pub climbs_came : Feeds said state → AllClimb comers
   climbs_came feeds =
       let way = feeds.climbs source in
-      all_climb_rerouted state.followers comers name source way.0 way.1
-      (record { here = ap (option_map (λ (h : Follower). h.source)) came.here; others = λ other miss. ap (option_map (λ (h : Follower). h.source)) (came.others other miss) }) way.2
+      all_climb_rerouted state.consumer_nodes comers name source way.0 way.1
+      (record { here = ap (option_map (λ (h : ConsumerNode). h.source)) came.here; others = λ other miss. ap (option_map (λ (h : ConsumerNode). h.source)) (came.others other miss) }) way.2
       (above_avoids feeds way.0 source way.1 r e way.2) feeds.climbs
 
-  pub counted_came : length state.followers ≤ state.nodes → length comers ≤ state.nodes + 1
-  counted_came low = let long : length comers ≡ length state.followers + 1 = length-append state.followers (comer ∷ []) in omega (arith, long, low)
+  pub counted_came : length state.consumer_nodes ≤ state.nodes → length comers ≤ state.nodes + 1
+  counted_came low = let long : length comers ≡ length state.consumer_nodes + 1 = length-append state.consumer_nodes (comer ∷ []) in omega (arith, long, low)
 
 -- ---- a root
 
-root_tracked : FreshIsSource → (before : List Order) (said : List Told) (state : State) (name : List ℕ) (suffix : List (List TypeAndValue)) → IsNew state name → Tracks before said state → state.nodes < most_nodes
+root_tracked : FreshIsSource → (before : List Order) (said : List ReportLine) (state : WorldState) (name : List ℕ) (suffix : List (List TypeAndValue)) → IsNew state name → Tracks before said state → state.nodes < most_nodes
     → Tracks (before ++ asks.Provider name suffix ∷ []) said (with_root state name suffix)
 root_tracked fresh_is before said state name suffix new is room = record {
   orders = record {
     time = time_still before order state.clock (λ t. refl) is.orders.time;
     count = counted_now before order state.nodes refl is.orders.count;
-    suppliers =
-        suppliers_declared before order state.suppliers all name s (λ n. tt) changed (record { later = []; declared = declared_now before state.nodes order is.orders.count; accepted = refl }) is.orders.suppliers;
-    consumers = consumers_still before order state.followers (λ n f e. refl) is.orders.consumers;
-    strangers = strangers_still before order state.followers (λ n e. refl) is.orders.strangers;
+    provider_nodes =
+        provider_nodes_declared before order state.provider_nodes all name s (λ n. tt) changed (record { later = []; declared = declared_now before state.nodes order is.orders.count; accepted = refl }) is.orders.provider_nodes;
+    consumers = consumers_still before order state.consumer_nodes (λ n f e. refl) is.orders.consumers;
+    strangers = strangers_still before order state.consumer_nodes (λ n e. refl) is.orders.strangers;
   };
   feeds = record {
     clock = is.feeds.clock;
@@ -233,38 +233,38 @@ root_tracked fresh_is before said state name suffix new is room = record {
     counted = let low = is.feeds.counted in omega (arith, low);
     sources = sources_pushed fresh_is state Root name suffix new room is.feeds.sources;
     numbered = numbered_pushed fresh_is state Root name suffix new room is.feeds.numbered;
-    followers = λ n f e. follower_grown fresh_is state Root name suffix new room said f (is.feeds.followers n f e);
+    consumer_nodes = λ n f e. consumer_node_grown fresh_is state Root name suffix new room said f (is.feeds.consumer_nodes n f e);
     apart = is.feeds.apart;
-    owned = owned_supplier state.suppliers state.followers s refl is.feeds.owned;
+    owned = owned_provider_node state.provider_nodes state.consumer_nodes s refl is.feeds.owned;
     manned = manned;
     climbs = is.feeds.climbs;
-    rooted = λ n. rooted_grown state.suppliers all (become_pushed fresh_is state Root name suffix new room) (stored_of n said) (is.feeds.rooted n);
+    rooted = λ n. rooted_grown state.provider_nodes all (become_pushed fresh_is state Root name suffix new room) (stored_of n said) (is.feeds.rooted n);
   };
-  commits = committers_changed said state.suppliers all name s changed tt (committers_but name said state.suppliers is.commits);
+  commits = committers_changed said state.provider_nodes all name s changed tt (committers_but name said state.provider_nodes is.commits);
 }
   where
     order : Order
     order = asks.Provider name suffix
 
-    s : Supplier
-    s = new_supplier state Root name suffix
+    s : ProviderNode
+    s = new_provider_node state Root name suffix
 
-    all : List Supplier
-    all = state.suppliers ++ s ∷ []
+    all : List ProviderNode
+    all = state.provider_nodes ++ s ∷ []
 
-    changed : IsChanged (suppliers_by state.suppliers) (suppliers_by all) name s
+    changed : IsChanged (provider_nodes_by state.provider_nodes) (provider_nodes_by all) name s
     changed = pushed fresh_is state Root name suffix new room
 
-    manned : AreManned all state.followers
+    manned : AreManned all state.consumer_nodes
     manned n x e =
-        elim (found_after (suppliers_by state.suppliers) (suppliers_by all) name s changed n x e) [
+        elim (found_after (provider_nodes_by state.provider_nodes) (provider_nodes_by all) name s changed n x e) [
           | inl here ↦
-              let none : is_some (followers_by state.followers n) ≡ false = ap (λ m. is_some (followers_by state.followers m)) here.0 ∙ ap is_some new.follower in
-              let P : Supplier → Type 0 = λ y. IsManned y.provider.kind (is_some (followers_by state.followers n)) in subst P here.1 none
+              let none : is_some (consumer_nodes_by state.consumer_nodes n) ≡ false = ap (λ m. is_some (consumer_nodes_by state.consumer_nodes m)) here.0 ∙ ap is_some new.consumer_node in
+              let P : ProviderNode → Type 0 = λ y. IsManned y.provider.kind (is_some (consumer_nodes_by state.consumer_nodes n)) in subst P here.1 none
           | inr was ↦ is.feeds.manned n x was.1
         ]
 
-pub provider_after : FreshIsSource → (before : List Order) (said : List Told) (state : State) (name : List ℕ) (suffix : List (List TypeAndValue)) → Tracks before said state → After before said (asks.Provider name suffix) (declare_root state name suffix)
+pub provider_after : FreshIsSource → (before : List Order) (said : List ReportLine) (state : WorldState) (name : List ℕ) (suffix : List (List TypeAndValue)) → Tracks before said state → After before said (asks.Provider name suffix) (declare_root state name suffix)
 provider_after fresh_is before said state name suffix is =
     elim (cases_Bool (has_node name state)) [
       | inl taken ↦ rw taken tt
@@ -283,31 +283,31 @@ asks_consumer name source search reload = record { others = λ other now apart. 
 asks_replica : (name source : List ℕ) (search : Search) (reload : Bool) → AsksOf (asks.Replica name source search reload) name
 asks_replica name source search reload = record { others = λ other now apart. rw apart refl }
 
-consumer_tracked : RestIsFed → (before : List Order) (said : List Told) (state : State) (name source : List ℕ) (search : Search) (reload : Bool) (r : Supplier) → IsNew state name → IsLeft name said → supplier_named source state ≡ Some r
-    → is_offered search r ≡ true → Tracks before said state → state.nodes < most_nodes → Tracks (before ++ asks.Consumer name source search reload ∷ []) said (with_consumer state (new_follower name source search reload))
+consumer_tracked : RestIsFed → (before : List Order) (said : List ReportLine) (state : WorldState) (name source : List ℕ) (search : Search) (reload : Bool) (r : ProviderNode) → IsNew state name → IsLeft name said → provider_node_named source state ≡ Some r
+    → is_offered search r ≡ true → Tracks before said state → state.nodes < most_nodes → Tracks (before ++ asks.Consumer name source search reload ∷ []) said (with_consumer state (new_consumer_node name source search reload))
 consumer_tracked rest_is before said state name source search reload r new left e below is room = record {
   orders = record {
     time = time_still before order state.clock (λ t. refl) is.orders.time;
     count = counted_now before order state.nodes refl is.orders.count;
-    suppliers = λ n x found. supplier_kept before order x tt (is.orders.suppliers n x found);
+    provider_nodes = λ n x found. provider_node_kept before order x tt (is.orders.provider_nodes n x found);
     consumers =
-        consumers_asked before order state.followers all name f (asks_consumer name source search reload) (let hit = itself name in rw hit refl) changed is.orders.consumers;
-    strangers = strangers_asked before order state.followers all name f (asks_consumer name source search reload) changed is.orders.strangers;
+        consumers_asked before order state.consumer_nodes all name f (asks_consumer name source search reload) (let hit = itself name in rw hit refl) changed is.orders.consumers;
+    strangers = strangers_asked before order state.consumer_nodes all name f (asks_consumer name source search reload) changed is.orders.strangers;
   };
   feeds = record {
     clock = is.feeds.clock;
     few = omega (arith, room);
     counted = counted_came rest_is said state name source search reload r new left e below is.feeds.counted;
     sources = is.feeds.sources;
-    numbered = numbered_later state.nodes state.suppliers is.feeds.numbered;
-    followers =
-        followers_came rest_is said state name source search reload r new left e below (state.nodes + 1) state.suppliers e
-        (λ n g found. follower_later said state.nodes state.suppliers g (is.feeds.followers n g found));
+    numbered = numbered_later state.nodes state.provider_nodes is.feeds.numbered;
+    consumer_nodes =
+        consumer_nodes_came rest_is said state name source search reload r new left e below (state.nodes + 1) state.provider_nodes e
+        (λ n g found. consumer_node_later said state.nodes state.provider_nodes g (is.feeds.consumer_nodes n g found));
     apart = apart_came rest_is said state name source search reload r new left e below is.feeds.apart;
-    owned = owned_follower state.suppliers state.followers f is.feeds.owned;
+    owned = owned_consumer_node state.provider_nodes state.consumer_nodes f is.feeds.owned;
     manned =
-        λ n x found. let same = changed.others n (other_supplier state name n x new found) in
-        let P : Option Follower → Type 0 = λ o. IsManned x.provider.kind (is_some o) in
+        λ n x found. let same = changed.others n (other_provider_node state name n x new found) in
+        let P : Option ConsumerNode → Type 0 = λ o. IsManned x.provider.kind (is_some o) in
         subst P (sym same) (is.feeds.manned n x found);
     climbs = climbs_came rest_is said state name source search reload r new left e below is.feeds;
     rooted = is.feeds.rooted;
@@ -318,29 +318,29 @@ consumer_tracked rest_is before said state name source search reload r new left 
     order : Order
     order = asks.Consumer name source search reload
 
-    f : Follower
-    f = new_follower name source search reload
+    f : ConsumerNode
+    f = new_consumer_node name source search reload
 
-    all : List Follower
-    all = state.followers ++ f ∷ []
+    all : List ConsumerNode
+    all = state.consumer_nodes ++ f ∷ []
 
-    changed : IsChanged (followers_by state.followers) (followers_by all) name f
+    changed : IsChanged (consumer_nodes_by state.consumer_nodes) (consumer_nodes_by all) name f
     changed = came rest_is said state name source search reload r new left e below
 
 -- ---- a replica
 
-replica_tracked : FreshIsSource → RestIsFed → (before : List Order) (said : List Told) (state : State) (name source : List ℕ) (search : Search) (reload : Bool) (r : Supplier) → IsNew state name → IsLeft name said → supplier_named source state ≡ Some r
-    → is_offered search r ≡ true → Tracks before said state → state.nodes < most_nodes → Tracks (before ++ asks.Replica name source search reload ∷ []) said (with_replica state (new_follower name source search reload))
+replica_tracked : FreshIsSource → RestIsFed → (before : List Order) (said : List ReportLine) (state : WorldState) (name source : List ℕ) (search : Search) (reload : Bool) (r : ProviderNode) → IsNew state name → IsLeft name said → provider_node_named source state ≡ Some r
+    → is_offered search r ≡ true → Tracks before said state → state.nodes < most_nodes → Tracks (before ++ asks.Replica name source search reload ∷ []) said (with_replica state (new_consumer_node name source search reload))
 replica_tracked fresh_is rest_is before said state name source search reload r new left e below is room = record {
   orders = record {
     time = time_still before order state.clock (λ t. refl) is.orders.time;
     count = counted_now before order state.nodes refl is.orders.count;
-    suppliers =
-        suppliers_declared before order state.suppliers suppliers name s (λ n. tt) changed
-        (record { source = source; search = search; reload = reload; later = []; declared = declared_now before state.nodes order is.orders.count }) is.orders.suppliers;
+    provider_nodes =
+        provider_nodes_declared before order state.provider_nodes provider_nodes name s (λ n. tt) changed
+        (record { source = source; search = search; reload = reload; later = []; declared = declared_now before state.nodes order is.orders.count }) is.orders.provider_nodes;
     consumers =
-        consumers_asked before order state.followers followers name f (asks_replica name source search reload) (let hit = itself name in rw hit refl) changed' is.orders.consumers;
-    strangers = strangers_asked before order state.followers followers name f (asks_replica name source search reload) changed' is.orders.strangers;
+        consumers_asked before order state.consumer_nodes consumer_nodes name f (asks_replica name source search reload) (let hit = itself name in rw hit refl) changed' is.orders.consumers;
+    strangers = strangers_asked before order state.consumer_nodes consumer_nodes name f (asks_replica name source search reload) changed' is.orders.strangers;
   };
   feeds = record {
     clock = is.feeds.clock;
@@ -348,40 +348,40 @@ replica_tracked fresh_is rest_is before said state name source search reload r n
     counted = counted_came rest_is said state name source search reload r new left e below is.feeds.counted;
     sources = sources_pushed fresh_is state Replica name [] new room is.feeds.sources;
     numbered = numbered_pushed fresh_is state Replica name [] new room is.feeds.numbered;
-    followers =
-        followers_came rest_is said state name source search reload r new left e below (state.nodes + 1) suppliers (find-more (is_supplier source) state.suppliers s r e)
-        (λ n g found. follower_grown fresh_is state Replica name [] new room said g (is.feeds.followers n g found));
+    consumer_nodes =
+        consumer_nodes_came rest_is said state name source search reload r new left e below (state.nodes + 1) provider_nodes (find-more (is_provider_node source) state.provider_nodes s r e)
+        (λ n g found. consumer_node_grown fresh_is state Replica name [] new room said g (is.feeds.consumer_nodes n g found));
     apart = apart_came rest_is said state name source search reload r new left e below is.feeds.apart;
-    owned = owned_follower suppliers state.followers f (owned_supplier state.suppliers state.followers s refl is.feeds.owned);
+    owned = owned_consumer_node provider_nodes state.consumer_nodes f (owned_provider_node state.provider_nodes state.consumer_nodes s refl is.feeds.owned);
     manned = manned;
     climbs = climbs_came rest_is said state name source search reload r new left e below is.feeds;
-    rooted = λ n. rooted_grown state.suppliers suppliers (become_pushed fresh_is state Replica name [] new room) (stored_of n said) (is.feeds.rooted n);
+    rooted = λ n. rooted_grown state.provider_nodes provider_nodes (become_pushed fresh_is state Replica name [] new room) (stored_of n said) (is.feeds.rooted n);
   };
-  commits = committers_changed said state.suppliers suppliers name s changed has (committers_but name said state.suppliers is.commits);
+  commits = committers_changed said state.provider_nodes provider_nodes name s changed has (committers_but name said state.provider_nodes is.commits);
 }
   where
     order : Order
     order = asks.Replica name source search reload
 
-    f : Follower
-    f = new_follower name source search reload
+    f : ConsumerNode
+    f = new_consumer_node name source search reload
 
-    s : Supplier
-    s = new_supplier state Replica name []
+    s : ProviderNode
+    s = new_provider_node state Replica name []
 
-    suppliers : List Supplier
-    suppliers = state.suppliers ++ s ∷ []
+    provider_nodes : List ProviderNode
+    provider_nodes = state.provider_nodes ++ s ∷ []
 
-    followers : List Follower
-    followers = state.followers ++ f ∷ []
+    consumer_nodes : List ConsumerNode
+    consumer_nodes = state.consumer_nodes ++ f ∷ []
 
-    changed : IsChanged (suppliers_by state.suppliers) (suppliers_by suppliers) name s
+    changed : IsChanged (provider_nodes_by state.provider_nodes) (provider_nodes_by provider_nodes) name s
     changed = pushed fresh_is state Replica name [] new room
 
-    changed' : IsChanged (followers_by state.followers) (followers_by followers) name f
+    changed' : IsChanged (consumer_nodes_by state.consumer_nodes) (consumer_nodes_by consumer_nodes) name f
     changed' = came rest_is said state name source search reload r new left e below
 
-    -- nothing is told of it yet
+    -- nothing is reported of it yet
     has : HasCommitted (state.nodes + 1) said name [] []
     has = record {
       commits = sym (left.commits (state.nodes + 1) (record { time = 0; writes = [] }));
@@ -391,26 +391,27 @@ replica_tracked fresh_is rest_is before said state name source search reload r n
       each = λ at stored found. let bad : None ≡ Some stored = ap (λ l. slice_get l at) (sym left.stored) ∙ found in let never : ⊥ = cc in absurd never;
     }
 
-    manned : AreManned suppliers followers
+    manned : AreManned provider_nodes consumer_nodes
     manned n x found =
-        elim (found_after (suppliers_by state.suppliers) (suppliers_by suppliers) name s changed n x found) [
+        elim (found_after (provider_nodes_by state.provider_nodes) (provider_nodes_by provider_nodes) name s changed n x found) [
           | inl here ↦
-              let some : is_some (followers_by followers n) ≡ true = ap (λ m. is_some (followers_by followers m)) here.0 ∙ ap is_some changed'.here in
-              let P : Supplier → Type 0 = λ y. IsManned y.provider.kind (is_some (followers_by followers n)) in subst P here.1 some
+              let some : is_some (consumer_nodes_by consumer_nodes n) ≡ true = ap (λ m. is_some (consumer_nodes_by consumer_nodes m)) here.0 ∙ ap is_some changed'.here in
+              let P : ProviderNode → Type 0 = λ y. IsManned y.provider.kind (is_some (consumer_nodes_by consumer_nodes n)) in subst P here.1 some
           | inr was ↦
               let same = changed'.others n was.0 in
-              let P : Option Follower → Type 0 = λ o. IsManned x.provider.kind (is_some o) in subst P (sym same) (is.feeds.manned n x was.1)
+              let P : Option ConsumerNode → Type 0 = λ o. IsManned x.provider.kind (is_some o) in subst P (sym same) (is.feeds.manned n x was.1)
         ]
 
 -- ---- each with its provider
 
-inside_is : (b : Bool) → not b ≡ false → b ≡ true
+-- what is not refused is so
+pub inside_is : (b : Bool) → not b ≡ false → b ≡ true
 inside_is true h = refl
 inside_is false h = let never : true ≡ false = h in cc
 
 -- where the state after it is right, if its name is new and it may have its provider
-follow_after : (before : List Order) (said : List Told) (order : Order) (state : State) (source : List ℕ) (search : Search) (after : State) (found : Option Supplier) → supplier_named source state ≡ found
-    → ((r : Supplier) → supplier_named source state ≡ Some r → is_offered search r ≡ true → state.nodes < most_nodes → Tracks (before ++ order ∷ []) said after) → After before said order (follow state search after found)
+follow_after : (before : List Order) (said : List ReportLine) (order : Order) (state : WorldState) (source : List ℕ) (search : Search) (after : WorldState) (found : Option ProviderNode) → provider_node_named source state ≡ found
+    → ((r : ProviderNode) → provider_node_named source state ≡ Some r → is_offered search r ≡ true → state.nodes < most_nodes → Tracks (before ++ order ∷ []) said after) → After before said order (follow state search after found)
 follow_after before said order state source search after None e is = tt
 follow_after before said order state source search after (Some r) e is =
     elim (cases_Bool (not (is_offered search r))) [
@@ -419,26 +420,26 @@ follow_after before said order state source search after (Some r) e is =
           rw inside (room_after before said order state after (λ room. nothing_said (before ++ order ∷ []) said after (is r e (inside_is (is_offered search r) inside) room)))
     ]
 
-pub consumer_after : RestIsFed → (before : List Order) (said : List Told) (state : State) (name source : List ℕ) (search : Search) (reload : Bool) → AreTold state said → Tracks before said state
-    → After before said (asks.Consumer name source search reload) (declare_follower state name source search (with_consumer state (new_follower name source search reload)))
-consumer_after rest_is before said state name source search reload told is =
+pub consumer_after : RestIsFed → (before : List Order) (said : List ReportLine) (state : WorldState) (name source : List ℕ) (search : Search) (reload : Bool) → AreReported state said → Tracks before said state
+    → After before said (asks.Consumer name source search reload) (declare_consumer_node state name source search (with_consumer state (new_consumer_node name source search reload)))
+consumer_after rest_is before said state name source search reload reported is =
     elim (cases_Bool (has_node name state)) [
       | inl taken ↦ rw taken tt
       | inr new ↦
           rw new (
-          follow_after before said (asks.Consumer name source search reload) state source search (with_consumer state (new_follower name source search reload)) (supplier_named source state) refl
-          (λ r e below room. consumer_tracked rest_is before said state name source search reload r (is_new state name new) (left_for_new name state said new told.of_nodes) e below is room)
+          follow_after before said (asks.Consumer name source search reload) state source search (with_consumer state (new_consumer_node name source search reload)) (provider_node_named source state) refl
+          (λ r e below room. consumer_tracked rest_is before said state name source search reload r (is_new state name new) (left_for_new name state said new reported.of_nodes) e below is room)
           )
     ]
 
-pub replica_after : FreshIsSource → RestIsFed → (before : List Order) (said : List Told) (state : State) (name source : List ℕ) (search : Search) (reload : Bool) → AreTold state said → Tracks before said state
-    → After before said (asks.Replica name source search reload) (declare_follower state name source search (with_replica state (new_follower name source search reload)))
-replica_after fresh_is rest_is before said state name source search reload told is =
+pub replica_after : FreshIsSource → RestIsFed → (before : List Order) (said : List ReportLine) (state : WorldState) (name source : List ℕ) (search : Search) (reload : Bool) → AreReported state said → Tracks before said state
+    → After before said (asks.Replica name source search reload) (declare_consumer_node state name source search (with_replica state (new_consumer_node name source search reload)))
+replica_after fresh_is rest_is before said state name source search reload reported is =
     elim (cases_Bool (has_node name state)) [
       | inl taken ↦ rw taken tt
       | inr new ↦
           rw new (
-          follow_after before said (asks.Replica name source search reload) state source search (with_replica state (new_follower name source search reload)) (supplier_named source state) refl
-          (λ r e below room. replica_tracked fresh_is rest_is before said state name source search reload r (is_new state name new) (left_for_new name state said new told.of_nodes) e below is room)
+          follow_after before said (asks.Replica name source search reload) state source search (with_replica state (new_consumer_node name source search reload)) (provider_node_named source state) refl
+          (λ r e below room. replica_tracked fresh_is rest_is before said state name source search reload r (is_new state name new) (left_for_new name state said new reported.of_nodes) e below is room)
           )
     ]

@@ -1,4 +1,4 @@
--- What holds of the nodes after an order for a consumer and its provider, and what its lines tell.
+-- What holds of the nodes after an order for a consumer and its provider, and what its lines report.
 use Rattle.std.proofs.Common.{◌≡◌, ℕ, true, false, Option, Some, None, List, [], ◌∷◌, ◌++◌, refl, ap, sym, subst, ◌∙◌, inl, inr, arith}
 use Rattle.std.specs.Prelude.{Result, Ok, Err}
 use Rattle.std.specs.Str.{bytes_eq}
@@ -6,37 +6,39 @@ use Rattle.std.proofs.lemmas.Bool.{cases_Bool}
 use Rattle.dn_names.specs.Names.{TypeAndValue}
 use Rattle.entry_tree.specs.Selection.{Search, search_of}
 use Rattle.directory_writes.specs.Directory.{DirectoryState}
+use Rattle.directory_writes.proofs.Promised.{PromisesLast}
 use Rattle.sync_messages.specs.declared.request.Mode.TheVariants.{RefreshOnly, RefreshAndPersist}
+use Rattle.sync_wire.proofs.Servable.{SelectedCanBeServed}
 use Rattle.cascade_exchange.specs.declared.exchange.Exchange.{Exchange}
 use Rattle.cascade_exchange.specs.declared.exchange.Exchange.TheVariants as goes
 use Rattle.cascade_script.specs.declared.fault.Cause.{Cause}
-use Rattle.cascade_nodes.specs.declared.node.Supplier.{Supplier}
-use Rattle.cascade_nodes.specs.declared.node.Follower.{Follower}
+use Rattle.cascade_nodes.specs.declared.node.ProviderNode.{ProviderNode}
+use Rattle.cascade_nodes.specs.declared.node.ConsumerNode.{ConsumerNode}
 use Rattle.cascade_world.specs.Cookies.{is_later}
-use Rattle.cascade_world.specs.Exchange.{Pair, Outcome, pair_of, part_of, sent, takes, cut, idle, opens, settles}
-use Rattle.cascade_laws.specs.Headline.{Following, following, followed, known_of, IsConsumer, EachTellsRight}
+use Rattle.cascade_world.specs.Exchange.{Agreement, ExchangeOutcome, agreement_of, part_of, sent, takes, cut, idle, opens, settles}
+use Rattle.cascade_laws.specs.Headline.{Following, following, followed, known_of, IsConsumer, EachReportsRight}
 use Rattle.cascade_script.specs.Orders.{Order}
 use Rattle.cascade_script.specs.Orders.{Order as asks}
-use Rattle.cascade_world.specs.Report.{Told, stages_of}
-use Rattle.cascade_world.specs.World.{State, Step, supplier_named, follower_named, with_pair, commits_in, commits_of, with_lines, with_outcome, lineage_of, between, exchange_of, exchange}
-use Rattle.cascade_laws.proofs.Climbing.{source_apart}
+use Rattle.cascade_world.specs.ReportLines.{ReportLine, stages_of}
+use Rattle.cascade_world.specs.World.{WorldState, Step, provider_node_named, consumer_node_named, with_pair, commits_in, commits_of, with_lines, with_outcome, lineage_of, between, exchange_of, exchange}
 use Rattle.cascade_laws.proofs.Exchanged.{IsDone, done_kept, pair_feeds, pair_commits, pair_changed, pair_becomes, pair_followed}
 use Rattle.cascade_exchange.proofs.Exchanging.{Alters, AltersIn, as_before, sent_keeps, takes_keeps, cut_keeps, idle_keeps, opens_keeps, settles_keeps, lost_keeps, given_keeps}
-use Rattle.cascade_laws.proofs.Feeding.{Frame, frame_of, LinesAreRightOf, IsKept, PartsAreKept, WantsTheSame, CommitsAreKept, PromisesLast, SelectedCanBeServed}
-use Rattle.cascade_world.proofs.Finding.{IsChanged, suppliers_by, followers_by, follower_name}
+use Rattle.cascade_exchange.proofs.Silence.{sent_silent, takes_silent, cut_silent, idle_silent, opens_silent, settles_silent}
+use Rattle.cascade_laws.proofs.Feeding.{Frame, frame_of, LinesAreRightOf, IsKept, PartsAreKept, WantsTheSame, CommitsAreKept}
+use Rattle.cascade_world.proofs.Finding.{IsChanged, provider_nodes_by, consumer_nodes_by, consumer_node_name}
 use Rattle.cascade_laws.proofs.Finishing.{FinishedIn, finished}
 use Rattle.cascade_laws.proofs.Growing.{AllBecome, become_through, fed_by}
 use Rattle.cascade_laws.proofs.Ordered.{AllStill, all_still_through, still_changed, IsQuiet, orders_asked}
-use Rattle.cascade_laws.proofs.Owning.{room_of}
-use Rattle.cascade_laws.proofs.Silence.{sent_silent, takes_silent, cut_silent, idle_silent, opens_silent, settles_silent}
-use Rattle.cascade_laws.proofs.Telling.{GivenLines, GivenIn, silent_given, serves_of, lines_right}
+use Rattle.cascade_laws.proofs.Reporting.{GivenLines, GivenIn, silent_given, serves_of, lines_right}
 use Rattle.cascade_world.proofs.SameNames.{other_way}
+use Rattle.cascade_world.proofs.Climbing.{source_apart}
+use Rattle.cascade_world.proofs.Owning.{room_of}
 use Rattle.cascade_laws.proofs.Tracking.{AreCommitters, Feeds, Tracks}
 
--- what a step leaves and tells
-abbrev pub After : List Order → List Told → Order → Step → Type 0
+-- what a step leaves and reports
+abbrev pub After : List Order → List ReportLine → Order → Step → Type 0
 After before said order (Err cause) = Unit {0}
-After before said order (Ok next) = Tracks (before ++ order ∷ []) (said ++ next.1) next.0 × EachTellsRight before order said next.1
+After before said order (Ok next) = Tracks (before ++ order ∷ []) (said ++ next.1) next.0 × EachReportsRight before order said next.1
 
 -- what is known of a provider and its consumer
 pub record Known : Type 0 where
@@ -46,90 +48,90 @@ pub record Known : Type 0 where
 
 -- ---- the state after what a consumer went through with its provider, before the order counts
 
-pub record IsThrough (before : List Order) (order : Order) (said lines : List Told) (state done : State) (name : List ℕ) (f g : Follower) : Type 0 where
+pub record IsThrough (before : List Order) (order : Order) (said lines : List ReportLine) (state done : WorldState) (name : List ℕ) (f g : ConsumerNode) : Type 0 where
   pub feeds : Feeds (said ++ lines) done
-  pub commits : AreCommitters (said ++ lines) done.suppliers
-  pub suppliers : AllStill (suppliers_by state.suppliers) (suppliers_by done.suppliers)
-  pub become : AllBecome (suppliers_by state.suppliers) (suppliers_by done.suppliers)
+  pub commits : AreCommitters (said ++ lines) done.provider_nodes
+  pub provider_nodes : AllStill (provider_nodes_by state.provider_nodes) (provider_nodes_by done.provider_nodes)
+  pub become : AllBecome (provider_nodes_by state.provider_nodes) (provider_nodes_by done.provider_nodes)
   pub clock : done.clock ≡ state.clock
   pub nodes : done.nodes ≡ state.nodes
-  pub changed : IsChanged (followers_by state.followers) (followers_by done.followers) name g
-  pub right : EachTellsRight before order said lines
+  pub changed : IsChanged (consumer_nodes_by state.consumer_nodes) (consumer_nodes_by done.consumer_nodes) name g
+  pub right : EachReportsRight before order said lines
 
-abbrev pub ThroughIn : List Order → Order → List Told → State → List ℕ → Follower → Follower → Step → Type 0
+abbrev pub ThroughIn : List Order → Order → List ReportLine → WorldState → List ℕ → ConsumerNode → ConsumerNode → Step → Type 0
 ThroughIn before order said state name f g (Ok next) = IsThrough before order said next.1 state next.0 name f g
 ThroughIn before order said state name f g (Err cause) = Unit {0}
 
-pub outcome_through : Known → (wants : Search → Search) (before : List Order) (order : Order) (said : List Told) (state : State) (name : List ℕ) (f : Follower) (r : Supplier) (after : Pair) (lines : List Told) → GivenLines order lines
-    → followers_by state.followers name ≡ Some f → suppliers_by state.suppliers f.source ≡ Some r
-    → IsDone r.provider.directory.history r.provider.directory.suffix (pair_of r.provider f (lineage_of state r)) after lines (known_of f.name said) → Alters wants (pair_of r.provider f (lineage_of state r)) after lines
-    → Tracks before said state → ThroughIn before order said state name f after.follower (with_outcome state (Ok (after, lines)))
+pub outcome_through : Known → (wants : Search → Search) (before : List Order) (order : Order) (said : List ReportLine) (state : WorldState) (name : List ℕ) (f : ConsumerNode) (r : ProviderNode) (after : Agreement) (lines : List ReportLine) → GivenLines order lines
+    → consumer_nodes_by state.consumer_nodes name ≡ Some f → provider_nodes_by state.provider_nodes f.source ≡ Some r
+    → IsDone r.provider.directory.history r.provider.directory.suffix (agreement_of r.provider f (lineage_of state r)) after lines (known_of f.name said) → Alters wants (agreement_of r.provider f (lineage_of state r)) after lines
+    → Tracks before said state → ThroughIn before order said state name f after.consumer_node (with_outcome state (Ok (after, lines)))
 outcome_through known wants before order said state name f r after lines gives e e' done keeps is =
-    by (commits_of mid after.follower (stages_of lines)) finish
+    by (commits_of mid after.consumer_node (stages_of lines)) finish
   where
-    mid : State
+    mid : WorldState
     mid = with_pair state after
 
-    pair : Pair
-    pair = pair_of r.provider f (lineage_of state r)
+    pair : Agreement
+    pair = agreement_of r.provider f (lineage_of state r)
 
     number : ℕ
     number = r.provider.directory.history
 
     here : name ≡ f.name
-    here = follower_name state.followers name f e
+    here = consumer_node_name state.consumer_nodes name f e
 
     apart : bytes_eq f.source f.name ≡ false
-    apart = ap (bytes_eq f.source) (sym here) ∙ source_apart state.followers name f is.feeds.climbs e
+    apart = ap (bytes_eq f.source) (sym here) ∙ source_apart state.consumer_nodes name f is.feeds.climbs e
 
-    named : after.follower.name ≡ name
+    named : after.consumer_node.name ≡ name
     named = keeps.name ∙ sym here
 
     frame : Frame
-    frame = record (frame_of pair) { spec = after.follower.consumer.spec }
+    frame = record (frame_of pair) { spec = after.consumer_node.consumer.spec }
 
-    changed : IsChanged (suppliers_by state.suppliers) (suppliers_by mid.suppliers) f.source (record r { provider = after.provider })
+    changed : IsChanged (provider_nodes_by state.provider_nodes) (provider_nodes_by mid.provider_nodes) f.source (record r { provider = after.provider })
     changed = pair_changed known.lasts wants said state name f r after lines e e' done keeps is.feeds is.commits
 
     feeds : Feeds (said ++ lines) mid
     feeds = pair_feeds known.lasts wants said state name f r after lines e e' done keeps is.feeds is.commits
 
-    own_is : suppliers_by mid.suppliers name ≡ suppliers_by state.suppliers name
-    own_is = changed.others name (other_way f.source name (source_apart state.followers name f is.feeds.climbs e))
+    own_is : provider_nodes_by mid.provider_nodes name ≡ provider_nodes_by state.provider_nodes name
+    own_is = changed.others name (other_way f.source name (source_apart state.consumer_nodes name f is.feeds.climbs e))
 
-    finish : FinishedIn (said ++ lines) mid (commits_of mid after.follower (stages_of lines))
+    finish : FinishedIn (said ++ lines) mid (commits_of mid after.consumer_node (stages_of lines))
     finish =
-        let own = finished known.lasts known.commits known.selected said lines state mid name f number frame after.follower.consumer.spec (is.feeds.sources f.source r e').good (sym here) refl
+        let own = finished known.lasts known.commits known.selected said lines state mid name f number frame after.consumer_node.consumer.spec (is.feeds.sources f.source r e').good (sym here) refl
         (subst (λ n. LinesAreRightOf number frame (known_of n said) lines) (sym here) done.staged) e is.feeds is.commits refl own_is feeds
         (pair_commits known.lasts wants said state name f r after lines e e' done keeps is.feeds is.commits) in
-        subst (λ n. FinishedIn (said ++ lines) mid (commits_in mid after.follower.consumer.spec (stages_of lines) (supplier_named n mid))) (sym named) (own (suppliers_by mid.suppliers name) refl)
+        subst (λ n. FinishedIn (said ++ lines) mid (commits_in mid after.consumer_node.consumer.spec (stages_of lines) (provider_node_named n mid))) (sym named) (own (provider_nodes_by mid.provider_nodes name) refl)
 
-    right : EachTellsRight before order said lines
+    right : EachReportsRight before order said lines
     right =
         lines_right before order said number (frame_of pair) lines apart gives keeps.own
         (subst (λ n. IsConsumer before n f.source f.consumer.spec f.consumer.reload) here (is.orders.consumers name f e)) (serves_of before said state f r e' is) done.right
 
-    by : (outcome : Result State Cause) → FinishedIn (said ++ lines) mid outcome → ThroughIn before order said state name f after.follower (with_lines lines outcome)
+    by : (outcome : Result WorldState Cause) → FinishedIn (said ++ lines) mid outcome → ThroughIn before order said state name f after.consumer_node (with_lines lines outcome)
     by (Err cause) finish' = tt
     by (Ok last) finish' = record {
       feeds = finish'.feeds;
       commits = finish'.commits;
-      suppliers =
-          all_still_through (suppliers_by state.suppliers) (suppliers_by mid.suppliers) (suppliers_by last.suppliers)
-          (still_changed (suppliers_by state.suppliers) (suppliers_by mid.suppliers) f.source r (record r { provider = after.provider }) e' changed (record {
+      provider_nodes =
+          all_still_through (provider_nodes_by state.provider_nodes) (provider_nodes_by mid.provider_nodes) (provider_nodes_by last.provider_nodes)
+          (still_changed (provider_nodes_by state.provider_nodes) (provider_nodes_by mid.provider_nodes) f.source r (record r { provider = after.provider }) e' changed (record {
             name = refl;
             kind = keeps.kind;
             history = ap (λ (d : DirectoryState). d.history) keeps.directory;
             suffix = ap (λ (d : DirectoryState). d.suffix) keeps.directory;
             writes = λ root. ap (λ (d : DirectoryState). d.writes) keeps.directory;
-          })) finish'.suppliers;
+          })) finish'.provider_nodes;
       become =
-          become_through (suppliers_by state.suppliers) (suppliers_by mid.suppliers) (suppliers_by last.suppliers)
+          become_through (provider_nodes_by state.provider_nodes) (provider_nodes_by mid.provider_nodes) (provider_nodes_by last.provider_nodes)
           (pair_becomes known.lasts wants said state name f r after lines e e' done keeps is.feeds is.commits) finish'.become;
       clock = finish'.clock;
       nodes = finish'.nodes;
       changed =
-          subst (λ fs. IsChanged (followers_by state.followers) (followers_by fs) name after.follower) (sym finish'.followers)
+          subst (λ fs. IsChanged (consumer_nodes_by state.consumer_nodes) (consumer_nodes_by fs) name after.consumer_node) (sym finish'.consumer_nodes)
           (pair_followed known.lasts wants said state name f r after lines e e' done keeps is.feeds is.commits);
       right = right;
     }
@@ -166,8 +168,8 @@ calm_by name (goes.Give text) same = record { quiet = record { untouched = λ ot
 calm_by name goes.Idle same = record { quiet = record { untouched = λ other. tt; still = λ time. refl; undeclared = refl }; same = λ consumer now. refl }
 calm_by name (goes.Want spec) same = absurd same
 
--- what is told of a cookie is what the order gives
-given_by : (name : List ℕ) (pair : Pair) (exchange : Exchange) → WantsTheSame exchange → name ≡ pair.follower.name → GivenIn (asked_by name exchange) (part_of exchange pair)
+-- what is reported of a cookie is what the order gives
+given_by : (name : List ℕ) (pair : Agreement) (exchange : Exchange) → WantsTheSame exchange → name ≡ pair.consumer_node.name → GivenIn (asked_by name exchange) (part_of exchange pair)
 given_by name pair (goes.Open RefreshOnly) same here = silent_given (asks.OpenOnce name) false refl (opens RefreshOnly pair) (opens_silent false RefreshOnly refl pair)
 given_by name pair (goes.Open RefreshAndPersist) same here = silent_given (asks.OpenStay name) true refl (opens RefreshAndPersist pair) (opens_silent true RefreshAndPersist refl pair)
 given_by name pair (goes.Send count) same here = silent_given (asks.Send name count) false refl (sent count pair) (sent_silent false count pair)
@@ -176,7 +178,7 @@ given_by name pair goes.Cut same here = silent_given (asks.Cut name) false refl 
 given_by name pair goes.Settle same here = silent_given (asks.Settle name) false refl (settles pair) (settles_silent false refl pair)
 given_by name pair goes.Lose same here = ((sym here, refl), tt)
 given_by name pair (goes.Give text) same here =
-    elim (cases_Bool (is_later pair.follower.consumer.copy.cookie text)) [
+    elim (cases_Bool (is_later pair.consumer_node.consumer.copy.cookie text)) [
       | inl later ↦ rw later tt
       | inr good ↦ rw good ((sym here, refl), tt)
     ]
@@ -184,7 +186,7 @@ given_by name pair goes.Idle same here = silent_given (asks.Cut name) false refl
 given_by name pair (goes.Want spec) same here = absurd same
 
 -- what each keeps
-exchange_keeps : (exchange : Exchange) (pair : Pair) → WantsTheSame exchange → AltersIn as_before pair (part_of exchange pair)
+exchange_keeps : (exchange : Exchange) (pair : Agreement) → WantsTheSame exchange → AltersIn as_before pair (part_of exchange pair)
 exchange_keeps (goes.Open mode) pair same = opens_keeps mode pair
 exchange_keeps (goes.Send count) pair same = sent_keeps count pair
 exchange_keeps (goes.Take count) pair same = takes_keeps count pair
@@ -195,15 +197,15 @@ exchange_keeps (goes.Give text) pair same = given_keeps text pair
 exchange_keeps goes.Idle pair same = idle_keeps pair
 exchange_keeps (goes.Want spec) pair same = absurd same
 
-outcome_after : Known → PartsAreKept → (before : List Order) (order : Order) (said : List Told) (state : State) (name : List ℕ) (f : Follower) (r : Supplier) (exchange : Exchange) (outcome : Outcome) → WantsTheSame exchange → IsCalm order
-    → GivenIn order outcome → followers_by state.followers name ≡ Some f → suppliers_by state.suppliers f.source ≡ Some r → part_of exchange (pair_of r.provider f (lineage_of state r)) ≡ outcome
-    → AltersIn as_before (pair_of r.provider f (lineage_of state r)) outcome → Tracks before said state → After before said order (with_outcome state outcome)
+outcome_after : Known → PartsAreKept → (before : List Order) (order : Order) (said : List ReportLine) (state : WorldState) (name : List ℕ) (f : ConsumerNode) (r : ProviderNode) (exchange : Exchange) (outcome : ExchangeOutcome) → WantsTheSame exchange → IsCalm order
+    → GivenIn order outcome → consumer_nodes_by state.consumer_nodes name ≡ Some f → provider_nodes_by state.provider_nodes f.source ≡ Some r → part_of exchange (agreement_of r.provider f (lineage_of state r)) ≡ outcome
+    → AltersIn as_before (agreement_of r.provider f (lineage_of state r)) outcome → Tracks before said state → After before said order (with_outcome state outcome)
 outcome_after known parts before order said state name f r exchange (Err cause) same calm gives e e' p keeps is = tt
 outcome_after known parts before order said state name f r exchange (Ok next) same calm gives e e' p keeps is =
     by (with_outcome state (Ok next)) (outcome_through known as_before before order said state name f r next.0 next.1 gives e e' (done_kept number suffix pair next.0 next.1 (known_of f.name said) kept keeps) keeps is)
   where
-    pair : Pair
-    pair = pair_of r.provider f (lineage_of state r)
+    pair : Agreement
+    pair = agreement_of r.provider f (lineage_of state r)
 
     number : ℕ
     number = r.provider.directory.history
@@ -213,11 +215,11 @@ outcome_after known parts before order said state name f r exchange (Ok next) sa
 
     kept : IsKept number suffix pair next.0 next.1 (known_of f.name said)
     kept =
-        parts number suffix pair next.0 next.1 (known_of f.name said) exchange same (is.feeds.sources f.source r e') (fed_by said state.nodes state.suppliers f.source r f e' refl (is.feeds.followers name f e))
-        (room_of state.suppliers state.followers f.source r f e' (omega (arith, is.feeds.counted, is.feeds.few)) is.feeds.owned) p
+        parts number suffix pair next.0 next.1 (known_of f.name said) exchange same (is.feeds.sources f.source r e') (fed_by said state.nodes state.provider_nodes f.source r f e' refl (is.feeds.consumer_nodes name f e))
+        (room_of state.provider_nodes state.consumer_nodes f.source r f e' (omega (arith, is.feeds.counted, is.feeds.few)) is.feeds.owned) p
 
-    g : Follower
-    g = next.0.follower
+    g : ConsumerNode
+    g = next.0.consumer_node
 
     follows : Some (following f.source f.consumer.spec f.consumer.reload) ≡ Some (following g.source g.consumer.spec g.consumer.reload)
     follows =
@@ -230,22 +232,22 @@ outcome_after known parts before order said state name f r exchange (Ok next) sa
       record {
         orders =
             orders_asked before order state last.0 name f g calm.quiet (record { others = λ other now apart. calm.same other now }) (calm.same name (Some (following f.source f.consumer.spec f.consumer.reload)) ∙ follows) through.clock through.nodes e
-            through.changed through.suppliers is.orders;
+            through.changed through.provider_nodes is.orders;
         feeds = through.feeds;
         commits = through.commits;
       },
       through.right,
     )
 
-between_after : Known → PartsAreKept → (before : List Order) (said : List Told) (state : State) (name : List ℕ) (f : Follower) (exchange : Exchange) (supplier : Option Supplier) → WantsTheSame exchange → follower_named name state ≡ Some f
-    → supplier_named f.source state ≡ supplier → Tracks before said state → After before said (asked_by name exchange) (between state f (part_of exchange) supplier)
+between_after : Known → PartsAreKept → (before : List Order) (said : List ReportLine) (state : WorldState) (name : List ℕ) (f : ConsumerNode) (exchange : Exchange) (provider_node : Option ProviderNode) → WantsTheSame exchange → consumer_node_named name state ≡ Some f
+    → provider_node_named f.source state ≡ provider_node → Tracks before said state → After before said (asked_by name exchange) (between state f (part_of exchange) provider_node)
 between_after known parts before said state name f exchange None same e r is = tt
-between_after known parts before said state name f exchange (Some supplier) same e r is =
-    let pair = pair_of supplier.provider f (lineage_of state supplier) in
-    outcome_after known parts before (asked_by name exchange) said state name f supplier exchange (part_of exchange pair) same (calm_by name exchange same)
-    (given_by name pair exchange same (follower_name state.followers name f e)) e r refl (exchange_keeps exchange pair same) is
+between_after known parts before said state name f exchange (Some provider_node) same e r is =
+    let pair = agreement_of provider_node.provider f (lineage_of state provider_node) in
+    outcome_after known parts before (asked_by name exchange) said state name f provider_node exchange (part_of exchange pair) same (calm_by name exchange same)
+    (given_by name pair exchange same (consumer_node_name state.consumer_nodes name f e)) e r refl (exchange_keeps exchange pair same) is
 
-pub exchange_after : Known → PartsAreKept → (before : List Order) (said : List Told) (state : State) (name : List ℕ) (exchange : Exchange) (found : Option Follower) → WantsTheSame exchange → follower_named name state ≡ found → Tracks before said state
+pub exchange_after : Known → PartsAreKept → (before : List Order) (said : List ReportLine) (state : WorldState) (name : List ℕ) (exchange : Exchange) (found : Option ConsumerNode) → WantsTheSame exchange → consumer_node_named name state ≡ found → Tracks before said state
     → After before said (asked_by name exchange) (exchange_of state (part_of exchange) found)
 exchange_after known parts before said state name exchange None same e is = tt
-exchange_after known parts before said state name exchange (Some f) same e is = between_after known parts before said state name f exchange (supplier_named f.source state) same e refl is
+exchange_after known parts before said state name exchange (Some f) same e is = between_after known parts before said state name f exchange (provider_node_named f.source state) same e refl is

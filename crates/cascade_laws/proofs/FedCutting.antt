@@ -1,21 +1,26 @@
 -- A cut leaves a consumer at rest, with its entries.
 use Rattle.std.proofs.Common.{◌≡◌, ℕ, Bool, true, false, cond, Option, Some, None, List, [], ◌∷◌, length, refl, sym, ◌∙◌, inl, arith, eqb-true, subst}
+use Rattle.std.proofs.lemmas.Bool.{or_parts}
 use Rattle.std.specs.Prelude.{◌||◌, ◌==◌, not, is_some, Ok}
 use Rattle.directory_writes.specs.Directory.{DirectoryState}
 use Rattle.directory_writes.proofs.Keyed.{closed-other}
+use Rattle.directory_writes.proofs.Distinct.{AreDistinct, closed-same, distinct-closed}
+use Rattle.directory_writes.proofs.Promised.{IsPromised}
 use Rattle.dn_names.specs.Names.{TypeAndValue, is_at_or_below}
 use Rattle.sync_provider.specs.HandingOut as handing
 use Rattle.sync_provider.specs.Machine.{ProviderState}
-use Rattle.cascade_nodes.specs.declared.node.Follower.{Follower}
+use Rattle.sync_provider.proofs.Advanced.{Searches, with_searches}
+use Rattle.cascade_nodes.specs.declared.node.ConsumerNode.{ConsumerNode}
+use Rattle.cascade_nodes.proofs.Fed.{IsAtRest}
+use Rattle.cascade_exchange.proofs.Owns.{owns-still, owns-changed}
 use Rattle.cascade_world.specs.Cookies.{held_cookie}
-use Rattle.cascade_world.specs.Exchange.{Pair, Outcome, pair_of, copy_of, closed, emptied, given_up, is_busy, cut, idle, name_of}
+use Rattle.cascade_world.specs.Exchange.{Agreement, ExchangeOutcome, agreement_of, copy_of, closed, emptied, given_up, is_busy, cut, idle, name_of}
 use Rattle.cascade_laws.specs.Headline.{Known}
 use Rattle.cascade_world.specs.Origins.{Lineage}
-use Rattle.cascade_world.specs.Report.{Told as told}
-use Rattle.cascade_laws.proofs.Composing.{IsKeptIn, Keeps, promises-still, kept-still, kept-told, owns-still}
-use Rattle.cascade_laws.proofs.Distinct.{AreDistinct, closed-same, distinct-closed}
-use Rattle.cascade_laws.proofs.Feeding.{IsSource, IsPromised, IsAtRest, IsFed, IsKept}
-use Rattle.cascade_laws.proofs.Sharing.{Searches, with_searches, others-none, others-changed, owns-changed}
+use Rattle.cascade_world.specs.ReportLines.{ReportLine as reported}
+use Rattle.cascade_laws.proofs.Composing.{IsKeptIn, Keeps, promises-still, kept-still, kept-reported}
+use Rattle.cascade_laws.proofs.Feeding.{IsSource, IsFed, IsKept}
+use Rattle.cascade_laws.proofs.Sharing.{others-none, others-changed}
 
 abbrev Name : Type 0
 Name = List (List TypeAndValue)
@@ -35,13 +40,13 @@ source-searches number suffix p searches apart source = record {
 }
 
 -- what a consumer has when it rests
-pub record IsAsBefore (f g : Follower) : Type 0 where
+pub record IsAsBefore (f g : ConsumerNode) : Type 0 where
   pub held : g.consumer.copy.held ≡ f.consumer.copy.held
   pub cookie : g.consumer.copy.cookie ≡ f.consumer.copy.cookie
   pub spec : g.consumer.spec ≡ f.consumer.spec
 
 -- a consumer at rest is fed by any provider with the same writes
-pub fed-rest : (number : ℕ) (p q : ProviderState) (f g : Follower) (known : Known) → q.directory ≡ p.directory → IsFed number p f known → IsAsBefore f g → IsAtRest g
+pub fed-rest : (number : ℕ) (p q : ProviderState) (f g : ConsumerNode) (known : Known) → q.directory ≡ p.directory → IsFed number p f known → IsAsBefore f g → IsAtRest g
     → IsFed number q g known
 fed-rest number p q f g known same fed is rest = record {
   held = is.held ∙ fed.held;
@@ -55,20 +60,20 @@ fed-rest number p q f g known same fed is rest = record {
   state = inl rest;
 }
 
-pub emptied_rests : (f : Follower) → IsAtRest (emptied f (copy_of f))
-emptied_rests f = record { search = refl; running = refl; link = refl }
+pub emptied_rests : (f : ConsumerNode) → IsAtRest (emptied f (copy_of f))
+emptied_rests f = record { search = refl; session = refl; link = refl }
 
-pub given_up_kept : (lin : Lineage) (number : ℕ) (suffix : Name) (p : ProviderState) (f : Follower) (known : Known) → IsSource number suffix p → IsFed number p f known
-    → IsKept number suffix (pair_of p f lin) (given_up (pair_of p f lin) (copy_of f)) [] known
+pub given_up_kept : (lin : Lineage) (number : ℕ) (suffix : Name) (p : ProviderState) (f : ConsumerNode) (known : Known) → IsSource number suffix p → IsFed number p f known
+    → IsKept number suffix (agreement_of p f lin) (given_up (agreement_of p f lin) (copy_of f)) [] known
 given_up_kept lin number suffix p f known source fed = by f.search refl
   where
-    after : Follower
+    after : ConsumerNode
     after = emptied f (copy_of f)
 
     fed_after : (q : ProviderState) → q.directory ≡ p.directory → IsFed number q after known
     fed_after q same = fed-rest number p q f after known same fed (record { held = refl; cookie = refl; spec = refl }) (emptied_rests f)
 
-    by : (own : Option ℕ) → f.search ≡ own → IsKept number suffix (pair_of p f lin) (pair_of (closed p own) after lin) [] known
+    by : (own : Option ℕ) → f.search ≡ own → IsKept number suffix (agreement_of p f lin) (agreement_of (closed p own) after lin) [] known
     by None is = record {
       source = source;
       fed = fed_after p refl;
@@ -92,42 +97,38 @@ given_up_kept lin number suffix p f known source fed = by f.search refl
       elsewhere = promises-still number f.consumer.spec known;
     }
 
-pub cut_kept : (number : ℕ) (suffix : Name) (pair : Pair) (known : Known) → IsSource number suffix pair.provider → IsFed number pair.provider pair.follower known
-    → IsKept number suffix pair (given_up pair (copy_of pair.follower)) (told.Cut (name_of pair) ∷ []) known
+pub cut_kept : (number : ℕ) (suffix : Name) (pair : Agreement) (known : Known) → IsSource number suffix pair.provider → IsFed number pair.provider pair.consumer_node known
+    → IsKept number suffix pair (given_up pair (copy_of pair.consumer_node)) (reported.Cut (name_of pair) ∷ []) known
 cut_kept number suffix pair known source fed =
-    kept-told number suffix pair (given_up pair (copy_of pair.follower)) (told.Cut (name_of pair)) known (λ name k. refl) tt
-    (given_up_kept pair.lineage number suffix pair.provider pair.follower known source fed)
+    kept-reported number suffix pair (given_up pair (copy_of pair.consumer_node)) (reported.Cut (name_of pair)) known (λ name k. refl) tt
+    (given_up_kept pair.lineage number suffix pair.provider pair.consumer_node known source fed)
 
-pub nothing_kept : (number : ℕ) (suffix : Name) (pair : Pair) (name : List ℕ) (known : Known) → IsSource number suffix pair.provider → IsFed number pair.provider pair.follower known
-    → IsKept number suffix pair pair (told.Nothing name ∷ []) known
+pub nothing_kept : (number : ℕ) (suffix : Name) (pair : Agreement) (name : List ℕ) (known : Known) → IsSource number suffix pair.provider → IsFed number pair.provider pair.consumer_node known
+    → IsKept number suffix pair pair (reported.Nothing name ∷ []) known
 nothing_kept number suffix pair name known source fed =
-    kept-told number suffix pair pair (told.Nothing name) known (λ other k. refl) tt (kept-still number suffix pair known source fed)
+    kept-reported number suffix pair pair (reported.Nothing name) known (λ other k. refl) tt (kept-still number suffix pair known source fed)
 
 pub cut_keeps : (number : ℕ) (suffix : Name) → Keeps number suffix cut
-cut_keeps number suffix pair known source fed room = by (is_busy pair.follower)
+cut_keeps number suffix pair known source fed room = by (is_busy pair.consumer_node)
   where
-    done : Outcome
-    done = Ok (given_up pair (copy_of pair.follower), told.Cut (name_of pair) ∷ [])
+    done : ExchangeOutcome
+    done = Ok (given_up pair (copy_of pair.consumer_node), reported.Cut (name_of pair) ∷ [])
 
-    nothing : Outcome
-    nothing = Ok (pair, told.Nothing (name_of pair) ∷ [])
+    nothing : ExchangeOutcome
+    nothing = Ok (pair, reported.Nothing (name_of pair) ∷ [])
 
     by : (busy : Bool) → IsKeptIn number suffix pair known (cond busy done nothing)
     by true = cut_kept number suffix pair known source fed
     by false = nothing_kept number suffix pair (name_of pair) known source fed
 
 pub idle_keeps : (number : ℕ) (suffix : Name) → Keeps number suffix idle
-idle_keeps number suffix pair known source fed room = by (is_busy pair.follower)
+idle_keeps number suffix pair known source fed room = by (is_busy pair.consumer_node)
   where
     by : (busy : Bool) → IsKeptIn number suffix pair known (cond busy (cut pair) (Ok (pair, [])))
     by true = cut_keeps number suffix pair known source fed room
     by false = kept-still number suffix pair known source fed
 
 -- ---- a consumer that is not busy is at rest
-
-or_none : (a b : Bool) → (a || b) ≡ false → (a ≡ false) × (b ≡ false)
-or_none true b h = let never : ⊥ = cc in absurd never
-or_none false b h = (refl, h)
 
 option_none : {X : Type 0} (found : Option X) → is_some found ≡ false → found ≡ None
 option_none None h = refl
@@ -141,8 +142,8 @@ link_none (x ∷ link) h = by (length (x ∷ link) == 0) refl h
     by true is same = let none : length (x ∷ link) ≡ 0 = eqb-true (length (x ∷ link)) 0 is in absurd (omega (arith, none))
     by false is same = let never : ⊥ = cc in absurd never
 
-pub idle_rests : (f : Follower) → is_busy f ≡ false → IsAtRest f
+pub idle_rests : (f : ConsumerNode) → is_busy f ≡ false → IsAtRest f
 idle_rests f idle =
-    let parts = or_none (is_some f.search || is_some f.consumer.copy.running) (not (length f.link == 0)) idle in
-    let both = or_none (is_some f.search) (is_some f.consumer.copy.running) parts.0 in
-    record { search = option_none f.search both.0; running = option_none f.consumer.copy.running both.1; link = link_none f.link parts.1 }
+    let parts = or_parts (is_some f.search || is_some f.consumer.copy.session) (not (length f.link == 0)) idle in
+    let both = or_parts (is_some f.search) (is_some f.consumer.copy.session) parts.0 in
+    record { search = option_none f.search both.0; session = option_none f.consumer.copy.session both.1; link = link_none f.link parts.1 }

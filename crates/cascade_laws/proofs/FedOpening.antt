@@ -1,14 +1,17 @@
 -- A search that is opened feeds a consumer, and one that is refused leaves it at rest.
 use Rattle.std.proofs.Common.{◌≡◌, ℕ, Bool, true, false, cond, eq-eqb, Option, Some, None, List, [], ◌∷◌, ◌++◌, length, take, refl, ap, sym, ◌∙◌, inl, inr, arith, subst}
-use Rattle.std.specs.Prelude.{◌⊎◌, ◌&&◌, ◌==◌, Ok, Err, find, is_some, not}
+use Rattle.std.specs.Prelude.{◌⊎◌, ◌&&◌, ◌==◌, Ok, Err}
 use Rattle.std.specs.BTreeMap.{insert_entry}
 use Rattle.std.specs.Ordering.{nat_cmp}
 use Rattle.std.proofs.Math.Seq.{take-length}
 use Rattle.std.proofs.lemmas.Bool.{false≢true}
 use Rattle.std.proofs.lemmas.List.Sums.{fold-append}
 use Rattle.std.proofs.lemmas.Slice.Eq.{bytes_eq-Decides}
+use Rattle.ldap_constants.specs.declared.result_codes.TheConstants.{E_SYNC_REFRESH_REQUIRED}
 use Rattle.directory_writes.specs.Directory.{DirectoryState}
 use Rattle.directory_writes.proofs.Keyed.{opened-same}
+use Rattle.directory_writes.proofs.Distinct.{distinct-opened}
+use Rattle.directory_writes.proofs.Promised.{IsPromised}
 use Rattle.dn_names.specs.Names.{TypeAndValue, is_at_or_below}
 use Rattle.entry_tree.specs.Selection.{Search}
 use Rattle.entry_tree.specs.declared.entry.Entry.{Entry}
@@ -19,80 +22,42 @@ use Rattle.sync_messages.specs.declared.request.SyncRequest.{SyncRequest}
 use Rattle.sync_model.specs.Incremental.{number_of}
 use Rattle.sync_model.specs.Law.{Begins}
 use Rattle.sync_model.specs.Message.{SyncMessage}
-use Rattle.sync_model.specs.Stream.{Session, Start, later}
+use Rattle.sync_model.specs.Stream.{SyncOperation, Start, later}
+use Rattle.sync_model.proofs.NextMessages.{prefix_some, none_later}
 use Rattle.sync_wire.specs.Requesting.{persists}
-use Rattle.sync_provider.specs.Accepting.{is_free, numbers_from, free_number, request_code, refused_or_opened, numbered}
+use Rattle.sync_provider.specs.Accepting.{free_number}
 use Rattle.sync_provider.specs.HandingOut.{search_at}
 use Rattle.sync_provider.specs.Machine.{ProviderState}
-use Rattle.sync_provider.specs.Search.{SearchState, session_of, refresh_from, opening, pending}
+use Rattle.sync_provider.specs.Search.{session_of, refresh_from, opening, pending}
 use Rattle.sync_provider.specs.declared.searches.Accepted.{Accepted}
 use Rattle.sync_provider.specs.declared.searches.Accepted.TheVariants as accepted
-use Rattle.cascade_nodes.specs.declared.node.Follower.{Follower}
+use Rattle.sync_provider.proofs.Kept.{IsFree, request_free}
+use Rattle.sync_provider.proofs.RefreshTaken.{refresh_some}
+use Rattle.sync_provider.proofs.Whereabouts.{where_session}
+use Rattle.cascade_nodes.specs.declared.node.ConsumerNode.{ConsumerNode}
+use Rattle.cascade_nodes.proofs.Fed.{HasRoom, IsAtRest, number_free}
+use Rattle.cascade_exchange.proofs.Owns.{room_after, owns-still, owns-opened}
 use Rattle.cascade_world.specs.Cookies.{held_cookie}
-use Rattle.cascade_world.specs.Exchange.{Pair, Outcome, pair_of, copy_of, with_copy, name_of, is_busy, given_up, after_lines, and_then, idle, asking, request_from, start_of, answer_of, is_required, refused_copy, opened_by, opened_idle, opens, asked_again, opens_anew}
+use Rattle.cascade_world.specs.Exchange.{Agreement, ExchangeOutcome, agreement_of, copy_of, with_copy, name_of, is_busy, given_up, after_lines, and_then, idle, asking, request_from, start_of, answer_of, is_required, refused_copy, opened_by, opened_idle, opens, asked_again, opens_anew}
 use Rattle.cascade_laws.specs.Headline.{Opening, Known, known_after, IsServed, IsUnserved, BeginsFrom, session_over, stream_over}
 use Rattle.cascade_world.specs.Opening.{message_id, answer_to_request, with_opened}
 use Rattle.cascade_world.specs.Origins.{Lineage}
-use Rattle.cascade_world.specs.Report.{Told}
-use Rattle.cascade_world.specs.Report.{Told as told}
-use Rattle.cascade_laws.proofs.Composing.{IsKeptIn, Keeps, known_by_lines, room_after, promises-still, kept-still, kept-then, kept-lines, owns-still}
-use Rattle.cascade_laws.proofs.Distinct.{distinct-opened}
-use Rattle.cascade_laws.proofs.Feeding.{HasNext, IsSource, IsPromised, HasRoom, GoesOn, IsAtRest, IsFed, Frame, KeepsPromises, IsKept}
+use Rattle.cascade_world.specs.ReportLines.{ReportLine}
+use Rattle.cascade_world.specs.ReportLines.{ReportLine as reported}
+use Rattle.cascade_laws.proofs.Composing.{IsKeptIn, Keeps, known_by_lines, promises-still, kept-still, kept-then, kept-lines}
+use Rattle.cascade_laws.proofs.Feeding.{IsSource, GoesOn, IsFed, Frame, KeepsPromises, IsKept}
 use Rattle.cascade_laws.proofs.FedCutting.{source-searches, cut_kept, idle_rests}
-use Rattle.cascade_laws.proofs.FedTaking.{where_running}
-use Rattle.cascade_laws.proofs.Refreshes.{no_messages, part, last, refresh_is}
 use Rattle.cascade_laws.proofs.Refusing.{IsOver, refused_over}
-use Rattle.cascade_laws.proofs.Room.{number_free}
 use Rattle.cascade_laws.proofs.Served.{Says, answer_says, start_from, start_begins}
-use Rattle.cascade_laws.proofs.Sharing.{Searches, others-none, others-opened, owns-opened}
-use Rattle.cascade_laws.proofs.Streams.{some_next}
+use Rattle.cascade_laws.proofs.Sharing.{others-none, others-opened}
 
 abbrev Name : Type 0
 Name = List (List TypeAndValue)
 
--- no open search has the number, and the count is that of the writes
-pub record IsFree (d : DirectoryState) (searches : Searches) (number count : ℕ) : Type 0 where
-  pub free : search_at searches number ≡ None
-  pub counted : count ≡ length d.writes
-
--- ---- the number of a search that is accepted is free, and the count is that of the writes
-
-find_passes : {X : Type 0} (test : X → Bool) (xs : List X) (x : X) → find test xs ≡ Some x → test x ≡ true
-find_passes test [] x h = let never : ⊥ = cc in absurd never
-find_passes test (y ∷ xs) x h = by (find_passes test xs x) (test y) refl h
-  where
-    by : (find test xs ≡ Some x → test x ≡ true) → (b : Bool) → test y ≡ b → cond b (Some y) (find test xs) ≡ Some x → test x ≡ true
-    by rest true hit is = let same : y ≡ x = cc in ap test (sym same) ∙ hit
-    by rest false miss is = rest is
-
-free_none : (found : Option SearchState) → not (is_some found) ≡ true → found ≡ None
-free_none None h = refl
-free_none (Some s) h = let never : ⊥ = cc in absurd never
-
+-- the number of a search that is accepted is free, and the count is that of the writes
 pub opened_free : (p : ProviderState) (spec : Search) (request : SyncRequest) (number count : ℕ) → answer_to_request p spec (Ok request) ≡ accepted.Opened number count
     → IsFree p.directory p.searches number count
-opened_free p spec request number count = by_base (is_at_or_below spec.base p.directory.suffix)
-  where
-    by_code : (n : ℕ) → free_number p.searches ≡ Some n → (code : Option ℕ) → refused_or_opened p.directory n code ≡ accepted.Opened number count
-        → IsFree p.directory p.searches number count
-    by_code n is None e =
-        let same : n ≡ number = cc in
-        let counted : count ≡ length p.directory.writes = cc in
-        record {
-          free = ap (search_at p.searches) (sym same) ∙ free_none (search_at p.searches n) (find_passes (is_free p.searches) (numbers_from 1 64) n is);
-          counted = counted;
-        }
-    by_code n is (Some code) e = let never : ⊥ = cc in absurd never
-
-    by_number : (n : Option ℕ) → free_number p.searches ≡ n → numbered p.directory request n ≡ accepted.Opened number count
-        → IsFree p.directory p.searches number count
-    by_number None is e = let never : ⊥ = cc in absurd never
-    by_number (Some n) is e = by_code n is (request_code p.directory request) e
-
-    by_base : (b : Bool) → cond b (numbered p.directory request (free_number p.searches)) (accepted.Refused 32) ≡ accepted.Opened number count
-        → IsFree p.directory p.searches number count
-    by_base true e = by_number (free_number p.searches) refl e
-    by_base false e = let never : ⊥ = cc in absurd never
+opened_free p spec request number count = request_free p.directory p.searches request number count (is_at_or_below spec.base p.directory.suffix)
 
 -- ---- what is pending then
 
@@ -102,37 +67,27 @@ sids_of number suffix p source = ap (λ (d : DirectoryState). d.sid) source.dire
 histories_of : (number : ℕ) (suffix : Name) (p : ProviderState) → IsSource number suffix p → p.directory.history ≡ number
 histories_of number suffix p source = ap (λ (d : DirectoryState). d.history) source.directory
 
-refresh_some : (session : Session) (start : Start) (opened : ℕ) → HasNext (refresh_from session start opened)
-refresh_some session start opened = subst HasNext (sym (refresh_is session start opened)) (some_next (part session start opened) (last session start opened))
-
-front_some : (front back : List SyncMessage) → HasNext front → HasNext (front ++ back)
-front_some front back some = record { next = some.next; later = some.later ++ back; same = ap (λ ms. ms ++ back) some.same }
-
-none_later : (persists : Bool) → cond persists [] [] ≡ no_messages
-none_later true = refl
-none_later false = refl
-
 -- ---- a search that is opened
 
-abbrev with_search : Follower → Bool → ℕ → Follower
+abbrev with_search : ConsumerNode → Bool → ℕ → ConsumerNode
 with_search f persists at = record (with_copy f (asking persists (copy_of f))) { search = Some at }
 
 abbrev opening_of : Known → Bool → ℕ → Opening
 opening_of known persists count = record { writes = count; persists = persists; cookie = known.cookie; sent = [] }
 
-module _ (lin : Lineage) (number : ℕ) (suffix : Name) (p : ProviderState) (f : Follower) (known : Known) (persists : Bool) (at count : ℕ) (source : IsSource number suffix p) (fed : IsFed number p f known) (rest : IsAtRest f)
+module _ (lin : Lineage) (number : ℕ) (suffix : Name) (p : ProviderState) (f : ConsumerNode) (known : Known) (persists : Bool) (at count : ℕ) (source : IsSource number suffix p) (fed : IsFed number p f known) (rest : IsAtRest f)
     (counted : count ≡ length p.directory.writes) where
   abbrev writes : List Write
   writes = p.directory.writes
 
   abbrev start : Start
-  start = start_of (pair_of p f lin)
+  start = start_of (agreement_of p f lin)
 
   abbrev opened : Opening
   opened = opening_of known persists count
 
-  abbrev session : Session
-  session = session_over number f.consumer.spec writes opened
+  abbrev operation : SyncOperation
+  operation = session_over number f.consumer.spec writes opened
 
   abbrev after : ProviderState
   after = with_opened p at f.consumer.spec start persists
@@ -140,9 +95,9 @@ module _ (lin : Lineage) (number : ℕ) (suffix : Name) (p : ProviderState) (f :
   all_taken : take count writes ≡ writes
   all_taken = ap (λ n. take n writes) counted ∙ take-length writes
 
-  begins : Begins session start count known.entries
+  begins : Begins operation start count known.entries
   begins =
-      subst (λ n. Begins session start n known.entries) (sym counted)
+      subst (λ n. Begins operation start n known.entries) (sym counted)
       (start_begins p.directory number (sids_of number suffix p source) (histories_of number suffix p source) source.rises persists f.consumer.spec known.entries fed.ascending f.consumer.copy.cookie fed.promised)
 
   from : BeginsFrom number (take count writes) known.cookie (number_of start)
@@ -151,11 +106,11 @@ module _ (lin : Lineage) (number : ℕ) (suffix : Name) (p : ProviderState) (f :
       (subst (λ text. BeginsFrom number writes text (number_of start)) fed.cookie
       (start_from p.directory number (sids_of number suffix p source) (histories_of number suffix p source) f.consumer.copy.cookie))
 
-  rest_is : (opening p.directory message_id f.consumer.spec start persists).rest ≡ refresh_from session start count
+  rest_is : (opening p.directory message_id f.consumer.spec start persists).rest ≡ refresh_from operation start count
   rest_is =
       ap (λ sid. refresh_from (session_of persists sid p.directory.history f.consumer.spec writes) start (length writes)) (sids_of number suffix p source)
       ∙ ap (λ history. refresh_from (session_of persists number history f.consumer.spec writes) start (length writes)) (histories_of number suffix p source)
-      ∙ ap (refresh_from session start) (sym counted)
+      ∙ ap (refresh_from operation start) (sym counted)
 
   abbrev ahead : List SyncMessage
   ahead = stream_over number f.consumer.spec writes opened start 0
@@ -178,7 +133,7 @@ module _ (lin : Lineage) (number : ℕ) (suffix : Name) (p : ProviderState) (f :
     linked = [];
     pending = ahead;
     left = refl;
-    told = refl;
+    reported = refl;
     link = rest.link;
     search = record {
       search = opening p.directory message_id f.consumer.spec start persists;
@@ -188,23 +143,23 @@ module _ (lin : Lineage) (number : ℕ) (suffix : Name) (p : ProviderState) (f :
       persists = refl;
       over = refl;
       same = pending_is;
-      some = λ waits. front_some (refresh_from session start count) (cond persists (later session count 0) []) (refresh_some session start count);
+      some = λ waits. prefix_some (refresh_from operation start count) (cond persists (later operation count 0) []) (refresh_some operation start count);
     };
     place = inl (record {
       begins = begins;
-      rest = refresh_from session start count;
-      some = refresh_some session start count;
+      rest = refresh_from operation start count;
+      some = refresh_some operation start count;
       whole = refl;
-      behind = refl;
+      beyond = refl;
       copy = λ i. asking persists (record f.consumer.copy { held = fed.held i });
     });
   }
 
-  own_opening : known_after f.name known (told.Opened f.name persists count) ≡ record known { opening = Some opened }
+  own_opening : known_after f.name known (reported.Opened f.name persists count) ≡ record known { opening = Some opened }
   own_opening = ap (λ same. cond same (record known { opening = Some opened }) known) ((bytes_eq-Decides f.name f.name).1 refl)
 
   pub opened_kept : search_at p.searches at ≡ None → IsServed f.consumer.reload number writes known.cookie
-      → IsKept number suffix (pair_of p f lin) (pair_of after (with_search f persists at) lin) (told.Opened f.name persists count ∷ []) known
+      → IsKept number suffix (agreement_of p f lin) (agreement_of after (with_search f persists at) lin) (reported.Opened f.name persists count ∷ []) known
   opened_kept free served = record {
     source = source-searches number suffix p (insert_entry nat_cmp p.searches at (opening p.directory message_id f.consumer.spec start persists)) (distinct-opened p.searches at (opening p.directory message_id f.consumer.spec start persists) free source.apart) source;
     fed =
@@ -226,16 +181,16 @@ module _ (lin : Lineage) (number : ℕ) (suffix : Name) (p : ProviderState) (f :
 
 -- ---- a search that is refused
 
-abbrev with_refusal : Follower → Bool → ℕ → Follower
+abbrev with_refusal : ConsumerNode → Bool → ℕ → ConsumerNode
 with_refusal f persists code = with_copy f (refused_copy (asking persists (copy_of f)) code)
 
-own_refusal : (name : List ℕ) (known : Known) (persists : Bool) (code : ℕ) → known_after name known (told.Refused name persists code) ≡ cond (code == 4096) (record known { cookie = None }) known
-own_refusal name known persists code = ap (λ same. cond (same && code == 4096) (record known { cookie = None }) known) ((bytes_eq-Decides name name).1 refl)
+own_refusal : (name : List ℕ) (known : Known) (persists : Bool) (code : ℕ) → known_after name known (reported.Refused name persists code) ≡ cond (code == E_SYNC_REFRESH_REQUIRED) (record known { cookie = None }) known
+own_refusal name known persists code = ap (λ same. cond (same && code == E_SYNC_REFRESH_REQUIRED) (record known { cookie = None }) known) ((bytes_eq-Decides name name).1 refl)
 
 -- a search that is refused for the cookie leaves the consumer at rest, without one
-refused_kept : (lin : Lineage) (number : ℕ) (suffix : Name) (p : ProviderState) (f : Follower) (known : Known) (persists : Bool) (code : ℕ) → IsSource number suffix p → IsFed number p f known
-    → IsAtRest f → code ≡ 4096 → IsUnserved f.consumer.reload number p.directory.writes known.cookie
-    → IsKept number suffix (pair_of p f lin) (pair_of p (with_refusal f persists code) lin) (told.Refused f.name persists code ∷ []) known
+refused_kept : (lin : Lineage) (number : ℕ) (suffix : Name) (p : ProviderState) (f : ConsumerNode) (known : Known) (persists : Bool) (code : ℕ) → IsSource number suffix p → IsFed number p f known
+    → IsAtRest f → code ≡ E_SYNC_REFRESH_REQUIRED → IsUnserved f.consumer.reload number p.directory.writes known.cookie
+    → IsKept number suffix (agreement_of p f lin) (agreement_of p (with_refusal f persists code) lin) (reported.Refused f.name persists code ∷ []) known
 refused_kept lin number suffix p f known persists code source fed rest required unserved = record {
   source = source;
   fed =
@@ -246,7 +201,7 @@ refused_kept lin number suffix p f known persists code source fed rest required 
         cookie = none;
         promised = subst (λ c. IsPromised number f.consumer.spec p.directory.writes known.entries (held_cookie c)) (sym none) tt;
         below = fed.below;
-        state = inl (record { search = rest.search; running = now.running; link = rest.link });
+        state = inl (record { search = rest.search; session = now.session; link = rest.link });
       });
   right = ((refl, required, unserved), tt);
   same = refl;
@@ -255,13 +210,13 @@ refused_kept lin number suffix p f known persists code source fed rest required 
   elsewhere = subst (KeepsPromises number f.consumer.spec known) (sym refusal_is) (λ other writes least most far promised. tt);
 }
   where
-    now : IsOver f.consumer.copy (code == 4096) (refused_copy (asking persists (copy_of f)) code)
+    now : IsOver f.consumer.copy (code == E_SYNC_REFRESH_REQUIRED) (refused_copy (asking persists (copy_of f)) code)
     now = refused_over persists f.consumer.copy code
 
-    lost : (code == 4096) ≡ true
-    lost = eq-eqb code 4096 required
+    lost : (code == E_SYNC_REFRESH_REQUIRED) ≡ true
+    lost = eq-eqb code E_SYNC_REFRESH_REQUIRED required
 
-    refusal_is : known_after f.name known (told.Refused f.name persists code) ≡ record known { cookie = None }
+    refusal_is : known_after f.name known (reported.Refused f.name persists code) ≡ record known { cookie = None }
     refusal_is = own_refusal f.name known persists code ∙ ap (λ b. cond b (record known { cookie = None }) known) lost
 
     none : (refused_copy (asking persists (copy_of f)) code).cookie ≡ None
@@ -270,7 +225,7 @@ refused_kept lin number suffix p f known persists code source fed rest required 
 -- ---- a consumer at rest asks
 
 -- a search of this mode is open then, which was opened after all writes
-pub record IsOpened (number : ℕ) (p : ProviderState) (f : Follower) (known : Known) (persists : Bool) : Type 0 where
+pub record IsOpened (number : ℕ) (p : ProviderState) (f : ConsumerNode) (known : Known) (persists : Bool) : Type 0 where
   pub opening : Opening
   pub latest : known.opening ≡ Some opening
   pub all : opening.writes ≡ length p.directory.writes
@@ -279,33 +234,33 @@ pub record IsOpened (number : ℕ) (p : ProviderState) (f : Follower) (known : K
   pub link : f.link ≡ []
 
 -- or the consumer is at rest, and holds no cookie
-pub record IsRefused (f : Follower) : Type 0 where
+pub record IsRefused (f : ConsumerNode) : Type 0 where
   pub rest : IsAtRest f
   pub cookie : f.consumer.copy.cookie ≡ None
 
 -- what comes of asking
-pub record IsAsked (number : ℕ) (suffix : Name) (pair next : Pair) (lines : List Told) (known : Known) (persists : Bool) : Type 0 where
+pub record IsAsked (number : ℕ) (suffix : Name) (pair next : Agreement) (lines : List ReportLine) (known : Known) (persists : Bool) : Type 0 where
   pub kept : IsKept number suffix pair next lines known
-  pub state : IsOpened number next.provider next.follower (known_by_lines pair.follower.name known lines) persists ⊎ IsRefused next.follower
+  pub state : IsOpened number next.provider next.consumer_node (known_by_lines pair.consumer_node.name known lines) persists ⊎ IsRefused next.consumer_node
 
-abbrev pub AskedIn : ℕ → Name → Pair → Known → Bool → Outcome → Type 0
+abbrev pub AskedIn : ℕ → Name → Agreement → Known → Bool → ExchangeOutcome → Type 0
 AskedIn number suffix pair known persists (Ok next) = IsAsked number suffix pair next.0 next.1 known persists
 AskedIn number suffix pair known persists (Err cause) = ⊥
 
 -- and of asking for a search that can't be refused
-abbrev pub OpenedIn : ℕ → Name → Pair → Known → Bool → Outcome → Type 0
+abbrev pub OpenedIn : ℕ → Name → Agreement → Known → Bool → ExchangeOutcome → Type 0
 OpenedIn number suffix pair known persists (Ok next) =
-    IsKept number suffix pair next.0 next.1 known × IsOpened number next.0.provider next.0.follower (known_by_lines pair.follower.name known next.1) persists
+    IsKept number suffix pair next.0 next.1 known × IsOpened number next.0.provider next.0.consumer_node (known_by_lines pair.consumer_node.name known next.1) persists
 OpenedIn number suffix pair known persists (Err cause) = ⊥
 
 -- a search that goes on without a message in the link is open
-open_search : (number : ℕ) (p : ProviderState) (f : Follower) (opening : Opening) (entries : List Entry) → GoesOn number p f opening entries → IsAtRest f → ⊥
-open_search number p f opening entries goes rest = let is = where_running (session_over number f.consumer.spec p.directory.writes opening) goes.start opening.writes goes.count entries f.consumer.copy goes.taken goes.ahead goes.place in
-    let bad : None ≡ Some is.running = sym rest.running ∙ is.runs in
+open_search : (number : ℕ) (p : ProviderState) (f : ConsumerNode) (opening : Opening) (entries : List Entry) → GoesOn number p f opening entries → IsAtRest f → ⊥
+open_search number p f opening entries goes rest = let is = where_session (session_over number f.consumer.spec p.directory.writes opening) goes.start opening.writes goes.count entries f.consumer.copy goes.taken goes.ahead goes.place in
+    let bad : None ≡ Some is.session = sym rest.session ∙ is.runs in
     let never : ⊥ = cc in
     never
 
-module _ (lin : Lineage) (number : ℕ) (suffix : Name) (mode : Mode) (p : ProviderState) (f : Follower) (known : Known) (source : IsSource number suffix p) (fed : IsFed number p f known) (rest : IsAtRest f)
+module _ (lin : Lineage) (number : ℕ) (suffix : Name) (mode : Mode) (p : ProviderState) (f : ConsumerNode) (known : Known) (source : IsSource number suffix p) (fed : IsFed number p f known) (rest : IsAtRest f)
     (room : HasRoom p f) where
   abbrev text : Option (List ℕ)
   text = known.cookie
@@ -313,15 +268,15 @@ module _ (lin : Lineage) (number : ℕ) (suffix : Name) (mode : Mode) (p : Provi
   free_one : (n : ℕ) × (free_number p.searches ≡ Some n)
   free_one = number_free p f rest.search room
 
-  says : Says number p.directory.writes f.consumer.reload (answer_of mode (pair_of p f lin)) text
-  says = subst (Says number p.directory.writes f.consumer.reload (answer_of mode (pair_of p f lin))) fed.cookie
+  says : Says number p.directory.writes f.consumer.reload (answer_of mode (agreement_of p f lin)) text
+  says = subst (Says number p.directory.writes f.consumer.reload (answer_of mode (agreement_of p f lin))) fed.cookie
       (answer_says p.directory number (sids_of number suffix p source) (histories_of number suffix p source) p f.consumer.spec mode f.consumer.copy.cookie f.consumer.reload free_one.0 refl fed.below free_one.1)
 
   -- a search that is accepted is open then
-  opened_now : (at count : ℕ) → answer_of mode (pair_of p f lin) ≡ accepted.Opened at count
-      → IsOpened number (with_opened p at f.consumer.spec (start_of (pair_of p f lin)) (persists mode)) (with_search f (persists mode) at) (known_after f.name known (told.Opened f.name (persists mode) count)) (persists mode)
+  opened_now : (at count : ℕ) → answer_of mode (agreement_of p f lin) ≡ accepted.Opened at count
+      → IsOpened number (with_opened p at f.consumer.spec (start_of (agreement_of p f lin)) (persists mode)) (with_search f (persists mode) at) (known_after f.name known (reported.Opened f.name (persists mode) count)) (persists mode)
   opened_now at count is =
-      let free = opened_free p f.consumer.spec (request_from mode (pair_of p f lin)) at count is in
+      let free = opened_free p f.consumer.spec (request_from mode (agreement_of p f lin)) at count is in
       let same = own_opening lin number suffix p f known (persists mode) at count source fed rest free.counted in
       record {
         opening = opening_of known (persists mode) count;
@@ -329,17 +284,17 @@ module _ (lin : Lineage) (number : ℕ) (suffix : Name) (mode : Mode) (p : Provi
         all = free.counted;
         mode = refl;
         goes =
-            subst (λ (k : Known). GoesOn number (with_opened p at f.consumer.spec (start_of (pair_of p f lin)) (persists mode)) (with_search f (persists mode) at) (opening_of known (persists mode) count) k.entries)
+            subst (λ (k : Known). GoesOn number (with_opened p at f.consumer.spec (start_of (agreement_of p f lin)) (persists mode)) (with_search f (persists mode) at) (opening_of known (persists mode) count) k.entries)
             (sym same) (opened_goes lin number suffix p f known (persists mode) at count source fed rest free.counted);
         link = rest.link;
       }
 
-  pub rest_opens : AskedIn number suffix (pair_of p f lin) known (persists mode) (opened_idle mode (pair_of p f lin))
-  rest_opens = by (answer_of mode (pair_of p f lin)) refl
+  pub rest_opens : AskedIn number suffix (agreement_of p f lin) known (persists mode) (opened_idle mode (agreement_of p f lin))
+  rest_opens = by (answer_of mode (agreement_of p f lin)) refl
     where
-      by : (answer : Accepted) → answer_of mode (pair_of p f lin) ≡ answer → AskedIn number suffix (pair_of p f lin) known (persists mode) (opened_by mode (pair_of p f lin) answer)
+      by : (answer : Accepted) → answer_of mode (agreement_of p f lin) ≡ answer → AskedIn number suffix (agreement_of p f lin) known (persists mode) (opened_by mode (agreement_of p f lin) answer)
       by (accepted.Opened at count) is =
-          let free = opened_free p f.consumer.spec (request_from mode (pair_of p f lin)) at count is in
+          let free = opened_free p f.consumer.spec (request_from mode (agreement_of p f lin)) at count is in
           record {
             kept =
                 opened_kept lin number suffix p f known (persists mode) at count source fed rest free.counted free.free
@@ -352,19 +307,19 @@ module _ (lin : Lineage) (number : ℕ) (suffix : Name) (mode : Mode) (p : Provi
           record {
             kept = refused_kept lin number suffix p f known (persists mode) code source fed rest why.0 why.1;
             state = inr (record {
-              rest = record { search = rest.search; running = now.running; link = rest.link };
-              cookie = now.cookie ∙ ap (λ b. cond b None f.consumer.copy.cookie) (eq-eqb code 4096 why.0);
+              rest = record { search = rest.search; session = now.session; link = rest.link };
+              cookie = now.cookie ∙ ap (λ b. cond b None f.consumer.copy.cookie) (eq-eqb code E_SYNC_REFRESH_REQUIRED why.0);
             });
           }
       by accepted.NoMemory is = absurd (subst (λ a. Says number p.directory.writes f.consumer.reload a text) is says)
 
   -- without a cookie nothing is in the way
-  pub bare_opens : f.consumer.copy.cookie ≡ None → OpenedIn number suffix (pair_of p f lin) known (persists mode) (opened_idle mode (pair_of p f lin))
-  bare_opens none = by (answer_of mode (pair_of p f lin)) refl
+  pub bare_opens : f.consumer.copy.cookie ≡ None → OpenedIn number suffix (agreement_of p f lin) known (persists mode) (opened_idle mode (agreement_of p f lin))
+  bare_opens none = by (answer_of mode (agreement_of p f lin)) refl
     where
-      by : (answer : Accepted) → answer_of mode (pair_of p f lin) ≡ answer → OpenedIn number suffix (pair_of p f lin) known (persists mode) (opened_by mode (pair_of p f lin) answer)
+      by : (answer : Accepted) → answer_of mode (agreement_of p f lin) ≡ answer → OpenedIn number suffix (agreement_of p f lin) known (persists mode) (opened_by mode (agreement_of p f lin) answer)
       by (accepted.Opened at count) is =
-          let free = opened_free p f.consumer.spec (request_from mode (pair_of p f lin)) at count is in (
+          let free = opened_free p f.consumer.spec (request_from mode (agreement_of p f lin)) at count is in (
             opened_kept lin number suffix p f known (persists mode) at count source fed rest free.counted free.free
                 (subst (λ a. Says number p.directory.writes f.consumer.reload a text) is says),
             opened_now at count is,
@@ -376,36 +331,36 @@ module _ (lin : Lineage) (number : ℕ) (suffix : Name) (mode : Mode) (p : Provi
 
 -- ---- a search that is refused is asked for again, without a cookie
 
-kept_opened : (number : ℕ) (suffix : Name) (one two : Pair) (lines : List Told) (known : Known) (mode : Bool) (outcome : Outcome) → IsKept number suffix one two lines known
-    → OpenedIn number suffix two (known_by_lines one.follower.name known lines) mode outcome → OpenedIn number suffix one known mode (after_lines lines outcome)
+kept_opened : (number : ℕ) (suffix : Name) (one two : Agreement) (lines : List ReportLine) (known : Known) (mode : Bool) (outcome : ExchangeOutcome) → IsKept number suffix one two lines known
+    → OpenedIn number suffix two (known_by_lines one.consumer_node.name known lines) mode outcome → OpenedIn number suffix one known mode (after_lines lines outcome)
 kept_opened number suffix one two lines known mode (Err cause) first then = then
 kept_opened number suffix one two lines known mode (Ok next) first then = (
   kept-then number suffix one two next.0 lines next.1 known first then.0,
-  subst (λ k. IsOpened number next.0.provider next.0.follower k mode)
-      (ap (λ n. known_by_lines n (known_by_lines one.follower.name known lines) next.1) (ap (λ (frame : Frame). frame.name) first.same) ∙ sym (fold-append (known_after one.follower.name) known lines next.1)) then.1,
+  subst (λ k. IsOpened number next.0.provider next.0.consumer_node k mode)
+      (ap (λ n. known_by_lines n (known_by_lines one.consumer_node.name known lines) next.1) (ap (λ (frame : Frame). frame.name) first.same) ∙ sym (fold-append (known_after one.consumer_node.name) known lines next.1)) then.1,
 )
 
-rest_again : (lin : Lineage) (number : ℕ) (suffix : Name) (p : ProviderState) (f : Follower) (known : Known) → IsSource number suffix p → IsFed number p f known → IsAtRest f → HasRoom p f
-    → OpenedIn number suffix (pair_of p f lin) known false (asked_again (pair_of p f lin))
-rest_again lin number suffix p f known source fed rest room = by (answer_of RefreshOnly (pair_of p f lin)) refl (rest_opens lin number suffix RefreshOnly p f known source fed rest room)
+rest_again : (lin : Lineage) (number : ℕ) (suffix : Name) (p : ProviderState) (f : ConsumerNode) (known : Known) → IsSource number suffix p → IsFed number p f known → IsAtRest f → HasRoom p f
+    → OpenedIn number suffix (agreement_of p f lin) known false (asked_again (agreement_of p f lin))
+rest_again lin number suffix p f known source fed rest room = by (answer_of RefreshOnly (agreement_of p f lin)) refl (rest_opens lin number suffix RefreshOnly p f known source fed rest room)
   where
-    pair : Pair
-    pair = pair_of p f lin
+    pair : Agreement
+    pair = agreement_of p f lin
 
-    Opened' : Outcome → Type 0
+    Opened' : ExchangeOutcome → Type 0
     Opened' outcome = OpenedIn number suffix pair known false outcome
 
-    second : (code : ℕ) → IsAsked number suffix pair (pair_of p (with_refusal f false code) lin) (told.Refused f.name false code ∷ []) known false
-        → Opened' (after_lines (told.Refused f.name false code ∷ []) (opened_idle RefreshOnly (pair_of p (with_refusal f false code) lin)))
+    second : (code : ℕ) → IsAsked number suffix pair (agreement_of p (with_refusal f false code) lin) (reported.Refused f.name false code ∷ []) known false
+        → Opened' (after_lines (reported.Refused f.name false code ∷ []) (opened_idle RefreshOnly (agreement_of p (with_refusal f false code) lin)))
     second code asked =
-        kept_opened number suffix pair (pair_of p (with_refusal f false code) lin) (told.Refused f.name false code ∷ []) known false (opened_idle RefreshOnly (pair_of p (with_refusal f false code) lin)) asked.kept
-        (bare_opens lin number suffix RefreshOnly p (with_refusal f false code) (known_after f.name known (told.Refused f.name false code)) asked.kept.source asked.kept.fed over'.rest
-        (room_after pair (pair_of p (with_refusal f false code) lin) asked.kept.owns room) over'.cookie)
+        kept_opened number suffix pair (agreement_of p (with_refusal f false code) lin) (reported.Refused f.name false code ∷ []) known false (opened_idle RefreshOnly (agreement_of p (with_refusal f false code) lin)) asked.kept
+        (bare_opens lin number suffix RefreshOnly p (with_refusal f false code) (known_after f.name known (reported.Refused f.name false code)) asked.kept.source asked.kept.fed over'.rest
+        (room_after pair (agreement_of p (with_refusal f false code) lin) asked.kept.owns room) over'.cookie)
       where
-        not_open : IsOpened number p (with_refusal f false code) (known_after f.name known (told.Refused f.name false code)) false → ⊥
-        not_open opened' = open_search number p (with_refusal f false code) opened'.opening _ opened'.goes (record { search = rest.search; running = (refused_over false f.consumer.copy code).running; link = rest.link })
+        not_open : IsOpened number p (with_refusal f false code) (known_after f.name known (reported.Refused f.name false code)) false → ⊥
+        not_open opened' = open_search number p (with_refusal f false code) opened'.opening _ opened'.goes (record { search = rest.search; session = (refused_over false f.consumer.copy code).session; link = rest.link })
 
-        refused' : IsOpened number p (with_refusal f false code) (known_after f.name known (told.Refused f.name false code)) false ⊎ IsRefused (with_refusal f false code) → IsRefused (with_refusal f false code)
+        refused' : IsOpened number p (with_refusal f false code) (known_after f.name known (reported.Refused f.name false code)) false ⊎ IsRefused (with_refusal f false code) → IsRefused (with_refusal f false code)
         refused' (inl opened') = absurd (not_open opened')
         refused' (inr is) = is
 
@@ -427,8 +382,8 @@ rest_again lin number suffix p f known source fed rest room = by (answer_of Refr
         now : AskedIn number suffix pair known false (opened_by RefreshOnly pair (accepted.Refused code))
         now = subst (λ a. AskedIn number suffix pair known false (opened_by RefreshOnly pair a)) is asked
 
-        required : (code == 4096) ≡ true
-        required = eq-eqb code 4096 now.kept.right.0.1
+        required : (code == E_SYNC_REFRESH_REQUIRED) ≡ true
+        required = eq-eqb code E_SYNC_REFRESH_REQUIRED now.kept.right.0.1
     by accepted.NoMemory is asked =
         let now = subst (λ a. Says number p.directory.writes f.consumer.reload a known.cookie) is
         (says lin number suffix RefreshOnly p f known source fed rest room) in
@@ -437,38 +392,38 @@ rest_again lin number suffix p f known source fed rest room = by (answer_of Refr
 -- ---- a consumer that is busy is cut before it asks
 
 -- the consumer is at rest then
-idle_then : (number : ℕ) (suffix : Name) (asks : Pair → Outcome) (Good : Pair → Known → Outcome → Type 0) (pair : Pair) (known : Known)
-    → ((lines : List Told) (two : Pair) (outcome : Outcome) → IsKept number suffix pair two lines known → Good two (known_by_lines pair.follower.name known lines) outcome → Good pair known (after_lines lines outcome))
-    → ((lin : Lineage) (p : ProviderState) (f : Follower) (k : Known) → IsSource number suffix p → IsFed number p f k → IsAtRest f → HasRoom p f → Good (pair_of p f lin) k (asks (pair_of p f lin)))
-    → IsSource number suffix pair.provider → IsFed number pair.provider pair.follower known → HasRoom pair.provider pair.follower
+idle_then : (number : ℕ) (suffix : Name) (asks : Agreement → ExchangeOutcome) (Good : Agreement → Known → ExchangeOutcome → Type 0) (pair : Agreement) (known : Known)
+    → ((lines : List ReportLine) (two : Agreement) (outcome : ExchangeOutcome) → IsKept number suffix pair two lines known → Good two (known_by_lines pair.consumer_node.name known lines) outcome → Good pair known (after_lines lines outcome))
+    → ((lin : Lineage) (p : ProviderState) (f : ConsumerNode) (k : Known) → IsSource number suffix p → IsFed number p f k → IsAtRest f → HasRoom p f → Good (agreement_of p f lin) k (asks (agreement_of p f lin)))
+    → IsSource number suffix pair.provider → IsFed number pair.provider pair.consumer_node known → HasRoom pair.provider pair.consumer_node
     → Good pair known (and_then (idle pair) asks)
-idle_then number suffix asks Good pair known joins rests source fed room = by (is_busy pair.follower) refl
+idle_then number suffix asks Good pair known joins rests source fed room = by (is_busy pair.consumer_node) refl
   where
-    after : Pair
-    after = given_up pair (copy_of pair.follower)
+    after : Agreement
+    after = given_up pair (copy_of pair.consumer_node)
 
-    cut_off : Outcome
-    cut_off = Ok (after, told.Cut (name_of pair) ∷ [])
+    cut_off : ExchangeOutcome
+    cut_off = Ok (after, reported.Cut (name_of pair) ∷ [])
 
-    nothing : Outcome
-    nothing = Ok (pair, told.Nothing (name_of pair) ∷ [])
+    nothing : ExchangeOutcome
+    nothing = Ok (pair, reported.Nothing (name_of pair) ∷ [])
 
-    none : Outcome
+    none : ExchangeOutcome
     none = Ok (pair, [])
 
-    cut : IsKept number suffix pair after (told.Cut (name_of pair) ∷ []) known
+    cut : IsKept number suffix pair after (reported.Cut (name_of pair) ∷ []) known
     cut = cut_kept number suffix pair known source fed
 
-    by : (busy : Bool) → is_busy pair.follower ≡ busy → Good pair known (and_then (cond busy (cond (is_busy pair.follower) cut_off nothing) none) asks)
+    by : (busy : Bool) → is_busy pair.consumer_node ≡ busy → Good pair known (and_then (cond busy (cond (is_busy pair.consumer_node) cut_off nothing) none) asks)
     by true is =
         subst (λ b. Good pair known (and_then (cond b cut_off nothing) asks)) (sym is)
-        (joins (told.Cut (name_of pair) ∷ []) after (asks after) cut
-        (rests after.lineage after.provider after.follower known cut.source cut.fed (record { search = refl; running = refl; link = refl }) (room_after pair after cut.owns room)))
+        (joins (reported.Cut (name_of pair) ∷ []) after (asks after) cut
+        (rests after.lineage after.provider after.consumer_node known cut.source cut.fed (record { search = refl; session = refl; link = refl }) (room_after pair after cut.owns room)))
     by false is =
         joins [] pair (asks pair) (kept-still number suffix pair known source fed)
-        (rests pair.lineage pair.provider pair.follower known source fed (idle_rests pair.follower is) room)
+        (rests pair.lineage pair.provider pair.consumer_node known source fed (idle_rests pair.consumer_node is) room)
 
-asked_kept : (number : ℕ) (suffix : Name) (pair : Pair) (known : Known) (mode : Bool) (outcome : Outcome) → AskedIn number suffix pair known mode outcome → IsKeptIn number suffix pair known outcome
+asked_kept : (number : ℕ) (suffix : Name) (pair : Agreement) (known : Known) (mode : Bool) (outcome : ExchangeOutcome) → AskedIn number suffix pair known mode outcome → IsKeptIn number suffix pair known outcome
 asked_kept number suffix pair known mode (Ok next) asked = asked.kept
 asked_kept number suffix pair known mode (Err cause) asked = tt
 
@@ -476,11 +431,11 @@ pub opens_keeps : (mode : Mode) (number : ℕ) (suffix : Name) → Keeps number 
 opens_keeps mode number suffix pair known source fed room =
     idle_then number suffix (opened_idle mode) (IsKeptIn number suffix) pair known
     (λ lines two outcome first then. kept-lines number suffix pair two lines known outcome first then)
-    (λ lin p f k source' fed' rest room'. asked_kept number suffix (pair_of p f lin) k (persists mode) (opened_idle mode (pair_of p f lin)) (rest_opens lin number suffix mode p f k source' fed' rest room'))
+    (λ lin p f k source' fed' rest room'. asked_kept number suffix (agreement_of p f lin) k (persists mode) (opened_idle mode (agreement_of p f lin)) (rest_opens lin number suffix mode p f k source' fed' rest room'))
     source fed room
 
 -- a search that ends with its refresh is open then
-pub opens_anew_opens : (number : ℕ) (suffix : Name) (pair : Pair) (known : Known) → IsSource number suffix pair.provider → IsFed number pair.provider pair.follower known → HasRoom pair.provider pair.follower
+pub opens_anew_opens : (number : ℕ) (suffix : Name) (pair : Agreement) (known : Known) → IsSource number suffix pair.provider → IsFed number pair.provider pair.consumer_node known → HasRoom pair.provider pair.consumer_node
     → OpenedIn number suffix pair known false (opens_anew pair)
 opens_anew_opens number suffix pair known source fed room =
     idle_then number suffix asked_again (λ one k outcome. OpenedIn number suffix one k false outcome) pair known

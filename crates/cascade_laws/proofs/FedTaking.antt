@@ -5,13 +5,16 @@ use Rattle.std.specs.Prelude.{◌⊎◌, ◌||◌, ◌==◌, not, pos, All}
 use Rattle.std.specs.Ordering.{int_eq}
 use Rattle.std.proofs.lemmas.Bool.{true≢false}
 use Rattle.std.proofs.lemmas.Slice.Eq.{bytes_eq-Decides}
+use Rattle.ldap_constants.specs.declared.result_codes.TheConstants.{SUCCESS, BUSY}
 use Rattle.csn_cookie.specs.Cookie.{cookie_text, cookie_of_text}
 use Rattle.csn_cookie.specs.Csn.{start}
 use Rattle.csn_cookie.specs.declared.cookie.Cookie.{Cookie}
 use Rattle.csn_cookie.proofs.CookieLemmas.{cookie_of_text-cookie_text, cookie_of_text-spelled}
 use Rattle.csn_cookie.proofs.OrderLemmas.{is_upto-itself}
-use Rattle.directory_writes.specs.Directory.{cookie_at, entries_after, last_stamp, stamps}
-use Rattle.directory_writes.proofs.Stamps.{upto_stamp}
+use Rattle.directory_writes.specs.Directory.{cookie_at, entries_after, last_csn, csns}
+use Rattle.directory_writes.proofs.Csns.{upto_csn}
+use Rattle.directory_writes.proofs.LastCsns.{prefix_upto}
+use Rattle.directory_writes.proofs.Promised.{IsPromised, content_at}
 use Rattle.dn_names.specs.Names.{TypeAndValue}
 use Rattle.entry_tree.specs.History.{state_of}
 use Rattle.entry_tree.specs.Selection.{is_selected, select}
@@ -19,34 +22,35 @@ use Rattle.entry_tree.specs.State.{ascends}
 use Rattle.entry_tree.specs.declared.entry.Entry.{Entry}
 use Rattle.entry_tree.specs.declared.op.Write.{Write}
 use Rattle.entry_tree.proofs.Directory.{ascends_filter}
-use Rattle.sync_model.specs.Copy.{Copy, Running, Answer, refused, taken, taken_by, taken_in, taken_done, over}
+use Rattle.sync_model.specs.Copy.{Copy, SyncSession, Answer, refused, taken, taken_by, taken_in, taken_done, over}
 use Rattle.sync_model.specs.Copy.Fault.{OutOfPlace}
 use Rattle.sync_model.specs.Copy.Answer.{Over}
 use Rattle.sync_model.specs.Law.{Ascending, IsWithin}
 use Rattle.sync_model.specs.Message.{SyncMessage}
-use Rattle.sync_model.specs.Stream.{Session, Start, content_after}
+use Rattle.sync_model.specs.Stream.{SyncOperation, content_after}
 use Rattle.sync_model.specs.Within.{limit_fault, refused_by, taken_within}
 use Rattle.sync_model.proofs.Histories.{ascends-state_of}
-use Rattle.sync_model.proofs.Later.{running_on, staged_all}
-use Rattle.sync_model.proofs.Taking.{running_in, names_after, stage_after}
+use Rattle.sync_model.proofs.Groups.{heads, tails}
 use Rattle.sync_wire.specs.CanBeSent.{CanBeSent}
+use Rattle.sync_wire.proofs.OfSearch.{IsOfSearch}
 use Rattle.sync_provider.specs.Machine.{ProviderState}
 use Rattle.sync_provider.specs.Search.{cookie_after}
-use Rattle.cascade_nodes.specs.declared.node.Follower.{Follower}
+use Rattle.sync_provider.proofs.Coming.{StagesOne, IsOver, StoresOne, TakesOne, one_comes}
+use Rattle.sync_provider.proofs.Whereabouts.{IsPast, IsWhere, HasSession, where_session}
+use Rattle.cascade_nodes.specs.declared.node.ConsumerNode.{ConsumerNode}
+use Rattle.cascade_nodes.proofs.Fed.{waits, cut_waits, IsAtRest, own_over}
+use Rattle.cascade_exchange.proofs.Owns.{owns-still}
 use Rattle.cascade_world.specs.Cookies.{held_cookie}
-use Rattle.cascade_world.specs.Exchange.{Pair, pair_of, copy_of, with_copy, number_of_cookie, stored_number, storing, taken_as, taken_from, taking}
+use Rattle.cascade_world.specs.Exchange.{Agreement, agreement_of, copy_of, with_copy, number_of_cookie, stored_number, storing, taken_as, taken_from, taking}
 use Rattle.cascade_laws.specs.Headline.{Opening, Known, known_after, NamesPrefix, session_over, stream_over, octets_of, busy}
-use Rattle.cascade_world.specs.Hearing.{Came, came_of, heard}
+use Rattle.cascade_world.specs.Reception.{Came, came_of, received}
 use Rattle.cascade_world.specs.Origins.{Lineage}
-use Rattle.cascade_world.specs.Report.{Storing, Told}
-use Rattle.cascade_world.specs.Report.{Told as told}
-use Rattle.cascade_laws.proofs.Carried.{IsOfSearch, heard_sent}
-use Rattle.cascade_laws.proofs.Coming.{StagesOne, IsOver, StoresOne, TakesOne, one_comes}
-use Rattle.cascade_laws.proofs.Composing.{promises-still, kept-told, owns-still}
-use Rattle.cascade_laws.proofs.Feeding.{Remains, waits, cut_waits, IsSource, IsPromised, HasPending, AtWhole, InGroup, IsPast, IsWhere, GoesOn, IsAtRest, IsGoing, IsFed, IsRightOf, KeepsPromises, IsKept, frame_of, content_at}
-use Rattle.cascade_laws.proofs.Groups.{heads, tails}
-use Rattle.cascade_laws.proofs.Sharing.{Searches, others-none}
-use Rattle.cascade_laws.proofs.Stamped.{front_upto}
+use Rattle.cascade_world.specs.ReportLines.{Storing, ReportLine}
+use Rattle.cascade_world.specs.ReportLines.{ReportLine as reported}
+use Rattle.cascade_laws.proofs.Carried.{received_sent}
+use Rattle.cascade_laws.proofs.Composing.{promises-still, kept-reported}
+use Rattle.cascade_laws.proofs.Feeding.{Remains, IsSource, GoesOn, IsGoing, IsFed, IsRightOf, KeepsPromises, IsKept, frame_of}
+use Rattle.cascade_laws.proofs.Sharing.{others-none}
 
 abbrev Name : Type 0
 Name = List (List TypeAndValue)
@@ -54,7 +58,7 @@ Name = List (List TypeAndValue)
 -- ---- the cookie of a content
 
 abbrev cookie_of_number : ℕ → List Write → ℕ → Cookie
-cookie_of_number number writes count = cookie_at number number (last_stamp (start number) (take count writes))
+cookie_of_number number writes count = cookie_at number number (last_csn (start number) (take count writes))
 
 -- it is read again
 cookie_read : (number : ℕ) (suffix : Name) (p : ProviderState) (count : ℕ) → IsSource number suffix p
@@ -68,12 +72,12 @@ cookie_read number suffix p count source =
       history = omega (arith, source.small);
     })
 
--- and its stamp tells how many writes led to the content
+-- and its CSN reports how many writes led to the content
 pub cookie_numbers : (number : ℕ) (suffix : Name) (p : ProviderState) (count : ℕ) → IsSource number suffix p → count ≤ length p.directory.writes
     → stored_number p.directory (Some (cookie_after number number p.directory.writes count)) ≡ count
 cookie_numbers number suffix p count source within =
-    ap (number_of_cookie (stamps p.directory.writes)) (cookie_read number suffix p count source)
-    ∙ upto_stamp number p.directory.writes source.rises count within
+    ap (number_of_cookie (csns p.directory.writes)) (cookie_read number suffix p count source)
+    ∙ upto_csn number p.directory.writes source.rises count within
 
 -- it can be served, and names that prefix of the writes
 cookie_names : (number : ℕ) (suffix : Name) (p : ProviderState) (count : ℕ) → IsSource number suffix p → count ≤ length p.directory.writes
@@ -87,31 +91,26 @@ cookie_names number suffix p count source within =
         good = spelled.0;
         spells = spelled.1;
         own = refl;
-        not_greater = front_upto (start number) p.directory.writes source.rises count;
+        not_greater = prefix_upto (start number) p.directory.writes source.rises count;
       };
-      counted = sym (upto_stamp number p.directory.writes source.rises count within);
+      counted = sym (upto_csn number p.directory.writes source.rises count within);
     }
 
-own_stored : (name : List ℕ) (known : Known) (stored : Storing) → known_after name known (told.Stored name stored) ≡ record known { entries = stored.entries; cookie = stored.commit.cookie }
+own_stored : (name : List ℕ) (known : Known) (stored : Storing) → known_after name known (reported.Stored name stored) ≡ record known { entries = stored.entries; cookie = stored.commit.cookie }
 own_stored name known stored =
     ap (λ same. cond same (record known { entries = stored.entries; cookie = stored.commit.cookie }) known) ((bytes_eq-Decides name name).1 refl)
 
--- ---- what is left behind the first message
+-- ---- what is left after the first message
 
 pub none_left : (link messages : List SyncMessage) → link ++ messages ≡ [] → (link ≡ []) × (messages ≡ [])
 none_left [] messages same = (refl, same)
 none_left (m ∷ link) messages same = let never : ⊥ = cc in absurd never
 
-pub own_over : (searches : Searches) (own : Option ℕ) (p : ProviderState) (f : Follower) (mode cut : Bool) (messages : List SyncMessage) → messages ≡ [] → waits mode cut ≡ false
-    → HasPending p.searches f.consumer.spec mode cut own messages → own ≡ None
-own_over searches None p f mode cut messages none ends has = refl
-own_over searches (Some at) p f mode cut messages none ends has = let some = (has.some ends).same in let bad : [] ≡ (has.some ends).next ∷ (has.some ends).later = sym none ∙ some in let never : ⊥ = cc in absurd never
-
 -- the first message is the next of the Stream, or the end with busy
 record IsFirst (cut : Bool) (ahead : List SyncMessage) (m : SyncMessage) (more : List SyncMessage) : Type 0 where
-  behind : List SyncMessage
-  next : ahead ≡ m ∷ behind
-  left : Remains cut behind more
+  beyond : List SyncMessage
+  next : ahead ≡ m ∷ beyond
+  left : Remains cut beyond more
 
 record IsBusy (cut : Bool) (m : SyncMessage) (more : List SyncMessage) : Type 0 where
   over_is : cut ≡ true
@@ -119,82 +118,64 @@ record IsBusy (cut : Bool) (m : SyncMessage) (more : List SyncMessage) : Type 0 
   none : more ≡ []
 
 first_left : (cut : Bool) (ahead : List SyncMessage) (m : SyncMessage) (more : List SyncMessage) → Remains cut ahead (m ∷ more) → IsFirst cut ahead m more ⊎ IsBusy cut m more
-first_left false ahead m more left = inl (record { behind = more; next = sym left; left = refl })
+first_left false ahead m more left = inl (record { beyond = more; next = sym left; left = refl })
 first_left true ahead m more left = by left.0 left.1 left.2 left.3
   where
-    by : (front dropped : List SyncMessage) → m ∷ more ≡ front ++ busy ∷ [] → front ++ dropped ≡ ahead → IsFirst true ahead m more ⊎ IsBusy true m more
+    by : (prefix dropped : List SyncMessage) → m ∷ more ≡ prefix ++ busy ∷ [] → prefix ++ dropped ≡ ahead → IsFirst true ahead m more ⊎ IsBusy true m more
     by [] dropped one all = inr (record { over_is = refl; message = heads m busy more [] one; none = tails m busy more [] one })
-    by (x ∷ front) dropped one all =
+    by (x ∷ prefix) dropped one all =
         inl (record {
-          behind = front ++ dropped;
-          next = sym all ∙ ap (λ y. y ∷ (front ++ dropped)) (sym (heads m x more (front ++ busy ∷ []) one));
-          left = (front, dropped, tails m x more (front ++ busy ∷ []) one, refl);
+          beyond = prefix ++ dropped;
+          next = sym all ∙ ap (λ y. y ∷ (prefix ++ dropped)) (sym (heads m x more (prefix ++ busy ∷ []) one));
+          left = (prefix, dropped, tails m x more (prefix ++ busy ∷ []) one, refl);
         })
 
--- ---- a search runs wherever it goes on
-
-pub record IsRunning (persists : Bool) (held : Copy) : Type 0 where
-  pub running : Running
-  pub runs : held.running ≡ Some running
-  pub id : running.id ≡ 1
-  pub mode : running.persists ≡ persists
-
-pub where_running : (session : Session) (first : Start) (opened count : ℕ) (entries : List Entry) (held : Copy) (taken ahead : List SyncMessage) → IsWhere session first opened count entries held taken ahead
-    → IsRunning session.persists held
-where_running session first opened count entries held taken ahead (inl is) =
-    record { running = running_in 1 session.persists false (names_after [] taken) (stage_after [] taken); runs = ap (λ (c : Copy). c.running) is.copy; id = refl; mode = refl }
-where_running session first opened count entries held taken ahead (inr is) = by is.1
-  where
-    by : AtWhole session opened count entries held ahead ⊎ InGroup session opened count entries held ahead → IsRunning session.persists held
-    by (inl at) = record { running = running_on 1 at.ended []; runs = ap (λ (c : Copy). c.running) at.copy; id = refl; mode = sym is.0 }
-    by (inr at) = record { running = running_on 1 at.ended (staged_all [] at.before); runs = ap (λ (c : Copy). c.running) at.copy; id = refl; mode = sym is.0 }
-
 -- the end with busy ends a search that goes on
-taken_over : (held : Copy) (running : Running) → held.running ≡ Some running → running.id ≡ 1 → running.persists ≡ true
-    → taken_within 1 held busy ≡ (record { held = held.held; cookie = held.cookie; running = None }, Over (pos 51))
-taken_over held running runs id mode =
+taken_over : (held : Copy) (session : SyncSession) → held.session ≡ Some session → session.id ≡ 1 → session.persists ≡ true
+    → taken_within 1 held busy ≡ (record { held = held.held; cookie = held.cookie; session = None }, Over (pos BUSY))
+taken_over held session runs id mode =
     ap (λ (o : Copy × Answer). refused_by (limit_fault false o.0 o.1) held o) here ∙ refl
   where
-    here : taken 1 held busy ≡ over held (pos 51)
+    here : taken 1 held busy ≡ over held (pos BUSY)
     here =
         ap (λ found. taken_by found 1 held busy) runs
-        ∙ ap (λ k. cond (1 == k) (taken_in held running busy) (refused held OutOfPlace)) id
-        ∙ ap (λ b. cond (b || not (int_eq (pos 51) (pos 0))) (over held (pos 51)) (taken_done held running None)) mode
+        ∙ ap (λ k. cond (1 == k) (taken_in held session busy) (refused held OutOfPlace)) id
+        ∙ ap (λ b. cond (b || not (int_eq (pos BUSY) (pos SUCCESS))) (over held (pos BUSY)) (taken_done held session None)) mode
 
--- ---- what a consumer is told
+-- ---- what a consumer is reported
 
-abbrev pub TakingKept : ℕ → Name → Pair → Known → Option (Pair × Told) → Type 0
+abbrev pub TakingKept : ℕ → Name → Agreement → Known → Option (Agreement × ReportLine) → Type 0
 TakingKept number suffix pair known None = Unit {0}
 TakingKept number suffix pair known (Some next) = IsKept number suffix pair next.0 (next.1 ∷ []) known
 
-module _ (lin : Lineage) (number : ℕ) (suffix : Name) (p : ProviderState) (f : Follower) (known : Known) (opening : Opening) (latest : known.opening ≡ Some opening) (source : IsSource number suffix p)
+module _ (lin : Lineage) (number : ℕ) (suffix : Name) (p : ProviderState) (f : ConsumerNode) (known : Known) (opening : Opening) (latest : known.opening ≡ Some opening) (source : IsSource number suffix p)
     (fed : IsFed number p f known) (goes : GoesOn number p f opening known.entries) where
   abbrev writes : List Write
   writes = p.directory.writes
 
-  abbrev session : Session
-  session = session_over number f.consumer.spec writes opening
+  abbrev operation : SyncOperation
+  operation = session_over number f.consumer.spec writes opening
 
-  ascending : Ascending session
+  ascending : Ascending operation
   ascending count = ascends-state_of number writes count
 
-  within : (count : ℕ) → IsWithin (session.states count)
+  within : (count : ℕ) → IsWithin (operation.states count)
   within count = (source.good count).within
 
-  sent : (count : ℕ) → All CanBeSent (session.states count)
+  sent : (count : ℕ) → All CanBeSent (operation.states count)
   sent count = (source.good count).sent
 
-  texts : (count : ℕ) → (cookie : Cookie) × (session.cookies count ≡ cookie_text cookie)
+  texts : (count : ℕ) → (cookie : Cookie) × (operation.cookies count ≡ cookie_text cookie)
   texts count = (cookie_of_number number writes count, refl)
 
   abbrev held : Copy
   held = copy_of f
 
   -- what a taking leaves: the search goes on, or what is held is the content after some writes not before the opening
-  pub record IsTaken (after : Pair) (line : Told) : Type 0 where
-    pub kept : IsKept number suffix (pair_of p f lin) after (line ∷ []) known
-    pub then : GoesOn number after.provider after.follower opening (known_after f.name known line).entries
-        ⊎ (IsAtRest after.follower × ((opening.persists ≡ true)
+  pub record IsTaken (after : Agreement) (line : ReportLine) : Type 0 where
+    pub kept : IsKept number suffix (agreement_of p f lin) after (line ∷ []) known
+    pub then : GoesOn number after.provider after.consumer_node opening (known_after f.name known line).entries
+        ⊎ (IsAtRest after.consumer_node × ((opening.persists ≡ true)
         ⊎ ((known_after f.name known line).entries ≡ content_at number f.consumer.spec writes opening.writes)))
     pub still : (known_after f.name known line).opening ≡ known.opening
 
@@ -205,40 +186,40 @@ module _ (lin : Lineage) (number : ℕ) (suffix : Name) (p : ProviderState) (f :
     abbrev left : List (List ℕ)
     left = map octets_of rest
 
-    abbrev after : Copy → Follower
+    abbrev after : Copy → ConsumerNode
     after copy = record (with_copy f copy) { link = left }
 
     remains : Remains goes.cut goes.ahead (m ∷ (rest ++ goes.pending))
     remains = subst (λ ms. Remains goes.cut goes.ahead (ms ++ goes.pending)) first goes.left
 
-    is_running : IsRunning opening.persists held
-    is_running = where_running session goes.start opening.writes goes.count known.entries held goes.taken goes.ahead goes.place
+    has_session : HasSession opening.persists held
+    has_session = where_session operation goes.start opening.writes goes.count known.entries held goes.taken goes.ahead goes.place
 
-    -- the bytes are heard as the message
-    heard_is : IsOfSearch m → heard held (octets_of m) ≡ (outcome.0, came_of outcome.1)
-    heard_is can = heard_sent held is_running.running m is_running.runs is_running.id can
+    -- the bytes are decoded as the message
+    decoded_is : IsOfSearch m → received held (octets_of m) ≡ (outcome.0, came_of outcome.1)
+    decoded_is can = received_sent held has_session.session m has_session.runs has_session.id can
 
     abbrev Is : Copy → Came → Type 0
-    Is copy came = IsTaken (taken_as (pair_of p f lin) left copy came).0 (taken_as (pair_of p f lin) left copy came).1
+    Is copy came = IsTaken (taken_as (agreement_of p f lin) left copy came).0 (taken_as (agreement_of p f lin) left copy came).1
 
     -- ---- the next message of the Stream
 
     module _ (is : IsFirst goes.cut goes.ahead m (rest ++ goes.pending)) where
-      more_taken : (goes.taken ++ m ∷ []) ++ is.behind ≡ stream_over number f.consumer.spec writes opening goes.start goes.count
-      more_taken = append_assoc goes.taken (m ∷ []) is.behind ∙ ap (λ ms. goes.taken ++ ms) (sym is.next) ∙ goes.whole
+      more_taken : (goes.taken ++ m ∷ []) ++ is.beyond ≡ stream_over number f.consumer.spec writes opening goes.start goes.count
+      more_taken = append_assoc goes.taken (m ∷ []) is.beyond ∙ ap (λ ms. goes.taken ++ ms) (sym is.next) ∙ goes.whole
 
-      told_still : opening.sent ≡ map octets_of ((goes.taken ++ m ∷ []) ++ rest)
-      told_still = goes.told ∙ ap (λ ms. map octets_of (goes.taken ++ ms)) first ∙ ap (map octets_of) (sym (append_assoc goes.taken (m ∷ []) rest))
+      reported_still : opening.sent ≡ map octets_of ((goes.taken ++ m ∷ []) ++ rest)
+      reported_still = goes.reported ∙ ap (λ ms. map octets_of (goes.taken ++ ms)) first ∙ ap (map octets_of) (sym (append_assoc goes.taken (m ∷ []) rest))
 
       -- the search goes on from there
-      goes_now : (copy : Copy) (entries : List Entry) → IsWhere session goes.start opening.writes goes.count entries copy (goes.taken ++ m ∷ []) is.behind → GoesOn number p (after copy) opening entries
+      goes_now : (copy : Copy) (entries : List Entry) → IsWhere operation goes.start opening.writes goes.count entries copy (goes.taken ++ m ∷ []) is.beyond → GoesOn number p (after copy) opening entries
       goes_now copy entries place = record {
         count = goes.count;
         upto = goes.upto;
         start = goes.start;
         from = goes.from;
         taken = goes.taken ++ m ∷ [];
-        ahead = is.behind;
+        ahead = is.beyond;
         whole = more_taken;
         cut = goes.cut;
         lasts = goes.lasts;
@@ -246,21 +227,21 @@ module _ (lin : Lineage) (number : ℕ) (suffix : Name) (p : ProviderState) (f :
         linked = rest;
         pending = goes.pending;
         left = is.left;
-        told = told_still;
+        reported = reported_still;
         link = refl;
         search = goes.search;
         place = place;
       }
 
-      takes : TakesOne session ascending within sent texts goes.start opening.writes goes.count known.entries held goes.taken m is.behind
+      takes : TakesOne operation ascending within sent texts goes.start opening.writes goes.count known.entries held goes.taken m is.beyond
       takes =
-          one_comes session ascending within sent texts goes.start opening.writes goes.count known.entries held goes.taken is.behind m fed.ascending
-          (subst (IsWhere session goes.start opening.writes goes.count known.entries held goes.taken) is.next goes.place)
+          one_comes operation ascending within sent texts goes.start opening.writes goes.count known.entries held goes.taken is.beyond m fed.ascending
+          (subst (IsWhere operation goes.start opening.writes goes.count known.entries held goes.taken) is.next goes.place)
 
-      staged_is : StagesOne session ascending within sent texts goes.start opening.writes goes.count known.entries held (goes.taken ++ m ∷ []) is.behind outcome → Is outcome.0 (came_of outcome.1)
+      staged_is : StagesOne operation ascending within sent texts goes.start opening.writes goes.count known.entries held (goes.taken ++ m ∷ []) is.beyond outcome → Is outcome.0 (came_of outcome.1)
       staged_is now =
           subst (λ a. Is outcome.0 (came_of a)) (sym now.answer) (record {
-            kept = kept-told number suffix (pair_of p f lin) (pair_of p (after outcome.0) lin) (told.Taken f.name) known (λ name k. refl) tt (record {
+            kept = kept-reported number suffix (agreement_of p f lin) (agreement_of p (after outcome.0) lin) (reported.Taken f.name) known (λ name k. refl) tt (record {
               source = source;
               fed = record {
                 held = now.same;
@@ -282,7 +263,7 @@ module _ (lin : Lineage) (number : ℕ) (suffix : Name) (p : ProviderState) (f :
 
       -- ---- a content is stored
 
-      module _ (now : StoresOne session ascending within sent texts goes.start opening.writes goes.count known.entries is.behind outcome) where
+      module _ (now : StoresOne operation ascending within sent texts goes.start opening.writes goes.count known.entries is.beyond outcome) where
         abbrev content : List Entry
         content = content_at number f.consumer.spec writes now.number
 
@@ -290,10 +271,10 @@ module _ (lin : Lineage) (number : ℕ) (suffix : Name) (p : ProviderState) (f :
         n = stored_number p.directory outcome.0.cookie
 
         abbrev stored : Storing
-        stored = storing (pair_of p f lin) outcome.0 now.commit
+        stored = storing (agreement_of p f lin) outcome.0 now.commit
 
-        abbrev line : Told
-        line = told.Stored f.name stored
+        abbrev line : ReportLine
+        line = reported.Stored f.name stored
 
         abbrev then_known : Known
         then_known = record known { entries = outcome.0.held; cookie = now.commit.cookie }
@@ -308,7 +289,7 @@ module _ (lin : Lineage) (number : ℕ) (suffix : Name) (p : ProviderState) (f :
         text_is : now.commit.cookie ≡ Some (cookie_after number number writes n)
         text_is = now.text ∙ ap (λ k. Some (cookie_after number number writes k)) (sym right_number)
 
-        right_entries : IsRightOf number (frame_of (pair_of p f lin)) known stored
+        right_entries : IsRightOf number (frame_of (agreement_of p f lin)) known stored
         right_entries = record {
           prefix = omega (arith, right_number, low);
           opening = opening;
@@ -337,27 +318,27 @@ module _ (lin : Lineage) (number : ℕ) (suffix : Name) (p : ProviderState) (f :
             subst (λ es. IsPromised number f.consumer.spec writes es (held_cookie outcome.0.cookie)) (sym now.held)
             (subst (λ c. IsPromised number f.consumer.spec writes content (held_cookie c)) (sym now.cookie)
             (subst (IsPromised number f.consumer.spec writes content) (sym (cookie_read number suffix p now.number source))
-            (λ own. record { count = now.number; within = low; not_below = is_upto-itself (last_stamp (start number) (take now.number writes)); same = refl })))
+            (λ own. record { count = now.number; within = low; not_below = is_upto-itself (last_csn (start number) (take now.number writes)); same = refl })))
 
-        no_more : IsOver session ascending within sent texts goes.start opening.writes goes.count is.behind outcome.0 → goes.cut ≡ false
+        no_more : IsOver operation ascending within sent texts goes.start opening.writes goes.count is.beyond outcome.0 → goes.cut ≡ false
         no_more over = by goes.cut refl
           where
             by : (cut : Bool) → goes.cut ≡ cut → goes.cut ≡ false
             by false here = here
             by true here = absurd (true≢false (sym (goes.lasts here) ∙ over.ends))
 
-        rests : IsOver session ascending within sent texts goes.start opening.writes goes.count is.behind outcome.0 → IsAtRest (after outcome.0)
-        rests over = record { search = own_over p.searches f.search p f opening.persists goes.cut goes.pending none.1 (ap (λ b. waits b goes.cut) over.ends) goes.search; running = over.running; link = ap (map octets_of) none.0 }
+        rests : IsOver operation ascending within sent texts goes.start opening.writes goes.count is.beyond outcome.0 → IsAtRest (after outcome.0)
+        rests over = record { search = own_over p.searches f.search p f opening.persists goes.cut goes.pending none.1 (ap (λ b. waits b goes.cut) over.ends) goes.search; session = over.session; link = ap (map octets_of) none.0 }
           where
             none : (rest ≡ []) × (goes.pending ≡ [])
-            none = none_left rest goes.pending (subst (λ cut. Remains cut is.behind (rest ++ goes.pending)) (no_more over) is.left ∙ over.none)
+            none = none_left rest goes.pending (subst (λ cut. Remains cut is.beyond (rest ++ goes.pending)) (no_more over) is.left ∙ over.none)
 
-        state_now : IsPast session opening.writes goes.count (content_after session now.number) outcome.0 is.behind ⊎ IsOver session ascending within sent texts goes.start opening.writes goes.count is.behind outcome.0
+        state_now : IsPast operation opening.writes goes.count (content_after operation now.number) outcome.0 is.beyond ⊎ IsOver operation ascending within sent texts goes.start opening.writes goes.count is.beyond outcome.0
             → GoesOn number p (after outcome.0) opening outcome.0.held ⊎ (IsAtRest (after outcome.0) × ((opening.persists ≡ true) ⊎ (outcome.0.held ≡ content_at number f.consumer.spec writes opening.writes)))
         state_now (inl past) = inl (subst (GoesOn number p (after outcome.0) opening) (sym now.held) (goes_now outcome.0 content (inr past)))
         state_now (inr over) = inr (rests over, inr (now.held ∙ ap (content_at number f.consumer.spec writes) (ends_there over)))
           where
-            ends_there : IsOver session ascending within sent texts goes.start opening.writes goes.count is.behind outcome.0 → now.number ≡ opening.writes
+            ends_there : IsOver operation ascending within sent texts goes.start opening.writes goes.count is.beyond outcome.0 → now.number ≡ opening.writes
             ends_there over = now.whole over.ends
 
         fed_now : GoesOn number p (after outcome.0) opening outcome.0.held ⊎ (IsAtRest (after outcome.0) × ((opening.persists ≡ true) ⊎ (outcome.0.held ≡ content_at number f.consumer.spec writes opening.writes)))
@@ -398,11 +379,11 @@ module _ (lin : Lineage) (number : ℕ) (suffix : Name) (p : ProviderState) (f :
             known_is : known_after f.name known line ≡ then_known
             known_is = own_stored f.name known stored
 
-      first_is : IsTaken (taken_as (pair_of p f lin) left (heard held (octets_of m)).0 (heard held (octets_of m)).1).0 (taken_as (pair_of p f lin) left (heard held (octets_of m)).0 (heard held (octets_of m)).1).1
-      first_is = subst (λ (h : Copy × Came). Is h.0 h.1) (sym (heard_is takes.can)) (by takes.comes)
+      first_is : IsTaken (taken_as (agreement_of p f lin) left (received held (octets_of m)).0 (received held (octets_of m)).1).0 (taken_as (agreement_of p f lin) left (received held (octets_of m)).0 (received held (octets_of m)).1).1
+      first_is = subst (λ (h : Copy × Came). Is h.0 h.1) (sym (decoded_is takes.can)) (by takes.comes)
         where
-          by : StagesOne session ascending within sent texts goes.start opening.writes goes.count known.entries held (goes.taken ++ m ∷ []) is.behind outcome
-              ⊎ StoresOne session ascending within sent texts goes.start opening.writes goes.count known.entries is.behind outcome → Is outcome.0 (came_of outcome.1)
+          by : StagesOne operation ascending within sent texts goes.start opening.writes goes.count known.entries held (goes.taken ++ m ∷ []) is.beyond outcome
+              ⊎ StoresOne operation ascending within sent texts goes.start opening.writes goes.count known.entries is.beyond outcome → Is outcome.0 (came_of outcome.1)
           by (inl now) = staged_is now
           by (inr now) = stored_is now
 
@@ -410,27 +391,27 @@ module _ (lin : Lineage) (number : ℕ) (suffix : Name) (p : ProviderState) (f :
 
     module _ (is : IsBusy goes.cut m (rest ++ goes.pending)) where
       abbrev ended : Copy
-      ended = record { held = held.held; cookie = held.cookie; running = None }
+      ended = record { held = held.held; cookie = held.cookie; session = None }
 
       goes_past : opening.persists ≡ true
       goes_past = goes.lasts is.over_is
 
-      outcome_is : outcome ≡ (ended, Over (pos 51))
-      outcome_is = ap (taken_within 1 held) is.message ∙ taken_over held is_running.running is_running.runs is_running.id (is_running.mode ∙ goes_past)
+      outcome_is : outcome ≡ (ended, Over (pos BUSY))
+      outcome_is = ap (taken_within 1 held) is.message ∙ taken_over held has_session.session has_session.runs has_session.id (has_session.mode ∙ goes_past)
 
       rests_now : IsAtRest (after ended)
       rests_now = record {
         search = own_over p.searches f.search p f opening.persists goes.cut goes.pending none.1 (ap (waits opening.persists) is.over_is ∙ cut_waits opening.persists) goes.search;
-        running = refl;
+        session = refl;
         link = ap (map octets_of) none.0;
       }
         where
           none : (rest ≡ []) × (goes.pending ≡ [])
           none = none_left rest goes.pending is.none
 
-      ended_is : Is ended (came_of (Over (pos 51)))
+      ended_is : Is ended (came_of (Over (pos BUSY)))
       ended_is = record {
-        kept = kept-told number suffix (pair_of p f lin) (pair_of p (after ended) lin) (told.Ended f.name (pos 51)) known (λ name k. refl) refl (record {
+        kept = kept-reported number suffix (agreement_of p f lin) (agreement_of p (after ended) lin) (reported.Ended f.name (pos BUSY)) known (λ name k. refl) refl (record {
           source = source;
           fed = record {
             held = fed.held;
@@ -450,45 +431,45 @@ module _ (lin : Lineage) (number : ℕ) (suffix : Name) (p : ProviderState) (f :
         still = refl;
       }
 
-      busy_is : IsTaken (taken_as (pair_of p f lin) left (heard held (octets_of m)).0 (heard held (octets_of m)).1).0 (taken_as (pair_of p f lin) left (heard held (octets_of m)).0 (heard held (octets_of m)).1).1
+      busy_is : IsTaken (taken_as (agreement_of p f lin) left (received held (octets_of m)).0 (received held (octets_of m)).1).0 (taken_as (agreement_of p f lin) left (received held (octets_of m)).0 (received held (octets_of m)).1).1
       busy_is =
-          subst (λ (h : Copy × Came). Is h.0 h.1) (sym (heard_is (subst IsOfSearch (sym is.message) (inr (refl, refl)))))
+          subst (λ (h : Copy × Came). Is h.0 h.1) (sym (decoded_is (subst IsOfSearch (sym is.message) (inr (refl, refl)))))
           (subst (λ (o : Copy × Answer). Is o.0 (came_of o.1)) (sym outcome_is) ended_is)
 
-    pub one_taken : IsTaken (taken_as (pair_of p f lin) left (heard held (octets_of m)).0 (heard held (octets_of m)).1).0 (taken_as (pair_of p f lin) left (heard held (octets_of m)).0 (heard held (octets_of m)).1).1
+    pub one_taken : IsTaken (taken_as (agreement_of p f lin) left (received held (octets_of m)).0 (received held (octets_of m)).1).0 (taken_as (agreement_of p f lin) left (received held (octets_of m)).0 (received held (octets_of m)).1).1
     one_taken = by (first_left goes.cut goes.ahead m (rest ++ goes.pending) remains)
       where
         by : IsFirst goes.cut goes.ahead m (rest ++ goes.pending) ⊎ IsBusy goes.cut m (rest ++ goes.pending)
-            → IsTaken (taken_as (pair_of p f lin) left (heard held (octets_of m)).0 (heard held (octets_of m)).1).0 (taken_as (pair_of p f lin) left (heard held (octets_of m)).0 (heard held (octets_of m)).1).1
+            → IsTaken (taken_as (agreement_of p f lin) left (received held (octets_of m)).0 (received held (octets_of m)).1).0 (taken_as (agreement_of p f lin) left (received held (octets_of m)).0 (received held (octets_of m)).1).1
         by (inl is) = first_is is
         by (inr is) = busy_is is
 
 -- what a consumer whose search goes on takes
-abbrev pub GoingTaken : (lin : Lineage) (number : ℕ) (suffix : Name) (p : ProviderState) (f : Follower) (known : Known) (opening : Opening) → known.opening ≡ Some opening → IsSource number suffix p → IsFed number p f known
-    → GoesOn number p f opening known.entries → Option (Pair × Told) → Type 0
+abbrev pub GoingTaken : (lin : Lineage) (number : ℕ) (suffix : Name) (p : ProviderState) (f : ConsumerNode) (known : Known) (opening : Opening) → known.opening ≡ Some opening → IsSource number suffix p → IsFed number p f known
+    → GoesOn number p f opening known.entries → Option (Agreement × ReportLine) → Type 0
 GoingTaken lin number suffix p f known opening latest source fed goes None = f.link ≡ []
 GoingTaken lin number suffix p f known opening latest source fed goes (Some next) = IsTaken lin number suffix p f known opening latest source fed goes next.0 next.1
 
-pub going_taken : (lin : Lineage) (number : ℕ) (suffix : Name) (p : ProviderState) (f : Follower) (known : Known) (opening : Opening) (latest : known.opening ≡ Some opening) (source : IsSource number suffix p)
-    (fed : IsFed number p f known) (goes : GoesOn number p f opening known.entries) → GoingTaken lin number suffix p f known opening latest source fed goes (taking (pair_of p f lin))
+pub going_taken : (lin : Lineage) (number : ℕ) (suffix : Name) (p : ProviderState) (f : ConsumerNode) (known : Known) (opening : Opening) (latest : known.opening ≡ Some opening) (source : IsSource number suffix p)
+    (fed : IsFed number p f known) (goes : GoesOn number p f opening known.entries) → GoingTaken lin number suffix p f known opening latest source fed goes (taking (agreement_of p f lin))
 going_taken lin number suffix p f known opening latest source fed goes = by goes.linked refl
   where
     Good : List (List ℕ) → Type 0
-    Good link = GoingTaken lin number suffix p f known opening latest source fed goes (taken_from (pair_of p f lin) link)
+    Good link = GoingTaken lin number suffix p f known opening latest source fed goes (taken_from (agreement_of p f lin) link)
 
     by : (linked : List SyncMessage) → goes.linked ≡ linked → Good f.link
     by [] none = subst Good (sym (goes.link ∙ ap (map octets_of) none)) (goes.link ∙ ap (map octets_of) none)
     by (m ∷ rest) some = subst Good (sym (goes.link ∙ ap (map octets_of) some)) (one_taken lin number suffix p f known opening latest source fed goes m rest some)
 
-pub taking_kept : (number : ℕ) (suffix : Name) (pair : Pair) (known : Known) → IsSource number suffix pair.provider → IsFed number pair.provider pair.follower known
+pub taking_kept : (number : ℕ) (suffix : Name) (pair : Agreement) (known : Known) → IsSource number suffix pair.provider → IsFed number pair.provider pair.consumer_node known
     → TakingKept number suffix pair known (taking pair)
 taking_kept number suffix pair known source fed = by fed.state
   where
-    going : (is : IsGoing number pair.provider pair.follower known) (next : Option (Pair × Told))
-        → GoingTaken pair.lineage number suffix pair.provider pair.follower known is.opening is.latest source fed is.goes next → TakingKept number suffix pair known next
+    going : (is : IsGoing number pair.provider pair.consumer_node known) (next : Option (Agreement × ReportLine))
+        → GoingTaken pair.lineage number suffix pair.provider pair.consumer_node known is.opening is.latest source fed is.goes next → TakingKept number suffix pair known next
     going is None taken = tt
     going is (Some next) taken = taken.kept
 
-    by : IsAtRest pair.follower ⊎ IsGoing number pair.provider pair.follower known → TakingKept number suffix pair known (taking pair)
+    by : IsAtRest pair.consumer_node ⊎ IsGoing number pair.provider pair.consumer_node known → TakingKept number suffix pair known (taking pair)
     by (inl rest) = subst (λ link. TakingKept number suffix pair known (taken_from pair link)) (sym rest.link) tt
-    by (inr is) = going is (taking pair) (going_taken pair.lineage number suffix pair.provider pair.follower known is.opening is.latest source fed is.goes)
+    by (inr is) = going is (taking pair) (going_taken pair.lineage number suffix pair.provider pair.consumer_node known is.opening is.latest source fed is.goes)

@@ -1,31 +1,33 @@
--- What holds of the nodes where providers have more writes, or more is told.
-use Rattle.std.proofs.Common.{◌≡◌, ◌+◌, ◌≤◌, ℕ, zero, suc, Bool, true, false, Option, Some, None, List, [], ◌∷◌, ◌++◌, length, take, refl, ap, sym, subst, ◌∙◌, inl, inr, arith, append-nil, append_assoc, length-append, add-zero}
+-- What holds of the nodes where providers have more writes, or more is reported.
+use Rattle.std.proofs.Common.{◌≡◌, ◌+◌, ◌≤◌, ℕ, Bool, true, false, Option, Some, None, List, [], ◌∷◌, ◌++◌, length, take, refl, ap, sym, subst, ◌∙◌, inl, inr, arith, append-nil, append_assoc, length-append, add-zero}
 use Rattle.std.proofs.lemmas.Bool.{cases_Bool}
 use Rattle.std.proofs.lemmas.List.Sums.{sum_by-append}
 use Rattle.std.specs.Prelude.{count_by, is_some, IfSome, map, slice_get}
 use Rattle.std.specs.Str.{bytes_eq}
+use Rattle.std.proofs.lemmas.List.{take-append-le}
 use Rattle.dn_names.specs.Names.{TypeAndValue}
 use Rattle.entry_tree.specs.Selection.{Search, select}
 use Rattle.entry_tree.specs.declared.entry.Entry.{Entry}
 use Rattle.entry_tree.specs.declared.op.Write.{Write}
 use Rattle.directory_writes.specs.Directory.{DirectoryState, entries_after}
+use Rattle.directory_writes.proofs.Promised.{PromisesLast}
 use Rattle.sync_provider.specs.Machine.{ProviderState}
 use Rattle.sync_provider.specs.declared.provider.Kind.{Kind}
 use Rattle.sync_provider.specs.declared.provider.Kind.TheVariants.{Root, Replica}
-use Rattle.cascade_nodes.specs.declared.node.Supplier.{Supplier}
-use Rattle.cascade_nodes.specs.declared.node.Follower.{Follower}
+use Rattle.cascade_nodes.specs.declared.node.ProviderNode.{ProviderNode}
+use Rattle.cascade_nodes.specs.declared.node.ConsumerNode.{ConsumerNode}
 use Rattle.cascade_report.specs.declared.notes.Origin.{Origin}
 use Rattle.cascade_world.specs.Cookies.{held_cookie}
 use Rattle.cascade_laws.specs.Headline.{Known, known_of, stored_of}
-use Rattle.cascade_world.specs.Origins.{Note}
-use Rattle.cascade_world.specs.Report.{Storing, Told}
-use Rattle.cascade_world.specs.World.{State, supplier_named}
-use Rattle.cascade_laws.proofs.Feeding.{IsSource, IsFed, Promises, KeepsAll, PromisesLast}
-use Rattle.cascade_world.proofs.Finding.{IsChanged, found_after, suppliers_by, same_supplier, followers_by}
-use Rattle.cascade_laws.proofs.Owning.{owned_changed}
-use Rattle.cascade_laws.proofs.Saying.{IsLeft, known_still, stored_still, commits_still, clock_told}
+use Rattle.cascade_world.specs.Origins.{CommitOrigin}
+use Rattle.cascade_world.specs.ReportLines.{Storing, ReportLine}
+use Rattle.cascade_world.specs.World.{WorldState, provider_node_named}
+use Rattle.cascade_laws.proofs.Feeding.{IsSource, IsFed, Promises, KeepsAll}
+use Rattle.cascade_world.proofs.Finding.{IsChanged, found_after, provider_nodes_by, same_provider_node, consumer_nodes_by}
+use Rattle.cascade_laws.proofs.Saying.{IsLeft, known_still, stored_still, commits_still, clock_reported}
 use Rattle.cascade_world.proofs.SameNames.{same_name}
-use Rattle.cascade_laws.proofs.Tracking.{HasCommitted, CommittedBy, IsCommitter, AreCommitters, AreCommittersBut, AreSources, AreNumbered, noted, IsFollower, IsManned, AreManned, IsRooted, AreRooted, Feeds}
+use Rattle.cascade_world.proofs.Owning.{owned_changed}
+use Rattle.cascade_laws.proofs.Tracking.{HasCommitted, CommittedBy, IsCommitter, AreCommitters, AreCommittersBut, AreSources, AreNumbered, noted, IsConsumerNode, IsManned, AreManned, IsRooted, AreRooted, Feeds}
 
 -- ---- orders are counted
 
@@ -37,13 +39,8 @@ count_same test xs x miss = sum_by-append _ xs (x ∷ []) ∙ rw miss (add-zero 
 
 -- ---- providers with more writes
 
-pub take_front : {X : Type 0} (n : ℕ) (xs ys : List X) → n ≤ length xs → take n (xs ++ ys) ≡ take n xs
-take_front zero xs ys low = refl
-take_front (suc n) [] ys low = absurd (omega (arith, low))
-take_front (suc n) (x ∷ xs) ys low = ap (λ l. x ∷ l) (take_front n xs ys (omega (arith, low)))
-
 -- the same node, with the writes that it had and maybe more
-pub record Grows (r s : Supplier) : Type 0 where
+pub record Grows (r s : ProviderNode) : Type 0 where
   pub name : s.name ≡ r.name
   pub kind : s.provider.kind ≡ r.provider.kind
   pub history : s.provider.directory.history ≡ r.provider.directory.history
@@ -51,11 +48,11 @@ pub record Grows (r s : Supplier) : Type 0 where
   pub later : List Write
   pub grown : s.provider.directory.writes ≡ r.provider.directory.writes ++ later
 
-pub grows_itself : (r : Supplier) → Grows r r
+pub grows_itself : (r : ProviderNode) → Grows r r
 grows_itself r = record { name = refl; kind = refl; history = refl; suffix = refl; later = []; grown = sym (append-nil r.provider.directory.writes) }
 
 -- by a change that keeps all
-pub grows_kept : (r s : Supplier) → s.name ≡ r.name → KeepsAll r.provider.directory.history r.provider.directory.suffix r.provider s.provider → Grows r s
+pub grows_kept : (r s : ProviderNode) → s.name ≡ r.name → KeepsAll r.provider.directory.history r.provider.directory.suffix r.provider s.provider → Grows r s
 grows_kept r s same kept = record {
   name = same;
   kind = kept.kind;
@@ -66,24 +63,24 @@ grows_kept r s same kept = record {
 }
 
 -- what a provider has become
-pub record HasBecome (new : List ℕ → Option Supplier) (name : List ℕ) (r : Supplier) : Type 0 where
-  pub now : Supplier
+pub record HasBecome (new : List ℕ → Option ProviderNode) (name : List ℕ) (r : ProviderNode) : Type 0 where
+  pub now : ProviderNode
   pub there : new name ≡ Some now
   pub grows : Grows r now
 
 -- what it was
-pub record HasBeen (old : List ℕ → Option Supplier) (name : List ℕ) (s : Supplier) : Type 0 where
-  pub was : Supplier
+pub record HasBeen (old : List ℕ → Option ProviderNode) (name : List ℕ) (s : ProviderNode) : Type 0 where
+  pub was : ProviderNode
   pub there : old name ≡ Some was
   pub grows : Grows was s
 
-abbrev pub AllBecome : (old new : List ℕ → Option Supplier) → Type 0
-AllBecome old new = (name : List ℕ) (r : Supplier) → old name ≡ Some r → HasBecome new name r
+abbrev pub AllBecome : (old new : List ℕ → Option ProviderNode) → Type 0
+AllBecome old new = (name : List ℕ) (r : ProviderNode) → old name ≡ Some r → HasBecome new name r
 
-abbrev pub AllBeen : (old new : List ℕ → Option Supplier) → Type 0
-AllBeen old new = (name : List ℕ) (s : Supplier) → new name ≡ Some s → HasBeen old name s
+abbrev pub AllBeen : (old new : List ℕ → Option ProviderNode) → Type 0
+AllBeen old new = (name : List ℕ) (s : ProviderNode) → new name ≡ Some s → HasBeen old name s
 
-pub become_changed : (old new : List ℕ → Option Supplier) (name : List ℕ) (r s : Supplier) → old name ≡ Some r → IsChanged old new name s → Grows r s → AllBecome old new
+pub become_changed : (old new : List ℕ → Option ProviderNode) (name : List ℕ) (r s : ProviderNode) → old name ≡ Some r → IsChanged old new name s → Grows r s → AllBecome old new
 become_changed old new name r s e changed grows other x e' =
     elim (cases_Bool (bytes_eq other name)) [
       | inl hit ↦
@@ -94,14 +91,14 @@ become_changed old new name r s e changed grows other x e' =
       | inr miss ↦ record { now = x; there = changed.others other miss ∙ e'; grows = grows_itself x }
     ]
 
-pub been_changed : (old new : List ℕ → Option Supplier) (name : List ℕ) (r s : Supplier) → old name ≡ Some r → IsChanged old new name s → Grows r s → AllBeen old new
+pub been_changed : (old new : List ℕ → Option ProviderNode) (name : List ℕ) (r s : ProviderNode) → old name ≡ Some r → IsChanged old new name s → Grows r s → AllBeen old new
 been_changed old new name r s e changed grows other x e' =
     elim (found_after old new name s changed other x e') [
       | inl here ↦ record { was = r; there = ap old here.0 ∙ e; grows = subst (Grows r) here.1 grows }
       | inr there ↦ record { was = x; there = there.1; grows = grows_itself x }
     ]
 
-grows_both : (a b c : Supplier) → Grows a b → Grows b c → Grows a c
+grows_both : (a b c : ProviderNode) → Grows a b → Grows b c → Grows a c
 grows_both a b c first second = record {
   name = second.name ∙ first.name;
   kind = second.kind ∙ first.kind;
@@ -111,13 +108,13 @@ grows_both a b c first second = record {
   grown = second.grown ∙ ap (λ ws. ws ++ second.later) first.grown ∙ append_assoc a.provider.directory.writes first.later second.later;
 }
 
-pub become_itself : (old : List ℕ → Option Supplier) → AllBecome old old
+pub become_itself : (old : List ℕ → Option ProviderNode) → AllBecome old old
 become_itself old name r e = record { now = r; there = e; grows = grows_itself r }
 
-pub been_itself : (old : List ℕ → Option Supplier) → AllBeen old old
+pub been_itself : (old : List ℕ → Option ProviderNode) → AllBeen old old
 been_itself old name s e = record { was = s; there = e; grows = grows_itself s }
 
-pub become_through : (a b c : List ℕ → Option Supplier) → AllBecome a b → AllBecome b c → AllBecome a c
+pub become_through : (a b c : List ℕ → Option ProviderNode) → AllBecome a b → AllBecome b c → AllBecome a c
 become_through a b c first second name r e =
     let one = first name r e in
     let two = second name one.now one.there in
@@ -128,40 +125,40 @@ become_through a b c first second name r e =
 pub source_now : (number : ℕ) (suffix : List (List TypeAndValue)) (q : ProviderState) → IsSource number suffix q → IsSource q.directory.history q.directory.suffix q
 source_now number suffix q source = subst (λ d. IsSource d.history d.suffix q) (sym source.directory) source
 
-pub sources_changed : (suppliers next : List Supplier) (name : List ℕ) (s : Supplier) → IsChanged (suppliers_by suppliers) (suppliers_by next) name s
-    → IsSource s.provider.directory.history s.provider.directory.suffix s.provider → AreSources suppliers → AreSources next
-sources_changed suppliers next name s changed source is other x e =
-    elim (found_after (suppliers_by suppliers) (suppliers_by next) name s changed other x e) [
-      | inl here ↦ subst (λ (y : Supplier). IsSource y.provider.directory.history y.provider.directory.suffix y.provider) here.1 source
+pub sources_changed : (provider_nodes next : List ProviderNode) (name : List ℕ) (s : ProviderNode) → IsChanged (provider_nodes_by provider_nodes) (provider_nodes_by next) name s
+    → IsSource s.provider.directory.history s.provider.directory.suffix s.provider → AreSources provider_nodes → AreSources next
+sources_changed provider_nodes next name s changed source is other x e =
+    elim (found_after (provider_nodes_by provider_nodes) (provider_nodes_by next) name s changed other x e) [
+      | inl here ↦ subst (λ (y : ProviderNode). IsSource y.provider.directory.history y.provider.directory.suffix y.provider) here.1 source
       | inr there ↦ is other x there.1
     ]
 
-pub numbered_grown : (nodes : ℕ) (suppliers next : List Supplier) → AllBeen (suppliers_by suppliers) (suppliers_by next) → AreNumbered nodes suppliers → AreNumbered nodes next
-numbered_grown nodes suppliers next been is = record {
+pub numbered_grown : (nodes : ℕ) (provider_nodes next : List ProviderNode) → AllBeen (provider_nodes_by provider_nodes) (provider_nodes_by next) → AreNumbered nodes provider_nodes → AreNumbered nodes next
+numbered_grown nodes provider_nodes next been is = record {
   within = λ name s e. let b = been name s e in subst (λ n. n ≤ nodes) (sym b.grows.history) (is.within name b.was b.there);
   apart =
       λ name other r s e e' same. let b = been name r e in let c = been other s e' in
       is.apart name other b.was c.was b.there c.there (sym b.grows.history ∙ same ∙ c.grows.history);
 }
 
-pub manned_grown : (suppliers next : List Supplier) (followers after : List Follower) → AllBeen (suppliers_by suppliers) (suppliers_by next)
-    → ((name : List ℕ) → is_some (followers_by after name) ≡ is_some (followers_by followers name)) → AreManned suppliers followers → AreManned next after
-manned_grown suppliers next followers after been same is name s e =
+pub manned_grown : (provider_nodes next : List ProviderNode) (consumer_nodes after : List ConsumerNode) → AllBeen (provider_nodes_by provider_nodes) (provider_nodes_by next)
+    → ((name : List ℕ) → is_some (consumer_nodes_by after name) ≡ is_some (consumer_nodes_by consumer_nodes name)) → AreManned provider_nodes consumer_nodes → AreManned next after
+manned_grown provider_nodes next consumer_nodes after been same is name s e =
     let b = been name s e in
-    let P : Kind → Type 0 = λ k. IsManned k (is_some (followers_by after name)) in
+    let P : Kind → Type 0 = λ k. IsManned k (is_some (consumer_nodes_by after name)) in
     let Q : Bool → Type 0 = λ f. IsManned b.was.provider.kind f in
     subst P (sym b.grows.kind) (subst Q (sym (same name)) (is name b.was b.there))
 
-pub rooted_one : (suppliers next : List Supplier) → AllBecome (suppliers_by suppliers) (suppliers_by next) → (search : Search) (entries : List Entry) (origin : Origin) → IsRooted suppliers search entries origin → IsRooted next search entries origin
-rooted_one suppliers next become search entries origin is =
-    let b = become origin.root is.supplier is.there in
-    let number = is.supplier.provider.directory.history in
-    let writes = is.supplier.provider.directory.writes in
+pub rooted_one : (provider_nodes next : List ProviderNode) → AllBecome (provider_nodes_by provider_nodes) (provider_nodes_by next) → (search : Search) (entries : List Entry) (origin : Origin) → IsRooted provider_nodes search entries origin → IsRooted next search entries origin
+rooted_one provider_nodes next become search entries origin is =
+    let b = become origin.root is.provider_node is.there in
+    let number = is.provider_node.provider.directory.history in
+    let writes = is.provider_node.provider.directory.writes in
     let now = b.now.provider.directory.writes in
-    let same : take origin.number now ≡ take origin.number writes = ap (take origin.number) b.grows.grown ∙ take_front origin.number writes b.grows.later is.prefix in
+    let same : take origin.number now ≡ take origin.number writes = ap (take origin.number) b.grows.grown ∙ take-append-le origin.number writes b.grows.later is.prefix in
     let long : length now ≡ length writes + length b.grows.later = ap length b.grows.grown ∙ length-append writes b.grows.later in
     record {
-      supplier = b.now;
+      provider_node = b.now;
       there = b.there;
       root = b.grows.kind ∙ is.root;
       prefix = omega (arith, long, is.prefix);
@@ -170,21 +167,21 @@ rooted_one suppliers next become search entries origin is =
           ∙ ap (λ n. select search (entries_after n (take origin.number now))) (sym b.grows.history);
     }
 
-pub rooted_grown : (suppliers next : List Supplier) → AllBecome (suppliers_by suppliers) (suppliers_by next) → (stored : List Storing) → AreRooted suppliers stored → AreRooted next stored
-rooted_grown suppliers next become [] is = tt
-rooted_grown suppliers next become (one ∷ more) is = (by one.origin is.0, rooted_grown suppliers next become more is.1)
+pub rooted_grown : (provider_nodes next : List ProviderNode) → AllBecome (provider_nodes_by provider_nodes) (provider_nodes_by next) → (stored : List Storing) → AreRooted provider_nodes stored → AreRooted next stored
+rooted_grown provider_nodes next become [] is = tt
+rooted_grown provider_nodes next become (one ∷ more) is = (by one.origin is.0, rooted_grown provider_nodes next become more is.1)
   where
-    by : (origin : Option Origin) → IfSome origin (IsRooted suppliers one.search one.entries) → IfSome origin (IsRooted next one.search one.entries)
+    by : (origin : Option Origin) → IfSome origin (IsRooted provider_nodes one.search one.entries) → IfSome origin (IsRooted next one.search one.entries)
     by None h = h
-    by (Some origin) h = rooted_one suppliers next become one.search one.entries origin h
+    by (Some origin) h = rooted_one provider_nodes next become one.search one.entries origin h
 
 -- what a cookie promises of each provider
-abbrev pub PromisesAll : List Supplier → Search → Known → Type 0
-PromisesAll suppliers search known =
-    (name : List ℕ) (r : Supplier) → suppliers_by suppliers name ≡ Some r → Promises r.provider.directory.history search r.provider.directory.writes known
+abbrev pub PromisesAll : List ProviderNode → Search → Known → Type 0
+PromisesAll provider_nodes search known =
+    (name : List ℕ) (r : ProviderNode) → provider_nodes_by provider_nodes name ≡ Some r → Promises r.provider.directory.history search r.provider.directory.writes known
 
-pub promises_grown : PromisesLast → (suppliers next : List Supplier) (search : Search) (known : Known) → AllBeen (suppliers_by suppliers) (suppliers_by next) → PromisesAll suppliers search known → PromisesAll next search known
-promises_grown lasts suppliers next search known been is name s e =
+pub promises_grown : PromisesLast → (provider_nodes next : List ProviderNode) (search : Search) (known : Known) → AllBeen (provider_nodes_by provider_nodes) (provider_nodes_by next) → PromisesAll provider_nodes search known → PromisesAll next search known
+promises_grown lasts provider_nodes next search known been is name s e =
     let b = been name s e in
     let number = b.was.provider.directory.history in
     let was = b.was.provider.directory.writes in
@@ -194,31 +191,31 @@ promises_grown lasts suppliers next search known been is name s e =
 -- ---- one provider is changed
 
 -- the consumer is fed by the provider that is found
-pub fed_by : (said : List Told) (nodes : ℕ) (suppliers : List Supplier) (name : List ℕ) (supplier : Supplier) (f : Follower) → suppliers_by suppliers name ≡ Some supplier → f.source ≡ name → IsFollower said nodes suppliers f
-    → IsFed supplier.provider.directory.history supplier.provider f (known_of f.name said)
-fed_by said nodes suppliers name supplier f e same is =
-    let one : is.supplier ≡ supplier = same_supplier suppliers f.source name is.supplier supplier is.there e same in
-    subst (λ (r : Supplier). IsFed r.provider.directory.history r.provider f (known_of f.name said)) one is.fed
+pub fed_by : (said : List ReportLine) (nodes : ℕ) (provider_nodes : List ProviderNode) (name : List ℕ) (provider_node : ProviderNode) (f : ConsumerNode) → provider_nodes_by provider_nodes name ≡ Some provider_node → f.source ≡ name → IsConsumerNode said nodes provider_nodes f
+    → IsFed provider_node.provider.directory.history provider_node.provider f (known_of f.name said)
+fed_by said nodes provider_nodes name provider_node f e same is =
+    let one : is.provider_node ≡ provider_node = same_provider_node provider_nodes f.source name is.provider_node provider_node is.there e same in
+    subst (λ (r : ProviderNode). IsFed r.provider.directory.history r.provider f (known_of f.name said)) one is.fed
 
-follower_left : PromisesLast → (said : List Told) (nodes : ℕ) (suppliers next : List Supplier) (name : List ℕ) (r s : Supplier) (f : Follower) → suppliers_by suppliers name ≡ Some r → IsChanged (suppliers_by suppliers) (suppliers_by next) name s
-    → Grows r s → KeepsAll r.provider.directory.history r.provider.directory.suffix r.provider s.provider → IsFollower said nodes suppliers f → IsFollower said nodes next f
-follower_left lasts said nodes suppliers next name r s f e changed grows kept is =
+consumer_node_left : PromisesLast → (said : List ReportLine) (nodes : ℕ) (provider_nodes next : List ProviderNode) (name : List ℕ) (r s : ProviderNode) (f : ConsumerNode) → provider_nodes_by provider_nodes name ≡ Some r → IsChanged (provider_nodes_by provider_nodes) (provider_nodes_by next) name s
+    → Grows r s → KeepsAll r.provider.directory.history r.provider.directory.suffix r.provider s.provider → IsConsumerNode said nodes provider_nodes f → IsConsumerNode said nodes next f
+consumer_node_left lasts said nodes provider_nodes next name r s f e changed grows kept is =
     let known = known_of f.name said in
-    let promised = promises_grown lasts suppliers next f.consumer.spec known (been_changed (suppliers_by suppliers) (suppliers_by next) name r s e changed grows) is.promised in
+    let promised = promises_grown lasts provider_nodes next f.consumer.spec known (been_changed (provider_nodes_by provider_nodes) (provider_nodes_by next) name r s e changed grows) is.promised in
     elim (cases_Bool (bytes_eq f.source name)) [
       | inl hit ↦
           let same : f.source ≡ name = same_name f.source name hit in
-          let fed = kept.fed f known (fed_by said nodes suppliers name r f e same is) in
+          let fed = kept.fed f known (fed_by said nodes provider_nodes name r f e same is) in
           record {
-            supplier = s;
-            there = ap (suppliers_by next) same ∙ changed.here;
+            provider_node = s;
+            there = ap (provider_nodes_by next) same ∙ changed.here;
             fed = subst (λ n. IsFed n s.provider f known) (sym grows.history) fed;
             promised = promised;
             undeclared = is.undeclared;
           }
       | inr miss ↦
           record {
-            supplier = is.supplier;
+            provider_node = is.provider_node;
             there = changed.others f.source miss ∙ is.there;
             fed = is.fed;
             promised = promised;
@@ -226,60 +223,60 @@ follower_left lasts said nodes suppliers next name r s f e changed grows kept is
           }
     ]
 
-pub feeds_changed : PromisesLast → (said : List Told) (state : State) (next : List Supplier) (name : List ℕ) (r s : Supplier) → supplier_named name state ≡ Some r → IsChanged (suppliers_by state.suppliers) (suppliers_by next) name s → s.name ≡ r.name
-    → KeepsAll r.provider.directory.history r.provider.directory.suffix r.provider s.provider → Feeds said state → Feeds said (record state { suppliers = next })
+pub feeds_changed : PromisesLast → (said : List ReportLine) (state : WorldState) (next : List ProviderNode) (name : List ℕ) (r s : ProviderNode) → provider_node_named name state ≡ Some r → IsChanged (provider_nodes_by state.provider_nodes) (provider_nodes_by next) name s → s.name ≡ r.name
+    → KeepsAll r.provider.directory.history r.provider.directory.suffix r.provider s.provider → Feeds said state → Feeds said (record state { provider_nodes = next })
 feeds_changed lasts said state next name r s e changed same kept is =
     let grows = grows_kept r s same kept in
-    let become = become_changed (suppliers_by state.suppliers) (suppliers_by next) name r s e changed grows in
-    let been = been_changed (suppliers_by state.suppliers) (suppliers_by next) name r s e changed grows in
+    let become = become_changed (provider_nodes_by state.provider_nodes) (provider_nodes_by next) name r s e changed grows in
+    let been = been_changed (provider_nodes_by state.provider_nodes) (provider_nodes_by next) name r s e changed grows in
     record {
       clock = is.clock;
       few = is.few;
       counted = is.counted;
-      sources = sources_changed state.suppliers next name s changed (source_now r.provider.directory.history r.provider.directory.suffix s.provider kept.source) is.sources;
-      numbered = numbered_grown state.nodes state.suppliers next been is.numbered;
-      followers = λ n f e'. follower_left lasts said state.nodes state.suppliers next name r s f e changed grows kept (is.followers n f e');
+      sources = sources_changed state.provider_nodes next name s changed (source_now r.provider.directory.history r.provider.directory.suffix s.provider kept.source) is.sources;
+      numbered = numbered_grown state.nodes state.provider_nodes next been is.numbered;
+      consumer_nodes = λ n f e'. consumer_node_left lasts said state.nodes state.provider_nodes next name r s f e changed grows kept (is.consumer_nodes n f e');
       apart = is.apart;
-      owned = owned_changed state.suppliers next state.followers name r s e changed kept.opens is.owned;
-      manned = manned_grown state.suppliers next state.followers state.followers been (λ n. refl) is.manned;
+      owned = owned_changed state.provider_nodes next state.consumer_nodes name r s e changed kept.opens is.owned;
+      manned = manned_grown state.provider_nodes next state.consumer_nodes state.consumer_nodes been (λ n. refl) is.manned;
       climbs = is.climbs;
-      rooted = λ n. rooted_grown state.suppliers next become (stored_of n said) (is.rooted n);
+      rooted = λ n. rooted_grown state.provider_nodes next become (stored_of n said) (is.rooted n);
     }
 
 -- ---- more lines
 
 -- a consumer's own lines are not among them
-pub follower_still : (said lines : List Told) (nodes : ℕ) (suppliers : List Supplier) (f : Follower) → IsLeft f.name lines → IsFollower said nodes suppliers f → IsFollower (said ++ lines) nodes suppliers f
-follower_still said lines nodes suppliers f left is =
+pub consumer_node_still : (said lines : List ReportLine) (nodes : ℕ) (provider_nodes : List ProviderNode) (f : ConsumerNode) → IsLeft f.name lines → IsConsumerNode said nodes provider_nodes f → IsConsumerNode (said ++ lines) nodes provider_nodes f
+consumer_node_still said lines nodes provider_nodes f left is =
     let same = sym (known_still f.name said lines left) in
     record {
-      supplier = is.supplier;
+      provider_node = is.provider_node;
       there = is.there;
-      fed = subst (IsFed is.supplier.provider.directory.history is.supplier.provider f) same is.fed;
+      fed = subst (IsFed is.provider_node.provider.directory.history is.provider_node.provider f) same is.fed;
       promised = λ name r e. subst (Promises r.provider.directory.history f.consumer.spec r.provider.directory.writes) same (is.promised name r e);
       undeclared = λ number above low. subst (Promises number f.consumer.spec []) same (is.undeclared number above low);
     }
 
 -- lines of no node's state, with which the clocks may change
-pub feeds_more : (said lines : List Told) (state : State) (time : ℕ) → ((name : List ℕ) → IsLeft name lines) → time ≡ clock_told (said ++ lines) → Feeds said state → Feeds (said ++ lines) (record state { clock = time })
+pub feeds_more : (said lines : List ReportLine) (state : WorldState) (time : ℕ) → ((name : List ℕ) → IsLeft name lines) → time ≡ clock_reported (said ++ lines) → Feeds said state → Feeds (said ++ lines) (record state { clock = time })
 feeds_more said lines state time left clock is = record {
   clock = clock;
   few = is.few;
   counted = is.counted;
   sources = is.sources;
   numbered = is.numbered;
-  followers = λ n f e. follower_still said lines state.nodes state.suppliers f (left f.name) (is.followers n f e);
+  consumer_nodes = λ n f e. consumer_node_still said lines state.nodes state.provider_nodes f (left f.name) (is.consumer_nodes n f e);
   apart = is.apart;
   owned = is.owned;
   manned = is.manned;
   climbs = is.climbs;
-  rooted = λ n. subst (AreRooted state.suppliers) (sym (stored_still n said lines (left n))) (is.rooted n);
+  rooted = λ n. subst (AreRooted state.provider_nodes) (sym (stored_still n said lines (left n))) (is.rooted n);
 }
 
 -- ---- what was committed
 
 -- with the lines of others
-has_still : (number : ℕ) (said lines : List Told) (name : List ℕ) (notes : List Note) (writes : List Write) → IsLeft name lines → HasCommitted number said name notes writes → HasCommitted number (said ++ lines) name notes writes
+has_still : (number : ℕ) (said lines : List ReportLine) (name : List ℕ) (notes : List CommitOrigin) (writes : List Write) → IsLeft name lines → HasCommitted number said name notes writes → HasCommitted number (said ++ lines) name notes writes
 has_still number said lines name notes writes left is =
     let same = stored_still name said lines left in
     record {
@@ -290,7 +287,7 @@ has_still number said lines name notes writes left is =
       each = λ at stored e. is.each at stored (ap (λ s. slice_get s at) (sym same) ∙ e);
     }
 
-pub committer_still : (said lines : List Told) (s : Supplier) → IsLeft s.name lines → IsCommitter said s → IsCommitter (said ++ lines) s
+pub committer_still : (said lines : List ReportLine) (s : ProviderNode) → IsLeft s.name lines → IsCommitter said s → IsCommitter (said ++ lines) s
 committer_still said lines s left is = by s.provider.kind is
   where
     by : (kind : Kind) → CommittedBy said s kind → CommittedBy (said ++ lines) s kind
@@ -298,7 +295,7 @@ committer_still said lines s left is = by s.provider.kind is
     by Replica h = has_still s.provider.directory.history said lines s.name s.notes s.provider.directory.writes left h
 
 -- the same node with the same writes and notes
-pub record IsSameSupplier (r s : Supplier) : Type 0 where
+pub record IsSameProviderNode (r s : ProviderNode) : Type 0 where
   pub name : s.name ≡ r.name
   pub kind : s.provider.kind ≡ r.provider.kind
   pub history : s.provider.directory.history ≡ r.provider.directory.history
@@ -306,7 +303,7 @@ pub record IsSameSupplier (r s : Supplier) : Type 0 where
   pub writes : s.provider.directory.writes ≡ r.provider.directory.writes
   pub notes : s.notes ≡ r.notes
 
-pub committer_same : (said : List Told) (r s : Supplier) → IsSameSupplier r s → IsCommitter said r → IsCommitter said s
+pub committer_same : (said : List ReportLine) (r s : ProviderNode) → IsSameProviderNode r s → IsCommitter said r → IsCommitter said s
 committer_same said r s same is = subst (CommittedBy said s) (sym same.kind) (by r.provider.kind is)
   where
     by : (kind : Kind) → CommittedBy said r kind → CommittedBy said s kind
@@ -317,17 +314,17 @@ committer_same said r s same is = subst (CommittedBy said s) (sym same.kind) (by
         (subst (λ n. HasCommitted r.provider.directory.history said r.name n s.provider.directory.writes) (sym same.notes)
         (subst (λ n. HasCommitted r.provider.directory.history said r.name r.notes n) (sym same.writes) h)))
 
-pub committers_more : (said lines : List Told) (suppliers : List Supplier) → ((name : List ℕ) → IsLeft name lines) → AreCommitters said suppliers → AreCommitters (said ++ lines) suppliers
-committers_more said lines suppliers left is name s e = committer_still said lines s (left s.name) (is name s e)
+pub committers_more : (said lines : List ReportLine) (provider_nodes : List ProviderNode) → ((name : List ℕ) → IsLeft name lines) → AreCommitters said provider_nodes → AreCommitters (said ++ lines) provider_nodes
+committers_more said lines provider_nodes left is name s e = committer_still said lines s (left s.name) (is name s e)
 
 -- one that commits is changed
-pub committers_changed : (said : List Told) (suppliers next : List Supplier) (name : List ℕ) (s : Supplier) → IsChanged (suppliers_by suppliers) (suppliers_by next) name s → IsCommitter said s → AreCommittersBut name said suppliers
+pub committers_changed : (said : List ReportLine) (provider_nodes next : List ProviderNode) (name : List ℕ) (s : ProviderNode) → IsChanged (provider_nodes_by provider_nodes) (provider_nodes_by next) name s → IsCommitter said s → AreCommittersBut name said provider_nodes
     → AreCommitters said next
-committers_changed said suppliers next name s changed now is other x e =
-    elim (found_after (suppliers_by suppliers) (suppliers_by next) name s changed other x e) [
+committers_changed said provider_nodes next name s changed now is other x e =
+    elim (found_after (provider_nodes_by provider_nodes) (provider_nodes_by next) name s changed other x e) [
       | inl here ↦ subst (IsCommitter said) here.1 now
       | inr there ↦ is other x there.1 there.0
     ]
 
-pub committers_but : (hole : List ℕ) (said : List Told) (suppliers : List Supplier) → AreCommitters said suppliers → AreCommittersBut hole said suppliers
-committers_but hole said suppliers is name s e apart = is name s e
+pub committers_but : (hole : List ℕ) (said : List ReportLine) (provider_nodes : List ProviderNode) → AreCommitters said provider_nodes → AreCommittersBut hole said provider_nodes
+committers_but hole said provider_nodes is name s e apart = is name s e

@@ -1,20 +1,22 @@
--- Each line of a run is right, for the orders and the lines before it, and what the lines tell last is what is held.
+-- Each line of a run is right, for the orders and the lines before it, and what the lines report last is what is held.
 use Rattle.std.proofs.Common.{List, []}
+use Rattle.sync_wire.proofs.Servable.{selected_can_be_served}
+use Rattle.directory_writes.proofs.Promised.{promises_last}
 use Rattle.cascade_laws.specs.Headline.{LinesAreRight}
 use Rattle.cascade_script.specs.Orders.{Order}
 use Rattle.cascade_script.specs.Reader.{Reader}
-use Rattle.cascade_world.specs.Report.{Told}
+use Rattle.cascade_world.specs.ReportLines.{ReportLine}
 use Rattle.cascade_world.specs.Trace.{all_lines}
 use Rattle.cascade_laws.specs.Run.{Runs, AreHeld}
-use Rattle.cascade_world.specs.World.{State, no_nodes}
+use Rattle.cascade_world.specs.World.{WorldState, no_nodes}
 use Rattle.cascade_laws.proofs.EachOrder.{HasRun, runs_tracked_by}
 use Rattle.cascade_laws.proofs.FedWanting.{idles_rest, respecs_are_kept}
 use Rattle.cascade_laws.proofs.PartsKept.{parts_are_kept}
-use Rattle.cascade_laws.proofs.Sources.{rest_is_fed, rests_are_fed, fresh_is_source, writes_are_kept, limits_are_kept, queues_are_kept, commits_are_kept, promises_last, selected_can_be_served}
-use Rattle.cascade_laws.proofs.Telling.{copies_held}
+use Rattle.cascade_laws.proofs.Sources.{rest_is_fed, rests_are_fed, fresh_is_source, writes_are_kept, limits_are_kept, queues_are_kept, commits_are_kept}
+use Rattle.cascade_laws.proofs.Reporting.{copies_held}
 
 -- a run from no nodes, with what is known of providers and consumers
-runs_tracked : (reader : Reader) (orders : List Order) (report : List (List Told)) (end : State) (rest : Reader) → Runs no_nodes reader orders report end rest → HasRun [] [] orders report end
+runs_tracked : (reader : Reader) (orders : List Order) (report : List (List ReportLine)) (end : WorldState) (rest : Reader) → Runs no_nodes reader orders report end rest → HasRun [] [] orders report end
 runs_tracked = runs_tracked_by (record {
   rest = rest_is_fed;
   fresh = fresh_is_source;
@@ -31,9 +33,9 @@ runs_tracked = runs_tracked_by (record {
 })
 
 -- each line of a run from no nodes is right
-pub runs_lines_right : (reader : Reader) (orders : List Order) (report : List (List Told)) (end : State) (rest : Reader) → Runs no_nodes reader orders report end rest → LinesAreRight [] [] orders report
+pub runs_lines_right : (reader : Reader) (orders : List Order) (report : List (List ReportLine)) (end : WorldState) (rest : Reader) → Runs no_nodes reader orders report end rest → LinesAreRight [] [] orders report
 runs_lines_right reader orders report end rest r = (runs_tracked reader orders report end rest r).right
 
--- what the lines of a run from no nodes tell last of each consumer is what it holds
-pub runs_held : (reader : Reader) (orders : List Order) (report : List (List Told)) (end : State) (rest : Reader) → Runs no_nodes reader orders report end rest → AreHeld (all_lines report) end
+-- what the lines of a run from no nodes report last of each consumer is what it holds
+pub runs_held : (reader : Reader) (orders : List Order) (report : List (List ReportLine)) (end : WorldState) (rest : Reader) → Runs no_nodes reader orders report end rest → AreHeld (all_lines report) end
 runs_held reader orders report end rest r = copies_held orders (all_lines report) end (runs_tracked reader orders report end rest r).tracked

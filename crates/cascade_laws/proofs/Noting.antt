@@ -2,19 +2,21 @@
 use Rattle.std.proofs.Common.{◌≡◌, ◌⊎◌, ◌+◌, ◌≤◌, ℕ, zero, suc, Bool, true, false, Option, Some, None, List, [], ◌∷◌, ◌++◌, length, take, refl, ap, sym, subst, ◌∙◌, inl, inr, arith, append-nil, append_assoc, length-append}
 use Rattle.std.proofs.lemmas.Bool.{cases_Bool}
 use Rattle.std.proofs.lemmas.List.Concat.{flat_map-cons}
-use Rattle.std.proofs.lemmas.List.Sums.{fold-append}
 use Rattle.std.proofs.lemmas.Option.{slice_get_within}
 use Rattle.std.specs.Option.{option_or}
 use Rattle.std.specs.Prelude.{Result, Ok, Err, map, slice_get, cond, ◌&&◌, ◌==◌}
 use Rattle.std.specs.Str.{bytes_eq}
-use Rattle.csn_cookie.specs.Csn.{Stamp, start}
+use Rattle.std.proofs.lemmas.List.{take-append-le, take_all}
+use Rattle.ldap_constants.specs.declared.result_codes.TheConstants.{E_SYNC_REFRESH_REQUIRED}
+use Rattle.csn_cookie.specs.Csn.{CsnValue, start}
 use Rattle.csn_cookie.specs.CsnMaker.{next_csn}
 use Rattle.dn_names.specs.Names.{TypeAndValue}
 use Rattle.entry_tree.specs.Effects.{committed}
 use Rattle.entry_tree.specs.Selection.{Search}
 use Rattle.entry_tree.specs.declared.op.Op.TheVariants.{Commit}
 use Rattle.entry_tree.specs.declared.op.Write.{Write}
-use Rattle.directory_writes.specs.Directory.{DirectoryState, entries_after, entries_of, last_stamp}
+use Rattle.sync_wire.proofs.Servable.{CanBeServed, SelectedCanBeServed}
+use Rattle.directory_writes.specs.Directory.{DirectoryState, entries_after, entries_of, last_csn}
 use Rattle.sync_provider.specs.Committing.{commit_refusal}
 use Rattle.sync_provider.specs.Machine as machine
 use Rattle.sync_provider.specs.Machine.{ProviderState, refusal_of_each}
@@ -22,16 +24,15 @@ use Rattle.sync_provider.specs.declared.provider.Kind.TheVariants.{Replica}
 use Rattle.sync_provider.specs.declared.writing.CommitFault.{CommitFault}
 use Rattle.sync_provider.specs.declared.writing.CommitFault.TheVariants as fault
 use Rattle.cascade_script.specs.declared.fault.Cause.{Cause}
-use Rattle.cascade_nodes.specs.declared.node.Supplier.{Supplier}
+use Rattle.cascade_nodes.specs.declared.node.ProviderNode.{ProviderNode}
 use Rattle.cascade_world.specs.Commits.{note_of, commit_of, with_commits, commits_by, commits_all}
-use Rattle.cascade_laws.specs.Headline.{Known, nothing_known, known_after, known_of, Committed, with_stored, with_stamp, committed_after, stored_by, stored_of}
-use Rattle.cascade_world.specs.Origins.{Note}
-use Rattle.cascade_world.specs.Report.{Storing, Told, Stage, stage_of, stages_in, stages_of}
-use Rattle.cascade_world.specs.Report.Told.{Wrote, Opened, Refused, Sent, Taken, Stored, Ended, Faulted, Cut, Nothing, Settled, Holds, Clocked, Shown}
+use Rattle.cascade_laws.specs.Headline.{Known, known_after, known_of, Committed, with_stored, with_csn, committed_after, stored_by, stored_of}
+use Rattle.cascade_world.specs.Origins.{CommitOrigin}
+use Rattle.cascade_world.specs.ReportLines.{Storing, ReportLine, StoredStage, stage_of, stages_in, stages_of}
+use Rattle.cascade_world.specs.ReportLines.ReportLine.{Wrote, Opened, Refused, Sent, Taken, Stored, Ended, Faulted, Cut, Nothing, Settled, Holds, Clocked, Shown}
 use Rattle.cascade_laws.proofs.Exchanged.{no_time}
-use Rattle.cascade_laws.proofs.Feeding.{IsSource, CanBeServed, Frame, IsRightOf, LineIsRightOf, LinesAreRightOf, KeepsAll, CommitIs, CommitsAreKept, SelectedCanBeServed}
-use Rattle.cascade_laws.proofs.Growing.{take_front}
-use Rattle.cascade_laws.proofs.Saying.{stored_more, commits_more, committed_of, committed_time, clock_told, clock_more}
+use Rattle.cascade_laws.proofs.Feeding.{IsSource, Frame, IsRightOf, LineIsRightOf, LinesAreRightOf, KeepsAll, CommitIs, CommitsAreKept}
+use Rattle.cascade_laws.proofs.Saying.{known_next, stored_more, commits_more, committed_of, committed_time, clock_reported, clock_more}
 use Rattle.cascade_world.proofs.SameNames.{itself}
 use Rattle.cascade_laws.proofs.Tracking.{noted, HasCommitted}
 
@@ -49,17 +50,17 @@ keeps_through number suffix p q r first second = record {
 
 -- ---- a line that stores nothing
 
-record StoresNone (name : List ℕ) (line : Told) : Type 0 where
+record StoresNone (name : List ℕ) (line : ReportLine) : Type 0 where
   entries : (found : Known) → (known_after name found line).entries ≡ found.entries
   stored : stored_by name line ≡ []
   writes : (history : ℕ) (found : Committed) → (committed_after history name found line).writes ≡ found.writes
   stages : stages_in line ≡ []
 
 -- each other line is one
-abbrev IsStoring : Told → Type 0
+abbrev IsStoring : ReportLine → Type 0
 IsStoring line = (name : List ℕ) × (stored : Storing) × (line ≡ Stored name stored)
 
-either : (name : List ℕ) (line : Told) → IsStoring line ⊎ StoresNone name line
+either : (name : List ℕ) (line : ReportLine) → IsStoring line ⊎ StoresNone name line
 either name (Stored other stored) = inl (other, stored, refl)
 either name (Wrote other code writes) = inr record { entries = λ found. refl; stored = refl; writes = λ history found. refl; stages = refl }
 either name (Opened other persists writes) =
@@ -72,7 +73,7 @@ either name (Opened other persists writes) =
 either name (Refused other persists code) = inr record { entries = λ found. refused found; stored = refl; writes = λ history found. refl; stages = refl }
   where
     refused : (found : Known) → (known_after name found (Refused other persists code)).entries ≡ found.entries
-    refused found = by (bytes_eq other name && code == 4096)
+    refused found = by (bytes_eq other name && code == E_SYNC_REFRESH_REQUIRED)
       where
         by : (b : Bool) → (cond b (record found { cookie = None }) found).entries ≡ found.entries
         by true = refl
@@ -100,36 +101,33 @@ either name (Holds other cookie) =
 either name (Clocked time) = inr record { entries = λ found. refl; stored = refl; writes = λ history found. refl; stages = refl }
 either name (Shown other entries) = inr record { entries = λ found. refl; stored = refl; writes = λ history found. refl; stages = refl }
 
-stored_one : (name : List ℕ) (said : List Told) (line : Told) → stored_of name (said ++ line ∷ []) ≡ stored_of name said ++ stored_by name line
+stored_one : (name : List ℕ) (said : List ReportLine) (line : ReportLine) → stored_of name (said ++ line ∷ []) ≡ stored_of name said ++ stored_by name line
 stored_one name said line =
     stored_more name said (line ∷ []) ∙ ap (λ s. stored_of name said ++ s) (flat_map-cons (stored_by name) line [] ∙ append-nil (stored_by name line))
 
-known_one : (name : List ℕ) (said : List Told) (line : Told) → known_of name (said ++ line ∷ []) ≡ known_after name (known_of name said) line
-known_one name said line = fold-append (known_after name) nothing_known said (line ∷ [])
-
-stages_one : (line : Told) (lines : List Told) → stages_of (line ∷ lines) ≡ stages_in line ++ stages_of lines
+stages_one : (line : ReportLine) (lines : List ReportLine) → stages_of (line ∷ lines) ≡ stages_in line ++ stages_of lines
 stages_one line lines = flat_map-cons stages_in line lines
 
 -- ---- a replica that commits
 
--- it is the one of that name, which has committed what was told so far
-pub record IsCommitting (number : ℕ) (suffix : List (List TypeAndValue)) (first : ProviderState) (name : List ℕ) (said : List Told) (own : Supplier) : Type 0 where
+-- it is the one of that name, which has committed what was reported so far
+pub record IsCommitting (number : ℕ) (suffix : List (List TypeAndValue)) (first : ProviderState) (name : List ℕ) (said : List ReportLine) (own : ProviderNode) : Type 0 where
   pub named : own.name ≡ name
   pub keeps : KeepsAll number suffix first own.provider
   pub has : HasCommitted number said name own.notes own.provider.directory.writes
 
-abbrev pub CommittingIn : ℕ → List (List TypeAndValue) → ProviderState → List ℕ → List Told → Result Supplier Cause → Type 0
+abbrev pub CommittingIn : ℕ → List (List TypeAndValue) → ProviderState → List ℕ → List ReportLine → Result ProviderNode Cause → Type 0
 CommittingIn number suffix first name said (Ok own) = IsCommitting number suffix first name said own
 CommittingIn number suffix first name said (Err cause) = Unit {0}
 
 -- with a line that stores nothing
-none_more : (number : ℕ) (name : List ℕ) (said : List Told) (line : Told) (notes : List Note) (writes : List Write) → StoresNone name line → HasCommitted number said name notes writes → HasCommitted number (said ++ line ∷ []) name notes writes
+none_more : (number : ℕ) (name : List ℕ) (said : List ReportLine) (line : ReportLine) (notes : List CommitOrigin) (writes : List Write) → StoresNone name line → HasCommitted number said name notes writes → HasCommitted number (said ++ line ∷ []) name notes writes
 none_more number name said line notes writes none is =
     let same : stored_of name (said ++ line ∷ []) ≡ stored_of name said = stored_one name said line ∙ ap (λ s. stored_of name said ++ s) none.stored ∙ append-nil (stored_of name said) in
     record {
       commits = is.commits ∙ sym (commits_more number name said (line ∷ []) ∙ none.writes number (committed_of number name said));
       notes_are = is.notes_are ∙ ap (λ s. map noted s) (sym same);
-      held = is.held ∙ sym (ap (λ (k : Known). k.entries) (known_one name said line) ∙ none.entries (known_of name said));
+      held = is.held ∙ sym (ap (λ (k : Known). k.entries) (known_next name said line) ∙ none.entries (known_of name said));
       counted = is.counted ∙ ap length (sym same);
       each = λ at stored e. is.each at stored (ap (λ s. slice_get s at) (sym same) ∙ e);
     }
@@ -145,19 +143,13 @@ last_or_before (s ∷ all) last one (suc at) e =
       | inr new ↦ inr (ap suc new.0, new.1)
     ]
 
-take_all : {X : Type 0} (n : ℕ) (xs : List X) → length xs ≤ n → take n xs ≡ xs
-take_all zero [] low = refl
-take_all (suc n) [] low = refl
-take_all zero (x ∷ xs) low = absurd (omega (arith, low))
-take_all (suc n) (x ∷ xs) low = ap (λ l. x ∷ l) (take_all n xs (omega (arith, low)))
-
 map-last : (all : List Storing) (last : Storing) → map noted (all ++ last ∷ []) ≡ map noted all ++ noted last ∷ []
 map-last [] last = refl
 map-last (s ∷ all) last = ap (λ l. noted s ∷ l) (map-last all last)
 
 -- with one that stores something
-one_more : (number : ℕ) (name : List ℕ) (said : List Told) (stored : Storing) (search : Search) (now : ℕ) (csn : Stamp) (notes : List Note) (writes next : List Write) → stored.search ≡ search → now ≡ clock_told said
-    → next_csn now (last_stamp (start number) writes) ≡ Some csn → next ≡ writes ++ record { csn = csn; op = Commit stored.commit.puts stored.commit.drops } ∷ []
+one_more : (number : ℕ) (name : List ℕ) (said : List ReportLine) (stored : Storing) (search : Search) (now : ℕ) (csn : CsnValue) (notes : List CommitOrigin) (writes next : List Write) → stored.search ≡ search → now ≡ clock_reported said
+    → next_csn now (last_csn (start number) writes) ≡ Some csn → next ≡ writes ++ record { csn = csn; op = Commit stored.commit.puts stored.commit.drops } ∷ []
     → entries_after number next ≡ stored.entries → HasCommitted number said name notes writes
     → HasCommitted number (said ++ Stored name stored ∷ []) name (notes ++ record { search = search; origin = stored.origin } ∷ []) next
 one_more number name said stored search now csn notes writes next wanted clock drawn one left is =
@@ -169,7 +161,7 @@ one_more number name said stored search now csn notes writes next wanted clock d
     let known = committed_of number name said in
     let time : known.time ≡ now = committed_time number name said ∙ sym clock in
     let stamped : with_stored number known.time known.writes stored.commit ≡ next =
-    ap (λ t. with_stored number t known.writes stored.commit) time ∙ ap (λ ws. with_stored number now ws stored.commit) (sym is.commits) ∙ ap (with_stamp writes stored.commit) drawn ∙ sym one in
+    ap (λ t. with_stored number t known.writes stored.commit) time ∙ ap (λ ws. with_stored number now ws stored.commit) (sym is.commits) ∙ ap (with_csn writes stored.commit) drawn ∙ sym one in
     let after : (committed_after number name known line').writes ≡ with_stored number known.time known.writes stored.commit = rw hit refl in
     let held' : (known_after name (known_of name said) line').entries ≡ stored.entries = rw hit refl in
     let long : length next ≡ length writes + 1 = ap length one ∙ length-append writes _ in
@@ -179,7 +171,7 @@ one_more number name said stored search now csn notes writes next wanted clock d
       notes_are =
           ap (λ ns. ns ++ record { search = search; origin = stored.origin } ∷ []) is.notes_are
           ∙ ap (λ s. map noted all ++ record { search = s; origin = stored.origin } ∷ []) (sym wanted) ∙ sym (map-last all stored) ∙ ap (λ s. map noted s) (sym same);
-      held = left ∙ sym (ap (λ (k : Known). k.entries) (known_one name said line') ∙ held');
+      held = left ∙ sym (ap (λ (k : Known). k.entries) (known_next name said line') ∙ held');
       counted = long ∙ ap (λ n. n + 1) counted ∙ sym (ap length same ∙ length-append all (stored ∷ []));
       each =
           λ at other e. by at other (last_or_before all stored other at (ap (λ s. slice_get s at) (sym same) ∙ e));
@@ -190,7 +182,7 @@ one_more number name said stored search now csn notes writes next wanted clock d
         let low = slice_get_within (stored_of name said) at other was in
         let counted = is.counted in
         let short : at + 1 ≤ length writes = omega (arith, low, counted) in
-        ap (λ ws. entries_after number (take (at + 1) ws)) one ∙ ap (entries_after number) (take_front (at + 1) writes _ short) ∙ is.each at other was
+        ap (λ ws. entries_after number (take (at + 1) ws)) one ∙ ap (entries_after number) (take-append-le (at + 1) writes _ short) ∙ is.each at other was
     by at other (inr new) =
         let counted = is.counted in
         let long : length next ≡ length writes + 1 = ap length one ∙ length-append writes _ in
@@ -203,26 +195,26 @@ module _ (kept : CommitsAreKept) (selected : SelectedCanBeServed) (number : ℕ)
   served : (known : Known) (stored : Storing) → IsRightOf from frame known stored → CanBeServed stored.entries
   served known stored is = subst CanBeServed (sym is.exactly) (selected frame.spec (entries_after from (take stored.number frame.writes)) (good stored.number))
 
-  -- what is against the commits of some stages: nothing, or a limit
-  abbrev CommittingBy : List Told → Supplier → List Stage → Option CommitFault → Type 0
+  -- what rejects the commits of some stages: nothing, or a limit
+  abbrev CommittingBy : List ReportLine → ProviderNode → List StoredStage → Option CommitFault → Type 0
   CommittingBy said own stages None = IsCommitting number suffix first name said (with_commits now search own stages)
   CommittingBy said own stages (Some (fault.LimitReached limit)) = Unit {0}
   CommittingBy said own stages (Some (fault.DuplicateName one other)) = ⊥
   CommittingBy said own stages (Some fault.NotAReplica) = ⊥
   CommittingBy said own stages (Some fault.NoMemory) = ⊥
 
-  -- so it is with these stages, which leave what was told by then
-  abbrev AreCommitting : List Told → Supplier → List Stage → Type 0
+  -- so it is with these stages, which leave what was reported by then
+  abbrev AreCommitting : List ReportLine → ProviderNode → List StoredStage → Type 0
   AreCommitting said own stages = CommittingBy said own stages (refusal_of_each own.provider (map commit_of stages) now)
 
   -- the replica after one of them
-  abbrev with_one : Supplier → Stage → Supplier
+  abbrev with_one : ProviderNode → StoredStage → ProviderNode
   with_one own stage = record own {
     provider = machine.committed own.provider stage.puts stage.drops now;
     notes = own.notes ++ note_of search stage ∷ [];
   }
 
-  one_before : (said : List Told) (own : Supplier) (stage : Stage) (stages : List Stage) (refusal : Option CommitFault) → CommittingBy said (with_one own stage) stages refusal → CommittingBy said own (stage ∷ stages) refusal
+  one_before : (said : List ReportLine) (own : ProviderNode) (stage : StoredStage) (stages : List StoredStage) (refusal : Option CommitFault) → CommittingBy said (with_one own stage) stages refusal → CommittingBy said own (stage ∷ stages) refusal
   one_before said own stage stages None is =
       subst (λ ns. IsCommitting number suffix first name said (record own { provider = (with_commits now search (with_one own stage) stages).provider; notes = ns }))
       (append_assoc own.notes (note_of search stage ∷ []) (map (note_of search) stages)) is
@@ -231,12 +223,12 @@ module _ (kept : CommitsAreKept) (selected : SelectedCanBeServed) (number : ℕ)
   one_before said own stage stages (Some fault.NotAReplica) is = is
   one_before said own stage stages (Some fault.NoMemory) is = is
 
-  -- one stage, and those behind it
-  stage_commits : (said : List Told) (own : Supplier) (stored : Storing) (later : List Told) (stages : List Stage) → now ≡ clock_told said → IsRightOf from frame (known_of name said) stored
+  -- one stage, and those after it
+  stage_commits : (said : List ReportLine) (own : ProviderNode) (stored : Storing) (later : List ReportLine) (stages : List StoredStage) → now ≡ clock_reported said → IsRightOf from frame (known_of name said) stored
       → IsCommitting number suffix first name said own
       → (IsCommitting number suffix first name (said ++ Stored name stored ∷ []) (with_one own (stage_of stored)) → AreCommitting later (with_one own (stage_of stored)) stages)
       → AreCommitting later own (stage_of stored ∷ stages)
-  stage_commits said own stored later stages clock is committing behind =
+  stage_commits said own stored later stages clock is committing beyond =
       by (commit_refusal p.kind p.directory stored.commit.puts stored.commit.drops now) (kept number suffix p stored.commit.puts stored.commit.drops now committing.keeps.source kind can)
     where
       p : ProviderState
@@ -245,7 +237,7 @@ module _ (kept : CommitsAreKept) (selected : SelectedCanBeServed) (number : ℕ)
       kind : p.kind ≡ Replica
       kind = committing.keeps.kind ∙ replica
 
-      -- what is in the directory is what the lines told
+      -- what is in the directory is what the lines reported
       here : (q : ProviderState) → IsSource number suffix q → entries_of q.directory ≡ entries_after number q.directory.writes
       here q source = ap (λ n. entries_after n q.directory.writes) (ap (λ (d : DirectoryState). d.history) source.directory)
 
@@ -259,7 +251,7 @@ module _ (kept : CommitsAreKept) (selected : SelectedCanBeServed) (number : ℕ)
           → CommittingBy later own (stage_of stored ∷ stages) (option_or refusal (refusal_of_each (with_one own (stage_of stored)).provider (map commit_of stages) now))
       by None done =
           let q = machine.committed p stored.commit.puts stored.commit.drops now in
-          one_before later own (stage_of stored) stages (refusal_of_each (with_one own (stage_of stored)).provider (map commit_of stages) now) (behind (record {
+          one_before later own (stage_of stored) stages (refusal_of_each (with_one own (stage_of stored)).provider (map commit_of stages) now) (beyond (record {
             named = committing.named;
             keeps = keeps_through number suffix first p q committing.keeps done.keeps;
             has =
@@ -272,18 +264,18 @@ module _ (kept : CommitsAreKept) (selected : SelectedCanBeServed) (number : ℕ)
       by (Some fault.NotAReplica) done = absurd done
 
   -- a line that stores something is a commit, and no other line is one
-  line_by : (line : Told) (lines said : List Told) (own : Supplier) → now ≡ clock_told said → LinesAreRightOf from frame (known_of name said) (line ∷ lines)
+  line_by : (line : ReportLine) (lines said : List ReportLine) (own : ProviderNode) → now ≡ clock_reported said → LinesAreRightOf from frame (known_of name said) (line ∷ lines)
       → IsCommitting number suffix first name said own
-      → ((own' : Supplier) → now ≡ clock_told (said ++ line ∷ []) → LinesAreRightOf from frame (known_of name (said ++ line ∷ [])) lines
+      → ((own' : ProviderNode) → now ≡ clock_reported (said ++ line ∷ []) → LinesAreRightOf from frame (known_of name (said ++ line ∷ [])) lines
       → IsCommitting number suffix first name (said ++ line ∷ []) own' → AreCommitting ((said ++ line ∷ []) ++ lines) own' (stages_of lines))
       → AreCommitting (said ++ line ∷ lines) own (stages_of (line ∷ lines))
   line_by line lines said own clock is committing rest = by (either name line)
     where
       right : LinesAreRightOf from frame (known_of name (said ++ line ∷ [])) lines
-      right = subst (λ k. LinesAreRightOf from frame k lines) (ap (λ n. known_after n (known_of name said) line) named ∙ sym (known_one name said line)) is.1
+      right = subst (λ k. LinesAreRightOf from frame k lines) (ap (λ n. known_after n (known_of name said) line) named ∙ sym (known_next name said line)) is.1
 
-      behind : (own' : Supplier) → IsCommitting number suffix first name (said ++ line ∷ []) own' → AreCommitting (said ++ line ∷ lines) own' (stages_of lines)
-      behind own' done =
+      beyond : (own' : ProviderNode) → IsCommitting number suffix first name (said ++ line ∷ []) own' → AreCommitting (said ++ line ∷ lines) own' (stages_of lines)
+      beyond own' done =
           subst (λ s. AreCommitting s own' (stages_of lines)) (append_assoc said (line ∷ []) lines)
           (rest own' (clock ∙ sym (clock_more said (line ∷ []) (λ time. no_time from frame (known_of name said) line is.0 time))) right done)
 
@@ -294,14 +286,14 @@ module _ (kept : CommitsAreKept) (selected : SelectedCanBeServed) (number : ℕ)
           let one : stages_of (line ∷ lines) ≡ stage_of storing.1 ∷ stages_of lines = stages_one line lines ∙ ap (λ l. stages_in l ++ stages_of lines) same in
           subst (AreCommitting (said ++ line ∷ lines) own) (sym one)
           (stage_commits said own storing.1 (said ++ line ∷ lines) (stages_of lines) clock is'.1 committing
-          (λ done. behind (with_one own (stage_of storing.1)) (subst (λ l. IsCommitting number suffix first name (said ++ l ∷ []) (with_one own (stage_of storing.1))) (sym same) done)))
+          (λ done. beyond (with_one own (stage_of storing.1)) (subst (λ l. IsCommitting number suffix first name (said ++ l ∷ []) (with_one own (stage_of storing.1))) (sym same) done)))
       by (inr none) =
           let one : stages_of (line ∷ lines) ≡ stages_of lines = stages_one line lines ∙ ap (λ s. s ++ stages_of lines) none.stages in
           subst (AreCommitting (said ++ line ∷ lines) own) (sym one)
-          (behind own (record { named = committing.named; keeps = committing.keeps; has = none_more number name said line own.notes own.provider.directory.writes none committing.has }))
+          (beyond own (record { named = committing.named; keeps = committing.keeps; has = none_more number name said line own.notes own.provider.directory.writes none committing.has }))
 
   -- the lines of an event, of which each that stores something is a commit
-  lines_by : (lines said : List Told) (own : Supplier) → now ≡ clock_told said → LinesAreRightOf from frame (known_of name said) lines → IsCommitting number suffix first name said own
+  lines_by : (lines said : List ReportLine) (own : ProviderNode) → now ≡ clock_reported said → LinesAreRightOf from frame (known_of name said) lines → IsCommitting number suffix first name said own
       → AreCommitting (said ++ lines) own (stages_of lines)
   lines_by [] said own clock is committing =
       subst (λ s. IsCommitting number suffix first name s (with_commits now search own [])) (sym (append-nil said))
@@ -309,7 +301,7 @@ module _ (kept : CommitsAreKept) (selected : SelectedCanBeServed) (number : ℕ)
   lines_by (line ∷ lines) said own clock is committing =
       line_by line lines said own clock is committing (λ own'. lines_by lines (said ++ line ∷ []) own')
 
-  pub lines_commit : (lines said : List Told) (own : Supplier) → now ≡ clock_told said → LinesAreRightOf from frame (known_of name said) lines → IsCommitting number suffix first name said own
+  pub lines_commit : (lines said : List ReportLine) (own : ProviderNode) → now ≡ clock_reported said → LinesAreRightOf from frame (known_of name said) lines → IsCommitting number suffix first name said own
       → CommittingIn number suffix first name (said ++ lines) (commits_all now search own (stages_of lines))
   lines_commit lines said own clock is committing = by (refusal_of_each own.provider (map commit_of (stages_of lines)) now) (lines_by lines said own clock is committing)
     where

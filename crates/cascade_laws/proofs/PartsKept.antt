@@ -1,12 +1,12 @@
--- Each part of an event keeps what its consumer is fed, and tells it right.
+-- Each part of an event keeps what its consumer is fed, and reports it right.
 use Rattle.std.proofs.Common.{ℕ, zero, suc, Option, Some, None, List, [], ◌∷◌, ◌++◌, length, subst}
 use Rattle.dn_names.specs.Names.{TypeAndValue}
 use Rattle.cascade_exchange.specs.declared.exchange.Exchange.{Exchange}
 use Rattle.cascade_exchange.specs.declared.exchange.Exchange.TheVariants as goes
-use Rattle.cascade_world.specs.Exchange.{Pair, Sending, Sends, Rests, Overflows, name_of, sending, sent_before, sent, taking, taken_before, taken_some, takes, left_to_send, ran_before, ran_some, runs, drains, settles, and_then, part_of}
+use Rattle.cascade_world.specs.Exchange.{Agreement, Sending, Sends, Rests, Overflows, name_of, sending, sent_before, sent, taking, taken_before, taken_some, takes, left_to_send, ran_before, ran_some, runs, drains, settles, and_then, part_of}
 use Rattle.cascade_laws.specs.Headline.{Known}
-use Rattle.cascade_world.specs.Report.{Told}
-use Rattle.cascade_world.specs.Report.{Told as told}
+use Rattle.cascade_world.specs.ReportLines.{ReportLine}
+use Rattle.cascade_world.specs.ReportLines.{ReportLine as reported}
 use Rattle.cascade_laws.proofs.CatchingUp.{drains_drained, settles_from}
 use Rattle.cascade_laws.proofs.Composing.{IsKeptIn, Keeps, known_by_lines, kept-then, kept-part, keeps-then, kept-still}
 use Rattle.cascade_laws.proofs.Feeding.{IsSource, IsFed, IsKept, WantsTheSame, PartsAreKept}
@@ -27,39 +27,39 @@ sent_keeps (suc count) number suffix pair known source fed room = by (sent_keeps
   where
     by : Keeps number suffix (sent count) → (next : Sending) → SendingKept number suffix pair known next
         → IsKeptIn number suffix pair known (sent_before (λ after. sent count after) pair next)
-    by keeps (Sends after message) kept = kept-part number suffix pair after (told.Sent (name_of pair) message ∷ []) known (sent count) kept room keeps
+    by keeps (Sends after message) kept = kept-part number suffix pair after (reported.Sent (name_of pair) message ∷ []) known (sent count) kept room keeps
     by keeps Rests kept = nothing_kept number suffix pair (name_of pair) known source fed
     by keeps Overflows kept = tt
 
 -- ---- taking
 
--- what is told where nothing is taken
-abbrev IsIdle : ℕ → Name → List Told → Type 0
+-- what is reported where nothing is taken
+abbrev IsIdle : ℕ → Name → List ReportLine → Type 0
 IsIdle number suffix idle =
-    (pair : Pair) (known : Known) → IsSource number suffix pair.provider → IsFed number pair.provider pair.follower known
+    (pair : Agreement) (known : Known) → IsSource number suffix pair.provider → IsFed number pair.provider pair.consumer_node known
     → IsKept number suffix pair pair idle known
 
-abbrev TakenKept : ℕ → Name → Pair → Known → Pair × List Told → Type 0
+abbrev TakenKept : ℕ → Name → Agreement → Known → Agreement × List ReportLine → Type 0
 TakenKept number suffix pair known taken = IsKept number suffix pair taken.0 taken.1 known
 
-taken_keeps : (count : ℕ) (number : ℕ) (suffix : Name) (idle : List Told) → IsIdle number suffix idle → (pair : Pair) (known : Known)
-    → IsSource number suffix pair.provider → IsFed number pair.provider pair.follower known → TakenKept number suffix pair known (taken_some count idle pair)
+taken_keeps : (count : ℕ) (number : ℕ) (suffix : Name) (idle : List ReportLine) → IsIdle number suffix idle → (pair : Agreement) (known : Known)
+    → IsSource number suffix pair.provider → IsFed number pair.provider pair.consumer_node known → TakenKept number suffix pair known (taken_some count idle pair)
 taken_keeps zero number suffix idle rests pair known source fed = kept-still number suffix pair known source fed
 taken_keeps (suc count) number suffix idle rests pair known source fed =
     by (taken_keeps count number suffix idle rests) (taking pair) (taking_kept number suffix pair known source fed)
   where
-    by : ((next : Pair) (k : Known) → IsSource number suffix next.provider → IsFed number next.provider next.follower k → TakenKept number suffix next k (taken_some count idle next))
-        → (first : Option (Pair × Told)) → TakingKept number suffix pair known first
+    by : ((next : Agreement) (k : Known) → IsSource number suffix next.provider → IsFed number next.provider next.consumer_node k → TakenKept number suffix next k (taken_some count idle next))
+        → (first : Option (Agreement × ReportLine)) → TakingKept number suffix pair known first
         → TakenKept number suffix pair known (taken_before (λ after. taken_some count idle after) pair idle first)
     by keeps None kept = rests pair known source fed
     by keeps (Some first) kept =
         let later = taken_some count idle first.0 in
         kept-then number suffix pair first.0 later.0 (first.1 ∷ []) later.1 known kept
-        (keeps first.0 (known_by_lines pair.follower.name known (first.1 ∷ [])) kept.source kept.fed)
+        (keeps first.0 (known_by_lines pair.consumer_node.name known (first.1 ∷ [])) kept.source kept.fed)
 
 takes_keeps : (count : ℕ) (number : ℕ) (suffix : Name) → Keeps number suffix (takes count)
 takes_keeps count number suffix pair known source fed room =
-    taken_keeps count number suffix (told.Nothing (name_of pair) ∷ []) (λ other k now is. nothing_kept number suffix other (name_of pair) k now is) pair known source fed
+    taken_keeps count number suffix (reported.Nothing (name_of pair) ∷ []) (λ other k now is. nothing_kept number suffix other (name_of pair) k now is) pair known source fed
 
 still : (number : ℕ) (suffix : Name) → IsIdle number suffix []
 still number suffix pair known source fed = kept-still number suffix pair known source fed
@@ -73,18 +73,18 @@ ran_keeps (suc count) number suffix pair known source fed room = by (ran_keeps c
     by : Keeps number suffix (ran_some count) → (next : Sending) → SendingKept number suffix pair known next
         → IsKeptIn number suffix pair known (ran_before (λ after. ran_some count after) pair next)
     by keeps (Sends after message) kept =
-        let line = told.Sent (name_of pair) message ∷ [] in
+        let line = reported.Sent (name_of pair) message ∷ [] in
         let taken = taken_some 1 [] after in
-        let then = taken_keeps 1 number suffix [] (still number suffix) after (known_by_lines pair.follower.name known line) kept.source kept.fed in
+        let then = taken_keeps 1 number suffix [] (still number suffix) after (known_by_lines pair.consumer_node.name known line) kept.source kept.fed in
         kept-part number suffix pair taken.0 (line ++ taken.1) known (ran_some count) (kept-then number suffix pair after taken.0 line taken.1 known kept then) room keeps
     by keeps Rests kept = kept-still number suffix pair known source fed
     by keeps Overflows kept = tt
 
 runs_keeps : (number : ℕ) (suffix : Name) → Keeps number suffix runs
-runs_keeps number suffix pair known source fed room = ran_keeps (left_to_send pair pair.follower.search) number suffix pair known source fed room
+runs_keeps number suffix pair known source fed room = ran_keeps (left_to_send pair pair.consumer_node.search) number suffix pair known source fed room
 
 drains_keeps : (number : ℕ) (suffix : Name) → Keeps number suffix drains
-drains_keeps number suffix pair known source fed room = taken_keeps (length pair.follower.link) number suffix [] (still number suffix) pair known source fed
+drains_keeps number suffix pair known source fed room = taken_keeps (length pair.consumer_node.link) number suffix [] (still number suffix) pair known source fed
 
 settles_keeps : (number : ℕ) (suffix : Name) → Keeps number suffix settles
 settles_keeps number suffix pair known source fed room =

@@ -7,108 +7,108 @@ use Rattle.entry_tree.specs.History.{state_from}
 use Rattle.entry_tree.specs.Selection.{Search, select, is_same_search}
 use Rattle.entry_tree.specs.declared.entry.Entry.{Entry}
 use Rattle.entry_tree.specs.declared.op.Write.{Write}
+use Rattle.entry_tree.proofs.Selecting.{select_through}
 use Rattle.directory_writes.specs.Directory.{entries_after}
 use Rattle.sync_provider.specs.declared.provider.Kind.{Kind}
 use Rattle.sync_provider.specs.declared.provider.Kind.TheVariants.{Root, Replica}
-use Rattle.cascade_nodes.specs.declared.node.Supplier.{Supplier}
-use Rattle.cascade_nodes.specs.declared.node.Follower.{Follower}
+use Rattle.cascade_nodes.specs.declared.node.ProviderNode.{ProviderNode}
+use Rattle.cascade_nodes.specs.declared.node.ConsumerNode.{ConsumerNode}
 use Rattle.cascade_report.specs.declared.notes.Origin.{Origin}
-use Rattle.cascade_laws.specs.Headline.{following, LeadsUp, AreAccepted, told_origin, IsOrigin, IsOfRoot, stored_of}
+use Rattle.cascade_laws.specs.Headline.{following, LeadsUp, AreAccepted, reported_origin, IsOrigin, IsOfRoot, stored_of}
 use Rattle.cascade_script.specs.Orders.{Order}
-use Rattle.cascade_world.specs.Origins.{Note, prefix_of, passed_on, origin_of}
-use Rattle.cascade_world.specs.Report.{Storing, Told}
-use Rattle.cascade_world.specs.World.{State, top_of, lineage_of}
-use Rattle.cascade_laws.proofs.Climbing.{Climbs, found_above, none_above, few_above, top_is}
-use Rattle.cascade_world.proofs.Finding.{suppliers_by, supplier_name, followers_by}
-use Rattle.cascade_laws.proofs.Selecting.{select_through}
-use Rattle.cascade_laws.proofs.Tracking.{IsRoot, IsOfKind, AreConsumers, AreStrangers, ByOrders, noted, CommittedBy, AreCommitters, AreFollowers, IsManned, AreManned, IsRooted, AreRooted, Feeds}
+use Rattle.cascade_world.specs.Origins.{CommitOrigin, prefix_of, passed_on, origin_of}
+use Rattle.cascade_world.specs.ReportLines.{Storing, ReportLine}
+use Rattle.cascade_world.specs.World.{WorldState, top_of, lineage_of}
+use Rattle.cascade_world.proofs.Finding.{provider_nodes_by, provider_node_name, consumer_nodes_by}
+use Rattle.cascade_world.proofs.Climbing.{Climbs, found_above, none_above, few_above, top_is}
+use Rattle.cascade_laws.proofs.Tracking.{IsRoot, IsOfKind, AreConsumers, AreStrangers, ByOrders, noted, CommittedBy, AreCommitters, AreConsumerNodes, IsManned, AreManned, IsRooted, AreRooted, Feeds}
 
 -- ---- the root at the top
 
-nobody : (found : Option Follower) → is_some found ≡ false → found ≡ None
+nobody : (found : Option ConsumerNode) → is_some found ≡ false → found ≡ None
 nobody None h = refl
 nobody (Some f) h = let never : true ≡ false = h in cc
 
-record IsSomebody (found : Option Follower) : Type 0 where
-  follower : Follower
-  there : found ≡ Some follower
+record IsSomebody (found : Option ConsumerNode) : Type 0 where
+  consumer_node : ConsumerNode
+  there : found ≡ Some consumer_node
 
-somebody : (found : Option Follower) → is_some found ≡ true → IsSomebody found
-somebody (Some f) h = record { follower = f; there = refl }
+somebody : (found : Option ConsumerNode) → is_some found ≡ true → IsSomebody found
+somebody (Some f) h = record { consumer_node = f; there = refl }
 somebody None h = let never : false ≡ true = h in let bad : ⊥ = cc in absurd bad
 
-record IsRootAt (suppliers : List Supplier) (top : List ℕ) : Type 0 where
-  supplier : Supplier
-  there : suppliers_by suppliers top ≡ Some supplier
-  root : supplier.provider.kind ≡ Root
+record IsRootAt (provider_nodes : List ProviderNode) (top : List ℕ) : Type 0 where
+  provider_node : ProviderNode
+  there : provider_nodes_by provider_nodes top ≡ Some provider_node
+  root : provider_node.provider.kind ≡ Root
 
-root_here : (suppliers : List Supplier) (name : List ℕ) (r : Supplier) (found : Option Follower) → found ≡ None → suppliers_by suppliers name ≡ Some r → IsManned r.provider.kind (is_some found) → IsRootAt suppliers name
-root_here suppliers name r found none e manned = record { supplier = r; there = e; root = by r.provider.kind (let P : Bool → Type 0 = IsManned r.provider.kind in subst P (ap is_some none) manned) }
+root_here : (provider_nodes : List ProviderNode) (name : List ℕ) (r : ProviderNode) (found : Option ConsumerNode) → found ≡ None → provider_nodes_by provider_nodes name ≡ Some r → IsManned r.provider.kind (is_some found) → IsRootAt provider_nodes name
+root_here provider_nodes name r found none e manned = record { provider_node = r; there = e; root = by r.provider.kind (let P : Bool → Type 0 = IsManned r.provider.kind in subst P (ap is_some none) manned) }
   where
     by : (kind : Kind) → IsManned kind false → kind ≡ Root
     by Root h = refl
     by Replica h = let never : false ≡ true = h in cc
 
-top_root : (said : List Told) (state : State) → AreManned state.suppliers state.followers → AreFollowers said state.nodes state.suppliers state.followers → (path : List (List ℕ)) (name top : List ℕ) (r : Supplier)
-    → suppliers_by state.suppliers name ≡ Some r → Climbs state.followers name path top → IsRootAt state.suppliers top
+top_root : (said : List ReportLine) (state : WorldState) → AreManned state.provider_nodes state.consumer_nodes → AreConsumerNodes said state.nodes state.provider_nodes state.consumer_nodes → (path : List (List ℕ)) (name top : List ℕ) (r : ProviderNode)
+    → provider_nodes_by state.provider_nodes name ≡ Some r → Climbs state.consumer_nodes name path top → IsRootAt state.provider_nodes top
 top_root said state manned fed [] name top r e c =
-    subst (IsRootAt state.suppliers) (sym c.0) (root_here state.suppliers name r (followers_by state.followers name) (none_above (followers_by state.followers name) c.1) e (manned name r e))
+    subst (IsRootAt state.provider_nodes) (sym c.0) (root_here state.provider_nodes name r (consumer_nodes_by state.consumer_nodes name) (none_above (consumer_nodes_by state.consumer_nodes name) c.1) e (manned name r e))
 top_root said state manned fed (next ∷ path) name top r e c =
-    let is = found_above (followers_by state.followers name) next c.0 in
-    let f = fed name is.follower is.there in
-    top_root said state manned fed path next top f.supplier (ap (suppliers_by state.suppliers) (sym is.source) ∙ f.there) c.1
+    let is = found_above (consumer_nodes_by state.consumer_nodes name) next c.0 in
+    let f = fed name is.consumer_node is.there in
+    top_root said state manned fed path next top f.provider_node (ap (provider_nodes_by state.provider_nodes) (sym is.source) ∙ f.there) c.1
 
--- the top that the state tells
-top_at : (state : State) (name : List ℕ) (path : List (List ℕ)) (top : List ℕ) → Climbs state.followers name path top → top_of state name ≡ top
-top_at state name path top c = top_is (length state.followers) state.followers name path top c (few_above path state.followers name top c)
+-- the top that the state reports
+top_at : (state : WorldState) (name : List ℕ) (path : List (List ℕ)) (top : List ℕ) → Climbs state.consumer_nodes name path top → top_of state name ≡ top
+top_at state name path top c = top_is (length state.consumer_nodes) state.consumer_nodes name path top c (few_above path state.consumer_nodes name top c)
 
 -- a root is its own
-own_top : (state : State) (name : List ℕ) → followers_by state.followers name ≡ None → top_of state name ≡ name
-own_top state name none = top_at state name [] name (refl, ap (option_map (λ (f : Follower). f.source)) none)
+own_top : (state : WorldState) (name : List ℕ) → consumer_nodes_by state.consumer_nodes name ≡ None → top_of state name ≡ name
+own_top state name none = top_at state name [] name (refl, ap (option_map (λ (f : ConsumerNode). f.source)) none)
 
-leads_up : (before : List Order) (followers : List Follower) → AreConsumers before followers → AreStrangers before followers → (path : List (List ℕ)) (name top : List ℕ) → Climbs followers name path top → LeadsUp before name path top
-leads_up before followers consumers strangers [] name top c = (c.0, strangers name (none_above (followers_by followers name) c.1))
-leads_up before followers consumers strangers (next ∷ path) name top c =
-    let is = found_above (followers_by followers name) next c.0 in
-    let f = is.follower in
-    (following f.source f.consumer.spec f.consumer.reload, consumers name f is.there, is.source, leads_up before followers consumers strangers path next top c.1)
+leads_up : (before : List Order) (consumer_nodes : List ConsumerNode) → AreConsumers before consumer_nodes → AreStrangers before consumer_nodes → (path : List (List ℕ)) (name top : List ℕ) → Climbs consumer_nodes name path top → LeadsUp before name path top
+leads_up before consumer_nodes consumers strangers [] name top c = (c.0, strangers name (none_above (consumer_nodes_by consumer_nodes name) c.1))
+leads_up before consumer_nodes consumers strangers (next ∷ path) name top c =
+    let is = found_above (consumer_nodes_by consumer_nodes name) next c.0 in
+    let f = is.consumer_node in
+    (following f.source f.consumer.spec f.consumer.reload, consumers name f is.there, is.source, leads_up before consumer_nodes consumers strangers path next top c.1)
 
 -- ---- what is passed on
 
-passed_as : (search : Search) (found : Option Storing) → passed_on search (option_map noted found) ≡ told_origin search found
+passed_as : (search : Search) (found : Option Storing) → passed_on search (option_map noted found) ≡ reported_origin search found
 passed_as search None = refl
 passed_as search (Some stored) = refl
 
-passed_told : (search : Search) (notes : List Note) (stored : List Storing) (at : ℕ) → notes ≡ map noted stored → passed_on search (slice_get notes at) ≡ told_origin search (slice_get stored at)
-passed_told search notes stored at same = ap (λ (ns : List Note). passed_on search (slice_get ns at)) same ∙ ap (passed_on search) (slice_get-map noted stored at) ∙ passed_as search (slice_get stored at)
+passed_reported : (search : Search) (notes : List CommitOrigin) (stored : List Storing) (at : ℕ) → notes ≡ map noted stored → passed_on search (slice_get notes at) ≡ reported_origin search (slice_get stored at)
+passed_reported search notes stored at same = ap (λ (ns : List CommitOrigin). passed_on search (slice_get ns at)) same ∙ ap (passed_on search) (slice_get-map noted stored at) ∙ passed_as search (slice_get stored at)
 
-rooted_at : (suppliers : List Supplier) (all : List Storing) (at : ℕ) (one : Storing) → AreRooted suppliers all → slice_get all at ≡ Some one → IfSome one.origin (IsRooted suppliers one.search one.entries)
-rooted_at suppliers [] at one is e = let never : ⊥ = cc in absurd never
-rooted_at suppliers (s ∷ more) zero one is e =
-    let same : s ≡ one = cc in subst (λ (x : Storing). IfSome x.origin (IsRooted suppliers x.search x.entries)) same is.0
-rooted_at suppliers (s ∷ more) (suc at) one is e = rooted_at suppliers more at one is.1 e
+rooted_at : (provider_nodes : List ProviderNode) (all : List Storing) (at : ℕ) (one : Storing) → AreRooted provider_nodes all → slice_get all at ≡ Some one → IfSome one.origin (IsRooted provider_nodes one.search one.entries)
+rooted_at provider_nodes [] at one is e = let never : ⊥ = cc in absurd never
+rooted_at provider_nodes (s ∷ more) zero one is e =
+    let same : s ≡ one = cc in subst (λ (x : Storing). IfSome x.origin (IsRooted provider_nodes x.search x.entries)) same is.0
+rooted_at provider_nodes (s ∷ more) (suc at) one is e = rooted_at provider_nodes more at one is.1 e
 
 pub nothing_written : (number : ℕ) → entries_after number [] ≡ []
 unfolding state_from
 nothing_written number = refl
 
 -- what is wanted of a commit, where it is the same as the replica wanted
-passed_rooted : (suppliers : List Supplier) (search : Search) (content : List Entry) (found : Option Storing) → ((one : Storing) → found ≡ Some one → (content ≡ one.entries) × IfSome one.origin (IsRooted suppliers one.search one.entries))
-    → IfSome (told_origin search found) (IsRooted suppliers search (select search content))
-passed_rooted suppliers search content None is = tt
-passed_rooted suppliers search content (Some one) is =
+passed_rooted : (provider_nodes : List ProviderNode) (search : Search) (content : List Entry) (found : Option Storing) → ((one : Storing) → found ≡ Some one → (content ≡ one.entries) × IfSome one.origin (IsRooted provider_nodes one.search one.entries))
+    → IfSome (reported_origin search found) (IsRooted provider_nodes search (select search content))
+passed_rooted provider_nodes search content None is = tt
+passed_rooted provider_nodes search content (Some one) is =
     let at = is one refl in
     elim (cases_Bool (is_same_search one.search search)) [
       | inl same ↦ rw same (by same at.0 one.origin at.1)
       | inr other ↦ rw other tt
     ]
   where
-    by : is_same_search one.search search ≡ true → content ≡ one.entries → (origin : Option Origin) → IfSome origin (IsRooted suppliers one.search one.entries) → IfSome origin (IsRooted suppliers search (select search content))
+    by : is_same_search one.search search ≡ true → content ≡ one.entries → (origin : Option Origin) → IfSome origin (IsRooted provider_nodes one.search one.entries) → IfSome origin (IsRooted provider_nodes search (select search content))
     by same entries None h = h
     by same entries (Some origin) h =
-        let all = entries_after h.supplier.provider.directory.history (take origin.number h.supplier.provider.directory.writes) in
+        let all = entries_after h.provider_node.provider.directory.history (take origin.number h.provider_node.provider.directory.writes) in
         record {
-          supplier = h.supplier;
+          provider_node = h.provider_node;
           there = h.there;
           root = h.root;
           prefix = h.prefix;
@@ -117,8 +117,8 @@ passed_rooted suppliers search content (Some one) is =
 
 -- ---- the origin of each prefix of a provider's writes
 
-pub origin_rooted : (said : List Told) (state : State) (name : List ℕ) (r : Supplier) (search : Search) (n : ℕ) → Feeds said state → AreCommitters said state.suppliers → suppliers_by state.suppliers name ≡ Some r → n ≤ length r.provider.directory.writes
-    → IfSome (origin_of r.provider.kind (lineage_of state r) search n) (IsRooted state.suppliers search (select search (entries_after r.provider.directory.history (take n r.provider.directory.writes))))
+pub origin_rooted : (said : List ReportLine) (state : WorldState) (name : List ℕ) (r : ProviderNode) (search : Search) (n : ℕ) → Feeds said state → AreCommitters said state.provider_nodes → provider_nodes_by state.provider_nodes name ≡ Some r → n ≤ length r.provider.directory.writes
+    → IfSome (origin_of r.provider.kind (lineage_of state r) search n) (IsRooted state.provider_nodes search (select search (entries_after r.provider.directory.history (take n r.provider.directory.writes))))
 origin_rooted said state name r search n feeds commits e low = by r.provider.kind refl n low (feeds.manned name r e) (commits name r e)
   where
     number : ℕ
@@ -127,48 +127,48 @@ origin_rooted said state name r search n feeds commits e low = by r.provider.kin
     writes : List Write
     writes = r.provider.directory.writes
 
-    suppliers : List Supplier
-    suppliers = state.suppliers
+    provider_nodes : List ProviderNode
+    provider_nodes = state.provider_nodes
 
     named : name ≡ r.name
-    named = supplier_name state.suppliers name r e
+    named = provider_node_name state.provider_nodes name r e
 
-    by : (kind : Kind) → r.provider.kind ≡ kind → (n : ℕ) → n ≤ length writes → IsManned kind (is_some (followers_by state.followers name)) → CommittedBy said r kind
-        → IfSome (origin_of kind (lineage_of state r) search n) (IsRooted suppliers search (select search (entries_after number (take n writes))))
+    by : (kind : Kind) → r.provider.kind ≡ kind → (n : ℕ) → n ≤ length writes → IsManned kind (is_some (consumer_nodes_by state.consumer_nodes name)) → CommittedBy said r kind
+        → IfSome (origin_of kind (lineage_of state r) search n) (IsRooted provider_nodes search (select search (entries_after number (take n writes))))
     by Root is n low manned committed =
-        let top : top_of state r.name ≡ name = ap (top_of state) (sym named) ∙ own_top state name (nobody (followers_by state.followers name) manned) in
-        record { supplier = r; there = ap (suppliers_by suppliers) top ∙ e; root = is; prefix = low; exactly = refl }
+        let top : top_of state r.name ≡ name = ap (top_of state) (sym named) ∙ own_top state name (nobody (consumer_nodes_by state.consumer_nodes name) manned) in
+        record { provider_node = r; there = ap (provider_nodes_by provider_nodes) top ∙ e; root = is; prefix = low; exactly = refl }
     by Replica is zero low manned committed =
         let way = feeds.climbs r.name in
-        let root = top_root said state feeds.manned feeds.followers way.0 r.name way.1 r (ap (suppliers_by suppliers) (sym named) ∙ e) way.2 in
+        let root = top_root said state feeds.manned feeds.consumer_nodes way.0 r.name way.1 r (ap (provider_nodes_by provider_nodes) (sym named) ∙ e) way.2 in
         let top : top_of state r.name ≡ way.1 = top_at state r.name way.0 way.1 way.2 in
         record {
-          supplier = root.supplier;
-          there = ap (suppliers_by suppliers) top ∙ root.there;
+          provider_node = root.provider_node;
+          there = ap (provider_nodes_by provider_nodes) top ∙ root.there;
           root = root.root;
           prefix = omega arith;
-          exactly = ap (select search) (nothing_written number ∙ sym (nothing_written root.supplier.provider.directory.history));
+          exactly = ap (select search) (nothing_written number ∙ sym (nothing_written root.provider_node.provider.directory.history));
         }
     by Replica is (suc at) low manned committed =
         let stored = stored_of r.name said in
-        let same : passed_on search (slice_get r.notes at) ≡ told_origin search (slice_get stored at) = passed_told search r.notes stored at committed.notes_are in
+        let same : passed_on search (slice_get r.notes at) ≡ reported_origin search (slice_get stored at) = passed_reported search r.notes stored at committed.notes_are in
         let next : at + 1 ≡ suc at = omega arith in
-        let each : (one : Storing) → slice_get stored at ≡ Some one → (entries_after number (take (suc at) writes) ≡ one.entries) × IfSome one.origin (IsRooted suppliers one.search one.entries) =
-        λ one e'. (ap (λ m. entries_after number (take m writes)) (sym next) ∙ committed.each at one e', rooted_at suppliers stored at one (feeds.rooted r.name) e') in
-        let P : Option Origin → Type 0 = λ o. IfSome o (IsRooted suppliers search (select search (entries_after number (take (suc at) writes)))) in
-        subst P (sym same) (passed_rooted suppliers search (entries_after number (take (suc at) writes)) (slice_get stored at) each)
+        let each : (one : Storing) → slice_get stored at ≡ Some one → (entries_after number (take (suc at) writes) ≡ one.entries) × IfSome one.origin (IsRooted provider_nodes one.search one.entries) =
+        λ one e'. (ap (λ m. entries_after number (take m writes)) (sym next) ∙ committed.each at one e', rooted_at provider_nodes stored at one (feeds.rooted r.name) e') in
+        let P : Option Origin → Type 0 = λ o. IfSome o (IsRooted provider_nodes search (select search (entries_after number (take (suc at) writes)))) in
+        subst P (sym same) (passed_rooted provider_nodes search (entries_after number (take (suc at) writes)) (slice_get stored at) each)
 
--- and what the orders and the lines tell of it
-pub origin_is : (before : List Order) (said : List Told) (state : State) (name : List ℕ) (r : Supplier) (search : Search) (n : ℕ) → ByOrders before state → Feeds said state → AreCommitters said state.suppliers → suppliers_by state.suppliers name ≡ Some r
+-- and what the orders and the lines report of it
+pub origin_is : (before : List Order) (said : List ReportLine) (state : WorldState) (name : List ℕ) (r : ProviderNode) (search : Search) (n : ℕ) → ByOrders before state → Feeds said state → AreCommitters said state.provider_nodes → provider_nodes_by state.provider_nodes name ≡ Some r
     → IsOrigin before said name search n (origin_of r.provider.kind (lineage_of state r) search n)
-origin_is before said state name r search n orders feeds commits e = by r.provider.kind n (feeds.manned name r e) (orders.suppliers name r e) (commits name r e)
+origin_is before said state name r search n orders feeds commits e = by r.provider.kind n (feeds.manned name r e) (orders.provider_nodes name r e) (commits name r e)
   where
     named : name ≡ r.name
-    named = supplier_name state.suppliers name r e
+    named = provider_node_name state.provider_nodes name r e
 
-    by : (kind : Kind) (n : ℕ) → IsManned kind (is_some (followers_by state.followers name)) → IsOfKind before r.name r.provider.directory kind → CommittedBy said r kind → IsOrigin before said name search n (origin_of kind (lineage_of state r) search n)
+    by : (kind : Kind) (n : ℕ) → IsManned kind (is_some (consumer_nodes_by state.consumer_nodes name)) → IsOfKind before r.name r.provider.directory kind → CommittedBy said r kind → IsOrigin before said name search n (origin_of kind (lineage_of state r) search n)
     by Root n manned is committed =
-        let top : top_of state r.name ≡ name = ap (top_of state) (sym named) ∙ own_top state name (nobody (followers_by state.followers name) manned) in
+        let top : top_of state r.name ≡ name = ap (top_of state) (sym named) ∙ own_top state name (nobody (consumer_nodes_by state.consumer_nodes name) manned) in
         let root : IsRoot before name r.provider.directory.history r.provider.directory.suffix r.provider.directory.writes =
         subst (λ x. IsRoot before x r.provider.directory.history r.provider.directory.suffix r.provider.directory.writes) (sym named) is in
         inl record { history = r.provider.directory.history; suffix = r.provider.directory.suffix; later = root.later; declared = root.declared; own = ap (λ t. prefix_of t n) top }
@@ -179,27 +179,27 @@ origin_is before said state name r search n orders feeds commits e = by r.provid
           none = refl;
           path = way.0;
           top = way.1;
-          up = leads_up before state.followers orders.consumers orders.strangers way.0 name way.1 way.2;
+          up = leads_up before state.consumer_nodes orders.consumers orders.strangers way.0 name way.1 way.2;
           first = ap (λ t. prefix_of t 0) top;
         })
     by Replica (suc at) manned is committed =
-        let there = somebody (followers_by state.followers name) manned in
-        let f = there.follower in
+        let there = somebody (consumer_nodes_by state.consumer_nodes name) manned in
+        let f = there.consumer_node in
         let next : suc at ≡ at + 1 = omega arith in
         inr (inr record {
           by = following f.source f.consumer.spec f.consumer.reload;
           replica = orders.consumers name f there.there;
           earlier = at;
           counted = next;
-          passed = passed_told search r.notes (stored_of r.name said) at committed.notes_are ∙ ap (λ x. told_origin search (slice_get (stored_of x said) at)) (sym named);
+          passed = passed_reported search r.notes (stored_of r.name said) at committed.notes_are ∙ ap (λ x. reported_origin search (slice_get (stored_of x said) at)) (sym named);
         })
 
 -- ---- as the headline says it
 
-pub accepted_at : (before : List Order) (said : List Told) (state : State) (name : List ℕ) (r : Supplier) → ByOrders before state → AreCommitters said state.suppliers → suppliers_by state.suppliers name ≡ Some r
+pub accepted_at : (before : List Order) (said : List ReportLine) (state : WorldState) (name : List ℕ) (r : ProviderNode) → ByOrders before state → AreCommitters said state.provider_nodes → provider_nodes_by state.provider_nodes name ≡ Some r
     → AreAccepted before said name r.provider.directory.history r.provider.directory.writes
 accepted_at before said state name r orders commits e =
-    subst (λ x. AreAccepted before said x r.provider.directory.history r.provider.directory.writes) (sym (supplier_name state.suppliers name r e)) (by r.provider.kind (orders.suppliers name r e) (commits name r e))
+    subst (λ x. AreAccepted before said x r.provider.directory.history r.provider.directory.writes) (sym (provider_node_name state.provider_nodes name r e)) (by r.provider.kind (orders.provider_nodes name r e) (commits name r e))
   where
     by : (kind : Kind) → IsOfKind before r.name r.provider.directory kind → CommittedBy said r kind → AreAccepted before said r.name r.provider.directory.history r.provider.directory.writes
     by Root is committed = inl record { suffix = r.provider.directory.suffix; later = is.later; declared = is.declared; accepted = is.accepted }
@@ -215,12 +215,12 @@ accepted_at before said state name r orders commits e =
           each = committed.each;
         }
 
-of_root : (before : List Order) (state : State) (search : Search) (entries : List Entry) (origin : Origin) → ByOrders before state → IsRooted state.suppliers search entries origin → IsOfRoot before search entries origin
+of_root : (before : List Order) (state : WorldState) (search : Search) (entries : List Entry) (origin : Origin) → ByOrders before state → IsRooted state.provider_nodes search entries origin → IsOfRoot before search entries origin
 of_root before state search entries origin orders is =
-    let r = is.supplier in
+    let r = is.provider_node in
     let d = r.provider.directory in
-    let root : IsOfKind before r.name d Root = subst (IsOfKind before r.name d) is.root (orders.suppliers origin.root r is.there) in
-    let here : IsRoot before origin.root d.history d.suffix d.writes = subst (λ x. IsRoot before x d.history d.suffix d.writes) (sym (supplier_name state.suppliers origin.root r is.there)) root in
+    let root : IsOfKind before r.name d Root = subst (IsOfKind before r.name d) is.root (orders.provider_nodes origin.root r is.there) in
+    let here : IsRoot before origin.root d.history d.suffix d.writes = subst (λ x. IsRoot before x d.history d.suffix d.writes) (sym (provider_node_name state.provider_nodes origin.root r is.there)) root in
     record {
       history = d.history;
       writes = d.writes;
@@ -229,6 +229,6 @@ of_root before state search entries origin orders is =
       exactly = is.exactly;
     }
 
-pub of_root_some : (before : List Order) (state : State) (search : Search) (entries : List Entry) (origin : Option Origin) → ByOrders before state → IfSome origin (IsRooted state.suppliers search entries) → IfSome origin (IsOfRoot before search entries)
+pub of_root_some : (before : List Order) (state : WorldState) (search : Search) (entries : List Entry) (origin : Option Origin) → ByOrders before state → IfSome origin (IsRooted state.provider_nodes search entries) → IfSome origin (IsOfRoot before search entries)
 of_root_some before state search entries None orders is = is
 of_root_some before state search entries (Some origin) orders is = of_root before state search entries origin orders is

@@ -3,10 +3,12 @@ use Rattle.std.proofs.Common.{◌≡◌, ◌≤◌, ℕ, Bool, true, false, cond
 use Rattle.std.specs.Prelude.{◌&&◌, ◌==◌, not, is_some, nat_le, Ok}
 use Rattle.std.proofs.lemmas.Bool.{and_parts}
 use Rattle.std.proofs.lemmas.Bool.Decides.{nat_tests}
+use Rattle.ldap_constants.specs.declared.result_codes.TheConstants.{NO_SUCH_OBJECT, E_SYNC_REFRESH_REQUIRED}
 use Rattle.csn_cookie.specs.Cookie.{cookie_of_text, is_blank}
-use Rattle.csn_cookie.specs.Csn.{Stamp, start, is_upto, is_before, upto}
+use Rattle.csn_cookie.specs.Csn.{CsnValue, start, is_upto, is_before, upto}
 use Rattle.csn_cookie.specs.declared.cookie.Cookie.{Cookie}
 use Rattle.csn_cookie.proofs.CookieLemmas.{cookie_of_text-spelled, spelled-cookie_of_text, is_blank-blank, blank-is_blank}
+use Rattle.csn_cookie.proofs.UptoLemmas.{not_before_upto, is_upto_then, upto_more}
 use Rattle.dn_names.specs.Names.{is_at_or_below}
 use Rattle.entry_tree.specs.Selection.{Search}
 use Rattle.entry_tree.specs.State.{ascends}
@@ -17,21 +19,20 @@ use Rattle.sync_messages.specs.declared.request.SyncRequest.{SyncRequest}
 use Rattle.sync_messages.specs.declared.request.Mode.{Mode}
 use Rattle.sync_model.specs.Incremental.{number_of}
 use Rattle.sync_model.specs.Law.{Begins, IsContentWithin}
-use Rattle.sync_model.specs.Stream.{Session}
-use Rattle.sync_model.specs.Stream.Start.{Covered, Uncovered}
+use Rattle.sync_model.specs.Stream.{SyncOperation}
+use Rattle.sync_model.specs.Stream.Start.{DeletePhase, PresentPhase}
 use Rattle.directory_writes.specs.Starting.{is_ours, prefix_of, asked_prefix, start_at}
 use Rattle.sync_provider.specs.Accepting.{has_cookie, refused_or_opened, numbered, free_number}
-use Rattle.directory_writes.specs.Directory.{DirectoryState, StampsRise, last_stamp, stamp_of, stamps}
+use Rattle.directory_writes.specs.Directory.{DirectoryState, CsnsRise, last_csn, last_csn_of, csns}
 use Rattle.sync_provider.specs.Machine.{ProviderState}
 use Rattle.sync_provider.specs.Search.{session_of}
 use Rattle.sync_provider.specs.declared.searches.Accepted.{Accepted}
 use Rattle.sync_provider.specs.declared.searches.Accepted.TheVariants as accepted
-use Rattle.directory_writes.proofs.Stamps.{upto_stamp}
+use Rattle.directory_writes.proofs.Csns.{upto_csn}
+use Rattle.directory_writes.proofs.Promised.{IsContent, IsPromised}
 use Rattle.cascade_world.specs.Cookies.{held_cookie, is_of_node, is_not_before, goes_beyond}
 use Rattle.cascade_laws.specs.Headline.{IsServable, IsServed, IsUnserved, BeginsFrom}
 use Rattle.cascade_world.specs.Opening.{answer_to_request}
-use Rattle.cascade_laws.proofs.Feeding.{IsContent, IsPromised}
-use Rattle.cascade_laws.proofs.Stamped.{not_before_upto, is_upto_then, upto_more}
 
 not_both : (b : Bool) → not b ≡ true → b ≡ true → ⊥
 not_both true n y = cc
@@ -40,18 +41,18 @@ not_both false n y = cc
 -- what an opening, or a refusal, says of a cookie: a search is refused with e-syncRefreshRequired alone
 abbrev pub Says : ℕ → List Write → Bool → Accepted → Option (List ℕ) → Type 0
 Says number writes reload (accepted.Opened at count) cookie = IsServed reload number writes cookie
-Says number writes reload (accepted.Refused code) cookie = (code ≡ 4096) × IsUnserved reload number writes cookie
+Says number writes reload (accepted.Refused code) cookie = (code ≡ E_SYNC_REFRESH_REQUIRED) × IsUnserved reload number writes cookie
 Says number writes reload accepted.NoMemory cookie = ⊥
 
 -- ---- a cookie that can be served
 
 module _ (d : DirectoryState) (number : ℕ) (sid : d.sid ≡ number) (history : d.history ≡ number) where
-  last_is : stamp_of d ≡ last_stamp (start number) d.writes
-  last_is = ap (λ n. last_stamp (start n) d.writes) sid
+  last_is : last_csn_of d ≡ last_csn (start number) d.writes
+  last_is = ap (λ n. last_csn (start n) d.writes) sid
 
   ours_servable : (text : List ℕ) (cookie : Cookie) → cookie_of_text text ≡ Some cookie → is_ours d cookie ≡ true → IsServable text number d.writes
   ours_servable text cookie read ours =
-      let parts = and_parts (cookie.history == d.history) (is_upto cookie.csn (stamp_of d)) ours in
+      let parts = and_parts (cookie.history == d.history) (is_upto cookie.csn (last_csn_of d)) ours in
       let spelled = cookie_of_text-spelled text cookie read in
       record {
         cookie = cookie;
@@ -65,14 +66,14 @@ module _ (d : DirectoryState) (number : ℕ) (sid : d.sid ≡ number) (history :
   servable_ours text is =
       let read : cookie_of_text text ≡ Some is.cookie = spelled-cookie_of_text text is.cookie is.good is.spells in
       let own : (is.cookie.history == d.history) ≡ true = eq-eqb is.cookie.history d.history (is.own ∙ sym history) in
-      let upto' : is_upto is.cookie.csn (stamp_of d) ≡ true = ap (is_upto is.cookie.csn) last_is ∙ is.not_greater in
-      let both : is_ours d is.cookie ≡ true = ap (λ b. b && is_upto is.cookie.csn (stamp_of d)) own ∙ upto' in
-      ap (λ c. is_some (prefix_of d c)) read ∙ ap (λ b. is_some (cond b (Some (upto (stamps d.writes) is.cookie.csn)) None)) both
+      let upto' : is_upto is.cookie.csn (last_csn_of d) ≡ true = ap (is_upto is.cookie.csn) last_is ∙ is.not_greater in
+      let both : is_ours d is.cookie ≡ true = ap (λ b. b && is_upto is.cookie.csn (last_csn_of d)) own ∙ upto' in
+      ap (λ c. is_some (prefix_of d c)) read ∙ ap (λ b. is_some (cond b (Some (upto (csns d.writes) is.cookie.csn)) None)) both
 
   prefix_servable : (text : List ℕ) (found : Option ℕ) → asked_prefix d (Some text) ≡ found → is_some found ≡ true → IsServable text number d.writes
   prefix_servable text found is there = by (cookie_of_text text) refl (ap is_some is ∙ there)
     where
-      by_ours : (cookie : Cookie) → cookie_of_text text ≡ Some cookie → (b : Bool) → is_ours d cookie ≡ b → is_some (cond b (Some (upto (stamps d.writes) cookie.csn)) None) ≡ true → IsServable text number d.writes
+      by_ours : (cookie : Cookie) → cookie_of_text text ≡ Some cookie → (b : Bool) → is_ours d cookie ≡ b → is_some (cond b (Some (upto (csns d.writes) cookie.csn)) None) ≡ true → IsServable text number d.writes
       by_ours cookie read true ours there = ours_servable text cookie read ours
       by_ours cookie read false ours there = let never : ⊥ = cc in absurd never
 
@@ -119,7 +120,7 @@ module _ (d : DirectoryState) (number : ℕ) (sid : d.sid ≡ number) (history :
   numbered_says : (at : ℕ) (mode : Mode) (cookie : Option (List ℕ)) (reload : Bool) → Says number d.writes reload (numbered d (Request mode cookie reload) (Some at)) cookie
   numbered_says at mode cookie reload = by (is_lost cookie reload) refl
     where
-      by : (lost : Bool) → is_lost cookie reload ≡ lost → Says number d.writes reload (refused_or_opened d at (cond lost (Some 4096) None)) cookie
+      by : (lost : Bool) → is_lost cookie reload ≡ lost → Says number d.writes reload (refused_or_opened d at (cond lost (Some E_SYNC_REFRESH_REQUIRED) None)) cookie
       by true lost = (refl, lost_unserved cookie reload lost)
       by false lost = kept_served cookie reload lost
 
@@ -131,22 +132,22 @@ module _ (d : DirectoryState) (number : ℕ) (sid : d.sid ≡ number) (history :
     where
       is : answer_to_request p search (Ok (Request mode cookie reload)) ≡ numbered d (Request mode cookie reload) (Some at)
       is =
-          ap (λ (x : DirectoryState). cond (is_at_or_below search.base x.suffix) (numbered x (Request mode cookie reload) (free_number p.searches)) (accepted.Refused 32)) same
-          ∙ ap (λ b. cond b (numbered d (Request mode cookie reload) (free_number p.searches)) (accepted.Refused 32)) below
+          ap (λ (x : DirectoryState). cond (is_at_or_below search.base x.suffix) (numbered x (Request mode cookie reload) (free_number p.searches)) (accepted.Refused NO_SUCH_OBJECT)) same
+          ∙ ap (λ b. cond b (numbered d (Request mode cookie reload) (free_number p.searches)) (accepted.Refused NO_SUCH_OBJECT)) below
           ∙ ap (numbered d (Request mode cookie reload)) free
 
   -- ---- the prefix that it begins from
 
-  by_log : (b : Bool) (n : ℕ) → number_of (cond b (Covered n) (Uncovered n)) ≡ Some n
+  by_log : (b : Bool) (n : ℕ) → number_of (cond b (DeletePhase n) (PresentPhase n)) ≡ Some n
   by_log true n = refl
   by_log false n = refl
 
   from_cookie : (text : List ℕ) (cookie : Cookie) → cookie_of_text text ≡ Some cookie → (b : Bool) → is_ours d cookie ≡ b
-      → asked_prefix d (Some text) ≡ cond b (Some (upto (stamps d.writes) cookie.csn)) None
-      → BeginsFrom number d.writes (Some text) (number_of (start_at d (cond b (Some (upto (stamps d.writes) cookie.csn)) None)))
+      → asked_prefix d (Some text) ≡ cond b (Some (upto (csns d.writes) cookie.csn)) None
+      → BeginsFrom number d.writes (Some text) (number_of (start_at d (cond b (Some (upto (csns d.writes) cookie.csn)) None)))
   unfolding ours_servable
   from_cookie text cookie read true ours is =
-      subst (BeginsFrom number d.writes (Some text)) (sym (by_log (covers (upto (stamps d.writes) cookie.csn) d.log) (upto (stamps d.writes) cookie.csn)))
+      subst (BeginsFrom number d.writes (Some text)) (sym (by_log (covers (upto (csns d.writes) cookie.csn) d.log) (upto (csns d.writes) cookie.csn)))
       (record { serves = ours_servable text cookie read ours; counted = refl })
   from_cookie text cookie read false ours is = λ serves. let there = servable_ours text serves in let bad : true ≡ false = sym there ∙ ap is_some is in let never : ⊥ = cc in never
 
@@ -160,36 +161,36 @@ module _ (d : DirectoryState) (number : ℕ) (sid : d.sid ≡ number) (history :
 
   -- ---- where the search begins
 
-  module _ (rises : StampsRise number d.writes) (persists : Bool) (search : Search) (entries : List Entry) (ascending : ascends entries ≡ true) where
-    abbrev session : Session
-    session = session_of persists number number search d.writes
+  module _ (rises : CsnsRise number d.writes) (persists : Bool) (search : Search) (entries : List Entry) (ascending : ascends entries ≡ true) where
+    abbrev operation : SyncOperation
+    operation = session_of persists number number search d.writes
 
-    content_within : (csn : Stamp) → IsContent number search d.writes entries csn → IsContentWithin session (upto (stamps d.writes) csn) (length d.writes) entries
+    content_within : (csn : CsnValue) → IsContent number search d.writes entries csn → IsContentWithin operation (upto (csns d.writes) csn) (length d.writes) entries
     content_within csn is = record {
       number = is.count;
-      from = omega (arith, upto_more (stamps d.writes) csn (last_stamp (start number) (take is.count d.writes)) is.not_below, upto_stamp number d.writes rises is.count is.within);
+      from = omega (arith, upto_more (csns d.writes) csn (last_csn (start number) (take is.count d.writes)) is.not_below, upto_csn number d.writes rises is.count is.within);
       upto = is.within;
       same = is.same;
     }
 
-    by_covers : (b : Bool) (least : ℕ) → IsContentWithin session least (length d.writes) entries → Begins session (cond b (Covered least) (Uncovered least)) (length d.writes) entries
+    by_covers : (b : Bool) (least : ℕ) → IsContentWithin operation least (length d.writes) entries → Begins operation (cond b (DeletePhase least) (PresentPhase least)) (length d.writes) entries
     by_covers true least is = is
     by_covers false least is = is
 
     by_ours : (cookie : Cookie) → (cookie.history ≡ number → IsContent number search d.writes entries cookie.csn) → (b : Bool) → is_ours d cookie ≡ b
-        → Begins session (start_at d (cond b (Some (upto (stamps d.writes) cookie.csn)) None)) (length d.writes) entries
+        → Begins operation (start_at d (cond b (Some (upto (csns d.writes) cookie.csn)) None)) (length d.writes) entries
     by_ours cookie promised true ours =
-        let parts = and_parts (cookie.history == d.history) (is_upto cookie.csn (stamp_of d)) ours in
-        by_covers (covers (upto (stamps d.writes) cookie.csn) d.log) (upto (stamps d.writes) cookie.csn)
+        let parts = and_parts (cookie.history == d.history) (is_upto cookie.csn (last_csn_of d)) ours in
+        by_covers (covers (upto (csns d.writes) cookie.csn) d.log) (upto (csns d.writes) cookie.csn)
         (content_within cookie.csn (promised (eqb-true cookie.history d.history parts.0 ∙ history)))
     by_ours cookie promised false ours = ascending
 
-    by_read : (read : Option Cookie) → IsPromised number search d.writes entries read → Begins session (start_at d (prefix_of d read)) (length d.writes) entries
+    by_read : (read : Option Cookie) → IsPromised number search d.writes entries read → Begins operation (start_at d (prefix_of d read)) (length d.writes) entries
     by_read None promised = ascending
     by_read (Some cookie) promised = by_ours cookie promised (is_ours d cookie) refl
 
     pub start_begins : (cookie : Option (List ℕ)) → IsPromised number search d.writes entries (held_cookie cookie)
-        → Begins session (start_at d (asked_prefix d cookie)) (length d.writes) entries
+        → Begins operation (start_at d (asked_prefix d cookie)) (length d.writes) entries
     start_begins None promised = ascending
     start_begins (Some text) promised = by_read (cookie_of_text text) promised
 
@@ -222,7 +223,7 @@ module _ (number : ℕ) (first : 1 ≤ number) (small : number ≤ 16) (search :
           record {
             count = is.count;
             within = is.within;
-            not_below = is_upto_then cookie.csn other.csn (last_stamp (start number) (take is.count writes)) (not_before_upto other.csn cookie.csn (from_not (is_before other.csn cookie.csn) parts.1)) is.not_below;
+            not_below = is_upto_then cookie.csn other.csn (last_csn (start number) (take is.count writes)) (not_before_upto other.csn cookie.csn (from_not (is_before other.csn cookie.csn) parts.1)) is.not_below;
             same = is.same;
           }
         where

@@ -3,32 +3,32 @@ use Rattle.std.proofs.Common.{◌≡◌, ◌+◌, ◌<◌, ◌≤◌, ℕ, zero,
 use Rattle.std.specs.Prelude.{◌⊎◌, ◌&&◌, not, Result, Ok, Err, IfSome, option_map, is_none, nat_lt, nat_le}
 use Rattle.std.specs.Option.{option_or}
 use Rattle.std.proofs.Math.Seq.{take-length}
-use Rattle.std.proofs.lemmas.Bool.{cases_lt, and_parts, le-ltb, ltb-true, false≢true}
-use Rattle.std.proofs.lemmas.List.{take-append-le, take_all, length-append}
-use Rattle.std.proofs.lemmas.List.Elements.{All-filter}
-use Rattle.csn_cookie.specs.Csn.{Stamp, IsCsn, start, is_before, is_upto}
+use Rattle.std.proofs.lemmas.Bool.{and_parts, le-ltb, ltb-true, false≢true}
+use Rattle.std.proofs.lemmas.List.{length-append}
+use Rattle.ldap_constants.specs.declared.result_codes.TheConstants.{ADMIN_LIMIT_EXCEEDED}
+use Rattle.csn_cookie.specs.Csn.{IsCsn, start, is_before}
 use Rattle.csn_cookie.specs.CsnMaker.{greatest_count}
-use Rattle.csn_cookie.specs.declared.cookie.Cookie.{Cookie}
 use Rattle.dn_names.specs.Names.{TypeAndValue, is_at_or_below}
 use Rattle.directory_laws.specs.Accepted.{IsWellFormed, IsAccepted, WereAccepted}
 use Rattle.directory_laws.proofs.Histories.{WereAccepted-push, sent-state_of}
 use Rattle.directory_laws.proofs.ReadWrites.{gives-change}
-use Rattle.directory_laws.proofs.Stamps.{IsCsn-start, IsCsn-next_csn}
+use Rattle.directory_laws.proofs.Csns.{IsCsn-start, IsCsn-next_csn}
 use Rattle.directory_laws.proofs.States.{IsWithin-state_of}
 use Rattle.directory_writes.specs.Commits as commits
-use Rattle.directory_writes.specs.Directory.{DirectoryState, entries_after, entries_of, last_stamp, has_room, judged, judged_at, next_stamp, with_write, with_log_limit, most_writes, most_writes_weight}
+use Rattle.directory_writes.specs.Directory.{DirectoryState, entries_after, entries_of, last_csn, has_room, judged, judged_at, csn_of_next_write, with_write, with_log_limit, most_writes, most_writes_weight}
 use Rattle.directory_writes.specs.Weights.{kept_weight, op_weight}
 use Rattle.directory_writes.specs.declared.commit.CommitFault as causes
 use Rattle.directory_writes.specs.declared.commit.CommitFault.TheVariants as cause
 use Rattle.directory_writes.proofs.Commits.{commit_open}
 use Rattle.directory_writes.proofs.Judged.{IsJudged, judged_is}
-use Rattle.directory_writes.proofs.Stamps.{rises-none, rises-push, next_rises}
-use Rattle.directory_writes.proofs.Writes.{entries_after-push, last_stamp-push}
+use Rattle.directory_writes.proofs.Csns.{rises-none, rises-push, next_rises}
+use Rattle.directory_writes.proofs.Writes.{entries_after-push, last_csn-push}
+use Rattle.directory_writes.proofs.Distinct.{changed-at, changed-was, distinct-changed}
+use Rattle.directory_writes.proofs.Promised.{IsPromised, prefix-push, prefixes-push, promised-push}
 use Rattle.entry_tree.specs.Codes.{code_of}
 use Rattle.entry_tree.specs.Effects.{committed, effect}
 use Rattle.entry_tree.specs.History.{identity, state_of}
 use Rattle.entry_tree.specs.Reading.{read_change}
-use Rattle.entry_tree.specs.Selection.{Search, is_selected, select}
 use Rattle.entry_tree.specs.Sound.{is_sound_op}
 use Rattle.entry_tree.specs.State.{most_entries, most_weight, total_weight, same_named}
 use Rattle.entry_tree.specs.declared.entry.Entry.{Entry}
@@ -39,8 +39,9 @@ use Rattle.sync_consumer.specs.Taking.{Following}
 use Rattle.sync_model.specs.Incremental.{number_of}
 use Rattle.sync_model.specs.Law.{IsWithin}
 use Rattle.sync_model.specs.Message.{SyncMessage}
-use Rattle.sync_model.specs.Stream.{Session, group, later}
-use Rattle.sync_model.proofs.Limits.{within_filter}
+use Rattle.sync_model.specs.Stream.{SyncOperation, group, later}
+use Rattle.sync_model.proofs.NextMessages.{HasNext}
+use Rattle.sync_wire.proofs.Servable.{CanBeServed}
 use Rattle.sync_provider.specs.Committing.{fault_of, commit_refusal}
 use Rattle.sync_provider.specs.HandingOut.{search_at}
 use Rattle.sync_provider.specs.Machine.{ProviderState, each_informed, after_judged, judged_by, after_commit, log_limited, queue_limited}
@@ -51,27 +52,27 @@ use Rattle.sync_provider.specs.declared.provider.Kind.TheVariants.{Root, Replica
 use Rattle.sync_provider.specs.declared.writing.CommitFault.{CommitFault}
 use Rattle.sync_provider.specs.declared.writing.CommitFault.TheVariants as fault
 use Rattle.sync_provider.proofs.Commits.{unopposed}
-use Rattle.sync_wire.specs.CanBeSent.{CanBeSent}
-use Rattle.cascade_nodes.specs.declared.node.Follower.{Follower}
+use Rattle.sync_provider.proofs.Informed.{Grows, Ends, IsPushed, pushed_is}
+use Rattle.sync_provider.proofs.Longer.{new, stream_same, place_longer, place_grows}
+use Rattle.sync_provider.proofs.Whereabouts.{IsWhere}
+use Rattle.cascade_nodes.specs.declared.node.ConsumerNode.{ConsumerNode}
+use Rattle.cascade_nodes.proofs.Fed.{waits, cut_waits, IsPending, HasPending, IsAtRest}
 use Rattle.cascade_world.specs.Cookies.{held_cookie}
 use Rattle.cascade_world.specs.Directory.{logged_directory, wrote_read}
 use Rattle.cascade_laws.specs.Headline.{Opening, Known, BeginsFrom, session_over, stream_over, busy}
-use Rattle.cascade_laws.proofs.Distinct.{changed-at, changed-was, distinct-changed}
-use Rattle.cascade_laws.proofs.Feeding.{HasNext, Remains, waits, cut_waits, CanBeServed, IsSource, IsContent, IsPromised, IsPending, HasPending, IsWhere, GoesOn, IsAtRest, IsGoing, IsFed, RestIsFed, RestsAreFed, FreshIsSource, PromisesLast, SelectedCanBeServed, KeepsAll, WritesAreKept, LimitsAreKept, QueuesAreKept, IsCommitted, CommitIs, CommitsAreKept}
-use Rattle.cascade_laws.proofs.Informed.{Grows, Ends, IsPushed, pushed_is}
-use Rattle.cascade_laws.proofs.Longer.{new, stream_same, place_longer, place_grows}
+use Rattle.cascade_laws.proofs.Feeding.{Remains, IsSource, GoesOn, IsGoing, IsFed, RestIsFed, RestsAreFed, FreshIsSource, KeepsAll, WritesAreKept, LimitsAreKept, QueuesAreKept, IsCommitted, CommitIs, CommitsAreKept}
 
 abbrev Name : Type 0
 Name = List (List TypeAndValue)
 
 pub rest_is_fed : RestIsFed
-rest_is_fed number p f search link running held cookie below = record {
+rest_is_fed number p f search link session held cookie below = record {
   held = held;
   ascending = refl;
   cookie = cookie;
   promised = subst (λ c. IsPromised number f.consumer.spec p.directory.writes [] (held_cookie c)) (sym cookie) tt;
   below = below;
-  state = inl (record { search = search; running = running; link = link });
+  state = inl (record { search = search; session = session; link = link });
 }
 
 -- one that is at rest may be fed by any
@@ -103,45 +104,25 @@ fresh_is_source number suffix kind first small = record {
     none_accepted : WereAccepted suffix number []
     none_accepted n other low = absurd (omega (arith, low))
 
-    none_ranged : (count : ℕ) → IsCsn (last_stamp (start number) (take count []))
+    none_ranged : (count : ℕ) → IsCsn (last_csn (start number) (take count []))
     none_ranged zero = IsCsn-start number (omega (arith, small))
     none_ranged (suc count) = IsCsn-start number (omega (arith, small))
 
     none_good : (count : ℕ) → CanBeServed (state_of number [] count)
     none_good count = record { sent = sent-state_of suffix number [] count none_accepted; within = IsWithin-state_of suffix number [] none_accepted (omega arith) count }
 
--- what is selected of entries that can be served can be too
-pub selected_can_be_served : SelectedCanBeServed
-selected_can_be_served search entries good = record {
-  sent = All-filter (is_selected search) CanBeSent entries good.sent;
-  within = within_filter (is_selected search) entries good.within;
-}
-
--- ---- one more write
-
--- the first writes are as they were
-front-push : (writes : List Write) (w : Write) (count : ℕ) → count ≤ length writes → take count (writes ++ w ∷ []) ≡ take count writes
-front-push writes w count within = take-append-le count writes (w ∷ []) within
-
--- a write that is accepted next: its stamp is in range and above the others, and what it leaves can be served; at a root
--- nothing was against it
+-- a write that is accepted next: its CSN is in range and above the others, and what it leaves can be served; at a root
+-- nothing rejected it
 pub record IsNext (number : ℕ) (suffix : Name) (kind : Kind) (writes : List Write) (w : Write) : Type 0 where
   pub ranged : IsCsn w.csn
   pub good : CanBeServed (entries_after number (writes ++ w ∷ []))
   pub accepted : kind ≡ Root → IsAccepted suffix (state_of number writes (length writes)) w
-  pub later : is_before (last_stamp (start number) writes) w.csn ≡ true
+  pub later : is_before (last_csn (start number) writes) w.csn ≡ true
   pub room : length writes < 1000000
 
 -- a provider after one more write
 abbrev written_once : ProviderState → Write → ProviderState
 written_once p w = record p { directory = with_write p.directory w; searches = each_informed p.queue_limit p.directory w p.searches }
-
--- what holds of the fronts of some writes, and of all with one more, holds of all fronts then
-fronts-push : (P : List Write → Type 0) (writes : List Write) (w : Write) → ((count : ℕ) → P (take count writes)) → P (writes ++ w ∷ []) → (count : ℕ) → P (take count (writes ++ w ∷ []))
-fronts-push P writes w each whole count = elim (cases_lt (length writes) count) [
-  | inl beyond ↦ subst P (sym (take_all count (writes ++ w ∷ []) (omega (arith, beyond, length-append writes (w ∷ []))))) whole
-  | inr within ↦ subst P (sym (front-push writes w count within)) (each count)
-]
 
 -- what a source keeps with one more write
 source-push : (number : ℕ) (suffix : Name) (p : ProviderState) (w : Write) → IsSource number suffix p → IsNext number suffix p.kind p.directory.writes w → IsSource number suffix (written_once p w)
@@ -150,47 +131,23 @@ source-push number suffix p w source next = record {
   small = source.small;
   directory = λ i. record (source.directory i) { writes = p.directory.writes ++ w ∷ []; log = (with_write p.directory w).log };
   rises = rises-push number p.directory.writes w next.later source.rises;
-  ranged = fronts-push (λ writes. IsCsn (last_stamp (start number) writes)) p.directory.writes w source.ranged (subst IsCsn (sym (last_stamp-push (start number) p.directory.writes w)) next.ranged);
-  good = fronts-push (λ writes. CanBeServed (entries_after number writes)) p.directory.writes w source.good next.good;
+  ranged = prefixes-push (λ writes. IsCsn (last_csn (start number) writes)) p.directory.writes w source.ranged (subst IsCsn (sym (last_csn-push (start number) p.directory.writes w)) next.ranged);
+  good = prefixes-push (λ writes. CanBeServed (entries_after number writes)) p.directory.writes w source.good next.good;
   accepted = λ root. WereAccepted-push suffix number p.directory.writes w (source.accepted root) (next.accepted root);
   few = omega (arith, length-append p.directory.writes (w ∷ []), next.room);
   apart = distinct-changed (informed p.queue_limit p.directory w) p.searches source.apart;
 }
 
--- cookies promise what they promised
-content-push : (number : ℕ) (search : Search) (writes : List Write) (w : Write) (entries : List Entry) (csn : Stamp) → IsContent number search writes entries csn → IsContent number search (writes ++ w ∷ []) entries csn
-content-push number search writes w entries csn is = record {
-  count = is.count;
-  within = omega (arith, is.within, length-append writes (w ∷ []));
-  not_below = ap (λ (front : List Write). is_upto csn (last_stamp (start number) front)) (front-push writes w is.count is.within) ∙ is.not_below;
-  same = is.same ∙ ap (λ (front : List Write). select search (entries_after number front)) (sym (front-push writes w is.count is.within));
-}
-
-promised-push : (number : ℕ) (search : Search) (writes : List Write) (w : Write) (entries : List Entry) (cookie : Option Cookie) → IsPromised number search writes entries cookie
-    → IsPromised number search (writes ++ w ∷ []) entries cookie
-promised-push number search writes w entries None promised = tt
-promised-push number search writes w entries (Some cookie) promised = λ own. content-push number search writes w entries cookie.csn (promised own)
-
-promised-more : (number : ℕ) (search : Search) (writes more : List Write) (entries : List Entry) (cookie : Option Cookie) → IsPromised number search writes entries cookie
-    → IsPromised number search (writes ++ more) entries cookie
-promised-more number search writes [] entries cookie promised = subst (λ ws. IsPromised number search ws entries cookie) (sym (append-nil writes)) promised
-promised-more number search writes (w ∷ more) entries cookie promised =
-    subst (λ ws. IsPromised number search ws entries cookie) (append_assoc writes (w ∷ []) more)
-    (promised-more number search (writes ++ w ∷ []) more entries cookie (promised-push number search writes w entries cookie promised))
-
-pub promises_last : PromisesLast
-promises_last = promised-more
-
 -- ---- a search that goes on
 
-module _ (number : ℕ) (suffix : Name) (p : ProviderState) (w : Write) (source : IsSource number suffix p) (g : Follower) (opening : Opening) (entries : List Entry) (goes : GoesOn number p g opening entries) where
+module _ (number : ℕ) (suffix : Name) (p : ProviderState) (w : Write) (source : IsSource number suffix p) (g : ConsumerNode) (opening : Opening) (entries : List Entry) (goes : GoesOn number p g opening entries) where
   abbrev writes : List Write
   writes = p.directory.writes
 
   abbrev after : ProviderState
   after = written_once p w
 
-  abbrev longer : Session
+  abbrev longer : SyncOperation
   longer = new number opening.persists g.consumer.spec writes w
 
   abbrev change : SearchState → SearchState
@@ -204,7 +161,7 @@ module _ (number : ℕ) (suffix : Name) (p : ProviderState) (w : Write) (source 
 
   from_now : BeginsFrom number (take opening.writes (writes ++ w ∷ [])) opening.cookie (number_of goes.start)
   from_now =
-      subst (λ ws. BeginsFrom number ws opening.cookie (number_of goes.start)) (sym (front-push writes w opening.writes (omega (arith, goes.upto)))) goes.from
+      subst (λ ws. BeginsFrom number ws opening.cookie (number_of goes.start)) (sym (prefix-push writes w opening.writes (omega (arith, goes.upto)))) goes.from
 
   whole_now : goes.taken ++ goes.ahead ≡ stream_over number g.consumer.spec (writes ++ w ∷ []) opening goes.start goes.count
   whole_now = goes.whole ∙ sym (stream_same number opening.persists g.consumer.spec writes w goes.start opening.writes goes.count goes.upto)
@@ -229,7 +186,7 @@ module _ (number : ℕ) (suffix : Name) (p : ProviderState) (w : Write) (source 
     linked = goes.linked;
     pending = messages;
     left = left;
-    told = goes.told;
+    reported = goes.reported;
     link = goes.link;
     search = has;
     place = place_now;
@@ -319,7 +276,7 @@ module _ (number : ℕ) (suffix : Name) (p : ProviderState) (w : Write) (source 
       linked = goes.linked;
       pending = goes.pending ++ next;
       left = sym (append_assoc goes.linked goes.pending next) ∙ ap (λ ms. ms ++ next) left_is;
-      told = goes.told;
+      reported = goes.reported;
       link = goes.link;
       search =
           has_now false (goes.pending ++ next) grows.over (grows.same ∙ (λ i. has.same i ++ ap (group longer) (sym whole_count) i))
@@ -362,7 +319,7 @@ module _ (number : ℕ) (suffix : Name) (p : ProviderState) (w : Write) (source 
       by true cut true mode = idle (λ i. waits (mode i) (cut i))
       by true cut false mode = idle (λ i. waits (mode i) (cut i))
 
-fed-push : (number : ℕ) (suffix : Name) (p : ProviderState) (w : Write) → IsSource number suffix p → (g : Follower) (known : Known) → IsFed number p g known → IsFed number (written_once p w) g known
+fed-push : (number : ℕ) (suffix : Name) (p : ProviderState) (w : Write) → IsSource number suffix p → (g : ConsumerNode) (known : Known) → IsFed number p g known → IsFed number (written_once p w) g known
 fed-push number suffix p w source g known fed = record {
   held = fed.held;
   ascending = fed.ascending;
@@ -381,16 +338,16 @@ fed-push number suffix p w source g known fed = record {
 room_of : (d : DirectoryState) (op : Op) (now : ℕ) (w : Write) → judged d op now ≡ Ok w → length d.writes < 1000000
 room_of d op now w = by (has_room d.writes op) refl
   where
-    by : (b : Bool) → has_room d.writes op ≡ b → cond b (judged_at d op (next_stamp d now)) (Err 11) ≡ Ok w → length d.writes < 1000000
+    by : (b : Bool) → has_room d.writes op ≡ b → cond b (judged_at d op (csn_of_next_write d now)) (Err ADMIN_LIMIT_EXCEEDED) ≡ Ok w → length d.writes < 1000000
     by true room is =
         ltb-true (length d.writes) most_writes (and_parts (nat_lt (length d.writes) most_writes) (nat_le (kept_weight d.writes + op_weight op) most_writes_weight) room).0
     by false full is = let never : ⊥ = cc in absurd never
 
--- the stamp of a write that was judged good is in range
+-- the CSN of a write that was judged good is in range
 judged_ranged : (number : ℕ) (suffix : Name) (p : ProviderState) (op : Op) (now : ℕ) (w : Write) → IsSource number suffix p → judged p.directory op now ≡ Ok w
     → IsJudged (logged_directory number suffix p.directory.writes p.directory.log) op now w × IsCsn w.csn
 judged_ranged number suffix p op now w source is =
-    (good, subst (λ drawn. IfSome drawn IsCsn) good.next (IsCsn-next_csn now (last_stamp (start number) writes) in_range))
+    (good, subst (λ drawn. IfSome drawn IsCsn) good.next (IsCsn-next_csn now (last_csn (start number) writes) in_range))
   where
     writes : List Write
     writes = p.directory.writes
@@ -398,8 +355,8 @@ judged_ranged number suffix p op now w source is =
     good : IsJudged (logged_directory number suffix writes p.directory.log) op now w
     good = judged_is (logged_directory number suffix writes p.directory.log) op now w (ap (λ d. judged d op now) (sym source.directory) ∙ is)
 
-    in_range : IsCsn (last_stamp (start number) writes)
-    in_range = subst (λ front. IsCsn (last_stamp (start number) front)) (take-length writes) (source.ranged (length writes))
+    in_range : IsCsn (last_csn (start number) writes)
+    in_range = subst (λ prefix. IsCsn (last_csn (start number) prefix)) (take-length writes) (source.ranged (length writes))
 
 judged_next : (number : ℕ) (suffix : Name) (p : ProviderState) (op : Op) (now : ℕ) (w : Write) → IsSource number suffix p → judged p.directory op now ≡ Ok w
     → CanBeServed (entries_after number (p.directory.writes ++ w ∷ []))
@@ -410,7 +367,7 @@ judged_next number suffix p op now w source is good accepted =
       ranged = judged'.1;
       good = good;
       accepted = accepted;
-      later = next_rises now (last_stamp (start number) p.directory.writes) w.csn judged'.0.next;
+      later = next_rises now (last_csn (start number) p.directory.writes) w.csn judged'.0.next;
       room = room_of p.directory op now w is;
     }
 
@@ -436,9 +393,9 @@ asked_next number suffix p op now w source root formed sound is =
     accepted = record {
       formed = subst IsWellFormed (sym judged'.0.same) formed;
       sound = ap is_sound_op judged'.0.same ∙ sound;
-      stamp = judged'.1;
+      is_csn = judged'.1;
       free =
-          ap (λ (front : List Write). code_of suffix (entries_after number front) w.op) (take-length writes)
+          ap (λ (prefix : List Write). code_of suffix (entries_after number prefix) w.op) (take-length writes)
           ∙ ap (code_of suffix (entries_after number writes)) judged'.0.same
           ∙ judged'.0.unopposed;
     }
@@ -454,7 +411,7 @@ still_kept : (number : ℕ) (suffix : Name) (p : ProviderState) → IsSource num
 still_kept number suffix p source =
     record { source = source; fed = λ g known fed. fed; opens = λ at s found. (s, found); kind = refl; later = []; grown = sym (append-nil p.directory.writes) }
 
--- one that is accepted is told to all
+-- one that is accepted is reported to all
 written_kept : (number : ℕ) (suffix : Name) (p : ProviderState) (w : Write) → IsSource number suffix p → IsNext number suffix p.kind p.directory.writes w → KeepsAll number suffix p (written_once p w)
 written_kept number suffix p w source next = record {
   source = source-push number suffix p w source next;
@@ -542,7 +499,7 @@ module _ (number : ℕ) (suffix : Name) (p : ProviderState) (puts : List Entry) 
       apart : Replica ≡ Root → ⊥
       apart same = cc
 
-  -- nothing is against what can be served but a limit
+  -- nothing rejects what can be served but a limit
   held_none : commits.held_refusal (committed (entries_of p.directory) puts drops) ≡ None
   held_none = within_none (committed (entries_of p.directory) puts drops) good.within
 
@@ -556,7 +513,7 @@ module _ (number : ℕ) (suffix : Name) (p : ProviderState) (puts : List Entry) 
       ∙ ap (option_map fault_of) (or_none log_refusal)
 
   pub commit_is : p.kind ≡ Replica → CommitIs number suffix p puts drops now (commit_refusal p.kind p.directory puts drops now)
-  commit_is replica = by (commit_refusal p.kind p.directory puts drops now) refl (subst IsLimit (sym (refusal_is replica)) (log_limits (nat_le most_writes (length p.directory.writes)) (nat_lt most_writes_weight (kept_weight p.directory.writes + op_weight (Commit puts drops))) (is_none (next_stamp p.directory now))))
+  commit_is replica = by (commit_refusal p.kind p.directory puts drops now) refl (subst IsLimit (sym (refusal_is replica)) (log_limits (nat_le most_writes (length p.directory.writes)) (nat_lt most_writes_weight (kept_weight p.directory.writes + op_weight (Commit puts drops))) (is_none (csn_of_next_write p.directory now))))
     where
       opened : commit_refusal p.kind p.directory puts drops now ≡ None → IsCommitted number suffix p (after_judged p (judged p.directory (Commit puts drops) now)) puts drops now
       opened is =
@@ -576,7 +533,7 @@ commits_are_kept number suffix p puts drops now source replica good = commit_is 
 -- ---- limits
 
 -- another log, or another limit
-going-limited : (number : ℕ) (p q : ProviderState) (g : Follower) (opening : Opening) (entries : List Entry) → q.directory.writes ≡ p.directory.writes → q.searches ≡ p.searches
+going-limited : (number : ℕ) (p q : ProviderState) (g : ConsumerNode) (opening : Opening) (entries : List Entry) → q.directory.writes ≡ p.directory.writes → q.searches ≡ p.searches
     → GoesOn number p g opening entries → GoesOn number q g opening entries
 going-limited number p q g opening entries writes searches goes = record {
   count = goes.count;
@@ -592,13 +549,13 @@ going-limited number p q g opening entries writes searches goes = record {
   linked = goes.linked;
   pending = goes.pending;
   left = goes.left;
-  told = goes.told;
+  reported = goes.reported;
   link = goes.link;
   search = subst (λ es. HasPending es g.consumer.spec opening.persists goes.cut g.search goes.pending) (sym searches) goes.search;
   place = subst (λ ws. IsWhere (session_over number g.consumer.spec ws opening) goes.start opening.writes goes.count entries g.consumer.copy goes.taken goes.ahead) (sym writes) goes.place;
 }
 
-fed-limited : (number : ℕ) (p q : ProviderState) (g : Follower) (known : Known) → q.directory.writes ≡ p.directory.writes → q.directory.suffix ≡ p.directory.suffix → q.searches ≡ p.searches
+fed-limited : (number : ℕ) (p q : ProviderState) (g : ConsumerNode) (known : Known) → q.directory.writes ≡ p.directory.writes → q.directory.suffix ≡ p.directory.suffix → q.searches ≡ p.searches
     → IsFed number p g known → IsFed number q g known
 fed-limited number p q g known writes suffix searches fed = record {
   held = fed.held;

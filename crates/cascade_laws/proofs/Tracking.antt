@@ -8,20 +8,21 @@ use Rattle.entry_tree.specs.declared.op.Write.{Write}
 use Rattle.directory_writes.specs.Directory.{DirectoryState, entries_after}
 use Rattle.sync_provider.specs.declared.provider.Kind.{Kind}
 use Rattle.sync_provider.specs.declared.provider.Kind.TheVariants.{Root, Replica}
-use Rattle.cascade_nodes.specs.declared.node.Supplier.{Supplier}
-use Rattle.cascade_nodes.specs.declared.node.Follower.{Follower}
+use Rattle.cascade_nodes.specs.declared.node.ProviderNode.{ProviderNode}
+use Rattle.cascade_nodes.specs.declared.node.ConsumerNode.{ConsumerNode}
+use Rattle.cascade_nodes.proofs.Fed.{AreApart}
 use Rattle.cascade_report.specs.declared.notes.Origin.{Origin}
-use Rattle.cascade_laws.specs.Headline.{time_from, accepted_from, is_declaration, IsDeclared, IsConsumer, follows_now, commits_told, stored_of, known_of}
+use Rattle.cascade_laws.specs.Headline.{time_from, accepted_from, is_declaration, IsDeclared, IsConsumer, follows_now, commits_reported, stored_of, known_of}
 use Rattle.cascade_script.specs.Orders.{Order}
 use Rattle.cascade_script.specs.Orders.{Order as asks}
-use Rattle.cascade_world.specs.Origins.{Note}
-use Rattle.cascade_world.specs.Report.{Storing, Told}
-use Rattle.cascade_world.specs.World.{State}
-use Rattle.cascade_laws.proofs.Climbing.{AllClimb}
-use Rattle.cascade_laws.proofs.Feeding.{IsSource, IsFed, Promises, AreApart}
-use Rattle.cascade_world.proofs.Finding.{suppliers_by, followers_by}
-use Rattle.cascade_laws.proofs.Owning.{AllOwned}
-use Rattle.cascade_laws.proofs.Saying.{clock_told}
+use Rattle.cascade_world.specs.Origins.{CommitOrigin}
+use Rattle.cascade_world.specs.ReportLines.{Storing, ReportLine}
+use Rattle.cascade_world.specs.World.{WorldState}
+use Rattle.cascade_laws.proofs.Feeding.{IsSource, IsFed, Promises}
+use Rattle.cascade_world.proofs.Finding.{provider_nodes_by, consumer_nodes_by}
+use Rattle.cascade_world.proofs.Climbing.{AllClimb}
+use Rattle.cascade_world.proofs.Owning.{AllOwned}
+use Rattle.cascade_laws.proofs.Saying.{clock_reported}
 
 -- ---- by the orders
 
@@ -43,86 +44,86 @@ abbrev pub IsOfKind : List Order → List ℕ → DirectoryState → Kind → Ty
 IsOfKind before name d Root = IsRoot before name d.history d.suffix d.writes
 IsOfKind before name d Replica = IsReplica before name d.history
 
-abbrev pub IsSupplier : List Order → Supplier → Type 0
-IsSupplier before supplier = IsOfKind before supplier.name supplier.provider.directory supplier.provider.kind
+abbrev pub IsProviderNode : List Order → ProviderNode → Type 0
+IsProviderNode before provider_node = IsOfKind before provider_node.name provider_node.provider.directory provider_node.provider.kind
 
-abbrev pub AreSuppliers : List Order → List Supplier → Type 0
-AreSuppliers before suppliers = (name : List ℕ) (supplier : Supplier) → suppliers_by suppliers name ≡ Some supplier → IsSupplier before supplier
+abbrev pub AreProviderNodes : List Order → List ProviderNode → Type 0
+AreProviderNodes before provider_nodes = (name : List ℕ) (provider_node : ProviderNode) → provider_nodes_by provider_nodes name ≡ Some provider_node → IsProviderNode before provider_node
 
 -- each consumer follows what the orders say, and nothing else is one
-abbrev pub AreConsumers : List Order → List Follower → Type 0
-AreConsumers before followers =
-    (name : List ℕ) (f : Follower) → followers_by followers name ≡ Some f → IsConsumer before name f.source f.consumer.spec f.consumer.reload
+abbrev pub AreConsumers : List Order → List ConsumerNode → Type 0
+AreConsumers before consumer_nodes =
+    (name : List ℕ) (f : ConsumerNode) → consumer_nodes_by consumer_nodes name ≡ Some f → IsConsumer before name f.source f.consumer.spec f.consumer.reload
 
-abbrev pub AreStrangers : List Order → List Follower → Type 0
-AreStrangers before followers = (name : List ℕ) → followers_by followers name ≡ None → follows_now before name ≡ None
+abbrev pub AreStrangers : List Order → List ConsumerNode → Type 0
+AreStrangers before consumer_nodes = (name : List ℕ) → consumer_nodes_by consumer_nodes name ≡ None → follows_now before name ≡ None
 
-pub record ByOrders (before : List Order) (state : State) : Type 0 where
+pub record ByOrders (before : List Order) (state : WorldState) : Type 0 where
   pub time : state.clock ≡ time_from 0 before
   pub count : state.nodes ≡ count_by is_declaration before
-  pub suppliers : AreSuppliers before state.suppliers
-  pub consumers : AreConsumers before state.followers
-  pub strangers : AreStrangers before state.followers
+  pub provider_nodes : AreProviderNodes before state.provider_nodes
+  pub consumers : AreConsumers before state.consumer_nodes
+  pub strangers : AreStrangers before state.consumer_nodes
 
 -- ---- by the lines: what replicas committed
 
-abbrev pub noted : Storing → Note
+abbrev pub noted : Storing → CommitOrigin
 noted stored = record { search = stored.search; origin = stored.origin }
 
--- each `stored` line of the replica of this name and number is one commit, which left the entries that it told
-pub record HasCommitted (number : ℕ) (said : List Told) (name : List ℕ) (notes : List Note) (writes : List Write) : Type 0 where
-  pub commits : writes ≡ commits_told number name said
+-- each `stored` line of the replica of this name and number is one commit, which left the entries that it reported
+pub record HasCommitted (number : ℕ) (said : List ReportLine) (name : List ℕ) (notes : List CommitOrigin) (writes : List Write) : Type 0 where
+  pub commits : writes ≡ commits_reported number name said
   pub notes_are : notes ≡ map noted (stored_of name said)
   pub held : entries_after number writes ≡ (known_of name said).entries
   pub counted : length writes ≡ length (stored_of name said)
   pub each : (at : ℕ) (stored : Storing) → slice_get (stored_of name said) at ≡ Some stored → entries_after number (take (at + 1) writes) ≡ stored.entries
 
-abbrev pub CommittedBy : List Told → Supplier → Kind → Type 0
-CommittedBy said supplier Root = Unit {0}
-CommittedBy said supplier Replica =
-    HasCommitted supplier.provider.directory.history said supplier.name supplier.notes supplier.provider.directory.writes
+abbrev pub CommittedBy : List ReportLine → ProviderNode → Kind → Type 0
+CommittedBy said provider_node Root = Unit {0}
+CommittedBy said provider_node Replica =
+    HasCommitted provider_node.provider.directory.history said provider_node.name provider_node.notes provider_node.provider.directory.writes
 
-abbrev pub IsCommitter : List Told → Supplier → Type 0
-IsCommitter said supplier = CommittedBy said supplier supplier.provider.kind
+abbrev pub IsCommitter : List ReportLine → ProviderNode → Type 0
+IsCommitter said provider_node = CommittedBy said provider_node provider_node.provider.kind
 
-abbrev pub AreCommitters : List Told → List Supplier → Type 0
-AreCommitters said suppliers = (name : List ℕ) (supplier : Supplier) → suppliers_by suppliers name ≡ Some supplier → IsCommitter said supplier
+abbrev pub AreCommitters : List ReportLine → List ProviderNode → Type 0
+AreCommitters said provider_nodes = (name : List ℕ) (provider_node : ProviderNode) → provider_nodes_by provider_nodes name ≡ Some provider_node → IsCommitter said provider_node
 
 -- all but that of this name
-abbrev pub AreCommittersBut : List ℕ → List Told → List Supplier → Type 0
-AreCommittersBut hole said suppliers =
-    (name : List ℕ) (supplier : Supplier) → suppliers_by suppliers name ≡ Some supplier → bytes_eq name hole ≡ false → IsCommitter said supplier
+abbrev pub AreCommittersBut : List ℕ → List ReportLine → List ProviderNode → Type 0
+AreCommittersBut hole said provider_nodes =
+    (name : List ℕ) (provider_node : ProviderNode) → provider_nodes_by provider_nodes name ≡ Some provider_node → bytes_eq name hole ≡ false → IsCommitter said provider_node
 
 -- ---- by the lines: what consumers are fed
 
-abbrev pub AreSources : List Supplier → Type 0
-AreSources suppliers =
-    (name : List ℕ) (supplier : Supplier) → suppliers_by suppliers name ≡ Some supplier
-    → IsSource supplier.provider.directory.history supplier.provider.directory.suffix supplier.provider
+abbrev pub AreSources : List ProviderNode → Type 0
+AreSources provider_nodes =
+    (name : List ℕ) (provider_node : ProviderNode) → provider_nodes_by provider_nodes name ≡ Some provider_node
+    → IsSource provider_node.provider.directory.history provider_node.provider.directory.suffix provider_node.provider
 
 -- each provider is a node of its own
-pub record AreNumbered (nodes : ℕ) (suppliers : List Supplier) : Type 0 where
-  pub within : (name : List ℕ) (supplier : Supplier) → suppliers_by suppliers name ≡ Some supplier → supplier.provider.directory.history ≤ nodes
-  pub apart : (name other : List ℕ) (r s : Supplier) → suppliers_by suppliers name ≡ Some r → suppliers_by suppliers other ≡ Some s
+pub record AreNumbered (nodes : ℕ) (provider_nodes : List ProviderNode) : Type 0 where
+  pub within : (name : List ℕ) (provider_node : ProviderNode) → provider_nodes_by provider_nodes name ≡ Some provider_node → provider_node.provider.directory.history ≤ nodes
+  pub apart : (name other : List ℕ) (r s : ProviderNode) → provider_nodes_by provider_nodes name ≡ Some r → provider_nodes_by provider_nodes other ≡ Some s
       → r.provider.directory.history ≡ s.provider.directory.history → name ≡ other
 
--- the consumer follows a provider that is there, and is fed by it as the lines so far tell; and its cookie promises
+-- the consumer follows a provider that is there, and is fed by it as the lines so far report; and its cookie promises
 -- content of whichever provider's writes it names
-pub record IsFollower (said : List Told) (nodes : ℕ) (suppliers : List Supplier) (f : Follower) : Type 0 where
-  pub supplier : Supplier
-  pub there : suppliers_by suppliers f.source ≡ Some supplier
-  pub fed : IsFed supplier.provider.directory.history supplier.provider f (known_of f.name said)
-  pub promised : (name : List ℕ) (r : Supplier) → suppliers_by suppliers name ≡ Some r
+pub record IsConsumerNode (said : List ReportLine) (nodes : ℕ) (provider_nodes : List ProviderNode) (f : ConsumerNode) : Type 0 where
+  pub provider_node : ProviderNode
+  pub there : provider_nodes_by provider_nodes f.source ≡ Some provider_node
+  pub fed : IsFed provider_node.provider.directory.history provider_node.provider f (known_of f.name said)
+  pub promised : (name : List ℕ) (r : ProviderNode) → provider_nodes_by provider_nodes name ≡ Some r
       → Promises r.provider.directory.history f.consumer.spec r.provider.directory.writes (known_of f.name said)
   pub undeclared : (number : ℕ) → nodes < number → number ≤ 16 → Promises number f.consumer.spec [] (known_of f.name said)
 
-abbrev pub AreFollowers : List Told → ℕ → List Supplier → List Follower → Type 0
-AreFollowers said nodes suppliers followers = (name : List ℕ) (f : Follower) → followers_by followers name ≡ Some f → IsFollower said nodes suppliers f
+abbrev pub AreConsumerNodes : List ReportLine → ℕ → List ProviderNode → List ConsumerNode → Type 0
+AreConsumerNodes said nodes provider_nodes consumer_nodes = (name : List ℕ) (f : ConsumerNode) → consumer_nodes_by consumer_nodes name ≡ Some f → IsConsumerNode said nodes provider_nodes f
 
 -- no two consumers of one provider have a search in common
-abbrev pub AllApart : List Follower → Type 0
-AllApart followers =
-    (name other : List ℕ) (f g : Follower) → followers_by followers name ≡ Some f → followers_by followers other ≡ Some g
+abbrev pub AllApart : List ConsumerNode → Type 0
+AllApart consumer_nodes =
+    (name other : List ℕ) (f g : ConsumerNode) → consumer_nodes_by consumer_nodes name ≡ Some f → consumer_nodes_by consumer_nodes other ≡ Some g
     → bytes_eq other name ≡ false → f.source ≡ g.source → AreApart f g
 
 -- a replica has a consumer, and a root has none
@@ -130,37 +131,37 @@ abbrev pub IsManned : Kind → Bool → Type 0
 IsManned Root found = found ≡ false
 IsManned Replica found = found ≡ true
 
-abbrev pub AreManned : List Supplier → List Follower → Type 0
-AreManned suppliers followers =
-    (name : List ℕ) (supplier : Supplier) → suppliers_by suppliers name ≡ Some supplier → IsManned supplier.provider.kind (is_some (followers_by followers name))
+abbrev pub AreManned : List ProviderNode → List ConsumerNode → Type 0
+AreManned provider_nodes consumer_nodes =
+    (name : List ℕ) (provider_node : ProviderNode) → provider_nodes_by provider_nodes name ≡ Some provider_node → IsManned provider_node.provider.kind (is_some (consumer_nodes_by consumer_nodes name))
 
 -- entries are what is wanted of a prefix of the writes of a root that is there
-pub record IsRooted (suppliers : List Supplier) (search : Search) (entries : List Entry) (origin : Origin) : Type 0 where
-  pub supplier : Supplier
-  pub there : suppliers_by suppliers origin.root ≡ Some supplier
-  pub root : supplier.provider.kind ≡ Root
-  pub prefix : origin.number ≤ length supplier.provider.directory.writes
-  pub exactly : entries ≡ select search (entries_after supplier.provider.directory.history (take origin.number supplier.provider.directory.writes))
+pub record IsRooted (provider_nodes : List ProviderNode) (search : Search) (entries : List Entry) (origin : Origin) : Type 0 where
+  pub provider_node : ProviderNode
+  pub there : provider_nodes_by provider_nodes origin.root ≡ Some provider_node
+  pub root : provider_node.provider.kind ≡ Root
+  pub prefix : origin.number ≤ length provider_node.provider.directory.writes
+  pub exactly : entries ≡ select search (entries_after provider_node.provider.directory.history (take origin.number provider_node.provider.directory.writes))
 
--- where an origin is told
-abbrev pub AreRooted : List Supplier → List Storing → Type 0
-AreRooted suppliers [] = Unit {0}
-AreRooted suppliers (stored ∷ more) = IfSome stored.origin (IsRooted suppliers stored.search stored.entries) × AreRooted suppliers more
+-- where an origin is reported
+abbrev pub AreRooted : List ProviderNode → List Storing → Type 0
+AreRooted provider_nodes [] = Unit {0}
+AreRooted provider_nodes (stored ∷ more) = IfSome stored.origin (IsRooted provider_nodes stored.search stored.entries) × AreRooted provider_nodes more
 
-pub record Feeds (said : List Told) (state : State) : Type 0 where
-  pub clock : state.clock ≡ clock_told said
+pub record Feeds (said : List ReportLine) (state : WorldState) : Type 0 where
+  pub clock : state.clock ≡ clock_reported said
   pub few : state.nodes ≤ 16
-  pub counted : length state.followers ≤ state.nodes
-  pub sources : AreSources state.suppliers
-  pub numbered : AreNumbered state.nodes state.suppliers
-  pub followers : AreFollowers said state.nodes state.suppliers state.followers
-  pub apart : AllApart state.followers
-  pub owned : AllOwned state.suppliers state.followers
-  pub manned : AreManned state.suppliers state.followers
-  pub climbs : AllClimb state.followers
-  pub rooted : (name : List ℕ) → AreRooted state.suppliers (stored_of name said)
+  pub counted : length state.consumer_nodes ≤ state.nodes
+  pub sources : AreSources state.provider_nodes
+  pub numbered : AreNumbered state.nodes state.provider_nodes
+  pub consumer_nodes : AreConsumerNodes said state.nodes state.provider_nodes state.consumer_nodes
+  pub apart : AllApart state.consumer_nodes
+  pub owned : AllOwned state.provider_nodes state.consumer_nodes
+  pub manned : AreManned state.provider_nodes state.consumer_nodes
+  pub climbs : AllClimb state.consumer_nodes
+  pub rooted : (name : List ℕ) → AreRooted state.provider_nodes (stored_of name said)
 
-pub record Tracks (before : List Order) (said : List Told) (state : State) : Type 0 where
+pub record Tracks (before : List Order) (said : List ReportLine) (state : WorldState) : Type 0 where
   pub orders : ByOrders before state
   pub feeds : Feeds said state
-  pub commits : AreCommitters said state.suppliers
+  pub commits : AreCommitters said state.provider_nodes

@@ -1,35 +1,37 @@
 -- What holds of the nodes after a write, or a limit.
 use Rattle.std.proofs.Common.{◌≡◌, ℕ, false, Option, Some, None, List, [], ◌∷◌, ◌++◌, length, refl, ap, sym, subst, ◌∙◌, inl, inr, append-nil}
 use Rattle.std.specs.Str.{bytes_eq}
-use Rattle.csn_cookie.specs.Csn.{Stamp}
+use Rattle.csn_cookie.specs.Csn.{CsnValue}
 use Rattle.dn_names.specs.Names.{TypeAndValue}
 use Rattle.schema_rules.specs.declared.raw.Change.{Change}
 use Rattle.entry_tree.specs.declared.op.Op.{Op}
 use Rattle.entry_tree.specs.declared.op.Write.{Write}
 use Rattle.entry_tree.specs.Reading.{read_change}
 use Rattle.std.specs.Prelude.{Result, Ok, Err, if◌then◌else◌}
-use Rattle.directory_writes.specs.Directory.{DirectoryState, has_room, next_stamp, judged_at, judged, with_judged, written}
+use Rattle.ldap_constants.specs.declared.result_codes.TheConstants.{ADMIN_LIMIT_EXCEEDED}
+use Rattle.directory_writes.specs.Directory.{DirectoryState, has_room, csn_of_next_write, judged_at, judged, with_judged, written}
+use Rattle.directory_writes.proofs.Promised.{PromisesLast}
 use Rattle.sync_provider.specs.Machine.{ProviderState, judged_by, log_limited, queue_limited}
 use Rattle.sync_provider.specs.declared.provider.Kind.{Kind}
 use Rattle.sync_provider.specs.declared.provider.Kind.TheVariants.{Root, Replica}
-use Rattle.cascade_nodes.specs.declared.node.Supplier.{Supplier}
+use Rattle.cascade_nodes.specs.declared.node.ProviderNode.{ProviderNode}
 use Rattle.session_log.specs.Log.{Log, fresh}
 use Rattle.cascade_world.specs.Directory.{logged_directory, directory_of, change_code, changed, written_read, wrote_read, wrote_change}
 use Rattle.cascade_laws.specs.Headline.{time_after, time_from, with_accepted, accepted_from, is_declaration, IsDeclared, Following, followed}
 use Rattle.cascade_script.specs.Orders.{Order}
 use Rattle.cascade_script.specs.Orders.{Order as asks}
-use Rattle.cascade_world.specs.Report.{Told}
-use Rattle.cascade_world.specs.Report.Told.{Wrote}
-use Rattle.cascade_world.specs.World.{State, supplier_named, with_provider, write_to, limited}
+use Rattle.cascade_world.specs.ReportLines.{ReportLine}
+use Rattle.cascade_world.specs.ReportLines.ReportLine.{Wrote}
+use Rattle.cascade_world.specs.World.{WorldState, provider_node_named, with_provider, write_to, limited}
 use Rattle.cascade_laws.proofs.Accepted.{time_from-append, accepted_from-push, declared-push}
 use Rattle.cascade_laws.proofs.Exchanges.{After}
-use Rattle.cascade_laws.proofs.Feeding.{IsSource, KeepsAll, PromisesLast, WritesAreKept, LimitsAreKept, QueuesAreKept}
-use Rattle.cascade_world.proofs.Finding.{IsChanged, found_after, suppliers_by, supplier_name, provider_changed}
+use Rattle.cascade_laws.proofs.Feeding.{IsSource, KeepsAll, WritesAreKept, LimitsAreKept, QueuesAreKept}
+use Rattle.cascade_world.proofs.Finding.{IsChanged, found_after, provider_nodes_by, provider_node_name, provider_changed}
 use Rattle.cascade_laws.proofs.Growing.{count_same, feeds_changed, feeds_more, committer_same, committers_changed, committers_but, committers_more}
-use Rattle.cascade_laws.proofs.Ordered.{IsStill, still_changed, IsQuiet, time_still, supplier_kept, consumers_still, strangers_still, orders_quiet}
+use Rattle.cascade_laws.proofs.Ordered.{IsStill, still_changed, IsQuiet, time_still, provider_node_kept, consumers_still, strangers_still, orders_quiet}
 use Rattle.cascade_laws.proofs.Saying.{IsLeft, left_by_one, left_wrote, clock_more}
 use Rattle.cascade_world.proofs.SameNames.{itself, other_way}
-use Rattle.cascade_laws.proofs.Tracking.{IsRoot, IsReplica, IsOfKind, IsSupplier, AreSuppliers, CommittedBy, IsCommitter, Feeds, Tracks}
+use Rattle.cascade_laws.proofs.Tracking.{IsRoot, IsReplica, IsOfKind, IsProviderNode, AreProviderNodes, CommittedBy, IsCommitter, Feeds, Tracks}
 
 -- the time at an order is that after those between a declaration and it
 time_since : (before : List Order) (number : ℕ) (declaration : Order) (later : List Order) (is : IsDeclared before number declaration later)
@@ -38,7 +40,7 @@ time_since before number declaration later is still =
     ap (time_from 0) is.whole ∙ time_from-append 0 is.earlier (declaration ∷ later) ∙ ap (λ t. time_from t later) still
 
 -- they depend on no log
-judged_at_same : (number : ℕ) (suffix : List (List TypeAndValue)) (writes : List Write) (log other : Log) (op : Op) (csn : Option Stamp)
+judged_at_same : (number : ℕ) (suffix : List (List TypeAndValue)) (writes : List Write) (log other : Log) (op : Op) (csn : Option CsnValue)
     → judged_at (logged_directory number suffix writes log) op csn ≡ judged_at (logged_directory number suffix writes other) op csn
 judged_at_same number suffix writes log other op None = refl
 judged_at_same number suffix writes log other op (Some csn) = refl
@@ -46,8 +48,8 @@ judged_at_same number suffix writes log other op (Some csn) = refl
 judged_same : (number : ℕ) (suffix : List (List TypeAndValue)) (writes : List Write) (log other : Log) (op : Op) (now : ℕ)
     → judged (logged_directory number suffix writes log) op now ≡ judged (logged_directory number suffix writes other) op now
 judged_same number suffix writes log other op now =
-    ap (λ (j : Result Write ℕ). if has_room writes op then j else Err 11)
-    (judged_at_same number suffix writes log other op (next_stamp (logged_directory number suffix writes log) now))
+    ap (λ (j : Result Write ℕ). if has_room writes op then j else Err ADMIN_LIMIT_EXCEEDED)
+    (judged_at_same number suffix writes log other op (csn_of_next_write (logged_directory number suffix writes log) now))
 
 judged_writes : (number : ℕ) (suffix : List (List TypeAndValue)) (writes : List Write) (log other : Log) (judged' : Result Write ℕ)
     → (with_judged (logged_directory number suffix writes log) judged').writes ≡ (with_judged (logged_directory number suffix writes other) judged').writes
@@ -109,7 +111,7 @@ replica_wrote p now change is = replica_read p now (read_change change) is
 -- ---- a provider is changed alone
 
 -- what it has committed, where it is a replica
-committer_kept : (said : List Told) (r : Supplier) (p : ProviderState) → p.kind ≡ r.provider.kind → (r.provider.kind ≡ Replica → p.directory.writes ≡ r.provider.directory.writes) → p.directory.history ≡ r.provider.directory.history
+committer_kept : (said : List ReportLine) (r : ProviderNode) (p : ProviderState) → p.kind ≡ r.provider.kind → (r.provider.kind ≡ Replica → p.directory.writes ≡ r.provider.directory.writes) → p.directory.history ≡ r.provider.directory.history
     → p.directory.suffix ≡ r.provider.directory.suffix → IsCommitter said r → IsCommitter said (record r { provider = p })
 committer_kept said r p kind writes history suffix is = by r.provider.kind refl
   where
@@ -117,52 +119,52 @@ committer_kept said r p kind writes history suffix is = by r.provider.kind refl
     by Root e = subst (CommittedBy said (record r { provider = p })) (sym (kind ∙ e)) tt
     by Replica e = committer_same said r (record r { provider = p }) (record { name = refl; kind = kind; history = history; suffix = suffix; writes = writes e; notes = refl }) is
 
-provider_feeds : PromisesLast → (said : List Told) (state : State) (name : List ℕ) (r : Supplier) (p : ProviderState) → supplier_named name state ≡ Some r
-    → KeepsAll r.provider.directory.history r.provider.directory.suffix r.provider p → Feeds said state → Feeds said (record state { suppliers = with_provider name p state.suppliers })
+provider_feeds : PromisesLast → (said : List ReportLine) (state : WorldState) (name : List ℕ) (r : ProviderNode) (p : ProviderState) → provider_node_named name state ≡ Some r
+    → KeepsAll r.provider.directory.history r.provider.directory.suffix r.provider p → Feeds said state → Feeds said (record state { provider_nodes = with_provider name p state.provider_nodes })
 provider_feeds lasts said state name r p e kept is =
-    feeds_changed lasts said state (with_provider name p state.suppliers) name r (record r { provider = p }) e (provider_changed state.suppliers name r p e) refl kept is
+    feeds_changed lasts said state (with_provider name p state.provider_nodes) name r (record r { provider = p }) e (provider_changed state.provider_nodes name r p e) refl kept is
 
 -- ---- limits
 
-limited_tracked : PromisesLast → (before : List Order) (order : Order) (said : List Told) (state : State) (name : List ℕ) (r : Supplier) (p : ProviderState) → supplier_named name state ≡ Some r → IsQuiet order
+limited_tracked : PromisesLast → (before : List Order) (order : Order) (said : List ReportLine) (state : WorldState) (name : List ℕ) (r : ProviderNode) (p : ProviderState) → provider_node_named name state ≡ Some r → IsQuiet order
     → ((consumer : List ℕ) (now : Option Following) → followed consumer now order ≡ now) → p.directory.writes ≡ r.provider.directory.writes → KeepsAll r.provider.directory.history r.provider.directory.suffix r.provider p
-    → Tracks before said state → Tracks (before ++ order ∷ []) said (record state { suppliers = with_provider name p state.suppliers })
+    → Tracks before said state → Tracks (before ++ order ∷ []) said (record state { provider_nodes = with_provider name p state.provider_nodes })
 limited_tracked lasts before order said state name r p e quiet same writes kept is =
-    let changed' = provider_changed state.suppliers name r p e in
-    let next = with_provider name p state.suppliers in
+    let changed' = provider_changed state.provider_nodes name r p e in
+    let next = with_provider name p state.provider_nodes in
     let history : p.directory.history ≡ r.provider.directory.history = ap (λ (d : DirectoryState). d.history) kept.source.directory in
     let suffix : p.directory.suffix ≡ r.provider.directory.suffix = ap (λ (d : DirectoryState). d.suffix) kept.source.directory in
     let still : IsStill r (record r { provider = p }) = record { name = refl; kind = kept.kind; history = history; suffix = suffix; writes = λ root. writes } in
     record {
       orders =
-          orders_quiet before order state (record state { suppliers = next }) quiet same refl refl refl
-          (still_changed (suppliers_by state.suppliers) (suppliers_by next) name r (record r { provider = p }) e changed' still) is.orders;
+          orders_quiet before order state (record state { provider_nodes = next }) quiet same refl refl refl
+          (still_changed (provider_nodes_by state.provider_nodes) (provider_nodes_by next) name r (record r { provider = p }) e changed' still) is.orders;
       feeds = provider_feeds lasts said state name r p e kept is.feeds;
       commits =
-          committers_changed said state.suppliers next name (record r { provider = p }) changed' (committer_kept said r p kept.kind (λ replica. writes) history suffix (is.commits name r e))
-          (committers_but name said state.suppliers is.commits);
+          committers_changed said state.provider_nodes next name (record r { provider = p }) changed' (committer_kept said r p kept.kind (λ replica. writes) history suffix (is.commits name r e))
+          (committers_but name said state.provider_nodes is.commits);
     }
 
-pub log_after : PromisesLast → LimitsAreKept → (before : List Order) (said : List Told) (state : State) (name : List ℕ) (limit : ℕ) (found : Option Supplier) → supplier_named name state ≡ found → Tracks before said state
+pub log_after : PromisesLast → LimitsAreKept → (before : List Order) (said : List ReportLine) (state : WorldState) (name : List ℕ) (limit : ℕ) (found : Option ProviderNode) → provider_node_named name state ≡ found → Tracks before said state
     → After before said (asks.Log name limit) (limited state name (λ provider. log_limited provider limit) found)
 log_after lasts kept before said state name limit None e is = tt
 log_after lasts kept before said state name limit (Some r) e is =
     let order = asks.Log name limit in
     let p = log_limited r.provider limit in
     let all = kept r.provider.directory.history r.provider.directory.suffix r.provider limit (is.feeds.sources name r e) in (
-      subst (λ s. Tracks (before ++ order ∷ []) s (record state { suppliers = with_provider name p state.suppliers })) (sym (append-nil said))
+      subst (λ s. Tracks (before ++ order ∷ []) s (record state { provider_nodes = with_provider name p state.provider_nodes })) (sym (append-nil said))
           (limited_tracked lasts before order said state name r p e (record { still = λ t. refl; undeclared = refl; untouched = λ other. tt }) (λ consumer now. refl) refl all is),
       tt,
     )
 
-pub queue_after : PromisesLast → QueuesAreKept → (before : List Order) (said : List Told) (state : State) (name : List ℕ) (limit : ℕ) (found : Option Supplier) → supplier_named name state ≡ found → Tracks before said state
+pub queue_after : PromisesLast → QueuesAreKept → (before : List Order) (said : List ReportLine) (state : WorldState) (name : List ℕ) (limit : ℕ) (found : Option ProviderNode) → provider_node_named name state ≡ found → Tracks before said state
     → After before said (asks.Queue name limit) (limited state name (λ provider. queue_limited provider limit) found)
 queue_after lasts kept before said state name limit None e is = tt
 queue_after lasts kept before said state name limit (Some r) e is =
     let order = asks.Queue name limit in
     let p = queue_limited r.provider limit in
     let all = kept r.provider.directory.history r.provider.directory.suffix r.provider limit (is.feeds.sources name r e) in (
-      subst (λ s. Tracks (before ++ order ∷ []) s (record state { suppliers = with_provider name p state.suppliers })) (sym (append-nil said))
+      subst (λ s. Tracks (before ++ order ∷ []) s (record state { provider_nodes = with_provider name p state.provider_nodes })) (sym (append-nil said))
           (limited_tracked lasts before order said state name r p e (record { still = λ t. refl; undeclared = refl; untouched = λ other. tt }) (λ consumer now. refl) refl all is),
       tt,
     )
@@ -183,10 +185,10 @@ root_written before name number suffix p time change root logged clock is =
       accepted = ap (λ (d : DirectoryState). d.writes) (root_wrote p time change root) ∙ accepted_more number suffix name first time is.later change p.directory logged is.accepted now;
     }
 
-supplier_written : (before : List Order) (r : Supplier) (time : ℕ) (change : Change) → time ≡ time_from 0 before → IsSource r.provider.directory.history r.provider.directory.suffix r.provider
-    → KeepsAll r.provider.directory.history r.provider.directory.suffix r.provider (wrote_change r.provider time change) → IsSupplier before r
-    → IsSupplier (before ++ asks.Write r.name change ∷ []) (record r { provider = wrote_change r.provider time change })
-supplier_written before r time change clock source kept is = subst (IsOfKind (before ++ order ∷ []) r.name p.directory) (sym kept.kind) (by r.provider.kind refl is)
+provider_node_written : (before : List Order) (r : ProviderNode) (time : ℕ) (change : Change) → time ≡ time_from 0 before → IsSource r.provider.directory.history r.provider.directory.suffix r.provider
+    → KeepsAll r.provider.directory.history r.provider.directory.suffix r.provider (wrote_change r.provider time change) → IsProviderNode before r
+    → IsProviderNode (before ++ asks.Write r.name change ∷ []) (record r { provider = wrote_change r.provider time change })
+provider_node_written before r time change clock source kept is = subst (IsOfKind (before ++ order ∷ []) r.name p.directory) (sym kept.kind) (by r.provider.kind refl is)
   where
     order : Order
     order = asks.Write r.name change
@@ -219,23 +221,23 @@ supplier_written before r time change clock source kept is = subst (IsOfKind (be
           declared = declared-push before number (asks.Replica r.name h.source h.search h.reload) h.later order h.declared;
         })
 
-write_tracked : PromisesLast → (before : List Order) (said : List Told) (state : State) (name : List ℕ) (change : Change) (r : Supplier) → supplier_named name state ≡ Some r
+write_tracked : PromisesLast → (before : List Order) (said : List ReportLine) (state : WorldState) (name : List ℕ) (change : Change) (r : ProviderNode) → provider_node_named name state ≡ Some r
     → KeepsAll r.provider.directory.history r.provider.directory.suffix r.provider (wrote_change r.provider state.clock change) → Tracks before said state
-    → Tracks (before ++ asks.Write name change ∷ []) said (record state { suppliers = with_provider name (wrote_change r.provider state.clock change) state.suppliers })
+    → Tracks (before ++ asks.Write name change ∷ []) said (record state { provider_nodes = with_provider name (wrote_change r.provider state.clock change) state.provider_nodes })
 write_tracked lasts before said state name change r e kept is = record {
   orders = record {
     time = time_still before order state.clock (λ t. refl) is.orders.time;
     count = is.orders.count ∙ sym (count_same is_declaration before order refl);
-    suppliers = suppliers;
-    consumers = consumers_still before order state.followers (λ n f e'. refl) is.orders.consumers;
-    strangers = strangers_still before order state.followers (λ n e'. refl) is.orders.strangers;
+    provider_nodes = provider_nodes;
+    consumers = consumers_still before order state.consumer_nodes (λ n f e'. refl) is.orders.consumers;
+    strangers = strangers_still before order state.consumer_nodes (λ n e'. refl) is.orders.strangers;
   };
   feeds = provider_feeds lasts said state name r p e kept is.feeds;
   commits =
-      committers_changed said state.suppliers next name s changed'
+      committers_changed said state.provider_nodes next name s changed'
       (committer_kept said r p kept.kind (λ replica. ap (λ (d : DirectoryState). d.writes) (replica_wrote r.provider state.clock change replica)) (ap (λ (d : DirectoryState). d.history) kept.source.directory)
       (ap (λ (d : DirectoryState). d.suffix) kept.source.directory) (is.commits name r e))
-      (committers_but name said state.suppliers is.commits);
+      (committers_but name said state.provider_nodes is.commits);
 }
   where
     order : Order
@@ -244,43 +246,43 @@ write_tracked lasts before said state name change r e kept is = record {
     p : ProviderState
     p = wrote_change r.provider state.clock change
 
-    s : Supplier
+    s : ProviderNode
     s = record r { provider = p }
 
-    next : List Supplier
-    next = with_provider name p state.suppliers
+    next : List ProviderNode
+    next = with_provider name p state.provider_nodes
 
-    changed' : IsChanged (suppliers_by state.suppliers) (suppliers_by next) name s
-    changed' = provider_changed state.suppliers name r p e
+    changed' : IsChanged (provider_nodes_by state.provider_nodes) (provider_nodes_by next) name s
+    changed' = provider_changed state.provider_nodes name r p e
 
     here : name ≡ r.name
-    here = supplier_name state.suppliers name r e
+    here = provider_node_name state.provider_nodes name r e
 
-    suppliers : AreSuppliers (before ++ order ∷ []) next
-    suppliers n x found =
-        elim (found_after (suppliers_by state.suppliers) (suppliers_by next) name s changed' n x found) [
+    provider_nodes : AreProviderNodes (before ++ order ∷ []) next
+    provider_nodes n x found =
+        elim (found_after (provider_nodes_by state.provider_nodes) (provider_nodes_by next) name s changed' n x found) [
           | inl at ↦
-              subst (IsSupplier (before ++ order ∷ [])) at.1
-              (subst (λ m. IsSupplier (before ++ asks.Write m change ∷ []) s) (sym here) (supplier_written before r state.clock change is.orders.time (is.feeds.sources name r e) kept (is.orders.suppliers name r e)))
+              subst (IsProviderNode (before ++ order ∷ [])) at.1
+              (subst (λ m. IsProviderNode (before ++ asks.Write m change ∷ []) s) (sym here) (provider_node_written before r state.clock change is.orders.time (is.feeds.sources name r e) kept (is.orders.provider_nodes name r e)))
           | inr was ↦
-              let apart : bytes_eq name x.name ≡ false = ap (bytes_eq name) (sym (supplier_name state.suppliers n x was.1)) ∙ other_way n name was.0 in
-              supplier_kept before order x apart (is.orders.suppliers n x was.1)
+              let apart : bytes_eq name x.name ≡ false = ap (bytes_eq name) (sym (provider_node_name state.provider_nodes n x was.1)) ∙ other_way n name was.0 in
+              provider_node_kept before order x apart (is.orders.provider_nodes n x was.1)
         ]
 
-pub write_after : PromisesLast → WritesAreKept → (before : List Order) (said : List Told) (state : State) (name : List ℕ) (change : Change) (found : Option Supplier) → supplier_named name state ≡ found → Tracks before said state
+pub write_after : PromisesLast → WritesAreKept → (before : List Order) (said : List ReportLine) (state : WorldState) (name : List ℕ) (change : Change) (found : Option ProviderNode) → provider_node_named name state ≡ found → Tracks before said state
     → After before said (asks.Write name change) (write_to state name change found)
 write_after lasts kept before said state name change None e is = tt
 write_after lasts kept before said state name change (Some r) e is =
     let p = wrote_change r.provider state.clock change in
     let line' = Wrote name (change_code r.provider state.clock change) (length p.directory.writes) in
     let all = kept r.provider.directory.history r.provider.directory.suffix r.provider state.clock change (is.feeds.sources name r e) in
-    let after : State = record state { suppliers = with_provider name p state.suppliers } in
+    let after : WorldState = record state { provider_nodes = with_provider name p state.provider_nodes } in
     let now = write_tracked lasts before said state name change r e all is in
     let left : (other : List ℕ) → IsLeft other (line' ∷ []) = λ other. left_by_one other line' (left_wrote other name (change_code r.provider state.clock change) (length p.directory.writes)) in (
       record {
         orders = now.orders;
         feeds = feeds_more said (line' ∷ []) after state.clock left (is.feeds.clock ∙ sym (clock_more said (line' ∷ []) (λ t. refl))) now.feeds;
-        commits = committers_more said (line' ∷ []) after.suppliers left now.commits;
+        commits = committers_more said (line' ∷ []) after.provider_nodes left now.commits;
       },
       (tt, tt),
     )

@@ -2,8 +2,9 @@
 use Rattle.std.specs.Prelude.{◌≡◌, ◌⊎◌, ℕ, pos, ◌+◌, ◌-◌, ◌<◌, ◌≤◌, Bool, true, false, ◌&&◌, ◌==◌, Option, Some, None, option_map, IfSome, List, [], ◌∷◌, ◌++◌, length, map, take, slice_get, fold, if◌then◌else◌, count_by}
 use Rattle.std.specs.List.{flat_map}
 use Rattle.std.specs.Str.{bytes_eq}
+use Rattle.ldap_constants.specs.declared.result_codes.TheConstants.{BUSY, E_SYNC_REFRESH_REQUIRED}
 use Rattle.csn_cookie.specs.Cookie.{IsBlank, IsCookie, IsCookieSpelling}
-use Rattle.csn_cookie.specs.Csn.{Stamp, start, is_upto, upto}
+use Rattle.csn_cookie.specs.Csn.{CsnValue, start, is_upto, upto}
 use Rattle.csn_cookie.specs.CsnMaker.{next_csn}
 use Rattle.csn_cookie.specs.declared.cookie.Cookie.{Cookie}
 use Rattle.dn_names.specs.Names.{TypeAndValue}
@@ -19,9 +20,9 @@ use Rattle.sync_model.specs.Copy.{Commit}
 use Rattle.sync_model.specs.Incremental.{number_of, sent_entry, about}
 use Rattle.sync_model.specs.Message.{SyncMessage}
 use Rattle.sync_model.specs.Message.SyncMessage.{Done}
-use Rattle.sync_model.specs.Stream.{Session, Start, content_after, among, group, later, stream}
+use Rattle.sync_model.specs.Stream.{SyncOperation, Start, content_after, among, group, later, stream}
 use Rattle.sync_wire.specs.Sending.{sent}
-use Rattle.directory_writes.specs.Directory.{entries_after, last_stamp, stamps}
+use Rattle.directory_writes.specs.Directory.{entries_after, last_csn, csns}
 use Rattle.directory_writes.specs.Touches.{uuids_of}
 use Rattle.sync_provider.specs.Search.{cookie_after, session_of, whole_walk, refresh_from}
 use Rattle.cascade_world.specs.Directory.{directory_of, changed}
@@ -29,9 +30,9 @@ use Rattle.cascade_world.specs.Opening.{message_id}
 use Rattle.cascade_script.specs.Orders.{Order}
 use Rattle.cascade_script.specs.Orders.{Order as asks}
 use Rattle.cascade_world.specs.Origins.{prefix_of}
-use Rattle.cascade_world.specs.Report.{Storing, Told}
+use Rattle.cascade_world.specs.ReportLines.{Storing, ReportLine}
 use Rattle.cascade_report.specs.declared.notes.Origin.{Origin}
-use Rattle.cascade_world.specs.Report.Told.{Opened, Refused, Sent, Stored, Ended, Faulted, Settled, Holds, Clocked, Shown}
+use Rattle.cascade_world.specs.ReportLines.ReportLine.{Opened, Refused, Sent, Stored, Ended, Faulted, Settled, Holds, Clocked, Shown}
 
 -- the time after an order
 abbrev pub time_after : ℕ → Order → ℕ
@@ -39,15 +40,19 @@ time_after time (asks.Clock new) = new
 time_after time _ = time
 
 -- the accepted writes of the directory of this name after one more order
-abbrev pub with_accepted : ℕ → List (List TypeAndValue) → List ℕ → ℕ → List Write → Order → List Write
+abbrev pub with_accepted :
+    ℕ → List (List TypeAndValue) → List ℕ → ℕ → List Write → Order → List Write
 with_accepted history suffix name time writes (asks.Write target change) =
-    if bytes_eq target name then (changed (directory_of history suffix writes) time change).writes else writes
+    if bytes_eq target name then (changed (directory_of history suffix writes) time change).writes
+    else writes
 with_accepted history suffix name time writes _ = writes
 
-abbrev pub accepted_from : ℕ → List (List TypeAndValue) → List ℕ → ℕ → List Write → List Order → List Write
+abbrev pub accepted_from :
+    ℕ → List (List TypeAndValue) → List ℕ → ℕ → List Write → List Order → List Write
 accepted_from history suffix name time writes [] = writes
 accepted_from history suffix name time writes (order ∷ orders) =
-    accepted_from history suffix name (time_after time order) (with_accepted history suffix name time writes order) orders
+    accepted_from history suffix name (time_after time order)
+    (with_accepted history suffix name time writes order) orders
 
 -- the time after these orders, from the first moment of 1970 on
 abbrev pub time_from : ℕ → List Order → ℕ
@@ -61,15 +66,16 @@ is_declaration (asks.Replica name source search reload) = true
 is_declaration _ = false
 
 -- the node of that number was declared, and these orders came after it
-pub record IsDeclared (before : List Order) (number : ℕ) (declaration : Order) (later : List Order) : Type 0 where
+pub record IsDeclared
+    (before : List Order) (number : ℕ) (declaration : Order) (later : List Order) : Type 0 where
   pub earlier : List Order
   pub whole : before ≡ earlier ++ declaration ∷ later
   pub numbered : number ≡ count_by is_declaration earlier + 1
 
 -- ---- what a consumer follows
 
--- a provider, what is wanted of it, and whether a cookie that does not serve may be left aside (the reloadHint of RFC
--- 4533, section 2.2)
+-- a provider, what is wanted of it, and whether a cookie that does not serve may be left aside (the
+-- reloadHint of RFC 4533, section 2.2)
 pub record Following : Type 0 where
   pub provider : List ℕ
   pub search : Search
@@ -85,29 +91,36 @@ followed consumer now (asks.Consumer name source search reload) =
 followed consumer now (asks.Replica name source search reload) =
     if bytes_eq name consumer then Some (following source search reload) else now
 followed consumer now (asks.Repoint name source) =
-    if bytes_eq name consumer then option_map (λ (f : Following). record f { provider = source }) now else now
+    if bytes_eq name consumer
+    then option_map (λ (f : Following). record f { provider = source }) now
+    else now
 followed consumer now (asks.Respec name search) =
-    if bytes_eq name consumer then option_map (λ (f : Following). record f { search = search }) now else now
+    if bytes_eq name consumer then option_map (λ (f : Following). record f { search = search }) now
+    else now
 followed consumer now _ = now
 
 abbrev pub follows_now : List Order → List ℕ → Option Following
 follows_now before consumer = fold (followed consumer) None before
 
--- the consumer, which may be that of a replica, follows this provider with this search, and with a reloadHint or
--- without one
+-- the consumer, which may be that of a replica, follows this provider with this search, and with a
+-- reloadHint or without one
 abbrev pub IsConsumer : List Order → List ℕ → List ℕ → Search → Bool → Type 0
-IsConsumer before consumer provider search reload = follows_now before consumer ≡ Some (following provider search reload)
+IsConsumer before consumer provider search reload =
+    follows_now before consumer ≡ Some (following provider search reload)
 
--- from this node up, each of these is what the one before it follows, and the last one follows nothing
+-- from this node up, each of these is what the one before it follows, and the
+-- last one follows nothing
 abbrev pub LeadsUp : List Order → List ℕ → List (List ℕ) → List ℕ → Type 0
 LeadsUp before name [] top = (top ≡ name) × (follows_now before name ≡ None)
 LeadsUp before name (next ∷ path) top =
-    (by : Following) × (follows_now before name ≡ Some by) × (by.provider ≡ next) × LeadsUp before next path top
+    (by : Following) × (follows_now before name ≡ Some by) × (by.provider ≡ next)
+    × LeadsUp before next path top
 
 -- ---- the writes of a provider
 
 -- these are the accepted writes of the root of that name: a function of the orders alone
-pub record AreOfRoot (before : List Order) (root : List ℕ) (history : ℕ) (writes : List Write) : Type 0 where
+pub record AreOfRoot
+    (before : List Order) (root : List ℕ) (history : ℕ) (writes : List Write) : Type 0 where
   pub suffix : List (List TypeAndValue)
   pub later : List Order
   pub declared : IsDeclared before history (asks.Provider root suffix) later
@@ -118,60 +131,70 @@ pub record Committed : Type 0 where
   pub time : ℕ
   pub writes : List Write
 
--- what a `stored` line put and dropped is one write, with the next stamp at that time
-abbrev pub with_stamp : List Write → Commit → Option Stamp → List Write
-with_stamp writes commit None = writes
-with_stamp writes commit (Some csn) = writes ++ record { csn = csn; op = ops.Commit commit.puts commit.drops } ∷ []
+-- what a `stored` line put and dropped is one write, with the next CSN at that time
+abbrev pub with_csn : List Write → Commit → Option CsnValue → List Write
+with_csn writes commit None = writes
+with_csn writes commit (Some csn) =
+    writes ++ record { csn = csn; op = ops.Commit commit.puts commit.drops } ∷ []
 
 abbrev pub with_stored : ℕ → ℕ → List Write → Commit → List Write
-with_stored history time writes commit = with_stamp writes commit (next_csn time (last_stamp (start history) writes))
+with_stored history time writes commit =
+    with_csn writes commit (next_csn time (last_csn (start history) writes))
 
-abbrev pub committed_after : ℕ → List ℕ → Committed → Told → Committed
+abbrev pub committed_after : ℕ → List ℕ → Committed → ReportLine → Committed
 committed_after history replica known (Clocked time) = record known { time = time }
 committed_after history replica known (Stored name stored) =
-    if bytes_eq name replica then record known { writes = with_stored history known.time known.writes stored.commit } else known
+    if bytes_eq name replica
+    then record known { writes = with_stored history known.time known.writes stored.commit }
+    else known
 committed_after history replica known _ = known
 
 -- the commits of a replica of this history: one for each of its `stored` lines
-abbrev pub commits_told : ℕ → List ℕ → List Told → List Write
-commits_told history replica said = (fold (committed_after history replica) (record { time = 0; writes = [] }) said).writes
+abbrev pub commits_reported : ℕ → List ℕ → List ReportLine → List Write
+commits_reported history replica said =
+    (fold (committed_after history replica) (record { time = 0; writes = [] }) said).writes
 
--- what the `stored` lines of a node tell, in order
-abbrev pub stored_by : List ℕ → Told → List Storing
+-- what the `stored` lines of a node report, in order
+abbrev pub stored_by : List ℕ → ReportLine → List Storing
 stored_by node (Stored name stored) = if bytes_eq name node then stored ∷ [] else []
 stored_by node _ = []
 
-abbrev pub stored_of : List ℕ → List Told → List Storing
+abbrev pub stored_of : List ℕ → List ReportLine → List Storing
 stored_of node said = flat_map (stored_by node) said
 
--- these are the commits of the replica of that name: a function of the lines. Each of its `stored` lines is one write, and
--- the entries after the writes up to it are those that the line told
-pub record AreOfReplica (before : List Order) (said : List Told) (replica : List ℕ) (history : ℕ) (writes : List Write) : Type 0 where
+-- these are the commits of the replica of that name: a function of the lines. Each of its `stored`
+-- lines is one write, and the entries after the writes up to it are those that the line reported
+pub record AreOfReplica
+    (before : List Order) (said : List ReportLine) (replica : List ℕ) (history : ℕ)
+    (writes : List Write) : Type 0 where
   pub source : List ℕ
   pub search : Search
   pub reload : Bool
   pub later : List Order
   pub declared : IsDeclared before history (asks.Replica replica source search reload) later
-  pub commits : writes ≡ commits_told history replica said
+  pub commits : writes ≡ commits_reported history replica said
   pub counted : length writes ≡ length (stored_of replica said)
-  pub each : (at : ℕ) (stored : Storing) → slice_get (stored_of replica said) at ≡ Some stored → entries_after history (take (at + 1) writes) ≡ stored.entries
+  pub each :
+      (at : ℕ) (stored : Storing) → slice_get (stored_of replica said) at ≡ Some stored
+      → entries_after history (take (at + 1) writes) ≡ stored.entries
 
 -- these are the accepted writes of the provider of that name
-abbrev pub AreAccepted : List Order → List Told → List ℕ → ℕ → List Write → Type 0
+abbrev pub AreAccepted : List Order → List ReportLine → List ℕ → ℕ → List Write → Type 0
 AreAccepted before said provider history writes =
     AreOfRoot before provider history writes ⊎ AreOfReplica before said provider history writes
 
--- ---- what was told before
+-- ---- what was reported before
 
--- an `opened` line: the number that it tells, whether the search goes on after its refresh, and the cookie that the
--- consumer held then; and the messages that were sent since, as bytes
+-- an `opened` line: the number that it reports, whether the search goes on after its refresh, and
+-- the cookie that the consumer held then; and the messages that were sent since, as bytes
 pub record Opening : Type 0 where
   pub writes : ℕ
   pub persists : Bool
   pub cookie : Option (List ℕ)
   pub sent : List (List ℕ)
 
--- what the lines tell of a consumer: the entries of its last `stored` line, its cookie, and its latest opening
+-- what the lines report of a consumer: the entries of its last `stored` line, its cookie,
+-- and its latest opening
 pub record Known : Type 0 where
   pub entries : List Entry
   pub cookie : Option (List ℕ)
@@ -183,54 +206,69 @@ nothing_known = record { entries = []; cookie = None; opening = None }
 abbrev pub with_sent : List ℕ → Opening → Opening
 with_sent message opening = record opening { sent = opening.sent ++ message ∷ [] }
 
--- a `stored` line tells what is held then; the cookie is lost where it is refused, or as the script says
-abbrev pub known_after : List ℕ → Known → Told → Known
+-- a `stored` line reports what is held then; the cookie is lost where it is refused,
+-- or as the script says
+abbrev pub known_after : List ℕ → Known → ReportLine → Known
 known_after consumer known (Stored name stored) =
-    if bytes_eq name consumer then record known { entries = stored.entries; cookie = stored.commit.cookie } else known
+    if bytes_eq name consumer
+    then record known { entries = stored.entries; cookie = stored.commit.cookie }
+    else known
 known_after consumer known (Refused name persists code) =
-    if bytes_eq name consumer && code == 4096 then record known { cookie = None } else known
-known_after consumer known (Holds name cookie) = if bytes_eq name consumer then record known { cookie = cookie } else known
+    if bytes_eq name consumer && code == E_SYNC_REFRESH_REQUIRED then record known { cookie = None }
+    else known
+known_after consumer known (Holds name cookie) =
+    if bytes_eq name consumer then record known { cookie = cookie } else known
 known_after consumer known (Opened name persists writes) =
     if bytes_eq name consumer
-    then record known { opening = Some (record { writes = writes; persists = persists; cookie = known.cookie; sent = [] }) }
+    then record known {
+      opening = Some
+          (record { writes = writes; persists = persists; cookie = known.cookie; sent = [] });
+    }
     else known
 known_after consumer known (Sent name message) =
-    if bytes_eq name consumer then record known { opening = option_map (with_sent message) known.opening } else known
+    if bytes_eq name consumer
+    then record known { opening = option_map (with_sent message) known.opening }
+    else known
 known_after consumer known _ = known
 
-abbrev pub known_of : List ℕ → List Told → Known
+abbrev pub known_of : List ℕ → List ReportLine → Known
 known_of consumer said = fold (known_after consumer) nothing_known said
 
 -- ---- cookies
 
--- a text that a directory of this history with these writes can serve: it spells a cookie of the history whose CSN is
--- not greater than the directory's last one
+-- a text that a directory of this history with these writes can serve: it spells a cookie of the
+-- history whose CSN is not greater than the directory's last one
 pub record IsServable (text : List ℕ) (history : ℕ) (writes : List Write) : Type 0 where
   pub cookie : Cookie
   pub good : IsCookie cookie
   pub spells : IsCookieSpelling cookie text
   pub own : cookie.history ≡ history
-  pub not_greater : is_upto cookie.csn (last_stamp (start history) writes) ≡ true
+  pub not_greater : is_upto cookie.csn (last_csn (start history) writes) ≡ true
 
--- no cookie is in the way of a refresh: none or a blank one is held, or it can be served, or it may be left aside
+-- no cookie is in the way of a refresh: none or a blank one is held, or it can be served, or
+-- it may be left aside
 abbrev pub IsServed : Bool → ℕ → List Write → Option (List ℕ) → Type 0
 IsServed reload history writes None = Unit {0}
-IsServed reload history writes (Some text) = (reload ≡ true) ⊎ (IsBlank text ⊎ IsServable text history writes)
+IsServed reload history writes (Some text) =
+    (reload ≡ true) ⊎ (IsBlank text ⊎ IsServable text history writes)
 
 -- a cookie is: it is not blank, it can't be served, and it may not be left aside
 abbrev pub IsUnserved : Bool → ℕ → List Write → Option (List ℕ) → Type 0
 IsUnserved reload history writes None = ⊥
-IsUnserved reload history writes (Some text) = (reload ≡ false) × (IsBlank text → ⊥) × (IsServable text history writes → ⊥)
+IsUnserved reload history writes (Some text) =
+    (reload ≡ false) × (IsBlank text → ⊥) × (IsServable text history writes → ⊥)
 
 -- ---- the messages of a search
 
--- the cookie that the text spells can be served, and so many of the writes have stamps that are not greater than its own
-pub record NamesPrefix (text : List ℕ) (history : ℕ) (writes : List Write) (number : ℕ) : Type 0 where
+-- the cookie that the text spells can be served, and n of the writes have CSNs that are not
+-- greater than its own
+pub record NamesPrefix
+    (text : List ℕ) (history : ℕ) (writes : List Write) (number : ℕ) : Type 0 where
   pub serves : IsServable text history writes
-  pub counted : number ≡ upto (stamps writes) serves.cookie.csn
+  pub counted : number ≡ upto (csns writes) serves.cookie.csn
 
--- a search that is accepted after these writes begins from the prefix that the cookie names, or from none where the
--- cookie can't be served
+-- a search that is accepted after these writes begins from the prefix that the cookie names, or
+-- from none where the cookie can't be served
 abbrev pub BeginsFrom : ℕ → List Write → Option (List ℕ) → Option ℕ → Type 0
 BeginsFrom history writes None None = Unit {0}
 BeginsFrom history writes None (Some number) = ⊥
@@ -238,51 +276,59 @@ BeginsFrom history writes (Some text) None = IsServable text history writes → 
 BeginsFrom history writes (Some text) (Some number) = NamesPrefix text history writes number
 
 -- a search in the mode of an opening, over a provider's writes
-abbrev pub session_over : ℕ → Search → List Write → Opening → Session
-session_over history search writes opening = session_of opening.persists history history search writes
+abbrev pub session_over : ℕ → Search → List Write → Opening → SyncOperation
+session_over history search writes opening =
+    session_of opening.persists history history search writes
 
--- its refresh, and all its messages up to so many later writes (RFC 4533, sections 3.3 and 3.4)
+-- its refresh, and all its messages up to n later writes (RFC 4533, sections 3.3 and 3.4)
 abbrev pub refresh_over : ℕ → Search → List Write → Opening → Start → List SyncMessage
-refresh_over history search writes opening start = refresh_from (session_over history search writes opening) start opening.writes
+refresh_over history search writes opening start =
+    refresh_from (session_over history search writes opening) start opening.writes
 
 abbrev pub stream_over : ℕ → Search → List Write → Opening → Start → ℕ → List SyncMessage
 stream_over history search writes opening start count =
-    let session = session_over history search writes opening in
-    stream session start opening.writes (whole_walk session start opening.writes) count
+    let operation = session_over history search writes opening in
+    stream operation start opening.writes (whole_walk operation start opening.writes) count
 
 -- the bytes that a message is sent as
 abbrev pub octets_of : SyncMessage → List ℕ
 octets_of message = message_octets (sent message_id message)
 
--- the end with busy (51), where the provider could not keep what was to be sent
+-- the end with busy, where the provider could not keep what was to be sent
 abbrev pub busy : SyncMessage
-busy = Done (pos 51) None
+busy = Done (pos BUSY) None
 
--- a message follows these in a Stream, or it is the end with busy that follows a front of one
+-- a message follows these in a Stream, or it is the end with busy that follows a prefix of one
 abbrev pub Follows : (persists : Bool) → List SyncMessage → List SyncMessage → SyncMessage → Type 0
 Follows persists all earlier message =
     ((rest : List SyncMessage) × (earlier ++ message ∷ rest ≡ all))
     ⊎ ((rest : List SyncMessage) × (earlier ++ rest ≡ all) × (message ≡ busy) × (persists ≡ true))
 
--- the message that follows these, which begin with the refresh of a search that was opened after so many writes, is one
--- of those that the write after `number` writes tells; and it is about one identity, whose entry this write changed in
--- what is selected
-pub record TellsChange (session : Session) (refresh : List SyncMessage) (opened most : ℕ) (earlier : List SyncMessage) (message : SyncMessage) : Type 0 where
+-- the message that follows these, which begin with the refresh of a search that was opened after so
+-- many writes, is one of those that the write after `number` writes reports; and it is about one
+-- identity, whose entry this write changed in what is selected
+pub record ReportsChange
+    (operation : SyncOperation) (refresh : List SyncMessage) (opened most : ℕ)
+    (earlier : List SyncMessage) (message : SyncMessage) : Type 0 where
   pub number : ℕ
   pub from : opened ≤ number
   pub upto : number < most
-  pub front : List SyncMessage
-  pub place : earlier ≡ refresh ++ (later session opened (number - opened) ++ front)
+  pub prefix : List SyncMessage
+  pub place : earlier ≡ refresh ++ (later operation opened (number - opened) ++ prefix)
   pub rest : List SyncMessage
-  pub told : front ++ message ∷ rest ≡ group session number
+  pub reported : prefix ++ message ∷ rest ≡ group operation number
   pub uuid : ℕ
   pub named : about message ≡ uuid ∷ []
-  pub changed : among uuid (uuids_of (touched (content_after session number) (content_after session (number + 1)))) ≡ true
+  pub changed :
+      among uuid
+      (uuids_of (touched (content_after operation number) (content_after operation (number + 1))))
+      ≡ true
 
 -- ---- the lines
 
 -- the origin of a prefix of a root's writes is itself
-pub record IsOwnOrigin (before : List Order) (provider : List ℕ) (n : ℕ) (origin : Option Origin) : Type 0 where
+pub record IsOwnOrigin
+    (before : List Order) (provider : List ℕ) (n : ℕ) (origin : Option Origin) : Type 0 where
   pub history : ℕ
   pub suffix : List (List TypeAndValue)
   pub later : List Order
@@ -290,43 +336,53 @@ pub record IsOwnOrigin (before : List Order) (provider : List ℕ) (n : ℕ) (or
   pub own : origin ≡ prefix_of provider n
 
 -- that of no commit of a replica is no write of the root at the top of its providers
-pub record IsFirstOrigin (before : List Order) (provider : List ℕ) (n : ℕ) (origin : Option Origin) : Type 0 where
+pub record IsFirstOrigin
+    (before : List Order) (provider : List ℕ) (n : ℕ) (origin : Option Origin) : Type 0 where
   pub none : n ≡ 0
   pub path : List (List ℕ)
   pub top : List ℕ
   pub up : LeadsUp before provider path top
   pub first : origin ≡ prefix_of top 0
 
--- that of a replica's commits is what its `stored` line told, where the replica wanted the same, and none else
-abbrev pub told_origin : Search → Option Storing → Option Origin
-told_origin search None = None
-told_origin search (Some stored) = if is_same_search stored.search search then stored.origin else None
+-- that of a replica's commits is what its `stored` line reported, where the replica wanted
+-- the same, and none else
+abbrev pub reported_origin : Search → Option Storing → Option Origin
+reported_origin search None = None
+reported_origin search (Some stored) =
+    if is_same_search stored.search search then stored.origin else None
 
-pub record IsPassedOn (before : List Order) (said : List Told) (provider : List ℕ) (search : Search) (n : ℕ) (origin : Option Origin) : Type 0 where
+pub record IsPassedOn
+    (before : List Order) (said : List ReportLine) (provider : List ℕ) (search : Search)
+    (n : ℕ) (origin : Option Origin) : Type 0 where
   pub by : Following
   pub replica : follows_now before provider ≡ Some by
   pub earlier : ℕ
   pub counted : n ≡ earlier + 1
-  pub passed : origin ≡ told_origin search (slice_get (stored_of provider said) earlier)
+  pub passed : origin ≡ reported_origin search (slice_get (stored_of provider said) earlier)
 
-abbrev pub IsOrigin : List Order → List Told → List ℕ → Search → ℕ → Option Origin → Type 0
+abbrev pub IsOrigin : List Order → List ReportLine → List ℕ → Search → ℕ → Option Origin → Type 0
 IsOrigin before said provider search n origin =
-    IsOwnOrigin before provider n origin ⊎ (IsFirstOrigin before provider n origin ⊎ IsPassedOn before said provider search n origin)
+    IsOwnOrigin before provider n origin
+    ⊎ (IsFirstOrigin before provider n origin ⊎ IsPassedOn before said provider search n origin)
 
 -- the entries are what is wanted of this prefix of a root's accepted writes too
-pub record IsOfRoot (before : List Order) (search : Search) (entries : List Entry) (origin : Origin) : Type 0 where
+pub record IsOfRoot
+    (before : List Order) (search : Search) (entries : List Entry) (origin : Origin) : Type 0 where
   pub history : ℕ
   pub writes : List Write
   pub accepted : AreOfRoot before origin.root history writes
   pub prefix : origin.number ≤ length writes
   pub exactly : entries ≡ select search (entries_after history (take origin.number writes))
 
--- a `stored` line after these orders and lines: it names a prefix of the accepted writes of the consumer's provider,
--- which is no shorter than it was when the consumer's search was opened, and the cookie that the consumer holds then is
--- that of this prefix: its number is how many of these writes have stamps that are not greater than the cookie's own; the
--- entries are what the consumer wants of that prefix; they are those that it told before, with the stage in effect; and
--- where an origin is told, they are what it wants of that prefix of a root's writes
-pub record IsPrefixSelected (before : List Order) (said : List Told) (consumer : List ℕ) (stored : Storing) : Type 0 where
+-- a `stored` line after these orders and lines: it names a prefix of the accepted writes of the
+-- consumer's provider, which is no shorter than it was when the consumer's search was opened, and
+-- the cookie that the consumer holds then is that of this prefix: its number is how many of these
+-- writes have CSNs that are not greater than the cookie's own; the entries are what the consumer
+-- wants of that prefix; they are those that it reported before, with the stage in effect; and where
+-- an origin is reported, they are what it wants of that prefix of a root's writes
+pub record IsPrefixSelected
+    (before : List Order) (said : List ReportLine) (consumer : List ℕ)
+    (stored : Storing) : Type 0 where
   pub provider : List ℕ
   pub search : Search
   pub reload : Bool
@@ -339,15 +395,21 @@ pub record IsPrefixSelected (before : List Order) (said : List Told) (consumer :
   pub latest : (known_of consumer said).opening ≡ Some opening
   pub no_shorter : opening.writes ≤ stored.number
   pub cookie : stored.commit.cookie ≡ Some (cookie_after history history writes stored.number)
-  pub names : NamesPrefix (cookie_after history history writes stored.number) history writes stored.number
+  pub names :
+      NamesPrefix (cookie_after history history writes stored.number) history writes stored.number
   pub exactly : stored.entries ≡ select search (entries_after history (take stored.number writes))
-  pub staged : committed (known_of consumer said).entries stored.commit.puts stored.commit.drops ≡ stored.entries
+  pub staged :
+      committed (known_of consumer said).entries stored.commit.puts stored.commit.drops
+      ≡ stored.entries
   pub wanted : stored.search ≡ search
   pub from : IsOrigin before said provider search stored.number stored.origin
   pub of_root : IfSome stored.origin (IsOfRoot before search stored.entries)
 
--- an `opened` or a `refused` line: of the cookie that the consumer holds then, its provider can say this
-pub record OfCookie (before : List Order) (said : List Told) (consumer : List ℕ) (Says : Bool → ℕ → List Write → Option (List ℕ) → Type 0) : Type 0 where
+-- an `opened` or a `refused` line: of the cookie that the consumer holds then, its
+-- provider can say this
+pub record OfCookie
+    (before : List Order) (said : List ReportLine) (consumer : List ℕ)
+    (Says : Bool → ℕ → List Write → Option (List ℕ) → Type 0) : Type 0 where
   pub provider : List ℕ
   pub search : Search
   pub reload : Bool
@@ -357,11 +419,14 @@ pub record OfCookie (before : List Order) (said : List Told) (consumer : List �
   pub accepted : AreAccepted before said provider history writes
   pub says : Says reload history writes (known_of consumer said).cookie
 
--- all that was sent since an opening, this message too, is a front of the messages of a search from the cookie that was
--- held then over these writes, or such a front and the end with busy. Therefore a refresh from a cookie sends an entry
--- whole only where the writes after those of the cookie up to the number of the opening touched its identity, and each
--- later message but the end names what the write that it tells of changed
-pub record IsNextOf (history : ℕ) (search : Search) (writes : List Write) (opening : Opening) (octets : List ℕ) : Type 0 where
+-- all that was sent since an opening, this message too, is a prefix of the messages of a search
+-- from the cookie that was held then over these writes, or such a prefix and the end with busy.
+-- Therefore a refresh from a cookie sends an entry whole only where the writes after those of the
+-- cookie up to the number of the opening touched its identity, and each later message but the end
+-- names what the write that it reports of changed
+pub record IsNextOf
+    (history : ℕ) (search : Search) (writes : List Write)
+    (opening : Opening) (octets : List ℕ) : Type 0 where
   pub start : Start
   pub begins : BeginsFrom history (take opening.writes writes) opening.cookie (number_of start)
   pub count : ℕ
@@ -370,15 +435,23 @@ pub record IsNextOf (history : ℕ) (search : Search) (writes : List Write) (ope
   pub before : opening.sent ≡ map octets_of earlier
   pub message : SyncMessage
   pub spelled : octets ≡ octets_of message
-  pub place : Follows opening.persists (stream_over history search writes opening start count) earlier message
-  pub touches : length earlier < length (refresh_over history search writes opening start) → (number : ℕ) (entry : Entry) → number_of start ≡ Some number
-      → sent_entry message ≡ Some entry → among entry.uuid (touched_over history writes number opening.writes) ≡ true
+  pub place :
+      Follows opening.persists
+      (stream_over history search writes opening start count) earlier message
+  pub entry_changes :
+      length earlier < length (refresh_over history search writes opening start)
+      → (number : ℕ) (entry : Entry) → number_of start ≡ Some number
+      → sent_entry message ≡ Some entry
+      → among entry.uuid (touched_over history writes number opening.writes) ≡ true
   pub changes : length (refresh_over history search writes opening start) ≤ length earlier
       → (message ≡ busy)
-      ⊎ TellsChange (session_over history search writes opening) (refresh_over history search writes opening start) opening.writes (length writes) earlier message
+      ⊎ ReportsChange (session_over history search writes opening)
+      (refresh_over history search writes opening start) opening.writes
+      (length writes) earlier message
 
 -- a `sent` line
-pub record IsOfStream (before : List Order) (said : List Told) (consumer octets : List ℕ) : Type 0 where
+pub record IsOfStream
+    (before : List Order) (said : List ReportLine) (consumer octets : List ℕ) : Type 0 where
   pub provider : List ℕ
   pub search : Search
   pub reload : Bool
@@ -390,9 +463,10 @@ pub record IsOfStream (before : List Order) (said : List Told) (consumer octets 
   pub latest : (known_of consumer said).opening ≡ Some opening
   pub next : IsNextOf history search writes opening octets
 
--- a `settled` line: it tells the number of the provider's accepted writes, and the entries that the consumer's last
--- `stored` line told are what it wants of all of them
-pub record IsSettled (before : List Order) (said : List Told) (consumer : List ℕ) (n : ℕ) : Type 0 where
+-- a `settled` line: it reports the number of the provider's accepted writes, and the entries that
+-- the consumer's last `stored` line reported are what it wants of all of them
+pub record IsSettled
+    (before : List Order) (said : List ReportLine) (consumer : List ℕ) (n : ℕ) : Type 0 where
   pub provider : List ℕ
   pub search : Search
   pub reload : Bool
@@ -404,22 +478,27 @@ pub record IsSettled (before : List Order) (said : List Told) (consumer : List �
   pub exactly : (known_of consumer said).entries ≡ select search (entries_after history writes)
 
 -- what is shown of a root or a replica: the entries after all its accepted writes
-pub record IsDirectoryShown (before : List Order) (said : List Told) (name : List ℕ) (entries : List Entry) : Type 0 where
+pub record IsDirectoryShown
+    (before : List Order) (said : List ReportLine) (name : List ℕ)
+    (entries : List Entry) : Type 0 where
   pub history : ℕ
   pub writes : List Write
   pub accepted : AreAccepted before said name history writes
   pub exactly : entries ≡ entries_after history writes
 
--- and of a consumer: the entries that its last `stored` line told
-pub record IsCopyShown (before : List Order) (said : List Told) (name : List ℕ) (entries : List Entry) : Type 0 where
+-- and of a consumer: the entries that its last `stored` line reported
+pub record IsCopyShown
+    (before : List Order) (said : List ReportLine) (name : List ℕ)
+    (entries : List Entry) : Type 0 where
   pub provider : List ℕ
   pub search : Search
   pub reload : Bool
   pub follows : IsConsumer before name provider search reload
   pub exactly : entries ≡ (known_of name said).entries
 
-abbrev pub IsShown : List Order → List Told → List ℕ → List Entry → Type 0
-IsShown before said name entries = IsDirectoryShown before said name entries ⊎ IsCopyShown before said name entries
+abbrev pub IsShown : List Order → List ReportLine → List ℕ → List Entry → Type 0
+IsShown before said name entries =
+    IsDirectoryShown before said name entries ⊎ IsCopyShown before said name entries
 
 -- a cookie is lost or given where an order says so, and is lost where something else is wanted
 abbrev pub IsGiven : Order → List ℕ → Option (List ℕ) → Type 0
@@ -433,38 +512,49 @@ abbrev pub IsClocked : Order → ℕ → Type 0
 IsClocked (asks.Clock new) time = time ≡ new
 IsClocked _ time = ⊥
 
--- a search is asked for in the mode that the order says, and ends with its refresh where a consumer is brought up
+-- a search is asked for in the mode that the order says, and ends with its refresh where a
+-- consumer is brought up
 abbrev pub IsAskedFor : Order → Bool → Type 0
 IsAskedFor (asks.OpenStay name) persists = persists ≡ true
 IsAskedFor _ persists = persists ≡ false
 
--- an `opened` line tells the number of the provider's accepted writes, and comes where no cookie is in the way
+-- an `opened` line reports the number of the provider's accepted writes, and comes where no
+-- cookie is in the way
 abbrev pub IsOpenedAt : ℕ → Bool → ℕ → List Write → Option (List ℕ) → Type 0
-IsOpenedAt n reload history writes cookie = (n ≡ length writes) × IsServed reload history writes cookie
+IsOpenedAt n reload history writes cookie =
+    (n ≡ length writes) × IsServed reload history writes cookie
 
--- a search is refused with e-syncRefreshRequired (4096), exactly where the cookie is in its way; a search that is over
--- before its consumer knows was ended with busy (51); and no message is refused by its consumer
-abbrev pub TellsRight : List Order → Order → List Told → Told → Type 0
-TellsRight before order said (Stored consumer stored) = IsPrefixSelected before said consumer stored
-TellsRight before order said (Opened consumer persists n) = IsAskedFor order persists × OfCookie before said consumer (IsOpenedAt n)
-TellsRight before order said (Refused consumer persists code) =
-    IsAskedFor order persists × (code ≡ 4096) × OfCookie before said consumer IsUnserved
-TellsRight before order said (Sent consumer message) = IsOfStream before said consumer message
-TellsRight before order said (Ended consumer code) = code ≡ pos 51
-TellsRight before order said (Faulted consumer fault) = ⊥
-TellsRight before order said (Settled consumer n) = IsSettled before said consumer n
-TellsRight before order said (Holds consumer cookie) = IsGiven order consumer cookie
-TellsRight before order said (Clocked time) = IsClocked order time
-TellsRight before order said (Shown name entries) = IsShown before said name entries
-TellsRight before order said _ = Unit {0}
+-- a search is refused with e-syncRefreshRequired, exactly where the cookie is in its way; a
+-- search that is over before its consumer knows was ended with busy; and no message is
+-- refused by its consumer
+abbrev pub ReportsRight : List Order → Order → List ReportLine → ReportLine → Type 0
+ReportsRight before order said (Stored consumer stored) =
+    IsPrefixSelected before said consumer stored
+ReportsRight before order said (Opened consumer persists n) =
+    IsAskedFor order persists × OfCookie before said consumer (IsOpenedAt n)
+ReportsRight before order said (Refused consumer persists code) =
+    IsAskedFor order persists × (code ≡ E_SYNC_REFRESH_REQUIRED)
+    × OfCookie before said consumer IsUnserved
+ReportsRight before order said (Sent consumer message) = IsOfStream before said consumer message
+ReportsRight before order said (Ended consumer code) = code ≡ pos BUSY
+ReportsRight before order said (Faulted consumer fault) = ⊥
+ReportsRight before order said (Settled consumer n) = IsSettled before said consumer n
+ReportsRight before order said (Holds consumer cookie) = IsGiven order consumer cookie
+ReportsRight before order said (Clocked time) = IsClocked order time
+ReportsRight before order said (Shown name entries) = IsShown before said name entries
+ReportsRight before order said _ = Unit {0}
 
-abbrev pub EachTellsRight : List Order → Order → List Told → List Told → Type 0
-EachTellsRight before order said [] = Unit {0}
-EachTellsRight before order said (line ∷ told) = TellsRight before order said line × EachTellsRight before order (said ++ line ∷ []) told
+abbrev pub EachReportsRight : List Order → Order → List ReportLine → List ReportLine → Type 0
+EachReportsRight before order said [] = Unit {0}
+EachReportsRight before order said (line ∷ reported) =
+    ReportsRight before order said line × EachReportsRight before order (said ++ line ∷ []) reported
 
--- each line of these orders, which come after those before and their lines, is right for the orders and lines before it
-abbrev pub LinesAreRight : List Order → List Told → List Order → List (List Told) → Type 0
+-- each line of these orders, which come after those before and their lines, is right for the orders
+-- and lines before it
+abbrev pub LinesAreRight :
+    List Order → List ReportLine → List Order → List (List ReportLine) → Type 0
 LinesAreRight before said [] report = Unit {0}
 LinesAreRight before said (order ∷ orders) [] = Unit {0}
-LinesAreRight before said (order ∷ orders) (told ∷ report) =
-    EachTellsRight before order said told × LinesAreRight (before ++ order ∷ []) (said ++ told) orders report
+LinesAreRight before said (order ∷ orders) (reported ∷ report) =
+    EachReportsRight before order said reported
+    × LinesAreRight (before ++ order ∷ []) (said ++ reported) orders report

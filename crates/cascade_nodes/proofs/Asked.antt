@@ -3,6 +3,7 @@ use Rattle.std.proofs.Common.{◌≡◌, ◌≢◌, ◌≤◌, ℕ, Bool, true, 
 use Rattle.std.specs.BTreeMap.{insert_entry}
 use Rattle.std.specs.Ordering.{nat_cmp}
 use Rattle.std.specs.Prelude.{◌==◌, Ok, Err, Result, IfSome}
+use Rattle.ldap_constants.specs.declared.result_codes.TheConstants.{OTHER}
 use Rattle.directory_writes.specs.Directory.{DirectoryState, judged}
 use Rattle.entry_tree.specs.declared.entry.Entry.{Entry}
 use Rattle.entry_tree.specs.declared.op.Op.TheVariants.{Commit}
@@ -16,13 +17,13 @@ use Rattle.sync_messages.specs.Request.{request_of}
 use Rattle.sync_messages.specs.declared.fault.SyncFault.{SyncFault}
 use Rattle.sync_messages.specs.declared.request.SyncRequest.{SyncRequest}
 use Rattle.sync_model.specs.Message.{SyncMessage}
-use Rattle.sync_model.specs.Message.SyncMessage.{Put, Gone, Present, IdSet, NewCookie, PhaseEnds, Done, Passed}
+use Rattle.sync_model.specs.Message.SyncMessage.{AddOrModify, Delete, Present, IdSet, NewCookie, RefreshDelete, RefreshPresent, Done, Ignored}
 use Rattle.sync_provider.specs.Accepting as accepting
 use Rattle.sync_provider.specs.HandingOut.{Turn, turn_of_message, turn_of_pending, turn_of_found, turn_at, turn_of, search_at, without_first, closed, handed_on, after_turn, after_answer}
 use Rattle.sync_provider.specs.HandingOut.Turn.{Hands, Closes, Waits, Unknown}
 use Rattle.sync_provider.specs.Machine.{ProviderState, each_informed, searches_after, judged_by, wrote, after_commit, committed, committed_each}
 use Rattle.sync_provider.specs.Queueing.{overflowed, queued, pushed, informed, is_full, group_of, is_queueing}
-use Rattle.sync_provider.specs.Returning.{SearchesMoment, moment_of}
+use Rattle.sync_provider.specs.Returning.{SearchesSnapshot, snapshot_of}
 use Rattle.sync_provider.specs.Search.{SearchState, pending, opening, advanced}
 use Rattle.sync_provider.specs.declared.committing.StagedCommit.{StagedCommit}
 use Rattle.sync_provider.specs.declared.handed.Handed.{Handed}
@@ -84,18 +85,18 @@ after_ours_by p (Ok write) ours = each_ours p.queue_limit p.directory write p.se
 after_ours_by p (Err code) ours = ours
 
 -- the searches of a provider after a write, or as they were where memory ran out
-pub wrote_ours : (p after : ProviderState) (op : Op) (now code : ℕ) → AreOurs p.searches → (code ≢ 80 → after ≡ wrote p op now) → (code ≡ 80 → after ≡ p) → AreOurs after.searches
-wrote_ours p after op now code ours done starved = by (code == 80) refl
+pub wrote_ours : (p after : ProviderState) (op : Op) (now code : ℕ) → AreOurs p.searches → (code ≢ OTHER → after ≡ wrote p op now) → (code ≡ OTHER → after ≡ p) → AreOurs after.searches
+wrote_ours p after op now code ours done starved = by (code == OTHER) refl
   where
     ours_of : (q : ProviderState) → after ≡ q → AreOurs q.searches → AreOurs after.searches
     ours_of q is there = subst (λ (r : ProviderState). AreOurs r.searches) (sym is) there
 
-    by : (full : Bool) → (code == 80) ≡ full → AreOurs after.searches
-    by true is = ours_of p (starved (eqb-true code 80 is)) ours
+    by : (full : Bool) → (code == OTHER) ≡ full → AreOurs after.searches
+    by true is = ours_of p (starved (eqb-true code OTHER is)) ours
     by false is = ours_of (wrote p op now) (done (λ same. differs is same)) (after_ours_by p (judged_by p.kind p.directory op now) ours)
       where
-        differs : (code == 80) ≡ false → code ≡ 80 → ⊥
-        differs is same = let hit : (code == 80) ≡ true = eq-eqb code 80 same in cc
+        differs : (code == OTHER) ≡ false → code ≡ OTHER → ⊥
+        differs is same = let hit : (code == OTHER) ≡ true = eq-eqb code OTHER same in cc
 
 -- the searches of a replica after a commit, or as they were where it is refused
 committed_ours_by : (p : ProviderState) (op : Op) (now : ℕ) (refusal : Option CommitFault) → AreOurs p.searches → AreOurs (after_commit p op now refusal).searches
@@ -111,8 +112,8 @@ each_committed_ours p (commit ∷ commits) now ours =
     each_committed_ours (committed p commit.puts commit.drops now) commits now (committed_ours p commit.puts commit.drops now ours)
 
 -- the searches of a moment
-pub ours_then : (p : ProviderState) (moment : SearchesMoment) → moment ≡ moment_of p → AreOurs p.searches → AreOurs moment.searches
-ours_then p moment is ours = subst (λ (m : SearchesMoment). AreOurs m.searches) (sym is) ours
+pub ours_then : (p : ProviderState) (snapshot : SearchesSnapshot) → snapshot ≡ snapshot_of p → AreOurs p.searches → AreOurs snapshot.searches
+ours_then p snapshot is ours = subst (λ (m : SearchesSnapshot). AreOurs m.searches) (sym is) ours
 
 -- ---- turns
 
@@ -147,14 +148,15 @@ IsSpelledTurn Waits = Unit {0}
 IsSpelledTurn Unknown = Unit {0}
 
 of_message : (id : ℕ) (message : SyncMessage) → id ≤ 2147483647 → IsSpelledTurn (turn_of_message id message)
-of_message id (Put adds entry cookie) small = (small, tt)
-of_message id (Gone uuid name cookie) small = (small, tt)
+of_message id (AddOrModify adds entry cookie) small = (small, tt)
+of_message id (Delete uuid name cookie) small = (small, tt)
 of_message id (Present uuid cookie) small = (small, tt)
 of_message id (IdSet deletes uuids cookie) small = (small, tt)
 of_message id (NewCookie cookie) small = (small, tt)
-of_message id (PhaseEnds deletes done cookie) small = (small, tt)
+of_message id (RefreshDelete done cookie) small = (small, tt)
+of_message id (RefreshPresent done cookie) small = (small, tt)
 of_message id (Done code control) small = (small, tt)
-of_message id Passed small = (small, tt)
+of_message id Ignored small = (small, tt)
 
 of_pending : (id : ℕ) (pending : List SyncMessage) → id ≤ 2147483647 → IsSpelledTurn (turn_of_pending id pending)
 of_pending id [] small = tt

@@ -11,8 +11,8 @@ most_link = 67108864
 abbrev pub link_size : List (List ℕ) → ℕ
 link_size link = sum_by length link
 
--- why a message does not go into a link that would hold so many bytes then: they are too many; want of memory says
--- nothing
+-- why a message does not go into a link that would hold n bytes then: they are too many; want
+-- of memory says nothing
 abbrev pub RefusesLink : ℕ → Cause → Type 0
 RefusesLink size NoMemory = Unit {0}
 RefusesLink size cause = (cause ≡ LimitReached most_link) × (most_link < size)

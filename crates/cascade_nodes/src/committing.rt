@@ -8,29 +8,30 @@ ghost use Rattle.sync_consumer.specs.Taking.{AreFit};
 ghost use Rattle.cascade_nodes.specs.Commits as spec;
 ghost use Rattle.cascade_nodes.specs.Commits.{Leaves};
 
-use crate::node::{Supplier, copy_wanted};
-use cascade_report::{Note, Stage};
+use crate::node::{ProviderNode, copy_wanted};
+use cascade_report::{CommitOrigin, StoredStage};
 use cascade_script::Cause;
 use entry_tree::Spec;
 use ldap_ber::NoMemory;
-use std::alloc::Global;
 use sync_provider::{CommitFault, StagedCommit};
 
-impl Supplier {
-    /// Commits these stages one after another, all or none, and keeps a note of each. A limit refuses
-    /// them; whatever else is against one of them leaves the directory as it is.
+impl ProviderNode {
+    /// Commits these stages of what is wanted one after another, all or none, and keeps a note of
+    /// each, where the clock shows `now`, in microseconds from the first moment of 1970 on. It is
+    /// `LimitReached` or `NoMemory`, and then the node is as before; whatever else rejects one of
+    /// them leaves the directory as it is.
     #[tactic(auto, using(crate::proofs::Commits::noted, crate::proofs::Commits::all_committed, crate::proofs::Commits::none_committed))]
     pub fn commit_all(
         &mut self,
-        alloc: Global,
         wanted: &Spec,
-        stages: Vec<Stage>,
+        stages: Vec<StoredStage>,
         now: u64,
     ) -> Result<(), Cause>
-        ensures does { Leaves (spec.commits_all now (search_of wanted.now) self.old stages.items) self.new result }
+        ensures does { Leaves (spec.commits_all now (search_of wanted.now) self.old stages.items)
+            self.new result }
         ensures err { OnErr result (self.new ≡ self.old) }
     {
-        let Staged { commits, notes } = Staged::of(alloc, wanted, stages)?;
+        let Staged { commits, notes } = Staged::of(wanted, stages)?;
         let count = self.notes.len();
         self.notes.append(notes)?;
         match self.provider.commit_each(commits, now) {
@@ -59,17 +60,22 @@ fn answer_to(fault: CommitFault) -> Result<(), Cause>
 #[derive(Drop)]
 struct Staged {
     commits: Vec<StagedCommit>,
-    notes: Vec<Note>,
+    notes: Vec<CommitOrigin>,
 }
 
 impl Staged {
     /// Those of a replica that wants this.
-    fn of(alloc: Global, wanted: &Spec, stages: Vec<Stage>) -> Result<Staged, NoMemory>
-        ensures commits { IfOk result (λ staged. staged.commits.items ≡ map spec.commit_of stages.items) }
-        ensures notes { IfOk result (λ staged. staged.notes.items ≡ map (spec.note_of (search_of wanted.now)) stages.items) }
-        ensures sound { IfOk result (λ staged. list_all (λ commit. list_all is_sound_put commit.puts) staged.commits.items ≡ true) }
-        ensures light { IfOk result (λ staged. list_all (λ commit. list_all is_light commit.puts) staged.commits.items ≡ true) }
+    fn of(wanted: &Spec, stages: Vec<StoredStage>) -> Result<Staged, NoMemory>
+        ensures commits { IfOk result (λ staged.
+            staged.commits.items ≡ map spec.commit_of stages.items) }
+        ensures notes { IfOk result (λ staged.
+            staged.notes.items ≡ map (spec.note_of (search_of wanted.now)) stages.items) }
+        ensures sound { IfOk result (λ staged.
+            list_all (λ commit. list_all is_sound_put commit.puts) staged.commits.items ≡ true) }
+        ensures light { IfOk result (λ staged.
+            list_all (λ commit. list_all is_light commit.puts) staged.commits.items ≡ true) }
     {
+        let alloc = *stages.allocator();
         let mut staged = Staged {
             commits: Vec::new(alloc),
             notes: Vec::new(alloc),
@@ -81,15 +87,18 @@ impl Staged {
     }
 
     /// One more, which is fit for a commit.
-    fn add(&mut self, wanted: &Spec, stage: Stage) -> Result<(), NoMemory>
-        ensures commits { OnOk result (self.new.commits.items ≡ self.old.commits.items ++ spec.commit_of stage ∷ []) }
-        ensures notes { OnOk result (self.new.notes.items ≡ self.old.notes.items ++ spec.note_of (search_of wanted.now) stage ∷ []) }
+    fn add(&mut self, wanted: &Spec, stage: StoredStage) -> Result<(), NoMemory>
+        ensures commits { OnOk result
+            (self.new.commits.items ≡ self.old.commits.items ++ spec.commit_of stage ∷ []) }
+        ensures notes { OnOk result
+            (self.new.notes.items
+            ≡ self.old.notes.items ++ spec.note_of (search_of wanted.now) stage ∷ []) }
         ensures fit { OnOk result (AreFit stage.puts) }
     {
         let (puts, drops, origin) = stage.parts();
         let wanted = copy_wanted(wanted)?;
         self.commits.push(StagedCommit { puts, drops })?;
-        self.notes.push(Note { wanted, origin })?;
+        self.notes.push(CommitOrigin { wanted, origin })?;
         Ok(())
     }
 }

@@ -6,9 +6,9 @@ mod committing;
 mod dropping;
 mod link;
 mod node;
-mod source;
+mod script_provider;
 
 pub use dropping::discard;
 pub use ldap_ber::NoMemory;
-pub use node::{Follower, Supplier, copy_wanted};
-pub use source::{MESSAGE_ID, Source};
+pub use node::{ConsumerNode, ProviderNode, copy_wanted};
+pub use script_provider::{MESSAGE_ID, ScriptProvider};

@@ -41,10 +41,11 @@ impl Link {
         }
     }
 
-    pub fn copy(&self, alloc: Global) -> Result<Link, NoMemory>
+    /// Makes a link with the same messages. It is `NoMemory` where memory runs out.
+    pub fn copy(&self) -> Result<Link, NoMemory>
         ensures { IfOk result (λ link. link ≡ self.now) }
     {
-        let mut messages = VecDeque::new(alloc);
+        let mut messages = VecDeque::new(*self.messages.allocator());
         for message in &self.messages {
             messages.push_back(message.copy()?)?;
         }
@@ -54,13 +55,15 @@ impl Link {
         })
     }
 
+    /// Reports whether the link holds no message.
     pub fn is_empty(&self) -> bool
         ensures { result ≡ (length self.now == 0) }
     {
         self.messages.is_empty()
     }
 
-    /// Puts a message at the end, where the link may hold so many bytes.
+    /// Puts a message at the end. It is `LimitReached` where the link would hold more than
+    /// 67,108,864 bytes, or `NoMemory`, and then the link is as before.
     pub fn push(&mut self, message: Octets) -> Result<(), Cause>
         ensures ok { OnOk result (self.new ≡ self.old ++ message ∷ []) }
         ensures fits { OnOk result (link_size self.old + length message ≤ most_link) }

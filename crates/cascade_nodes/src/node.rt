@@ -3,11 +3,11 @@ ghost use Rattle.std.specs.Prelude.{◌≡◌, ◌<◌, [], None, IfOk};
 ghost use Rattle.entry_tree.specs.Selection.{search_of};
 ghost use Rattle.sync_provider.specs.Machine.{fresh};
 ghost use Rattle.sync_provider.specs.declared.provider.Kind.TheVariants.{Replica};
-ghost use Rattle.cascade_nodes.specs.Nodes.{is_offered, new_follower};
+ghost use Rattle.cascade_nodes.specs.Nodes.{is_offered, new_consumer_node};
 
 use crate::link::Link;
-use crate::source::Source;
-use cascade_report::{Digested, Notes};
+use crate::script_provider::ScriptProvider;
+use cascade_report::{CommitOrigins, Digested};
 use dn_names::Dn;
 use entry_tree::Spec;
 use ldap_ber::{NoMemory, Octets};
@@ -17,38 +17,44 @@ use sync_provider::Kind;
 
 /// The directory of a root or of a replica, and notes of a replica's commits.
 #[derive(Drop)]
-pub struct Supplier {
+pub struct ProviderNode {
     pub name: Octets,
-    pub provider: Source,
-    pub notes: Notes,
+    pub provider: ScriptProvider,
+    pub notes: CommitOrigins,
 }
 
-impl Supplier {
-    /// A node without writes. Its number is that of its history.
+impl ProviderNode {
+    /// A node with this name and suffix, without writes. Its number is that of its history. It is
+    /// `NoMemory` where memory runs out.
     pub fn new(
         alloc: Global,
         name: Octets,
         suffix: Dn,
         number: u16,
         kind: Kind,
-    ) -> Result<Supplier, NoMemory>
+    ) -> Result<ProviderNode, NoMemory>
         requires { number < 4096 }
-        ensures { IfOk result (λ supplier. supplier ≡ record { name = name; provider = fresh suffix number number kind; notes = [] }) }
+        ensures { IfOk result (λ provider_node.
+            provider_node
+            ≡ record { name = name; provider = fresh suffix number number kind; notes = [] }) }
     {
-        Ok(Supplier {
+        Ok(ProviderNode {
             name,
-            provider: Source::new(alloc, suffix, number, kind)?,
-            notes: Notes::new(alloc),
+            provider: ScriptProvider::new(alloc, suffix, number, kind)?,
+            notes: CommitOrigins::new(alloc),
         })
     }
 
-    /// The directory of a replica with this name, without writes. Its suffix is empty.
-    pub fn replica(alloc: Global, name: &Octets, number: u16) -> Result<Supplier, NoMemory>
+    /// The directory of a replica with this name, without writes. Its suffix is empty. It is
+    /// `NoMemory` where memory runs out.
+    pub fn replica(alloc: Global, name: &Octets, number: u16) -> Result<ProviderNode, NoMemory>
         requires { number < 4096 }
-        ensures { IfOk result (λ supplier. supplier ≡ record { name = name.now; provider = fresh [] number number Replica; notes = [] }) }
+        ensures { IfOk result (λ provider_node.
+            provider_node
+            ≡ record { name = name.now; provider = fresh [] number number Replica; notes = [] }) }
     {
         let suffix = Dn::empty(alloc);
-        Supplier::new(alloc, name.copy()?, suffix, number, Kind::Replica)
+        ProviderNode::new(alloc, name.copy()?, suffix, number, Kind::Replica)
     }
 
     /// Whether the base of what is wanted is at or below the suffix.
@@ -62,7 +68,7 @@ impl Supplier {
 /// A consumer with its provider's name, its copy, its link, and the number of the search that is
 /// open for it at its provider.
 #[derive(Drop)]
-pub struct Follower {
+pub struct ConsumerNode {
     pub name: Octets,
     pub source: Octets,
     pub consumer: Digested,
@@ -70,26 +76,36 @@ pub struct Follower {
     pub search: Option<u64>,
 }
 
-impl Follower {
-    /// A consumer of what is wanted, without entries, a cookie and a search.
+impl ConsumerNode {
+    /// A consumer with this name, whose provider has the name `source`, of what is wanted, with
+    /// this reloadHint (RFC 4533, section 2.2), and without entries, a cookie and a search. It is
+    /// `NoMemory` where memory runs out.
     pub fn wanting(
         alloc: Global,
         name: Octets,
         source: Octets,
         wanted: Spec,
         reload: bool,
-    ) -> Result<Follower, NoMemory>
-        ensures { IfOk result (λ follower. follower ≡ new_follower name source (search_of wanted) reload) }
+    ) -> Result<ConsumerNode, NoMemory>
+        ensures { IfOk result (λ consumer_node.
+            consumer_node ≡ new_consumer_node name source (search_of wanted) reload) }
     {
         let consumer = Consumer::new(alloc, wanted, reload)?;
-        Ok(Follower::new(alloc, name, source, consumer))
+        Ok(ConsumerNode::new(alloc, name, source, consumer))
     }
 
     /// A consumer without entries and without a search.
-    pub fn new(alloc: Global, name: Octets, source: Octets, consumer: Consumer) -> Follower
-        ensures { result ≡ record { name = name; source = source; consumer = consumer; link = []; search = None } }
+    pub fn new(alloc: Global, name: Octets, source: Octets, consumer: Consumer) -> ConsumerNode
+        ensures { result
+            ≡ record {
+              name = name;
+              source = source;
+              consumer = consumer;
+              link = [];
+              search = None;
+            } }
     {
-        Follower {
+        ConsumerNode {
             name,
             source,
             consumer: Digested::new(consumer),
@@ -98,22 +114,22 @@ impl Follower {
         }
     }
 
-    /// A consumer that goes on as this one does.
-    pub fn copy(&self, alloc: Global) -> Result<Follower, NoMemory>
+    /// A consumer that goes on as this one does. It is `NoMemory` where memory runs out.
+    pub fn copy(&self) -> Result<ConsumerNode, NoMemory>
         ensures { IfOk result (λ copy. copy ≡ self.now) }
     {
         let search = self.search;
-        Ok(Follower {
+        Ok(ConsumerNode {
             name: self.name.copy()?,
             source: self.source.copy()?,
-            link: self.link.copy(alloc)?,
+            link: self.link.copy()?,
             search,
             consumer: self.consumer.copy()?,
         })
     }
 }
 
-/// What is wanted, a second time.
+/// What is wanted, a second time. It is `NoMemory` where memory runs out.
 pub fn copy_wanted(wanted: &Spec) -> Result<Spec, NoMemory>
     ensures { IfOk result (λ copy. search_of copy ≡ search_of wanted.now) }
 {

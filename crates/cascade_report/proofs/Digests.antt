@@ -7,38 +7,38 @@ use Rattle.sha2.specs.Hashers.{Holds256}
 use Rattle.sha2.specs.Sha256.{sha256}
 use Rattle.sha2.specs.declared.Sha256.{Sha256}
 use Rattle.sync_consumer.specs.Staging.{up_to}
-use Rattle.cascade_report.specs.Digests.{front, HasDigested}
-use Rattle.cascade_report.specs.Report.{entry_text, text_of}
+use Rattle.cascade_report.specs.Digests.{prefix, HasDigested}
+use Rattle.cascade_report.specs.ReportLines.{entry_text, text_of}
 
 pub nothing_digested : (hasher : Sha256) → Holds256 hasher [] → Holds256 hasher (text_of [])
 unfolding text_of
 nothing_digested hasher has = has
 
 -- what is digested stays so where those entries stay
-pub digested_on : (hasher : Sha256) (reached : Option ℕ) (before after : List Entry) → front reached after ≡ front reached before
+pub digested_on : (hasher : Sha256) (reached : Option ℕ) (before after : List Entry) → prefix reached after ≡ prefix reached before
     → HasDigested hasher reached before → HasDigested hasher reached after
 digested_on hasher reached before after same has = subst (λ (es : List Entry). Holds256 hasher (text_of es)) (sym same) has
 
--- the text of the entries up to an identity, and that of those behind it
-joined : (reached : Option ℕ) (held rest : List Entry) → front reached held ++ rest ≡ held → text_of (front reached held) ++ text_of rest ≡ text_of held
+-- the text of the entries up to an identity, and that of those after it
+joined : (reached : Option ℕ) (held rest : List Entry) → prefix reached held ++ rest ≡ held → text_of (prefix reached held) ++ text_of rest ≡ text_of held
 unfolding text_of
-joined reached held rest split = sym (flat_map-append entry_text (front reached held) rest) ∙ ap text_of split
+joined reached held rest split = sym (flat_map-append entry_text (prefix reached held) rest) ∙ ap text_of split
 
 -- all entries are up to the greatest identity
-pub whole_front : (reached : Option ℕ) (held : List Entry) → IfSome reached (λ uuid. up_to uuid held ≡ held) → IfNone reached (held ≡ []) → front reached held ≡ held
-whole_front None held some none = sym none
-whole_front (Some uuid) held some none = some
+pub whole_prefix : (reached : Option ℕ) (held : List Entry) → IfSome reached (λ uuid. up_to uuid held ≡ held) → IfNone reached (held ≡ []) → prefix reached held ≡ held
+whole_prefix None held some none = sym none
+whole_prefix (Some uuid) held some none = some
 
--- with the text of those behind it, that of all entries is digested
-pub all_digested : (old new : Sha256) (reached greatest : Option ℕ) (held rest : List Entry) → HasDigested old reached held → front reached held ++ rest ≡ held
+-- with the text of those after it, that of all entries is digested
+pub all_digested : (old new : Sha256) (reached greatest : Option ℕ) (held rest : List Entry) → HasDigested old reached held → prefix reached held ++ rest ≡ held
     → ((m : List ℕ) → Holds256 old m → Holds256 new (m ++ text_of rest))
     → IfSome greatest (λ uuid. up_to uuid held ≡ held) → IfNone greatest (held ≡ []) → HasDigested new greatest held
 all_digested old new reached greatest held rest has split more some none =
-    subst (Holds256 new) (joined reached held rest split ∙ sym (ap text_of (whole_front greatest held some none))) (more (text_of (front reached held)) has)
+    subst (Holds256 new) (joined reached held rest split ∙ sym (ap text_of (whole_prefix greatest held some none))) (more (text_of (prefix reached held)) has)
 
-pub digest_is : (old : Sha256) (reached : Option ℕ) (held rest : List Entry) (digest : List ℕ) → HasDigested old reached held → front reached held ++ rest ≡ held
+pub digest_is : (old : Sha256) (reached : Option ℕ) (held rest : List Entry) (digest : List ℕ) → HasDigested old reached held → prefix reached held ++ rest ≡ held
     → ((m : List ℕ) → Holds256 old m → digest ≡ sha256 (m ++ text_of rest)) → digest ≡ sha256 (text_of held)
-digest_is old reached held rest digest has split more = more (text_of (front reached held)) has ∙ ap sha256 (joined reached held rest split)
+digest_is old reached held rest digest has split more = more (text_of (prefix reached held)) has ∙ ap sha256 (joined reached held rest split)
 
 pub same_digested : (old new : Sha256) (reached : Option ℕ) (held : List Entry) → new ≡ old → HasDigested old reached held → HasDigested new reached held
 same_digested old new reached held same has = subst (λ (h : Sha256). HasDigested h reached held) (sym same) has

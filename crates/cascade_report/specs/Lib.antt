@@ -1,5 +1,5 @@
--- What is told of the events of a script.
+-- What is reported of the events of a script.
 pub mod Digests
 pub mod Origins
+pub mod ReportLines
 pub mod Report
-pub mod Telling

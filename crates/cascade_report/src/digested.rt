@@ -10,10 +10,10 @@ ghost use Rattle.sync_wire.specs.Requesting.{persists};
 ghost use Rattle.sync_consumer.specs.Taking as taking;
 ghost use Rattle.std.specs.List.{list_all};
 ghost use Rattle.sync_consumer.specs.Staging.{is_above, up_to};
-ghost use Rattle.cascade_report.specs.Digests.{front};
-ghost use Rattle.cascade_report.specs.Report.{text_of};
+ghost use Rattle.cascade_report.specs.Digests.{prefix};
+ghost use Rattle.cascade_report.specs.ReportLines.{text_of};
 
-use crate::report::text_of;
+use crate::lines::text_of;
 use entry_tree::{Entry, Spec};
 use ldap_ber::NoMemory;
 use ldap_messages::Message;
@@ -24,7 +24,7 @@ use sync_consumer::{Commit, Consumer, EntryMap, Taken};
 use sync_messages::Mode;
 
 /// A consumer, and how far the text of its entries is digested (SHA-256). What is digested is kept as
-/// long as those entries stay, so that only what comes behind them is digested anew.
+/// long as those entries stay, so that only what comes after them is digested anew.
 #[derive(Drop)]
 pub struct Digested {
     consumer: Consumer,
@@ -51,6 +51,7 @@ impl Model for Digested {
 }
 
 impl Digested {
+    /// Takes over this consumer, of whose entries none is digested yet.
     #[tactic(auto, using(crate::proofs::Digests::nothing_digested))]
     pub fn new(consumer: Consumer) -> Digested
         ensures { result ≡ consumer }
@@ -62,13 +63,14 @@ impl Digested {
         }
     }
 
+    /// Lends the consumer, to be read.
     pub fn inner(&self) -> &Consumer
         ensures { result.now ≡ self.now }
     {
         &self.consumer
     }
 
-    /// A consumer that goes on as this one does.
+    /// A consumer that goes on as this one does. It is `NoMemory` where memory runs out.
     pub fn copy(&self) -> Result<Digested, NoMemory>
         ensures { IfOk result (λ copy. copy ≡ self.now) }
     {
@@ -84,23 +86,26 @@ impl Digested {
     /// The digest of the text of its entries, of which those that stayed since it was last asked for,
     /// up to the first that did not, cost nothing.
     #[tactic(auto, using(crate::proofs::Digests::all_digested, crate::proofs::Digests::digest_is, crate::proofs::Digests::same_digested))]
-    pub fn digest(&mut self, alloc: Global) -> Result<[u8; 32], NoMemory>
+    pub fn digest(&mut self) -> Result<[u8; 32], NoMemory>
         ensures same { self.new ≡ self.old }
         ensures digest { IfOk result (λ digest. digest ≡ sha256 (text_of self.old.copy.held)) }
     {
         let entries = self.consumer.entries();
-        let rest = entries_behind(entries, self.reached)?;
-        let digest = digest_with(alloc, &mut self.hasher, &rest)?;
+        let rest = entries_after(entries, self.reached)?;
+        let digest = digest_with(*rest.allocator(), &mut self.hasher, &rest)?;
         self.reached = entries.greatest();
         Ok(digest)
     }
 
-    /// Begins a search, as the consumer does.
+    /// Begins a search with this message ID and in this mode, as the consumer does. It is
+    /// `NoMemory` where memory runs out, and the consumer is as before.
     #[tactic(auto, using(crate::proofs::Digests::digested_on))]
     pub fn request(&mut self, id: u32, mode: Mode) -> Result<Message, NoMemory>
         ensures message { IfOk result
             (λ message. whole_of message ≡ taking.request_of self.old id mode) }
-        ensures read_again { IfOk result (λ message. request_of (request_octets (taking.asked_of self.old mode)) ≡ Ok (taking.asked_of self.old mode)) }
+        ensures read_again { IfOk result (λ message.
+            request_of (request_octets (taking.asked_of self.old mode))
+            ≡ Ok (taking.asked_of self.old mode)) }
         ensures ok { OnOk result (self.new
             ≡ record self.old { copy = model.asked id (persists mode) self.old.copy }) }
         ensures err { OnErr result (self.new ≡ self.old) }
@@ -118,7 +123,7 @@ impl Digested {
         ensures reload { self.new.reload ≡ self.old.reload }
     {
         let taken = self.consumer.take(message);
-        if !keeps_front(&taken, self.reached) {
+        if !keeps_prefix(&taken, self.reached) {
             self.hasher = Sha256::new();
             self.reached = None;
         }
@@ -133,6 +138,8 @@ impl Digested {
         self.consumer.cut();
     }
 
+    /// Loses the cookie, as the script says. The entries stay, and so does what is digested of
+    /// them.
     #[tactic(auto, using(crate::proofs::Digests::digested_on))]
     pub fn lose_cookie(&mut self)
         ensures { self.new ≡ record self.old { copy = record self.old.copy { cookie = None } } }
@@ -140,7 +147,8 @@ impl Digested {
         self.consumer.lose_cookie();
     }
 
-    /// Takes this text for the cookie.
+    /// Takes this text for the cookie. It is `NoMemory` where memory runs out, and the consumer is
+    /// as before.
     #[tactic(auto, using(crate::proofs::Digests::digested_on))]
     pub fn set_cookie(&mut self, text: &[u8]) -> Result<(), NoMemory>
         ensures ok { OnOk result (self.new
@@ -160,8 +168,9 @@ impl Digested {
 }
 
 /// The entries above an identity, or all of them.
-fn entries_behind(entries: &EntryMap, reached: Option<u128>) -> Result<Vec<&Entry>, NoMemory>
-    ensures { IfOk result (λ rest. front reached entries.now ++ map (λ e. e.now) rest.items ≡ entries.now) }
+fn entries_after(entries: &EntryMap, reached: Option<u128>) -> Result<Vec<&Entry>, NoMemory>
+    ensures { IfOk result (λ rest.
+        prefix reached entries.now ++ map (λ e. e.now) rest.items ≡ entries.now) }
 {
     match reached {
         Some(uuid) => entries.above(uuid),
@@ -171,8 +180,12 @@ fn entries_behind(entries: &EntryMap, reached: Option<u128>) -> Result<Vec<&Entr
 
 /// Takes the text of these entries, and answers the digest of all that the hasher has taken then.
 fn digest_with(alloc: Global, hasher: &mut Sha256, entries: &[&Entry]) -> Result<[u8; 32], NoMemory>
-    ensures taken { OnOk result ((m : List ℕ) → Holds256 hasher.old m → Holds256 hasher.new (m ++ text_of (map (λ e. e.now) entries.now))) }
-    ensures digest { IfOk result (λ digest. (m : List ℕ) → Holds256 hasher.old m → digest ≡ sha256 (m ++ text_of (map (λ e. e.now) entries.now))) }
+    ensures taken { OnOk result
+        ((m : List ℕ) → Holds256 hasher.old m
+        → Holds256 hasher.new (m ++ text_of (map (λ e. e.now) entries.now))) }
+    ensures digest { IfOk result (λ digest.
+        (m : List ℕ) → Holds256 hasher.old m
+        → digest ≡ sha256 (m ++ text_of (map (λ e. e.now) entries.now))) }
     ensures err { OnErr result (hasher.new ≡ hasher.old) }
 {
     let text = text_of(alloc, entries)?;
@@ -184,9 +197,10 @@ fn digest_with(alloc: Global, hasher: &mut Sha256, entries: &[&Entry]) -> Result
 }
 
 /// Whether a message left the entries up to an identity as they were, by what came of it.
-fn keeps_front(taken: &Taken, reached: Option<u128>) -> bool
-    ensures { IsTrue result → (before after : model.Copy) → taking.KeepsEntries before after taken.now
-        → front reached after.held ≡ front reached before.held }
+fn keeps_prefix(taken: &Taken, reached: Option<u128>) -> bool
+    ensures { IsTrue result
+        → (before after : model.Copy) → taking.KeepsEntries before after taken.now
+        → prefix reached after.held ≡ prefix reached before.held }
 {
     match reached {
         Some(uuid) => is_beyond(taken, uuid),
@@ -196,7 +210,8 @@ fn keeps_front(taken: &Taken, reached: Option<u128>) -> bool
 
 /// Whether no entry up to the identity was put or dropped, by what came of a message.
 fn is_beyond(taken: &Taken, uuid: u128) -> bool
-    ensures { IsTrue result → (before after : model.Copy) → taking.KeepsEntries before after taken.now
+    ensures { IsTrue result
+        → (before after : model.Copy) → taking.KeepsEntries before after taken.now
         → up_to uuid after.held ≡ up_to uuid before.held }
 {
     match taken {

@@ -1,265 +1,125 @@
-//! The lines of a report.
-ghost use Rattle.std.specs.Prelude.{◌≡◌, ◌++◌, map, Some, IfOk, OnOk};
-ghost use Rattle.std.specs.Fmt.{decimal};
-ghost use Rattle.sha2.specs.Sha256.{sha256};
-ghost use Rattle.cascade_report.specs.Report as spec;
+//! What is reported of an event.
+ghost use Rattle.std.specs.Prelude.{◌≡◌, [], IfOk};
+ghost use Rattle.entry_tree.specs.Selection.{search_of};
+ghost use Rattle.sync_consumer.specs.Taking.{AreFit};
+ghost use Rattle.cascade_report.specs.Origins as spec;
 
-use crate::NoMemory;
-use crate::digested::Digested;
-use crate::notes::Origin;
-use entry_tree::Entry;
-use ldif_text::write_entry;
+use crate::notes::{CommitOrigins, Origin};
+use entry_tree::{EntryList, Spec};
+use ldap_ber::{NoMemory, Octets};
 use std::alloc::Global;
-use sync_consumer::EntryMap;
+use std::marker::Model;
+use sync_consumer::Commit;
+use sync_messages::IdList;
+use sync_provider::Kind;
 
-fn push_number(alloc: Global, out: &mut Vec<u8>, number: u64) -> Result<(), NoMemory>
-    ensures { OnOk result (out.new.items ≡ out.old.items ++ decimal number) }
-{
-    let text = number.to_string(alloc)?;
-    out.extend_from_slice(text.as_bytes())
+/// A stage that took effect: the entries that it put, the identities that it dropped, and the origin
+/// of what is held then, where one is known. What it put is fit for a commit.
+#[derive(Drop)]
+pub struct StoredStage {
+    puts: EntryList,
+    drops: IdList,
+    origin: Option<Origin>,
 }
 
-/// Borrows of the entries.
-pub fn each_of(alloc: Global, entries: &[Entry]) -> Result<Vec<&Entry>, NoMemory>
-    ensures { IfOk result (λ each. map (λ e. e.now) each.items ≡ entries.now) }
-{
-    let mut each = Vec::new(alloc);
-    for entry in entries {
-        each.push(entry)?;
+impl Model for StoredStage {
+    ghost use Rattle.sync_consumer.specs.Taking.{AreFit};
+    ghost use Rattle.cascade_report.specs.ReportLines as report;
+
+    ghost Value = { report.StoredStage };
+
+    ghost view = { λ s. record { puts = s.puts; drops = s.drops; origin = s.origin } };
+
+    ghost invariant = { λ s. AreFit s.puts };
+}
+
+impl StoredStage {
+    /// Keeps what this commit put and dropped, where what is held then has this origin, if one is
+    /// known.
+    pub fn new(commit: Commit, origin: Option<Origin>) -> StoredStage
+        requires { AreFit commit.puts }
+        ensures { result ≡ record { puts = commit.puts; drops = commit.drops; origin = origin } }
+    {
+        let Commit { puts, drops, .. } = commit;
+        StoredStage {
+            puts,
+            drops,
+            origin,
+        }
     }
-    Ok(each)
-}
 
-/// The entries as LDIF, each with its identity and the number of its last change.
-#[tactic(auto, unfolding(crate::specs::Report::text_of))]
-pub fn text_of(alloc: Global, entries: &[&Entry]) -> Result<Vec<u8>, NoMemory>
-    ensures { IfOk result (λ text. text.items ≡ spec.text_of (map (λ e. e.now) entries.now)) }
-{
-    let mut text = Vec::new(alloc);
-    for entry in entries {
-        push_entry(alloc, &mut text, entry)?;
+    /// What it put and dropped, and the origin.
+    pub fn parts(self) -> (EntryList, IdList, Option<Origin>)
+        ensures puts { result.0 ≡ self.puts }
+        ensures drops { result.1 ≡ self.drops }
+        ensures origin { result.2 ≡ self.origin }
+        ensures fit { AreFit result.0 }
+    {
+        (self.puts, self.drops, self.origin)
     }
-    Ok(text)
 }
 
-fn push_entry(alloc: Global, out: &mut Vec<u8>, entry: &Entry) -> Result<(), NoMemory>
-    ensures { OnOk result (out.new.items ≡ out.old.items ++ spec.entry_text entry.now) }
-{
-    let name = entry.dn.write()?;
-    let marks = Some((entry.uuid, entry.csn));
-    let record = write_entry(alloc, name.as_slice(), &entry.attrs, marks)?;
-    out.extend_from_slice(&record)
+/// The lines of an event so far, as bytes, and the stages that took effect in it. It knows where the
+/// content of the event's provider is from: the root at the top of its providers, which is itself at
+/// a root, and the notes of a replica's commits.
+#[derive(Drop)]
+pub struct Report<'a> {
+    top: Octets,
+    notes: &'a CommitOrigins,
+    pub text: Vec<u8>,
+    pub stages: Vec<StoredStage>,
 }
 
-/// `WORD NAME`, without the end of the line.
-fn push_front(out: &mut Vec<u8>, word: &[u8], name: &[u8]) -> Result<(), NoMemory>
-    ensures { OnOk result (out.new.items ≡ out.old.items ++ spec.front word.now name.now) }
-{
-    out.extend_from_slice(word)?;
-    out.push(b' ')?;
-    out.extend_from_slice(name)
+impl<'a> Model for Report<'a> {
+    ghost use Rattle.std.specs.Coded.{codes};
+    ghost use Rattle.entry_tree.specs.FilterCode.{tree_code};
+    ghost use Rattle.cascade_report.specs.Report as report;
+
+    ghost Value = { report.Report };
+
+    ghost coded = { Prim.hlevel (codes, tree_code) };
+
+    ghost view = { λ t. record {
+      lineage = record { top = t.top; notes = t.notes.now };
+      text = t.text.items;
+      stages = t.stages.items;
+    } };
 }
 
-/// `WORD NAME`.
-fn push_named(out: &mut Vec<u8>, word: &[u8], name: &[u8]) -> Result<(), NoMemory>
-    ensures { OnOk result (out.new.items ≡ out.old.items ++ spec.named_line word.now name.now) }
-{
-    push_front(out, word, name)?;
-    out.push(b'\n')?;
-    Ok(())
-}
-
-/// `WORD NAME N`.
-fn push_numbered(
-    alloc: Global,
-    out: &mut Vec<u8>,
-    word: &[u8],
-    name: &[u8],
-    number: u64,
-) -> Result<(), NoMemory>
-    ensures { OnOk result (out.new.items ≡ out.old.items ++ spec.numbered_line word.now name.now number) }
-{
-    push_front(out, word, name)?;
-    out.push(b' ')?;
-    push_number(alloc, out, number)?;
-    out.push(b'\n')?;
-    Ok(())
-}
-
-/// `wrote P CODE N`.
-pub fn push_wrote(
-    alloc: Global,
-    out: &mut Vec<u8>,
-    name: &[u8],
-    code: u32,
-    number: u64,
-) -> Result<(), NoMemory>
-    ensures { OnOk result (out.new.items ≡ out.old.items ++ spec.wrote_line name.now code number) }
-{
-    push_front(out, b"wrote", name)?;
-    out.push(b' ')?;
-    push_number(alloc, out, u64::from(code))?;
-    out.push(b' ')?;
-    push_number(alloc, out, number)?;
-    out.push(b'\n')?;
-    Ok(())
-}
-
-/// `opened C N`.
-pub fn push_opened(
-    alloc: Global,
-    out: &mut Vec<u8>,
-    name: &[u8],
-    number: u64,
-) -> Result<(), NoMemory>
-    ensures { OnOk result (out.new.items ≡ out.old.items ++ spec.opened_line name.now number) }
-{
-    push_numbered(alloc, out, b"opened", name, number)
-}
-
-/// `refused C CODE`.
-pub fn push_refused(
-    alloc: Global,
-    out: &mut Vec<u8>,
-    name: &[u8],
-    code: u32,
-) -> Result<(), NoMemory>
-    ensures { OnOk result (out.new.items ≡ out.old.items ++ spec.refused_line name.now code) }
-{
-    push_numbered(alloc, out, b"refused", name, u64::from(code))
-}
-
-/// `sent C HEX`: the bytes of a message in lower-case hexadecimal digits.
-pub fn push_sent(
-    alloc: Global,
-    out: &mut Vec<u8>,
-    name: &[u8],
-    message: &[u8],
-) -> Result<(), NoMemory>
-    ensures { OnOk result (out.new.items ≡ out.old.items ++ spec.sent_line name.now message.now) }
-{
-    let digits = hex::encode(alloc, message)?;
-    push_front(out, b"sent", name)?;
-    out.push(b' ')?;
-    out.extend_from_slice(digits.as_bytes())?;
-    out.push(b'\n')?;
-    Ok(())
-}
-
-/// `taken C`.
-pub fn push_taken(out: &mut Vec<u8>, name: &[u8]) -> Result<(), NoMemory>
-    ensures { OnOk result (out.new.items ≡ out.old.items ++ spec.taken_line name.now) }
-{
-    push_named(out, b"taken", name)
-}
-
-/// `stored C N entries E sha256 H origin P M`.
-pub fn push_stored(
-    alloc: Global,
-    out: &mut Vec<u8>,
-    name: &[u8],
-    consumer: &mut Digested,
-    number: u64,
-    origin: &Option<Origin>,
-) -> Result<(), NoMemory>
-    ensures line { OnOk result (out.new.items ≡ out.old.items
-        ++ spec.stored_line name.now number consumer.old.copy.held origin.now) }
-    ensures same { consumer.new ≡ consumer.old }
-{
-    let digest = consumer.digest(alloc)?;
-    let entries = consumer.inner().entries();
-    push_front(out, b"stored", name)?;
-    push_content(alloc, out, number, entries, &digest)?;
-    push_origin(alloc, out, origin)
-}
-
-/// ` N entries E sha256 H`, with the digest of their text.
-fn push_content(
-    alloc: Global,
-    out: &mut Vec<u8>,
-    number: u64,
-    entries: &EntryMap,
-    digest: &[u8; 32],
-) -> Result<(), NoMemory>
-    requires { digest.now ≡ sha256 (spec.text_of entries.now) }
-    ensures { OnOk result (out.new.items ≡ out.old.items ++ spec.content_text number entries.now) }
-{
-    let digits = hex::encode(alloc, digest.as_slice())?;
-    out.push(b' ')?;
-    push_number(alloc, out, number)?;
-    out.extend_from_slice(b" entries ")?;
-    push_number(alloc, out, entries.len() as u64)?;
-    out.extend_from_slice(b" sha256 ")?;
-    out.extend_from_slice(digits.as_bytes())
-}
-
-/// ` origin P M`, or ` origin -` where none is known, and the end of the line.
-fn push_origin(alloc: Global, out: &mut Vec<u8>, origin: &Option<Origin>) -> Result<(), NoMemory>
-    ensures { OnOk result (out.new.items ≡ out.old.items ++ spec.origin_text origin.now) }
-{
-    out.extend_from_slice(b" origin ")?;
-    match origin {
-        Some(origin) => push_prefix(alloc, out, origin)?,
-        None => out.push(b'-')?,
+impl<'a> Report<'a> {
+    /// Nothing is reported yet of what goes on with a provider of this lineage.
+    pub fn new(alloc: Global, top: Octets, notes: &'a CommitOrigins) -> Report<'a>
+        ensures { result
+            ≡ record { lineage = record { top = top; notes = notes.now }; text = []; stages = [] } }
+    {
+        Report {
+            top,
+            notes,
+            text: Vec::new(alloc),
+            stages: Vec::new(alloc),
+        }
     }
-    out.push(b'\n')?;
-    Ok(())
-}
 
-/// `P M`.
-fn push_prefix(alloc: Global, out: &mut Vec<u8>, origin: &Origin) -> Result<(), NoMemory>
-    ensures { OnOk result (out.new.items ≡ out.old.items ++ spec.origin_name (Some origin.now)) }
-{
-    out.extend_from_slice(origin.root.as_slice())?;
-    out.push(b' ')?;
-    push_number(alloc, out, origin.number)
-}
+    /// The origin of the first `number` writes of the provider, of this kind, for whoever wants
+    /// this, where one is known. It is `NoMemory` where memory runs out.
+    pub fn origin(&self, kind: Kind, wanted: &Spec, number: u64) -> Result<Option<Origin>, NoMemory>
+        ensures { IfOk result (λ origin.
+            origin ≡ spec.origin_of kind self.now.lineage (search_of wanted.now) number) }
+    {
+        match kind {
+            Kind::Root => Ok(Some(Origin::of(&self.top, number)?)),
+            Kind::Replica => self.replica_origin(wanted, number),
+        }
+    }
 
-/// `ended C CODE`.
-pub fn push_ended(alloc: Global, out: &mut Vec<u8>, name: &[u8], code: i64) -> Result<(), NoMemory>
-    ensures { OnOk result (out.new.items ≡ out.old.items ++ spec.ended_line name.now code) }
-{
-    let digits = code.to_string(alloc)?;
-    push_front(out, b"ended", name)?;
-    out.push(b' ')?;
-    out.extend_from_slice(digits.as_bytes())?;
-    out.push(b'\n')?;
-    Ok(())
-}
-
-/// `fault C NAME`.
-pub fn push_fault(out: &mut Vec<u8>, name: &[u8], fault: &[u8]) -> Result<(), NoMemory>
-    ensures { OnOk result (out.new.items ≡ out.old.items ++ spec.fault_line name.now fault.now) }
-{
-    push_front(out, b"fault", name)?;
-    out.push(b' ')?;
-    out.extend_from_slice(fault)?;
-    out.push(b'\n')?;
-    Ok(())
-}
-
-/// `cut C`.
-pub fn push_cut(out: &mut Vec<u8>, name: &[u8]) -> Result<(), NoMemory>
-    ensures { OnOk result (out.new.items ≡ out.old.items ++ spec.cut_line name.now) }
-{
-    push_named(out, b"cut", name)
-}
-
-/// `nothing C`.
-pub fn push_nothing(out: &mut Vec<u8>, name: &[u8]) -> Result<(), NoMemory>
-    ensures { OnOk result (out.new.items ≡ out.old.items ++ spec.nothing_line name.now) }
-{
-    push_named(out, b"nothing", name)
-}
-
-/// `settled C N`.
-pub fn push_settled(
-    alloc: Global,
-    out: &mut Vec<u8>,
-    name: &[u8],
-    number: u64,
-) -> Result<(), NoMemory>
-    ensures { OnOk result (out.new.items ≡ out.old.items ++ spec.settled_line name.now number) }
-{
-    push_numbered(alloc, out, b"settled", name, number)
+    /// The origin of n commits of a replica.
+    fn replica_origin(&self, wanted: &Spec, number: u64) -> Result<Option<Origin>, NoMemory>
+        ensures { IfOk result (λ origin.
+            origin ≡ spec.replica_origin self.now.lineage (search_of wanted.now) number) }
+    {
+        if number == 0 {
+            return Ok(Some(Origin::of(&self.top, 0)?));
+        }
+        self.notes.passed_on((number - 1) as usize, wanted)
+    }
 }

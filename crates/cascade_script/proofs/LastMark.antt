@@ -1,19 +1,12 @@
 -- The bytes up to the last mark.
-use Rattle.std.proofs.Common.{◌≡◌, ◌≢◌, get_or, eq-eqb, ◌+◌, ◌<◌, ℕ, Bool, true, false, ◌==◌, ◌||◌, List, [], ◌∷◌, ◌++◌, length, take, refl, ap, sym, ◌∙◌, arith}
+use Rattle.std.proofs.Common.{◌≡◌, ◌≢◌, get_or, eq-eqb, ◌+◌, ◌<◌, ℕ, true, false, ◌==◌, List, [], ◌∷◌, ◌++◌, length, take, refl, ap, sym, ◌∙◌, arith}
 use Rattle.std.proofs.lemmas.Bool.Decides.{nat_tests}
 use Rattle.std.proofs.lemmas.List.{take_more}
 use Rattle.std.proofs.lemmas.List.Folds.{list_any-append}
+use Rattle.std.proofs.Math.Bool.{or-false, or-true}
 use Rattle.std.specs.List.{list_any}
 use Rattle.std.specs.Prelude.{if◌then◌else◌}
 use Rattle.cascade_script.specs.Lines.{up_to_last}
-
-or-false : (b : Bool) → (b || false) ≡ b
-or-false true = refl
-or-false false = refl
-
-or-true : (b : Bool) → (b || true) ≡ true
-or-true true = refl
-or-true false = refl
 
 -- one more byte that is the mark, and one that is not
 pub up_to_last-mark : (mark b : ℕ) (bs : List ℕ) → (b == mark) ≡ true → up_to_last mark (bs ++ b ∷ []) ≡ bs ++ b ∷ []
@@ -34,7 +27,7 @@ up_to_last-more mark bytes i l is =
     let more = take_more bytes i 0 l in
     more ∙ sym (up_to_last-mark mark (get_or bytes i 0) (take i bytes) (eq-eqb _ _ is)) ∙ ap (up_to_last mark) (sym more)
 
-pub up_to_last-same : (mark : ℕ) (bytes front : List ℕ) (i : ℕ) → i < length bytes → get_or bytes i 0 ≢ mark → front ≡ up_to_last mark (take i bytes) → front ≡ up_to_last mark (take (i + 1) bytes)
-up_to_last-same mark bytes front i l not so_far =
+pub up_to_last-same : (mark : ℕ) (bytes first_part : List ℕ) (i : ℕ) → i < length bytes → get_or bytes i 0 ≢ mark → first_part ≡ up_to_last mark (take i bytes) → first_part ≡ up_to_last mark (take (i + 1) bytes)
+up_to_last-same mark bytes first_part i l not so_far =
     let other : (get_or bytes i 0 == mark) ≡ false = grind (arith, nat_tests) in
     so_far ∙ sym (up_to_last-other mark (get_or bytes i 0) (take i bytes) other) ∙ ap (up_to_last mark) (sym (take_more bytes i 0 l))

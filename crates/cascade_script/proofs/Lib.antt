@@ -1,4 +1,5 @@
 pub mod Digits
+pub mod KeptLimits
 pub mod LastMark
 pub mod LineCuts
 pub mod Prefixes

@@ -29,28 +29,28 @@ cut-whole mark (b ∷ bs) rest e =
       | inr miss ↦ let e' : (cut mark bs).1 ≡ Some rest = rw miss at e in rw miss (ap (λ l. b ∷ l) (cut-whole mark bs rest e'))
     ]
 
--- the bytes behind a first line and those of it, with more bytes or none
-drop-line : (front rest : List ℕ) → drop (length front + 1) (front ++ 10 ∷ rest) ≡ rest
-drop-line front rest = drop-append-add front (10 ∷ rest) 1
+-- the bytes after a first line and those of it, with more bytes or none
+drop-line : (first_part rest : List ℕ) → drop (length first_part + 1) (first_part ++ 10 ∷ rest) ≡ rest
+drop-line first_part rest = drop-append-add first_part (10 ∷ rest) 1
 
-take-line : (front rest : List ℕ) (n : ℕ) → take (length front + 1 + n) (front ++ 10 ∷ rest) ≡ front ++ 10 ∷ take n rest
-take-line front rest n = let s : length front + 1 + n ≡ length front + suc n = omega arith in rw s (take-append-add front (10 ∷ rest) (suc n))
+take-line : (first_part rest : List ℕ) (n : ℕ) → take (length first_part + 1 + n) (first_part ++ 10 ∷ rest) ≡ first_part ++ 10 ∷ take n rest
+take-line first_part rest n = let s : length first_part + 1 + n ≡ length first_part + suc n = omega arith in rw s (take-append-add first_part (10 ∷ rest) (suc n))
 
 -- the lines of a line, its line feed and what follows
-lines-first : (front other : List ℕ) → cut 10 (front ++ 10 ∷ other) ≡ (front, Some other) → lines (front ++ 10 ∷ other) ≡ strip_carriage_return front ∷ lines other
-lines-first front other e =
-    let whole = front ++ 10 ∷ other in
-    let filled : 0 < length whole = omega (arith, length-append front (10 ∷ other)) in
-    let from_start : lines whole ≡ strip_carriage_return front ∷ lines (drop (length front + 1) whole) =
-    next-some whole front other 0 (length front + 1) filled (sym (ap (λ x. x.0) e)) (sym (ap (λ x. x.1) e)) (omega arith) in
-    from_start ∙ ap (λ t. strip_carriage_return front ∷ lines t) (drop-line front other)
+lines-first : (first_part other : List ℕ) → cut 10 (first_part ++ 10 ∷ other) ≡ (first_part, Some other) → lines (first_part ++ 10 ∷ other) ≡ strip_carriage_return first_part ∷ lines other
+lines-first first_part other e =
+    let whole = first_part ++ 10 ∷ other in
+    let filled : 0 < length whole = omega (arith, length-append first_part (10 ∷ other)) in
+    let from_start : lines whole ≡ strip_carriage_return first_part ∷ lines (drop (length first_part + 1) whole) =
+    next-some whole first_part other 0 (length first_part + 1) filled (sym (ap (λ x. x.0) e)) (sym (ap (λ x. x.1) e)) (omega arith) in
+    from_start ∙ ap (λ t. strip_carriage_return first_part ∷ lines t) (drop-line first_part other)
 
-IsCut-front : (front rest : List ℕ) → ((other : List ℕ) → lines (front ++ 10 ∷ other) ≡ strip_carriage_return front ∷ lines other) → IsCut (front ++ 10 ∷ rest) (length front + 1)
-IsCut-front front rest is = record {
+IsCut-first_part : (first_part rest : List ℕ) → ((other : List ℕ) → lines (first_part ++ 10 ∷ other) ≡ strip_carriage_return first_part ∷ lines other) → IsCut (first_part ++ 10 ∷ rest) (length first_part + 1)
+IsCut-first_part first_part rest is = record {
   parts = λ n.
-      let line : lines (take (length front + 1) (front ++ 10 ∷ rest)) ≡ strip_carriage_return front ∷ [] =
-      ap lines (take-append-add front (10 ∷ rest) 1) ∙ is [] in
-      ap lines (take-line front rest n) ∙ is (take n rest) ∙ rw (line, drop-line front rest) refl;
+      let line : lines (take (length first_part + 1) (first_part ++ 10 ∷ rest)) ≡ strip_carriage_return first_part ∷ [] =
+      ap lines (take-append-add first_part (10 ∷ rest) 1) ∙ is [] in
+      ap lines (take-line first_part rest n) ∙ is (take n rest) ∙ rw (line, drop-line first_part rest) refl;
 }
 
 -- a first line that a line feed ends
@@ -58,23 +58,23 @@ is_first : (text rest : List ℕ) → (cut 10 text).1 ≡ Some rest → (other :
 is_first text rest e other = lines-first (cut 10 text).0 other (cut-others 10 text rest other e)
 
 pub IsCut-line : (text line rest : List ℕ) → line ≡ (cut 10 text).0 → Some rest ≡ (cut 10 text).1 → IsCut text (length line + 1)
-IsCut-line text line rest front back =
+IsCut-line text line rest first_part back =
     let e = sym back in
-    subst (λ l. IsCut text (length l + 1)) (sym front)
-    (subst (λ t. IsCut t (length (cut 10 text).0 + 1)) (sym (cut-whole 10 text rest e)) (IsCut-front (cut 10 text).0 rest (is_first text rest e)))
+    subst (λ l. IsCut text (length l + 1)) (sym first_part)
+    (subst (λ t. IsCut t (length (cut 10 text).0 + 1)) (sym (cut-whole 10 text rest e)) (IsCut-first_part (cut 10 text).0 rest (is_first text rest e)))
 
 -- it is one line
 pub one-line : (text line rest : List ℕ) → line ≡ (cut 10 text).0 → Some rest ≡ (cut 10 text).1 → length (lines (take (length line + 1) text)) ≡ 1
-one-line text line rest front back =
+one-line text line rest first_part back =
     let e = sym back in
     let f = (cut 10 text).0 in
     let piece : take (length f + 1) text ≡ f ++ 10 ∷ [] = ap (take (length f + 1)) (cut-whole 10 text rest e) ∙ take-append-add f (10 ∷ rest) 1 in
-    rw front (ap (λ t. length (lines t)) piece ∙ ap length (is_first text rest e []))
+    rw first_part (ap (λ t. length (lines t)) piece ∙ ap length (is_first text rest e []))
 
 pub within-line : (text line rest : List ℕ) → line ≡ (cut 10 text).0 → Some rest ≡ (cut 10 text).1 → length line + 1 ≤ length text
-within-line text line rest front back =
+within-line text line rest first_part back =
     let whole = cut-whole 10 text rest (sym back) in
-    omega (arith, ap length whole, ap length front, length-append (cut 10 text).0 (10 ∷ rest))
+    omega (arith, ap length whole, ap length first_part, length-append (cut 10 text).0 (10 ∷ rest))
 
 -- a first line that the text ends
 pub one-last : (text : List ℕ) → 0 < length text → None ≡ (cut 10 text).1 → length (lines (take (length text) text)) ≡ 1
@@ -91,7 +91,7 @@ IsCut-more text at more c d = record {
       rw (s, rest, c.parts more) (c.parts (more + n) ∙ ap (λ l. lines (take at text) ++ l) (d.parts n) ∙ sym (append_assoc (lines (take at text)) (lines (take more (drop at text))) (lines (take n (drop more (drop at text))))));
 }
 
--- the lines of a text are those before a cut and those behind it
+-- the lines of a text are those before a cut and those after it
 pub lines-parts : (text : List ℕ) (at : ℕ) → IsCut text at → lines text ≡ lines (take at text) ++ lines (drop at text)
 lines-parts text at c =
     let whole : take (at + length text) text ≡ text = take_all (at + length text) text (omega arith) in
@@ -111,7 +111,7 @@ some_lines text l = by_cut (cut 10 text).1 refl
         next-some text (cut 10 text).0 rest 0 (length (cut 10 text).0 + 1) l refl e (omega arith) in
         rw is (omega arith)
 
--- ---- so many first lines
+-- ---- n first lines
 
 pub more_lines : (text : List ℕ) (at count : ℕ) → IsCut text at → at < length text → length (lines (take at text)) ≡ count
     → (lines (take at text) ≡ take count (lines text)) × (nat_lt count (length (lines text)) ≡ true)
@@ -158,8 +158,8 @@ after-more text line rest at more c d one is filled =
 
 -- ---- no more lines than the most
 
-pub all_lines : (front kept text : List ℕ) (whole most : ℕ) → front ≡ take whole text → take whole text ≡ kept → nat_lt most (length (lines front)) ≡ false
+pub all_lines : (first_part kept text : List ℕ) (whole most : ℕ) → first_part ≡ take whole text → take whole text ≡ kept → nat_lt most (length (lines first_part)) ≡ false
     → lines (take whole text) ≡ take most (lines kept)
-all_lines front kept text whole most is same few =
-    let short : length (lines front) ≤ most = grind (arith, nat_tests) in
-    ap lines (sym is) ∙ sym (take_all most (lines front) short) ∙ ap (λ t. take most (lines t)) (is ∙ same)
+all_lines first_part kept text whole most is same few =
+    let short : length (lines first_part) ≤ most = grind (arith, nat_tests) in
+    ap lines (sym is) ∙ sym (take_all most (lines first_part) short) ∙ ap (λ t. take most (lines t)) (is ∙ same)

@@ -6,9 +6,9 @@ use Rattle.std.specs.Option.{MatchOption}
 use Rattle.ldif_text.specs.Field.{shown}
 use Rattle.cascade_script.specs.Words.{stripped}
 
-pub stripped_front : (prefix rest : List ℕ) → stripped prefix (prefix ++ rest) ≡ Some rest
-stripped_front [] rest = refl
-stripped_front (p ∷ prefix) rest = rw (eq-eqb p p refl) (stripped_front prefix rest)
+pub stripped_prefix : (prefix rest : List ℕ) → stripped prefix (prefix ++ rest) ≡ Some rest
+stripped_prefix [] rest = refl
+stripped_prefix (p ∷ prefix) rest = rw (eq-eqb p p refl) (stripped_prefix prefix rest)
 
 pub none_stripped : (prefix bytes : List ℕ) → ((rest : List ℕ) → bytes ≢ prefix ++ rest) → None ≡ stripped prefix bytes
 none_stripped [] bytes h = absurd (h bytes refl)
@@ -22,4 +22,4 @@ none_stripped (p ∷ prefix) (b ∷ bytes) h =
 -- what `strip_prefix` answers
 pub stripped-from_cases : (prefix bytes : List ℕ) (r : Option (Bor (List ℕ))) → MatchOption r ((rest : List ℕ) → bytes ≢ prefix ++ rest) (λ x. bytes ≡ prefix ++ x.now) → shown r ≡ stripped prefix bytes
 stripped-from_cases prefix bytes None h = none_stripped prefix bytes h
-stripped-from_cases prefix bytes (Some x) h = sym (ap (stripped prefix) h ∙ stripped_front prefix x.now)
+stripped-from_cases prefix bytes (Some x) h = sym (ap (stripped prefix) h ∙ stripped_prefix prefix x.now)

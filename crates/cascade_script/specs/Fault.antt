@@ -7,7 +7,8 @@ use Rattle.cascade_script.specs.declared.fault.Cause.TheVariants.{BadCommand, No
 abbrev pub fault_at : ℕ → Cause → ScriptFault
 fault_at line cause = record { line = line; cause = cause }
 
--- want of memory says nothing of the line, and any other refusal says that the line is outside the grammar
+-- out of memory says nothing of the line, and any other refusal says that the line
+-- is outside the grammar
 abbrev pub IsBadCommand : {Y : Type 0} → ℕ → ℕ → Cause → Option Y → Type 0
 IsBadCommand line at BadCommand read = (read ≡ None) × (at ≡ line)
 IsBadCommand line at NoMemory read = Unit {0}
@@ -18,7 +19,7 @@ abbrev pub Gives : {X Y : Type 0} → ℕ → (X → Y) → Result X ScriptFault
 Gives line view (Ok x) read = read ≡ Some (view x)
 Gives line view (Err fault) read = IsBadCommand line fault.line fault.cause read
 
--- want of memory says nothing, and any other cause is that of the answer, at that line
+-- out of memory says nothing, and any other cause is that of the answer, at that line
 abbrev pub RefusedAt : {Y : Type 0} → ℕ → ℕ → Cause → Result Y Cause → Type 0
 RefusedAt line at NoMemory answer = Unit {0}
 RefusedAt line at cause answer = (answer ≡ Err cause) × (at ≡ line)

@@ -21,7 +21,7 @@ saying_of (heading.Writes name) = Writes name
 abbrev pub most_count : ℕ
 most_count = 1000000
 
--- ---- behind the first word
+-- ---- after the first word
 
 -- `P "SUFFIX"`
 unfoldable pub provider_line : List ℕ → Option Saying
@@ -32,7 +32,7 @@ provider_line text = do
   _ ← at_end suffix.1
   Some (Orders (Provider node.0 name))
 
--- `C from P SCOPE "BASE" "FILTER"`, and what stands behind it
+-- `C from P SCOPE "BASE" "FILTER"`, and what stands after it
 unfoldable pub following : List ℕ → Option ((List ℕ × List ℕ) × (Search × List ℕ))
 following text = do
   node ← named text
@@ -41,7 +41,8 @@ following text = do
   search ← search_in source.1
   Some ((node.0, source.0), search)
 
--- the end of the line, or ` reload` before it for a consumer that takes a whole copy rather than being refused
+-- the end of the line, or ` reload` before it for a consumer that takes a whole copy
+-- rather than being refused
 unfoldable pub reload_at : List ℕ → Option Bool
 reload_at rest =
     if bytes_eq rest (codes " reload") then Some true
@@ -168,7 +169,7 @@ respec_line text = do
 
 -- ---- the words that a line may begin with
 
--- a word, and what the line says behind it
+-- a word, and what the line says after it
 pub record Keyword : Type 0 where
   pub word : List ℕ
   pub says : List ℕ → Option Saying
@@ -179,23 +180,27 @@ keyword word says = record { word = word; says = says }
 -- the words of what a consumer holds and wants, and of limits
 unfoldable pub holding_keywords : List Keyword
 holding_keywords =
-    keyword (codes "cookie") cookie_line ∷ keyword (codes "repoint") repoint_line ∷ keyword (codes "respec") respec_line
+    keyword (codes "cookie") cookie_line ∷ keyword (codes "repoint") repoint_line
+    ∷ keyword (codes "respec") respec_line
     ∷ keyword (codes "log") log_line ∷ keyword (codes "queue") queue_line ∷ []
 
 -- those, and before them the words of searches and their messages
 unfoldable pub search_keywords : List Keyword
 search_keywords =
-    keyword (codes "open") open_line ∷ keyword (codes "send") send_line ∷ keyword (codes "take") take_line
+    keyword (codes "open") open_line ∷ keyword (codes "send") send_line
+    ∷ keyword (codes "take") take_line
     ∷ keyword (codes "cut") cut_line ∷ keyword (codes "lose") lose_line ∷ holding_keywords
 
 -- all words
 abbrev pub keywords : List Keyword
 keywords =
-    keyword (codes "provider") provider_line ∷ keyword (codes "consumer") consumer_line ∷ keyword (codes "replica") replica_line
-    ∷ keyword (codes "clock") clock_line ∷ keyword (codes "write") write_line ∷ keyword (codes "settle") settle_line
+    keyword (codes "provider") provider_line ∷ keyword (codes "consumer") consumer_line
+    ∷ keyword (codes "replica") replica_line
+    ∷ keyword (codes "clock") clock_line ∷ keyword (codes "write") write_line
+    ∷ keyword (codes "settle") settle_line
     ∷ keyword (codes "show") show_line ∷ search_keywords
 
--- what stands behind the word of a line that begins with one of these
+-- what stands after the word of a line that begins with one of these
 abbrev pub said_by : List Keyword → List ℕ → List ℕ → Option Saying
 said_by [] word rest = None
 said_by (k ∷ ks) word rest = if bytes_eq word k.word then k.says rest else said_by ks word rest

@@ -3,19 +3,22 @@ use Rattle.std.specs.Prelude.{◌≡◌, ℕ, ◌+◌, Bool, Option, Some, None,
 use Rattle.std.specs.List.{list_any}
 use Rattle.std.specs.Str.Lines.{lines}
 
--- the lines of a text, each without the line feed at its end and without one carriage return in front of that; bytes
--- behind the last line feed are one more line
+-- the lines of a text, each without the line feed at its end and without one carriage return in
+-- prefix of that; bytes after the last line feed are one more line
 abbrev pub text_lines : List ℕ → List (List ℕ)
 text_lines text = lines text
 
--- so many first bytes end where a line does: the lines of the text to any byte behind are those of the two parts
+-- n first bytes end where a line does: the lines of the text to any byte after are
+-- those of the two parts
 pub record IsCut (text : List ℕ) (at : ℕ) : Type 0 where
-  pub parts : (n : ℕ) → lines (take (at + n) text) ≡ lines (take at text) ++ lines (take n (drop at text))
+  pub parts :
+      (n : ℕ) → lines (take (at + n) text) ≡ lines (take at text) ++ lines (take n (drop at text))
 
 -- the bytes up to the last such byte, that one included
 abbrev pub up_to_last : ℕ → List ℕ → List ℕ
 up_to_last mark [] = []
-up_to_last mark (b ∷ bytes) = if list_any (λ c. c == mark) (b ∷ bytes) then b ∷ up_to_last mark bytes else []
+up_to_last mark (b ∷ bytes) =
+    if list_any (λ c. c == mark) (b ∷ bytes) then b ∷ up_to_last mark bytes else []
 
 -- the most bytes and lines of a script
 abbrev pub most_bytes : ℕ
@@ -27,7 +30,7 @@ most_lines = 1000000
 abbrev pub has_more : ℕ → List ℕ → Bool
 has_more most text = nat_lt most (length text)
 
--- the bytes before the line that holds the first byte beyond so many, or all
+-- the bytes before the line that holds the first byte beyond n, or all
 abbrev pub kept_bytes : ℕ → List ℕ → List ℕ
 kept_bytes most text = if has_more most text then up_to_last 10 (take most text) else text
 

@@ -18,7 +18,7 @@ use Rattle.cascade_script.specs.Orders.{Order, order_of}
 use Rattle.cascade_script.specs.Orders.Order.{Write}
 use Rattle.cascade_script.specs.Words.{is_empty}
 
--- the lines that are left, how many were read, and the limit that a line behind them passes
+-- the lines that are left, how many were read, and the limit that a line after them passes
 pub record Reader : Type 0 where
   pub lines : List (List ℕ)
   pub read : ℕ
@@ -28,16 +28,17 @@ pub record Reader : Type 0 where
 abbrev pub reader_of : List ℕ → Reader
 reader_of text = record { lines = script_lines text; read = 0; limit = limit_passed text }
 
--- what stands next: the end, a refusal, or an order with the number of its line and the rest of the script
+-- what stands next: the end, a refusal, or an order with the number of its line and
+-- the rest of the script
 pub data Next : Type 0 where
   Ended : Next
   Refused : ScriptFault → Next
   Got : ℕ → Order → Reader → Next
 
--- behind the last line: the end, or a line that passes a limit
-abbrev pub behind : ℕ → Option ℕ → Next
-behind read None = Ended
-behind read (Some limit) = Refused (fault_at (read + 1) (LimitReached limit))
+-- after the last line: the end, or a line that passes a limit
+abbrev pub beyond : ℕ → Option ℕ → Next
+beyond read None = Ended
+beyond read (Some limit) = Refused (fault_at (read + 1) (LimitReached limit))
 
 -- ---- the record of a write
 
@@ -51,7 +52,8 @@ abbrev pub after_body : List (List ℕ) → List (List ℕ)
 after_body [] = []
 after_body (line ∷ lines) = if is_empty line then line ∷ lines else after_body lines
 
--- the refusal of a record: at the line that the reader of records tells, or at the command where there is no record
+-- the refusal of a record: at the line that the reader of records reports, or at the command where
+-- there is no record
 abbrev pub record_fault : ℕ → LdifFault → ScriptFault
 record_fault command (ldif.BadLine line) = fault_at line BadRecord
 record_fault command (ldif.BadBase64 line) = fault_at line BadRecord
@@ -63,34 +65,40 @@ of_record command name rest (Ok None) = Refused (fault_at command BadRecord)
 of_record command name rest (Ok (Some found)) = Got command (Write name found.change) rest
 of_record command name rest (Err fault) = Refused (record_fault command fault)
 
--- the record of these lines, which come behind the command
+-- the record of these lines, which come after the command
 abbrev pub read_record : ℕ → List ℕ → List (List ℕ) → Reader → Next
 read_record command name body rest =
-    of_record command name rest (next_record (record { lines = unfolded (command + 1) body; line = command + 1; begun = false }))
+    of_record command name rest
+    (next_record
+    (record { lines = unfolded (command + 1) body; line = command + 1; begun = false }))
 
 -- the limit that a line passes before these lines, of which there is none where one does
 abbrev pub limit_before : Option ℕ → List (List ℕ) → Option ℕ
 limit_before limit [] = limit
 limit_before limit (line ∷ lines) = None
 
--- a record is whole where an empty line or the script's end stands behind it, and not where a line that passes a limit does
+-- a record is whole where an empty line or the script's end stands after it, and not where a line
+-- that passes a limit does
 abbrev pub whole_record : Option ℕ → ℕ → List ℕ → List (List ℕ) → Reader → Next
 whole_record None command name body rest = read_record command name body rest
-whole_record (Some limit) command name body rest = behind (command + length body) (Some limit)
+whole_record (Some limit) command name body rest = beyond (command + length body) (Some limit)
 
 -- the record of these lines, before those
 abbrev pub record_before : Option ℕ → ℕ → List ℕ → List (List ℕ) → List (List ℕ) → Next
 record_before limit command name body lines =
     if not (list_all is_utf8 body) then Refused (fault_at command BadCommand)
-    else whole_record (limit_before limit lines) command name body (record { lines = lines; read = command + length body; limit = limit })
+    else whole_record (limit_before limit lines) command name body
+    (record { lines = lines; read = command + length body; limit = limit })
 
 -- ---- events
 
 -- what the line of that number says, before these lines
 abbrev pub next_of : Option ℕ → ℕ → Option Saying → List (List ℕ) → Next
 next_of limit line None lines = Refused (fault_at line BadCommand)
-next_of limit line (Some (Orders order)) lines = Got line order (record { lines = lines; read = line; limit = limit })
-next_of limit line (Some (Writes name)) lines = record_before limit line name (body_of lines) (after_body lines)
+next_of limit line (Some (Orders order)) lines =
+    Got line order (record { lines = lines; read = line; limit = limit })
+next_of limit line (Some (Writes name)) lines =
+    record_before limit line name (body_of lines) (after_body lines)
 
 -- an empty line or a comment, which is skipped between commands
 abbrev pub is_skipped : List ℕ → Bool
@@ -98,10 +106,11 @@ is_skipped [] = true
 is_skipped (b ∷ bytes) = b == 35
 
 abbrev pub next_from : Option ℕ → ℕ → List (List ℕ) → Next
-next_from limit read [] = behind read limit
+next_from limit read [] = beyond read limit
 next_from limit read (line ∷ lines) =
     if not (is_utf8 line) then Refused (fault_at (read + 1) BadCommand)
-    else (if is_skipped line then next_from limit (read + 1) lines else next_of limit (read + 1) (saying line) lines)
+    else (if is_skipped line then next_from limit (read + 1) lines
+    else next_of limit (read + 1) (saying line) lines)
 
 -- what stands next in a script
 abbrev pub next_in : Reader → Next
@@ -109,7 +118,7 @@ next_in reader = next_from reader.limit reader.read reader.lines
 
 -- ---- the answers of reading
 
--- want of memory says nothing, and any other refusal is that of the script
+-- out of memory says nothing, and any other refusal is that of the script
 abbrev pub IsRefusalOf : Next → ℕ → Cause → Type 0
 IsRefusalOf next line NoMemory = Unit {0}
 IsRefusalOf next line cause = next ≡ Refused (fault_at line cause)

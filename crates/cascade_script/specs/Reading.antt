@@ -24,20 +24,30 @@ pub record IsPlace (bytes : List ℕ) (place : Cursor) : Type 0 where
 
 -- the reader at a place
 abbrev pub reader_at : List ℕ → Option ℕ → Cursor → Reader
-reader_at bytes limit place = record { lines = left_at bytes place; read = place.number; limit = limit }
+reader_at bytes limit place =
+    record { lines = left_at bytes place; read = place.number; limit = limit }
 
 -- what reading the rest of a command's line and what follows it answers
-abbrev pub ReadsCommand : List ℕ → Option ℕ → ℕ → Result (Command × Cursor) ScriptFault → Next → Type 0
-ReadsCommand bytes limit line (Ok x) next = next ≡ Got line (order_of x.0) (reader_at bytes limit x.1)
+abbrev pub ReadsCommand :
+    List ℕ → Option ℕ → ℕ → Result (Command × Cursor) ScriptFault → Next → Type 0
+ReadsCommand bytes limit line (Ok x) next =
+    next ≡ Got line (order_of x.0) (reader_at bytes limit x.1)
 ReadsCommand bytes limit line (Err fault) next = IsRefusalOf next fault.line fault.cause
 
 -- what reading an event from a place on answers
-abbrev pub ReadsEvent : List ℕ → Option ℕ → Result (Option (Event × Cursor)) ScriptFault → Next → Type 0
+abbrev pub ReadsEvent :
+    List ℕ → Option ℕ → Result (Option (Event × Cursor)) ScriptFault → Next → Type 0
 ReadsEvent bytes limit (Ok None) next = next ≡ Ended
-ReadsEvent bytes limit (Ok (Some x)) next = next ≡ Got x.0.line (order_of x.0.command) (reader_at bytes limit x.1)
+ReadsEvent bytes limit (Ok (Some x)) next =
+    next ≡ Got x.0.line (order_of x.0.command) (reader_at bytes limit x.1)
 ReadsEvent bytes limit (Err fault) next = IsRefusalOf next fault.line fault.cause
 
--- what reading the record of a command answers, to whatever node and before whatever rest of the script
+-- what reading the record of a command answers, to whatever node and before
+-- whatever rest of the script
 abbrev pub ReadsRecord : ℕ → Result Change ScriptFault → Result (Option Found) LdifFault → Type 0
-ReadsRecord command (Ok change) read = (name : List ℕ) (rest : Reader) → of_record command name rest read ≡ Got command (Write name change) rest
-ReadsRecord command (Err fault) read = (name : List ℕ) (rest : Reader) → IsRefusalOf (of_record command name rest read) fault.line fault.cause
+ReadsRecord command (Ok change) read =
+    (name : List ℕ) (rest : Reader)
+    → of_record command name rest read ≡ Got command (Write name change) rest
+ReadsRecord command (Err fault) read =
+    (name : List ℕ) (rest : Reader)
+    → IsRefusalOf (of_record command name rest read) fault.line fault.cause

@@ -10,7 +10,7 @@ use Rattle.entry_tree.specs.declared.spec.Scope.TheVariants.{Base, One, Sub}
 use Rattle.entry_tree.specs.Selection.{Search}
 use Rattle.ldap_filter.specs.declared.fault.FilterFault.{FilterFault}
 use Rattle.ldap_filter.specs.Reading.{read_filter}
-use Rattle.ldap_filter.specs.Tree.{Tree}
+use Rattle.ldap_filter.specs.FilterTree.{FilterTree}
 use Rattle.ldif_text.specs.Field.{cut}
 
 infixl 10 ◌>>=◌
@@ -29,13 +29,13 @@ otherwise (Some a) f b = f a
 
 -- the two sides of the first mark of a list of bytes that has one
 abbrev pub after_cut : List ℕ → Option (List ℕ) → Option (List ℕ × List ℕ)
-after_cut front None = None
-after_cut front (Some back) = Some (front, back)
+after_cut first_part None = None
+after_cut first_part (Some back) = Some (first_part, back)
 
 abbrev pub until : ℕ → List ℕ → Option (List ℕ × List ℕ)
 until mark bytes = after_cut (cut mark bytes).0 (cut mark bytes).1
 
--- the bytes without this front, if they have it
+-- the bytes without this prefix, if they have it
 abbrev pub stripped : List ℕ → List ℕ → Option (List ℕ)
 stripped [] bytes = Some bytes
 stripped (p ∷ prefix) [] = None
@@ -48,18 +48,20 @@ is_empty [] = true
 is_empty (b ∷ bytes) = false
 
 abbrev pub is_letter_or_digit : ℕ → Bool
-is_letter_or_digit b = ((nat_le 97 b && nat_le b 122) || (nat_le 65 b && nat_le b 90)) || (nat_le 48 b && nat_le b 57)
+is_letter_or_digit b =
+    ((nat_le 97 b && nat_le b 122) || (nat_le 65 b && nat_le b 90)) || (nat_le 48 b && nat_le b 57)
 
 -- 1 to 32 ASCII letters and digits
 abbrev pub is_node_name : List ℕ → Bool
-is_node_name bytes = (not (is_empty bytes) && nat_le (length bytes) 32) && list_all is_letter_or_digit bytes
+is_node_name bytes =
+    (not (is_empty bytes) && nat_le (length bytes) 32) && list_all is_letter_or_digit bytes
 
 unfoldable pub node_name : List ℕ → Option (List ℕ)
 node_name bytes = do
   _ ← guarded (is_node_name bytes)
   Some bytes
 
--- a node's name, and what stands behind the space after it
+-- a node's name, and what stands after the space after it
 unfoldable pub named : List ℕ → Option (List ℕ × List ℕ)
 named text = do
   word ← until 32 text
@@ -75,7 +77,8 @@ value_of digits = fold (λ value digit. value * 10 + (digit - 48)) 0 digits
 -- decimal digits, of which there is one at least, and the first is no zero before others
 abbrev pub is_number : List ℕ → Bool
 is_number text =
-    if is_empty text then false else ((length text == 1 || not (slice_index text 0 == 48)) && list_all is_digit text)
+    if is_empty text then false
+    else ((length text == 1 || not (slice_index text 0 == 48)) && list_all is_digit text)
 
 abbrev pub value_up_to : ℕ → List ℕ → Option ℕ
 value_up_to most digits = if nat_le (value_of digits) most then Some (value_of digits) else None
@@ -88,7 +91,7 @@ number most text = if is_number text then value_up_to most text else None
 abbrev pub greatest_number : ℕ
 greatest_number = 253402300799999999
 
--- what stands between quotation marks, and behind them
+-- what stands between quotation marks, and after them
 unfoldable pub quoted : List ℕ → Option (List ℕ × List ℕ)
 quoted text = do
   rest ← stripped (34 ∷ []) text
@@ -100,7 +103,8 @@ at_end text = guarded (is_empty text)
 
 -- ---- what is wanted
 
-abbrev pub name_or_none : Result (List (List TypeAndValue)) NameFault → Option (List (List TypeAndValue))
+abbrev pub name_or_none :
+    Result (List (List TypeAndValue)) NameFault → Option (List (List TypeAndValue))
 name_or_none (Ok name) = Some name
 name_or_none (Err fault) = None
 
@@ -108,20 +112,21 @@ name_or_none (Err fault) = None
 unfoldable pub name_in : List ℕ → Option (List (List TypeAndValue))
 name_in text = name_or_none (name_of_text text)
 
-abbrev pub filter_or_none : Result Tree FilterFault → Option Tree
+abbrev pub filter_or_none : Result FilterTree FilterFault → Option FilterTree
 filter_or_none (Ok filter) = Some filter
 filter_or_none (Err fault) = None
 
 -- the filter that a text spells (RFC 4515, section 3)
-unfoldable pub filter_in : List ℕ → Option Tree
+unfoldable pub filter_in : List ℕ → Option FilterTree
 filter_in text = filter_or_none (read_filter text)
 
 unfoldable pub scope_in : List ℕ → Option Scope
 scope_in word =
     if bytes_eq word (codes "base") then Some Base
-    else (if bytes_eq word (codes "one") then Some One else (if bytes_eq word (codes "sub") then Some Sub else None))
+    else (if bytes_eq word (codes "one") then Some One
+    else (if bytes_eq word (codes "sub") then Some Sub else None))
 
--- `SCOPE "BASE" "FILTER"`, and what stands behind it
+-- `SCOPE "BASE" "FILTER"`, and what stands after it
 unfoldable pub search_in : List ℕ → Option (Search × List ℕ)
 search_in text = do
   word ← until 32 text

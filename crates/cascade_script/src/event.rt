@@ -22,9 +22,9 @@ pub enum Command {
     OpenOnce(Octets),
     /// Opens a search of a consumer that goes on after its refresh.
     OpenStay(Octets),
-    /// Hands out so many messages of a consumer's search into its link.
+    /// Hands out n messages of a consumer's search into its link.
     Send(Octets, u64),
-    /// A consumer takes so many messages from its link.
+    /// A consumer takes n messages from its link.
     Take(Octets, u64),
     /// Drops a consumer's search and what its link holds.
     Cut(Octets),
@@ -38,9 +38,9 @@ pub enum Command {
     Repoint(Octets, Octets),
     /// A consumer wants this from now on.
     Respec(Octets, Spec),
-    /// The session log of a provider keeps so many touches at most.
+    /// The session log of a provider keeps n touches at most.
     Log(Octets, u64),
-    /// The queue of each search of a provider holds so many messages at most, from the next write on.
+    /// The queue of each search of a provider holds n messages at most, from the next write on.
     Queue(Octets, u64),
     /// Prints the entries of a node.
     Show(Octets),

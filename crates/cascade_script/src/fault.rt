@@ -28,7 +28,7 @@ pub enum Cause {
     NoMemory,
 }
 
-/// A refusal, with the number of the line where it stands. That of want of memory is free.
+/// A refusal, with the number of the line where it stands. That of out of memory is free.
 #[derive(Drop)]
 pub struct ScriptFault {
     pub line: u64,

@@ -7,7 +7,7 @@ ghost use Rattle.cascade_script.specs.Grammar.{saying_of};
 ghost use Rattle.cascade_script.specs.Words.{greatest_number};
 
 use crate::words::{
-    after_front, at_end, name_in, named, node_name, number, only_if, quoted, search_in,
+    after_prefix, at_end, name_in, named, node_name, number, only_if, quoted, search_in,
     spells_node_name, until_mark,
 };
 use crate::{Command, ScriptFault};
@@ -67,7 +67,7 @@ fn said_by(alloc: Global, word: &[u8], rest: &[u8], line: u64) -> Result<Heading
     said_of_search(alloc, word, rest, line)
 }
 
-/// What a line says whose word is that of a search or its messages, or one of those behind them.
+/// What a line says whose word is that of a search or its messages, or one of those after them.
 #[tactic(auto, unfolding(crate::specs::Grammar::search_keywords))]
 fn said_of_search(
     alloc: Global,
@@ -135,7 +135,7 @@ fn provider_line(alloc: Global, text: &[u8], line: u64) -> Result<Heading, Scrip
     Ok(Heading::Whole(Command::Provider(name, suffix)))
 }
 
-/// A consumer's name, its provider's, what it wants, and what stands behind that.
+/// A consumer's name, its provider's, what it wants, and what stands after that.
 #[derive(Drop)]
 struct Wanting<'a> {
     name: Octets,
@@ -144,13 +144,14 @@ struct Wanting<'a> {
     rest: &'a [u8],
 }
 
-/// `C from P SCOPE "BASE" "FILTER"`, and what stands behind it.
+/// `C from P SCOPE "BASE" "FILTER"`, and what stands after it.
 #[tactic(auto, unfolding(crate::specs::Grammar::following))]
 fn following(alloc: Global, text: &[u8], line: u64) -> Result<Wanting<'_>, ScriptFault>
-    ensures { Gives line (λ x. ((x.name, x.source), (search_of x.spec, x.rest.now))) result (spec.following text.now) }
+    ensures { Gives line (λ x. ((x.name, x.source), (search_of x.spec, x.rest.now))) result
+        (spec.following text.now) }
 {
     let (name, rest) = named(alloc, text, line)?;
-    let rest = after_front(rest, b"from ", line)?;
+    let rest = after_prefix(rest, b"from ", line)?;
     let (source, rest) = named(alloc, rest, line)?;
     let (spec, rest) = search_in(alloc, rest, line)?;
     Ok(Wanting {

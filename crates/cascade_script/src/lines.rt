@@ -14,7 +14,7 @@ const MOST_LINES: u64 = 1_000_000;
 
 /// How many bytes there are up to the last such byte, that one included.
 fn length_up_to_last(bytes: &[u8], mark: u8) -> usize
-    ensures front { take result bytes.now ≡ spec.up_to_last mark bytes.now }
+    ensures first_part { take result bytes.now ≡ spec.up_to_last mark bytes.now }
     ensures within { result ≤ length bytes.now }
 {
     let mut length = 0;
@@ -33,8 +33,8 @@ fn kept_length(text: &[u8], most: usize) -> usize
     ensures within { result ≤ length text.now }
 {
     if text.len() > most {
-        let (front, _) = text.split_at(most);
-        return length_up_to_last(front, b'\n');
+        let (first_part, _) = text.split_at(most);
+        return length_up_to_last(first_part, b'\n');
     }
     text.len()
 }
@@ -53,9 +53,10 @@ fn line_length(text: &[u8]) -> usize
     }
 }
 
-/// How many bytes so many first lines of a text have, where more lines follow.
+/// How many bytes n first lines of a text have, where more lines follow.
 fn length_of_lines(text: &[u8], most: u64) -> Option<usize>
-    ensures lines { IfSome result (λ count. lines (take count text.now) ≡ take most (lines text.now)) }
+    ensures lines { IfSome result (λ count.
+        lines (take count text.now) ≡ take most (lines text.now)) }
     ensures within { IfSome result (λ count. count ≤ length text.now) }
     ensures more { IfSome result (λ count. nat_lt most (length (lines text.now)) ≡ true) }
     ensures all { IfNone result (nat_lt most (length (lines text.now)) ≡ false) }
@@ -77,8 +78,8 @@ pub fn within_limits(text: &[u8]) -> (usize, Option<u64>)
     ensures within { result.0 ≤ length text.now }
 {
     let whole = kept_length(text, MOST_BYTES);
-    let (front, _) = text.split_at(whole);
-    match length_of_lines(front, MOST_LINES) {
+    let (first_part, _) = text.split_at(whole);
+    match length_of_lines(first_part, MOST_LINES) {
         Some(kept) => (kept, Some(MOST_LINES)),
         None if text.len() > MOST_BYTES => (whole, Some(MOST_BYTES as u64)),
         None => (whole, None),

@@ -28,7 +28,7 @@ pub struct Script {
     /// How many bytes are read: those of the lines before the first that passes a limit.
     kept: usize,
     place: Cursor,
-    /// The limit that a line behind these passes.
+    /// The limit that a line after these passes.
     limit: Option<u64>,
 }
 
@@ -39,7 +39,11 @@ impl Model for Script {
 
     ghost Value = { Reader };
 
-    ghost view = { λ s. record { lines = left_at (take s.kept s.text) s.place; read = s.place.number; limit = s.limit } };
+    ghost view = { λ s. record {
+      lines = left_at (take s.kept s.text) s.place;
+      read = s.place.number;
+      limit = s.limit;
+    } };
 
     ghost invariant = { λ s. (s.kept ≤ length s.text) × IsPlace (take s.kept s.text) s.place };
 }
@@ -59,11 +63,15 @@ impl Script {
     }
 }
 
-/// The next event of the script, or None at its end. After a refusal the script is as before.
+/// The next event of the script, or None at its end. It is a refusal with the number of the line:
+/// `BadCommand` for a line outside the grammar, `BadRecord` for a change that is no record of LDIF,
+/// `LimitReached` for a text with too many bytes or lines, or `NoMemory`; and then the script is as
+/// before.
 pub fn read_event(alloc: Global, script: &mut Script) -> Result<Option<Event>, ScriptFault>
     ensures reads { spec.Reads script.old script.new result }
     // An event takes a line at least.
-    ensures shorter { IfOk result (λ found. OnSome found (length script.new.lines < length script.old.lines)) }
+    ensures shorter { IfOk result (λ found.
+        OnSome found (length script.new.lines < length script.old.lines)) }
     ensures err { OnErr result (script.new ≡ script.old) }
 {
     let (bytes, _) = script.text.as_slice().split_at(script.kept);
@@ -97,8 +105,10 @@ fn event_at(
     limit: Option<u64>,
 ) -> Result<Option<(Event, Cursor)>, ScriptFault>
     requires { IsPlace bytes.now start }
-    ensures reads { ReadsEvent bytes.now limit result (spec.next_from limit start.number (left_at bytes.now start)) }
-    ensures shorter { IfOk result (λ found. IfSome found (λ x. length (left_at bytes.now x.1) < length (left_at bytes.now start))) }
+    ensures reads { ReadsEvent bytes.now limit result
+        (spec.next_from limit start.number (left_at bytes.now start)) }
+    ensures shorter { IfOk result (λ found.
+        IfSome found (λ x. length (left_at bytes.now x.1) < length (left_at bytes.now start))) }
     ensures place { IfOk result (λ found. IfSome found (λ x. IsPlace bytes.now x.1)) }
 {
     let mut place = start;
@@ -120,7 +130,7 @@ fn event_at(
     }
 }
 
-/// The line behind the place passes the limit.
+/// The line after the place passes the limit.
 fn limit_reached(place: Cursor, limit: u64) -> ScriptFault
     requires { place.number < 2 ^ 63 }
     ensures { result ≡ fault_at (place.number + 1) (LimitReached limit) }
@@ -142,7 +152,8 @@ fn rest_of(
     requires { IsPlace bytes.now place }
     ensures reads { ReadsCommand bytes.now limit place.number result
         (spec.next_of limit place.number (Some (saying_of heading)) (left_at bytes.now place)) }
-    ensures shorter { IfOk result (λ x. length (left_at bytes.now x.1) ≤ length (left_at bytes.now place)) }
+    ensures shorter { IfOk result (λ x.
+        length (left_at bytes.now x.1) ≤ length (left_at bytes.now place)) }
     ensures place { IfOk result (λ x. IsPlace bytes.now x.1) }
 {
     match heading {
@@ -161,8 +172,10 @@ fn write_at(
 ) -> Result<(Command, Cursor), ScriptFault>
     requires { IsPlace bytes.now place }
     ensures reads { ReadsCommand bytes.now limit place.number result
-        (spec.record_before limit place.number name (spec.body_of (left_at bytes.now place)) (spec.after_body (left_at bytes.now place))) }
-    ensures shorter { IfOk result (λ x. length (left_at bytes.now x.1) ≤ length (left_at bytes.now place)) }
+        (spec.record_before limit place.number name (spec.body_of (left_at bytes.now place))
+        (spec.after_body (left_at bytes.now place))) }
+    ensures shorter { IfOk result (λ x.
+        length (left_at bytes.now x.1) ≤ length (left_at bytes.now place)) }
     ensures place { IfOk result (λ x. IsPlace bytes.now x.1) }
 {
     let end = record_end(bytes, place);
@@ -170,7 +183,7 @@ fn write_at(
     if !has_text_lines(body) {
         return Err(ScriptFault::bad_command(place.number));
     }
-    if let Some(limit) = limit_behind(bytes, end, limit) {
+    if let Some(limit) = limit_after(bytes, end, limit) {
         return Err(limit_reached(end, limit));
     }
     let change = record_of(alloc, body, place.number)?;
@@ -178,7 +191,7 @@ fn write_at(
 }
 
 /// The limit that the line at a place passes, where the lines that are read end there.
-fn limit_behind(bytes: &[u8], place: Cursor, limit: Option<u64>) -> Option<u64>
+fn limit_after(bytes: &[u8], place: Cursor, limit: Option<u64>) -> Option<u64>
     requires { IsPlace bytes.now place }
     ensures { result ≡ spec.limit_before limit (left_at bytes.now place) }
 {
@@ -189,8 +202,10 @@ fn limit_behind(bytes: &[u8], place: Cursor, limit: Option<u64>) -> Option<u64>
 fn record_end(bytes: &[u8], place: Cursor) -> Cursor
     requires { IsPlace bytes.now place }
     ensures left { left_at bytes.now result ≡ spec.after_body (left_at bytes.now place) }
-    ensures number { result.number ≡ place.number + length (spec.body_of (left_at bytes.now place)) }
-    ensures body { lines (take (result.at - place.at) (drop place.at bytes.now)) ≡ spec.body_of (left_at bytes.now place) }
+    ensures number { result.number
+        ≡ place.number + length (spec.body_of (left_at bytes.now place)) }
+    ensures body { lines (take (result.at - place.at) (drop place.at bytes.now))
+        ≡ spec.body_of (left_at bytes.now place) }
     ensures later { place.at ≤ result.at }
     ensures place { IsPlace bytes.now result }
 {
@@ -229,10 +244,15 @@ fn has_text_lines(text: &[u8]) -> bool
     true
 }
 
-/// The change that a record tells, which stands behind the command of that line.
+/// The change that a record reports, which stands after the command of that line.
 fn record_of(alloc: Global, body: &[u8], command: u64) -> Result<Change, ScriptFault>
     requires { command < 2 ^ 63 }
-    ensures { ReadsRecord command result (next_record (record { lines = text_lines (command + 1) body.now; line = command + 1; begun = false })) }
+    ensures { ReadsRecord command result
+        (next_record (record {
+          lines = text_lines (command + 1) body.now;
+          line = command + 1;
+          begun = false;
+        })) }
 {
     match Records::new(body, command + 1).next(alloc) {
         Ok(Some(change)) => Ok(change),

@@ -2,7 +2,7 @@
 ghost use Rattle.std.specs.Prelude.{◌≡◌, ◌≤◌, true};
 ghost use Rattle.std.specs.List.{list_all};
 ghost use Rattle.entry_tree.specs.Selection.{search_of};
-ghost use Rattle.ldap_filter.specs.Tree.{tree_of};
+ghost use Rattle.ldap_filter.specs.FilterTree.{tree_of};
 ghost use Rattle.ldif_text.specs.Field.{shown};
 ghost use Rattle.cascade_script.specs.Fault.{Gives};
 ghost use Rattle.cascade_script.specs.Words as spec;
@@ -20,23 +20,23 @@ pub fn until_mark(bytes: &[u8], mark: u8, line: u64) -> Result<(&[u8], &[u8]), S
     ensures { Gives line (λ x. (x.0.now, x.1.now)) result (spec.until mark bytes.now) }
 {
     match cut_at(bytes, mark) {
-        (front, Some(back)) => Ok((front, back)),
+        (first_part, Some(back)) => Ok((first_part, back)),
         (_, None) => Err(ScriptFault::bad_command(line)),
     }
 }
 
-/// The bytes without this front, if they have it.
-fn strip_front<'a>(bytes: &'a [u8], prefix: &[u8]) -> Option<&'a [u8]>
+/// The bytes without this prefix, if they have it.
+fn without_prefix<'a>(bytes: &'a [u8], prefix: &[u8]) -> Option<&'a [u8]>
     ensures { shown result ≡ spec.stripped prefix.now bytes.now }
 {
     bytes.strip_prefix(prefix)
 }
 
 /// What follows the prefix.
-pub fn after_front<'a>(bytes: &'a [u8], prefix: &[u8], line: u64) -> Result<&'a [u8], ScriptFault>
+pub fn after_prefix<'a>(bytes: &'a [u8], prefix: &[u8], line: u64) -> Result<&'a [u8], ScriptFault>
     ensures { Gives line (λ x. x.now) result (spec.stripped prefix.now bytes.now) }
 {
-    strip_front(bytes, prefix).ok_or(ScriptFault::bad_command(line))
+    without_prefix(bytes, prefix).ok_or(ScriptFault::bad_command(line))
 }
 
 /// Goes on where the test holds.
@@ -80,7 +80,7 @@ pub fn node_name(alloc: Global, bytes: &[u8], line: u64) -> Result<Octets, Scrip
     Ok(Octets::from_slice(alloc, bytes)?)
 }
 
-/// The name of a node, and what stands behind the space after it.
+/// The name of a node, and what stands after the space after it.
 #[tactic(auto, unfolding(crate::specs::Words::named))]
 pub fn named(alloc: Global, text: &[u8], line: u64) -> Result<(Octets, &[u8]), ScriptFault>
     ensures { Gives line (λ x. (x.0, x.1.now)) result (spec.named text.now) }
@@ -95,7 +95,7 @@ fn all_digits(text: &[u8]) -> bool
     text.iter().all(|b| b.is_ascii_digit())
 }
 
-/// Whether the text is a decimal number without a needless zero at its front.
+/// Whether the text is a decimal number without a needless zero at its prefix.
 fn spells_number(text: &[u8]) -> bool
     ensures { result ≡ spec.is_number text.now }
 {
@@ -133,12 +133,12 @@ fn value_up_to(digits: &[u8], most: u64) -> Option<u64>
     Some(value)
 }
 
-/// What stands between quotation marks, and behind them.
+/// What stands between quotation marks, and after them.
 #[tactic(auto, unfolding(crate::specs::Words::quoted))]
 pub fn quoted(text: &[u8], line: u64) -> Result<(&[u8], &[u8]), ScriptFault>
     ensures { Gives line (λ x. (x.0.now, x.1.now)) result (spec.quoted text.now) }
 {
-    let rest = after_front(text, b"\"", line)?;
+    let rest = after_prefix(text, b"\"", line)?;
     until_mark(rest, b'"', line)
 }
 
@@ -181,7 +181,7 @@ fn scope_in(word: &[u8], line: u64) -> Result<Scope, ScriptFault>
     Err(ScriptFault::bad_command(line))
 }
 
-/// `SCOPE "BASE" "FILTER"`, and what stands behind it.
+/// `SCOPE "BASE" "FILTER"`, and what stands after it.
 #[tactic(auto, unfolding(crate::specs::Words::search_in))]
 pub fn search_in(alloc: Global, text: &[u8], line: u64) -> Result<(Spec, &[u8]), ScriptFault>
     ensures { Gives line (λ x. (search_of x.0, x.1.now)) result (spec.search_in text.now) }
@@ -190,7 +190,7 @@ pub fn search_in(alloc: Global, text: &[u8], line: u64) -> Result<(Spec, &[u8]),
     let scope = scope_in(word, line)?;
     let (base, rest) = quoted(rest, line)?;
     let base = name_in(alloc, base, line)?;
-    let rest = after_front(rest, b" ", line)?;
+    let rest = after_prefix(rest, b" ", line)?;
     let (filter, rest) = quoted(rest, line)?;
     let filter = filter_in(alloc, filter, line)?;
     Ok((

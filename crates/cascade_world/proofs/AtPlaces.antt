@@ -7,18 +7,19 @@ use Rattle.std.proofs.Math.ListN.{length-set}
 use Rattle.std.proofs.lemmas.Option.{slice_get-get_or}
 use Rattle.sync_provider.specs.Machine.{ProviderState}
 use Rattle.sync_provider.specs.Returning.{HasNoWriteSince}
+use Rattle.sync_provider.proofs.Returns.{no_write_came}
 use Rattle.cascade_exchange.specs.declared.exchange.Performed.{Performed}
 use Rattle.cascade_script.specs.declared.fault.Cause.{Cause}
 use Rattle.cascade_script.specs.declared.fault.Cause.TheVariants.{NoMemory}
-use Rattle.cascade_nodes.specs.declared.node.Supplier.{Supplier}
-use Rattle.cascade_nodes.specs.declared.node.Follower.{Follower}
+use Rattle.cascade_nodes.specs.declared.node.ProviderNode.{ProviderNode}
+use Rattle.cascade_nodes.specs.declared.node.ConsumerNode.{ConsumerNode}
 use Rattle.cascade_nodes.specs.Commits.{Leaves}
-use Rattle.cascade_exchange.specs.Exchange.{Pair, Outcome, pair_of}
+use Rattle.cascade_exchange.specs.Exchange.{Agreement, ExchangeOutcome, agreement_of}
 use Rattle.cascade_exchange.specs.Parts.{Performs, IsBefore}
 use Rattle.cascade_world.specs.Places.{ArePlaces, placed, PerformsAt}
-use Rattle.cascade_report.specs.Report.{Stage}
-use Rattle.cascade_world.specs.World.{State, is_supplier, is_follower, top_of, commits_of}
-use Rattle.cascade_exchange.proofs.Performing.{unwritten, back}
+use Rattle.cascade_report.specs.ReportLines.{StoredStage}
+use Rattle.cascade_world.specs.World.{WorldState, is_provider_node, is_consumer_node, top_of, commits_of}
+use Rattle.cascade_exchange.proofs.Performing.{back}
 use Rattle.cascade_world.proofs.Places.{position_is}
 
 -- what stands at a place
@@ -33,83 +34,85 @@ read_at xs i x low is = slice_get-get_or xs i x low ∙ ap Some (sym is)
 set_same : {X : Type 0} (xs : List X) (i : ℕ) (x y : X) → x ≡ get_or xs i x → y ≡ x → set xs i y ≡ xs
 set_same xs i x y is same = ap (set xs i) (same ∙ is) ∙ set-get_or xs i x
 
-pub supplier_low : (state : State) (name : List ℕ) (j i : ℕ) → ArePlaces state name (j, i) → j < length state.suppliers
-supplier_low state name j i places = (position_is (is_supplier places.follower.source) state.suppliers j places.at_supplier).1
+-- the place of the provider node is one of the list
+pub provider_node_low : (state : WorldState) (name : List ℕ) (j i : ℕ) → ArePlaces state name (j, i) → j < length state.provider_nodes
+provider_node_low state name j i places = (position_is (is_provider_node places.consumer_node.source) state.provider_nodes j places.at_provider_node).1
 
-pub follower_low : (state : State) (name : List ℕ) (j i : ℕ) → ArePlaces state name (j, i) → i < length state.followers
-follower_low state name j i places = (position_is (is_follower name) state.followers i places.at_follower).1
+-- the place of the consumer node is one of the list
+pub consumer_node_low : (state : WorldState) (name : List ℕ) (j i : ℕ) → ArePlaces state name (j, i) → i < length state.consumer_nodes
+consumer_node_low state name j i places = (position_is (is_consumer_node name) state.consumer_nodes i places.at_consumer_node).1
 
 -- ---- what is done
 
-abbrev served : List ℕ → Supplier → ProviderState → Follower → Pair
-served top r p f = pair_of p f (record { top = top; notes = r.notes })
+abbrev served : List ℕ → ProviderNode → ProviderState → ConsumerNode → Agreement
+served top r p f = agreement_of p f (record { top = top; notes = r.notes })
 
 -- the parts of the code see the state
-pub performed_at : (state view : State) (j i : ℕ) (part : Pair → Outcome) (seen r r' : Supplier) (f f' : Follower) (top : List ℕ) (result : Result Performed Cause) → view ≡ state → j < length state.suppliers → i < length state.followers
-    → seen ≡ get_or view.suppliers j seen → r ≡ get_or view.suppliers j r → f ≡ get_or view.followers i f → top ≡ top_of state seen.name
+pub performed_at : (state view : WorldState) (j i : ℕ) (part : Agreement → ExchangeOutcome) (seen r r' : ProviderNode) (f f' : ConsumerNode) (top : List ℕ) (result : Result Performed Cause) → view ≡ state → j < length state.provider_nodes → i < length state.consumer_nodes
+    → seen ≡ get_or view.provider_nodes j seen → r ≡ get_or view.provider_nodes j r → f ≡ get_or view.consumer_nodes i f → top ≡ top_of state seen.name
     → Performs (part (served top r r.provider f)) (served top r r'.provider f') result → IfOk result (λ done. IsBefore r.provider f r'.provider done.before) → r' ≡ record r { provider = r'.provider }
-    → PerformsAt state j i part (record view { suppliers = set view.suppliers j r'; followers = set view.followers i f' }) result
+    → PerformsAt state j i part (record view { provider_nodes = set view.provider_nodes j r'; consumer_nodes = set view.consumer_nodes i f' }) result
 performed_at state view j i part seen r r' f f' top result same low low' seen_is r_is f_is above does before kept =
-    let r_at : slice_get state.suppliers j ≡ Some r = read_at state.suppliers j r low (subst (λ (s : State). r ≡ get_or s.suppliers j r) same r_is) in
-    let f_at : slice_get state.followers i ≡ Some f = read_at state.followers i f low' (subst (λ (s : State). f ≡ get_or s.followers i f) same f_is) in
-    let seen_at : slice_get state.suppliers j ≡ Some seen = read_at state.suppliers j seen low (subst (λ (s : State). seen ≡ get_or s.suppliers j seen) same seen_is) in
+    let r_at : slice_get state.provider_nodes j ≡ Some r = read_at state.provider_nodes j r low (subst (λ (s : WorldState). r ≡ get_or s.provider_nodes j r) same r_is) in
+    let f_at : slice_get state.consumer_nodes i ≡ Some f = read_at state.consumer_nodes i f low' (subst (λ (s : WorldState). f ≡ get_or s.consumer_nodes i f) same f_is) in
+    let seen_at : slice_get state.provider_nodes j ≡ Some seen = read_at state.provider_nodes j seen low (subst (λ (s : WorldState). seen ≡ get_or s.provider_nodes j seen) same seen_is) in
     let both : Some seen ≡ Some r = sym seen_at ∙ r_at in
     let one : seen ≡ r = cc in
-    let above' : top ≡ top_of state r.name = above ∙ ap (λ (s : Supplier). top_of state s.name) one in
+    let above' : top ≡ top_of state r.name = above ∙ ap (λ (s : ProviderNode). top_of state s.name) one in
     record {
-      supplier = r;
-      follower = f;
-      at_supplier = r_at;
-      at_follower = f_at;
+      provider_node = r;
+      consumer_node = f;
+      at_provider_node = r_at;
+      at_consumer_node = f_at;
       provider = r'.provider;
       consumer = f';
       does = subst (λ name. Performs (part (served name r r.provider f)) (served name r r'.provider f') result) above' does;
       before = before;
-      after = ap (λ (s : State). record s { suppliers = set s.suppliers j r'; followers = set s.followers i f' }) same ∙ ap (λ s. record state { suppliers = set state.suppliers j s; followers = set state.followers i f' }) kept;
+      after = ap (λ (s : WorldState). record s { provider_nodes = set s.provider_nodes j r'; consumer_nodes = set s.consumer_nodes i f' }) same ∙ ap (λ s. record state { provider_nodes = set state.provider_nodes j s; consumer_nodes = set state.consumer_nodes i f' }) kept;
     }
 
--- want of memory, before anything is done
-pub unperformed : (state : State) (j i : ℕ) (part : Pair → Outcome) → j < length state.suppliers → i < length state.followers → PerformsAt state j i part state (Err NoMemory)
+-- out of memory, before anything is done
+pub unperformed : (state : WorldState) (j i : ℕ) (part : Agreement → ExchangeOutcome) → j < length state.provider_nodes → i < length state.consumer_nodes → PerformsAt state j i part state (Err NoMemory)
 unperformed state j i part low low' =
-    let r = element state.suppliers j low in
-    let f = element state.followers i low' in
-    let suppliers : state.suppliers ≡ set state.suppliers j r.0 = sym (set_same state.suppliers j r.0 r.0 r.1 refl) in
-    let followers : state.followers ≡ set state.followers i f.0 = sym (set_same state.followers i f.0 f.0 f.1 refl) in
+    let r = element state.provider_nodes j low in
+    let f = element state.consumer_nodes i low' in
+    let provider_nodes : state.provider_nodes ≡ set state.provider_nodes j r.0 = sym (set_same state.provider_nodes j r.0 r.0 r.1 refl) in
+    let consumer_nodes : state.consumer_nodes ≡ set state.consumer_nodes i f.0 = sym (set_same state.consumer_nodes i f.0 f.0 f.1 refl) in
     record {
-      supplier = r.0;
-      follower = f.0;
-      at_supplier = read_at state.suppliers j r.0 low r.1;
-      at_follower = read_at state.followers i f.0 low' f.1;
+      provider_node = r.0;
+      consumer_node = f.0;
+      at_provider_node = read_at state.provider_nodes j r.0 low r.1;
+      at_consumer_node = read_at state.consumer_nodes i f.0 low' f.1;
       provider = r.0.provider;
       consumer = f.0;
       does = tt;
       before = tt;
-      after = λ k. record state { suppliers = suppliers k; followers = followers k };
+      after = λ k. record state { provider_nodes = provider_nodes k; consumer_nodes = consumer_nodes k };
     }
 
--- no stage is told
-pub no_stages : (stages : List Stage) (count : ℕ) → count ≡ length stages → (count == 0) ≡ true → stages ≡ []
+-- no stage is reported
+pub no_stages : (stages : List StoredStage) (count : ℕ) → count ≡ length stages → (count == 0) ≡ true → stages ≡ []
 no_stages [] count long empty = refl
 no_stages (stage ∷ stages) count long empty = let none : count ≡ 0 = grind (arith, nat_tests) in absurd (omega arith)
 
 -- ---- the two after it
 
-pub consumer_after : (state mid : State) (j i : ℕ) (part : Pair → Outcome) (result : Result Performed Cause) (at : PerformsAt state j i part mid result) → i < length state.followers → slice_get mid.followers i ≡ Some at.consumer
+pub consumer_after : (state mid : WorldState) (j i : ℕ) (part : Agreement → ExchangeOutcome) (result : Result Performed Cause) (at : PerformsAt state j i part mid result) → i < length state.consumer_nodes → slice_get mid.consumer_nodes i ≡ Some at.consumer
 consumer_after state mid j i part result at low =
-    let long : length (set state.followers i at.consumer) ≡ length state.followers = length-set state.followers i at.consumer in
-    ap (λ (s : State). slice_get s.followers i) at.after
-    ∙ slice_get-get_or (set state.followers i at.consumer) i at.consumer (omega arith)
-    ∙ ap Some (get_or-set_same state.followers i at.consumer at.consumer low)
+    let long : length (set state.consumer_nodes i at.consumer) ≡ length state.consumer_nodes = length-set state.consumer_nodes i at.consumer in
+    ap (λ (s : WorldState). slice_get s.consumer_nodes i) at.after
+    ∙ slice_get-get_or (set state.consumer_nodes i at.consumer) i at.consumer (omega arith)
+    ∙ ap Some (get_or-set_same state.consumer_nodes i at.consumer at.consumer low)
 
-supplier_after : (state mid : State) (j i : ℕ) (part : Pair → Outcome) (result : Result Performed Cause) (at : PerformsAt state j i part mid result) (r : Supplier) → j < length state.suppliers → r ≡ get_or mid.suppliers j r
-    → r ≡ record at.supplier { provider = at.provider }
-supplier_after state mid j i part result at r low is =
-    is ∙ ap (λ (s : State). get_or s.suppliers j r) at.after ∙ get_or-set_same state.suppliers j (record at.supplier { provider = at.provider }) r low
+provider_node_after : (state mid : WorldState) (j i : ℕ) (part : Agreement → ExchangeOutcome) (result : Result Performed Cause) (at : PerformsAt state j i part mid result) (r : ProviderNode) → j < length state.provider_nodes → r ≡ get_or mid.provider_nodes j r
+    → r ≡ record at.provider_node { provider = at.provider }
+provider_node_after state mid j i part result at r low is =
+    is ∙ ap (λ (s : WorldState). get_or s.provider_nodes j r) at.after ∙ get_or-set_same state.provider_nodes j (record at.provider_node { provider = at.provider }) r low
 
 -- what the consumer's own node commits
-pub leaves_at : (state mid new : State) (j i : ℕ) (part : Pair → Outcome) (result : Result Performed Cause) (stages : List Stage) (answer : Result (Unit {0}) Cause) (at : PerformsAt state j i part mid result) → i < length state.followers
-    → IfSome (slice_get mid.followers i) (λ follower. Leaves (commits_of mid follower stages) new answer) → Leaves (commits_of mid at.consumer stages) new answer
-leaves_at state mid new j i part result stages answer at low does = subst (λ o. IfSome o (λ follower. Leaves (commits_of mid follower stages) new answer)) (consumer_after state mid j i part result at low) does
+pub leaves_at : (state mid new : WorldState) (j i : ℕ) (part : Agreement → ExchangeOutcome) (result : Result Performed Cause) (stages : List StoredStage) (answer : Result (Unit {0}) Cause) (at : PerformsAt state j i part mid result) → i < length state.consumer_nodes
+    → IfSome (slice_get mid.consumer_nodes i) (λ consumer_node. Leaves (commits_of mid consumer_node stages) new answer) → Leaves (commits_of mid at.consumer stages) new answer
+leaves_at state mid new j i part result stages answer at low does = subst (λ o. IfSome o (λ consumer_node. Leaves (commits_of mid consumer_node stages) new answer)) (consumer_after state mid j i part result at low) does
 
 -- ---- what is taken back
 
@@ -120,26 +123,27 @@ set_back xs i x y z at low same =
     set-set xs i y z ∙ set_same xs i x z is same
 
 -- the provider got no write
-pub no_write : (state mid view : State) (j i : ℕ) (part : Pair → Outcome) (done : Performed) (r : Supplier) → j < length state.suppliers → PerformsAt state j i part mid (Ok done) → view ≡ mid → r ≡ get_or view.suppliers j r
+pub no_write : (state mid view : WorldState) (j i : ℕ) (part : Agreement → ExchangeOutcome) (done : Performed) (r : ProviderNode) → j < length state.provider_nodes → PerformsAt state j i part mid (Ok done) → view ≡ mid → r ≡ get_or view.provider_nodes j r
     → HasNoWriteSince r.provider.directory done.before.searches
 no_write state mid view j i part done r low at same is =
-    let r_is : r ≡ record at.supplier { provider = at.provider } = supplier_after state mid j i part (Ok done) at r low (subst (λ (s : State). r ≡ get_or s.suppliers j r) same is) in
-    subst (λ (s : Supplier). HasNoWriteSince s.provider.directory done.before.searches) (sym r_is)
-    (unwritten at.supplier.provider at.provider.directory done.before.searches at.before.same_searches at.before.same_directory)
+    let r_is : r ≡ record at.provider_node { provider = at.provider } = provider_node_after state mid j i part (Ok done) at r low (subst (λ (s : WorldState). r ≡ get_or s.provider_nodes j r) same is) in
+    subst (λ (s : ProviderNode). HasNoWriteSince s.provider.directory done.before.searches) (sym r_is)
+    (no_write_came at.provider_node.provider at.provider.directory done.before.searches at.before.same_searches at.before.same_directory)
 
-pub taken_back : (state mid view : State) (j i : ℕ) (part : Pair → Outcome) (done : Performed) (r : Supplier) (p' : ProviderState) (f' : Follower) → j < length state.suppliers → i < length state.followers
-    → PerformsAt state j i part mid (Ok done) → view ≡ mid → r ≡ get_or view.suppliers j r → p' ≡ record r.provider { searches = done.before.searches.searches } → f' ≡ done.before.follower
-    → record view { suppliers = set view.suppliers j (record r { provider = p' }); followers = set view.followers i f' } ≡ state
+-- an exchange that is taken back leaves the nodes as they were
+pub taken_back : (state mid view : WorldState) (j i : ℕ) (part : Agreement → ExchangeOutcome) (done : Performed) (r : ProviderNode) (p' : ProviderState) (f' : ConsumerNode) → j < length state.provider_nodes → i < length state.consumer_nodes
+    → PerformsAt state j i part mid (Ok done) → view ≡ mid → r ≡ get_or view.provider_nodes j r → p' ≡ record r.provider { searches = done.before.searches.searches } → f' ≡ done.before.consumer_node
+    → record view { provider_nodes = set view.provider_nodes j (record r { provider = p' }); consumer_nodes = set view.consumer_nodes i f' } ≡ state
 taken_back state mid view j i part done r p' f' low low' at same is p_is f_is =
-    let r_is : r ≡ record at.supplier { provider = at.provider } = supplier_after state mid j i part (Ok done) at r low (subst (λ (s : State). r ≡ get_or s.suppliers j r) same is) in
-    let restored : p' ≡ record at.provider { searches = done.before.searches.searches } = p_is ∙ ap (λ (s : Supplier). record s.provider { searches = done.before.searches.searches }) r_is in
-    let provider : p' ≡ at.supplier.provider =
-    back at.supplier.provider at.provider p' done.before.searches at.before.same_directory at.before.same_limit at.before.same_kind at.before.same_searches restored in
-    let supplier : record r { provider = p' } ≡ at.supplier = ap (λ (s : Supplier). record s { provider = p' }) r_is ∙ ap (λ p. record at.supplier { provider = p }) provider in
-    let follower : f' ≡ at.follower = f_is ∙ at.before.same_follower in
-    let before : placed state j i at.supplier at.provider at.consumer ≡ view = sym (same ∙ at.after) in
-    let suppliers : set (set state.suppliers j (record at.supplier { provider = at.provider })) j (record r { provider = p' }) ≡ state.suppliers =
-    set_back state.suppliers j at.supplier (record at.supplier { provider = at.provider }) (record r { provider = p' }) at.at_supplier low supplier in
-    let followers : set (set state.followers i at.consumer) i f' ≡ state.followers = set_back state.followers i at.follower at.consumer f' at.at_follower low' follower in
-    ap (λ (s : State). record s { suppliers = set s.suppliers j (record r { provider = p' }); followers = set s.followers i f' }) (sym before)
-    ∙ λ k. record state { suppliers = suppliers k; followers = followers k }
+    let r_is : r ≡ record at.provider_node { provider = at.provider } = provider_node_after state mid j i part (Ok done) at r low (subst (λ (s : WorldState). r ≡ get_or s.provider_nodes j r) same is) in
+    let restored : p' ≡ record at.provider { searches = done.before.searches.searches } = p_is ∙ ap (λ (s : ProviderNode). record s.provider { searches = done.before.searches.searches }) r_is in
+    let provider : p' ≡ at.provider_node.provider =
+    back at.provider_node.provider at.provider p' done.before.searches at.before.same_directory at.before.same_limit at.before.same_kind at.before.same_searches restored in
+    let provider_node : record r { provider = p' } ≡ at.provider_node = ap (λ (s : ProviderNode). record s { provider = p' }) r_is ∙ ap (λ p. record at.provider_node { provider = p }) provider in
+    let consumer_node : f' ≡ at.consumer_node = f_is ∙ at.before.same_consumer_node in
+    let before : placed state j i at.provider_node at.provider at.consumer ≡ view = sym (same ∙ at.after) in
+    let provider_nodes : set (set state.provider_nodes j (record at.provider_node { provider = at.provider })) j (record r { provider = p' }) ≡ state.provider_nodes =
+    set_back state.provider_nodes j at.provider_node (record at.provider_node { provider = at.provider }) (record r { provider = p' }) at.at_provider_node low provider_node in
+    let consumer_nodes : set (set state.consumer_nodes i at.consumer) i f' ≡ state.consumer_nodes = set_back state.consumer_nodes i at.consumer_node at.consumer f' at.at_consumer_node low' consumer_node in
+    ap (λ (s : WorldState). record s { provider_nodes = set s.provider_nodes j (record r { provider = p' }); consumer_nodes = set s.consumer_nodes i f' }) (sym before)
+    ∙ λ k. record state { provider_nodes = provider_nodes k; consumer_nodes = consumer_nodes k }

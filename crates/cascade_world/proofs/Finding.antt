@@ -1,17 +1,18 @@
 -- Nodes by their names, where one more is declared or one is changed.
 use Rattle.std.proofs.Common.{◌≡◌, ◌⊎◌, ℕ, Bool, true, false, Option, Some, None, List, [], ◌∷◌, ◌++◌, length, suc, refl, ap, sym, ◌∙◌, inl, inr}
-use Rattle.std.proofs.lemmas.Bool.{cases_Bool}
+use Rattle.std.proofs.lemmas.Bool.{cases_Bool, or_parts}
 use Rattle.std.specs.List.{list_any}
 use Rattle.std.specs.Prelude.{find, is_some}
 use Rattle.std.specs.Str.{bytes_eq}
 use Rattle.sync_provider.specs.Machine.{ProviderState}
-use Rattle.cascade_nodes.specs.declared.node.Supplier.{Supplier}
-use Rattle.cascade_nodes.specs.declared.node.Follower.{Follower}
-use Rattle.cascade_world.specs.World.{is_supplier, is_follower, first_changed, with_follower, with_provider, with_supplier}
-use Rattle.cascade_world.proofs.SameNames.{same_name, itself, or_parts, pointed_at}
+use Rattle.cascade_nodes.specs.declared.node.ProviderNode.{ProviderNode}
+use Rattle.cascade_nodes.specs.declared.node.ConsumerNode.{ConsumerNode}
+use Rattle.cascade_world.specs.World.{is_provider_node, is_consumer_node, first_changed, with_consumer_node, with_provider, with_provider_node}
+use Rattle.cascade_world.proofs.SameNames.{same_name, itself, pointed_at}
 
 -- ---- any list
 
+-- an item that is found passes the test
 pub found : {X : Type 0} (test : X → Bool) (xs : List X) (x : X) → find test xs ≡ Some x → test x ≡ true
 found test [] x e = cc
 found test (y ∷ ys) x e =
@@ -70,6 +71,7 @@ find-unchanged test other change (y ∷ ys) apart =
           )
     ]
 
+-- changing the first item that passes leaves the length
 pub length-first_changed : {X : Type 0} (test : X → Bool) (change : X → X) (xs : List X) → length (first_changed test change xs) ≡ length xs
 length-first_changed test change [] = refl
 length-first_changed test change (y ∷ ys) =
@@ -98,58 +100,64 @@ found_after old new name now changed other x e =
       | inr miss ↦ inr (miss, sym (changed.others other miss) ∙ e)
     ]
 
--- the suppliers and the followers by their names
-abbrev pub suppliers_by : List Supplier → List ℕ → Option Supplier
-suppliers_by suppliers name = find (is_supplier name) suppliers
+-- the provider nodes and the consumer nodes by their names
+abbrev pub provider_nodes_by : List ProviderNode → List ℕ → Option ProviderNode
+provider_nodes_by provider_nodes name = find (is_provider_node name) provider_nodes
 
-abbrev pub followers_by : List Follower → List ℕ → Option Follower
-followers_by followers name = find (is_follower name) followers
+-- the consumer node of a name
+abbrev pub consumer_nodes_by : List ConsumerNode → List ℕ → Option ConsumerNode
+consumer_nodes_by consumer_nodes name = find (is_consumer_node name) consumer_nodes
 
-pub supplier_name : (suppliers : List Supplier) (name : List ℕ) (supplier : Supplier) → suppliers_by suppliers name ≡ Some supplier → name ≡ supplier.name
-supplier_name suppliers name supplier e = same_name name supplier.name (found (is_supplier name) suppliers supplier e)
+-- the provider node that is found by a name has it
+pub provider_node_name : (provider_nodes : List ProviderNode) (name : List ℕ) (provider_node : ProviderNode) → provider_nodes_by provider_nodes name ≡ Some provider_node → name ≡ provider_node.name
+provider_node_name provider_nodes name provider_node e = same_name name provider_node.name (found (is_provider_node name) provider_nodes provider_node e)
 
--- one name, one supplier
-pub same_supplier : (suppliers : List Supplier) (name other : List ℕ) (supplier there : Supplier) → suppliers_by suppliers name ≡ Some supplier → suppliers_by suppliers other ≡ Some there → name ≡ other → supplier ≡ there
-same_supplier suppliers name other supplier there e e' same = let both : Some supplier ≡ Some there = sym e ∙ ap (suppliers_by suppliers) same ∙ e' in cc
+-- one name, one provider node
+pub same_provider_node : (provider_nodes : List ProviderNode) (name other : List ℕ) (provider_node there : ProviderNode) → provider_nodes_by provider_nodes name ≡ Some provider_node → provider_nodes_by provider_nodes other ≡ Some there → name ≡ other → provider_node ≡ there
+same_provider_node provider_nodes name other provider_node there e e' same = let both : Some provider_node ≡ Some there = sym e ∙ ap (provider_nodes_by provider_nodes) same ∙ e' in cc
 
-pub follower_name : (followers : List Follower) (name : List ℕ) (f : Follower) → followers_by followers name ≡ Some f → name ≡ f.name
-follower_name followers name f e = same_name name f.name (found (is_follower name) followers f e)
+-- the consumer node that is found by a name has it
+pub consumer_node_name : (consumer_nodes : List ConsumerNode) (name : List ℕ) (f : ConsumerNode) → consumer_nodes_by consumer_nodes name ≡ Some f → name ≡ f.name
+consumer_node_name consumer_nodes name f e = same_name name f.name (found (is_consumer_node name) consumer_nodes f e)
 
-pub provider_changed : (suppliers : List Supplier) (name : List ℕ) (supplier : Supplier) (provider : ProviderState) → suppliers_by suppliers name ≡ Some supplier
-    → IsChanged (suppliers_by suppliers) (suppliers_by (with_provider name provider suppliers)) name (record supplier { provider = provider })
-provider_changed suppliers name supplier provider e = record {
-  here = find-changed (is_supplier name) (λ (r : Supplier). record r { provider = provider }) suppliers supplier e (found (is_supplier name) suppliers supplier e);
+-- another provider at the node of a name leaves the other nodes
+pub provider_changed : (provider_nodes : List ProviderNode) (name : List ℕ) (provider_node : ProviderNode) (provider : ProviderState) → provider_nodes_by provider_nodes name ≡ Some provider_node
+    → IsChanged (provider_nodes_by provider_nodes) (provider_nodes_by (with_provider name provider provider_nodes)) name (record provider_node { provider = provider })
+provider_changed provider_nodes name provider_node provider e = record {
+  here = find-changed (is_provider_node name) (λ (r : ProviderNode). record r { provider = provider }) provider_nodes provider_node e (found (is_provider_node name) provider_nodes provider_node e);
   others =
-      λ other miss. find-unchanged (is_supplier name) (is_supplier other) (λ (r : Supplier). record r { provider = provider }) suppliers
-      (λ r hit. let apart : is_supplier other r ≡ false = ap (bytes_eq other) (sym (same_name name r.name hit)) ∙ miss in (apart, apart));
+      λ other miss. find-unchanged (is_provider_node name) (is_provider_node other) (λ (r : ProviderNode). record r { provider = provider }) provider_nodes
+      (λ r hit. let apart : is_provider_node other r ≡ false = ap (bytes_eq other) (sym (same_name name r.name hit)) ∙ miss in (apart, apart));
 }
 
-pub follower_changed : (followers : List Follower) (name : List ℕ) (f after : Follower) → followers_by followers name ≡ Some f → after.name ≡ name
-    → IsChanged (followers_by followers) (followers_by (with_follower name after followers)) name after
-follower_changed followers name f after e same = record {
-  here = find-changed (is_follower name) (λ (g : Follower). after) followers f e (ap (bytes_eq name) same ∙ itself name);
+-- another consumer node of a name leaves the other nodes
+pub consumer_node_changed : (consumer_nodes : List ConsumerNode) (name : List ℕ) (f after : ConsumerNode) → consumer_nodes_by consumer_nodes name ≡ Some f → after.name ≡ name
+    → IsChanged (consumer_nodes_by consumer_nodes) (consumer_nodes_by (with_consumer_node name after consumer_nodes)) name after
+consumer_node_changed consumer_nodes name f after e same = record {
+  here = find-changed (is_consumer_node name) (λ (g : ConsumerNode). after) consumer_nodes f e (ap (bytes_eq name) same ∙ itself name);
   others =
-      λ other miss. find-unchanged (is_follower name) (is_follower other) (λ (g : Follower). after) followers
+      λ other miss. find-unchanged (is_consumer_node name) (is_consumer_node other) (λ (g : ConsumerNode). after) consumer_nodes
       (λ g hit. (ap (bytes_eq other) (sym (same_name name g.name hit)) ∙ miss, ap (bytes_eq other) same ∙ miss));
 }
 
-pub supplier_changed : (suppliers : List Supplier) (name : List ℕ) (supplier after : Supplier) → suppliers_by suppliers name ≡ Some supplier → after.name ≡ name
-    → IsChanged (suppliers_by suppliers) (suppliers_by (with_supplier name after suppliers)) name after
-supplier_changed suppliers name supplier after e same = record {
-  here = find-changed (is_supplier name) (λ (r : Supplier). after) suppliers supplier e (ap (bytes_eq name) same ∙ itself name);
+-- another provider node of a name leaves the other nodes
+pub provider_node_changed : (provider_nodes : List ProviderNode) (name : List ℕ) (provider_node after : ProviderNode) → provider_nodes_by provider_nodes name ≡ Some provider_node → after.name ≡ name
+    → IsChanged (provider_nodes_by provider_nodes) (provider_nodes_by (with_provider_node name after provider_nodes)) name after
+provider_node_changed provider_nodes name provider_node after e same = record {
+  here = find-changed (is_provider_node name) (λ (r : ProviderNode). after) provider_nodes provider_node e (ap (bytes_eq name) same ∙ itself name);
   others =
-      λ other miss. find-unchanged (is_supplier name) (is_supplier other) (λ (r : Supplier). after) suppliers
+      λ other miss. find-unchanged (is_provider_node name) (is_provider_node other) (λ (r : ProviderNode). after) provider_nodes
       (λ r hit. (ap (bytes_eq other) (sym (same_name name r.name hit)) ∙ miss, ap (bytes_eq other) same ∙ miss));
 }
 
 -- a consumer with another provider
-pub pointed_changed : (followers : List Follower) (name source : List ℕ) (f : Follower) → followers_by followers name ≡ Some f
-    → IsChanged (followers_by followers) (followers_by (first_changed (is_follower name) (pointed_at source) followers)) name (pointed_at source f)
-pointed_changed followers name source f e = record {
-  here = find-changed (is_follower name) (pointed_at source) followers f e (found (is_follower name) followers f e);
+pub pointed_changed : (consumer_nodes : List ConsumerNode) (name source : List ℕ) (f : ConsumerNode) → consumer_nodes_by consumer_nodes name ≡ Some f
+    → IsChanged (consumer_nodes_by consumer_nodes) (consumer_nodes_by (first_changed (is_consumer_node name) (pointed_at source) consumer_nodes)) name (pointed_at source f)
+pointed_changed consumer_nodes name source f e = record {
+  here = find-changed (is_consumer_node name) (pointed_at source) consumer_nodes f e (found (is_consumer_node name) consumer_nodes f e);
   others =
-      λ other miss. find-unchanged (is_follower name) (is_follower other) (pointed_at source) followers
-      (λ g hit. let apart : is_follower other g ≡ false = ap (bytes_eq other) (sym (same_name name g.name hit)) ∙ miss in (apart, apart));
+      λ other miss. find-unchanged (is_consumer_node name) (is_consumer_node other) (pointed_at source) consumer_nodes
+      (λ g hit. let apart : is_consumer_node other g ≡ false = ap (bytes_eq other) (sym (same_name name g.name hit)) ∙ miss in (apart, apart));
 }
 
 -- what is changed is found where it was found before
@@ -180,6 +188,7 @@ find-passed test (z ∷ zs) y miss =
       | inr passed ↦ rw passed (find-passed test zs y miss)
     ]
 
+-- nothing is found where no item passes
 pub find-nowhere : {X : Type 0} (test : X → Bool) (xs : List X) → list_any test xs ≡ false → find test xs ≡ None
 find-nowhere test [] none = refl
 find-nowhere test (z ∷ zs) none =
@@ -187,8 +196,9 @@ find-nowhere test (z ∷ zs) none =
     rw parts.0 (find-nowhere test zs parts.1)
 
 -- one more node of a new name
-pub supplier_pushed : (suppliers : List Supplier) (s : Supplier) → suppliers_by suppliers s.name ≡ None → IsChanged (suppliers_by suppliers) (suppliers_by (suppliers ++ s ∷ [])) s.name s
-supplier_pushed suppliers s none = record { here = find-last (is_supplier s.name) suppliers s none (itself s.name); others = λ other miss. find-passed (is_supplier other) suppliers s miss }
+pub provider_node_pushed : (provider_nodes : List ProviderNode) (s : ProviderNode) → provider_nodes_by provider_nodes s.name ≡ None → IsChanged (provider_nodes_by provider_nodes) (provider_nodes_by (provider_nodes ++ s ∷ [])) s.name s
+provider_node_pushed provider_nodes s none = record { here = find-last (is_provider_node s.name) provider_nodes s none (itself s.name); others = λ other miss. find-passed (is_provider_node other) provider_nodes s miss }
 
-pub follower_pushed : (followers : List Follower) (f : Follower) → followers_by followers f.name ≡ None → IsChanged (followers_by followers) (followers_by (followers ++ f ∷ [])) f.name f
-follower_pushed followers f none = record { here = find-last (is_follower f.name) followers f none (itself f.name); others = λ other miss. find-passed (is_follower other) followers f miss }
+-- one more consumer node leaves the others
+pub consumer_node_pushed : (consumer_nodes : List ConsumerNode) (f : ConsumerNode) → consumer_nodes_by consumer_nodes f.name ≡ None → IsChanged (consumer_nodes_by consumer_nodes) (consumer_nodes_by (consumer_nodes ++ f ∷ [])) f.name f
+consumer_node_pushed consumer_nodes f none = record { here = find-last (is_consumer_node f.name) consumer_nodes f none (itself f.name); others = λ other miss. find-passed (is_consumer_node other) consumer_nodes f miss }

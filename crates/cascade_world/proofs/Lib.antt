@@ -1,11 +1,14 @@
 pub mod AtPlaces
+pub mod Climbing
 pub mod Declaring
 pub mod Finding
 pub mod OwnCommits
+pub mod Owning
 pub mod Places
 pub mod Pointing
 pub mod SameNames
 pub mod Showing
 pub mod Steps
+pub mod Traced
 pub mod Upwards
 pub mod Writing

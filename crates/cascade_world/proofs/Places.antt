@@ -2,7 +2,7 @@
 use Rattle.std.proofs.Common.{◌≡◌, ◌+◌, ◌<◌, ℕ, Bool, Some, None, List, [], ◌∷◌, length, set, get_or, ap, sym, ◌∙◌, inl, inr, arith}
 use Rattle.std.proofs.lemmas.Bool.{cases_Bool}
 use Rattle.std.proofs.lemmas.Bool.Decides.{nat_tests}
-use Rattle.std.proofs.lemmas.Option.{slice_get-get_or, slice_get_past}
+use Rattle.std.proofs.lemmas.Option.{slice_get-get_or}
 use Rattle.std.proofs.lemmas.List.Folds.{find_at}
 use Rattle.std.specs.Prelude.{find, position, nat_lt, slice_get}
 use Rattle.std.specs.List.{position_or_len}
@@ -17,17 +17,11 @@ position_is p xs i e =
       | inr miss ↦ let e' : None ≡ Some i = rw miss at e in cc
     ]
 
+-- the item at the first place that passes is what is found
 pub found_at : {X : Type 0} (p : X → Bool) (xs : List X) (i : ℕ) (x : X) → position p xs ≡ Some i → x ≡ get_or xs i x → find p xs ≡ Some x
 found_at p xs i x e is =
     let at = position_is p xs i e in
     find_at p xs ∙ ap (slice_get xs) at.0 ∙ slice_get-get_or xs i x at.1 ∙ ap Some (sym is)
-
-pub found_nowhere : {X : Type 0} (p : X → Bool) (xs : List X) → position p xs ≡ None → find p xs ≡ None
-found_nowhere p xs e =
-    elim (cases_Bool (nat_lt (position_or_len p xs) (length xs))) [
-      | inl hit ↦ let e' : Some (position_or_len p xs) ≡ None = rw hit at e in cc
-      | inr miss ↦ find_at p xs ∙ slice_get_past xs (position_or_len p xs) (grind (arith, nat_tests))
-    ]
 
 changed-first : {X : Type 0} (xs : List X) (p : X → Bool) (change : X → X) (x : X) → position_or_len p xs < length xs → x ≡ get_or xs (position_or_len p xs) x
     → set xs (position_or_len p xs) (change x) ≡ first_changed p change xs

@@ -9,20 +9,23 @@ use Rattle.session_log.specs.Log.{Log, fresh}
 use Rattle.directory_writes.specs.Directory.{DirectoryState, written}
 use Rattle.sync_provider.specs.Machine.{ProviderState, write_code, wrote}
 
--- a directory of the history of this number, which is its own number in its stamps too, with this session log
+-- a directory of the history of this number, which is its own number in its CSNs too,
+-- with this session log
 abbrev pub logged_directory : ℕ → List (List TypeAndValue) → List Write → Log → DirectoryState
-logged_directory number suffix writes log = record { suffix = suffix; sid = number; history = number; writes = writes; log = log }
+logged_directory number suffix writes log =
+    record { suffix = suffix; sid = number; history = number; writes = writes; log = log }
 
 -- one whose log keeps nothing, since no write depends on that
 abbrev pub directory_of : ℕ → List (List TypeAndValue) → List Write → DirectoryState
 directory_of number suffix writes = logged_directory number suffix writes (fresh 0)
 
--- the code of what was read, which is success (0) where it is accepted
+-- the code of what was read, which is success where it is accepted
 abbrev pub code_of_read : ProviderState → ℕ → Result Op ℕ → ℕ
 code_of_read p now (Ok op) = write_code p op now
 code_of_read p now (Err code) = code
 
--- the code of a change where the clock shows `now`: a replica is unwilling to perform any that can be read (53)
+-- the code of a change where the clock shows `now`: a replica is unwilling to perform any
+-- that can be read
 abbrev pub change_code : ProviderState → ℕ → Change → ℕ
 change_code p now change = code_of_read p now (read_change change)
 

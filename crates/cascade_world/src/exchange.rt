@@ -9,7 +9,7 @@ ghost use Rattle.cascade_world.specs.World.{Does};
 use crate::world::{Lines, World};
 use cascade_exchange::{Exchange, Performed, serve};
 use cascade_nodes::discard;
-use cascade_report::Stage;
+use cascade_report::StoredStage;
 use cascade_script::Cause;
 use ldap_ber::Octets;
 
@@ -21,7 +21,11 @@ impl World {
         ensures err { OnErr result (self.new ≡ self.old) }
     {
         match self.places(&name) {
-            Ok((supplier, follower)) => self.exchange_at(supplier, follower, exchange),
+            Ok((provider_node, consumer_node)) => self.exchange_at(
+                provider_node,
+                consumer_node,
+                exchange,
+            ),
             Err(cause) => {
                 discard(exchange);
                 Err(cause)
@@ -32,29 +36,30 @@ impl World {
     /// The same, where the provider and the consumer stand at these places.
     fn exchange_at(
         &mut self,
-        supplier: usize,
-        follower: usize,
+        provider_node: usize,
+        consumer_node: usize,
         exchange: Exchange,
     ) -> Result<Lines, Cause>
-        requires supplier { supplier < length self.old.suppliers }
-        requires follower { follower < length self.old.followers }
-        ensures steps { (name : List ℕ) → ArePlaces self.old name (supplier, follower)
+        requires provider_node { provider_node < length self.old.provider_nodes }
+        requires consumer_node { consumer_node < length self.old.consumer_nodes }
+        ensures steps { (name : List ℕ) → ArePlaces self.old name (provider_node, consumer_node)
             → Does (spec.exchange self.old name (part_of exchange)) self.new result }
         ensures err { OnErr result (self.new ≡ self.old) }
     {
-        let done = self.perform(supplier, follower, exchange)?;
+        let done = self.perform(provider_node, consumer_node, exchange)?;
         if done.stages.is_empty() {
             discard(done.before);
             return Ok(Octets::from(done.text));
         }
-        match self.commit(follower, done.stages) {
+        match self.commit(consumer_node, done.stages) {
             Ok(()) => {
                 discard(done.before);
                 Ok(Octets::from(done.text))
             }
             Err(cause) => {
-                let provider = &mut self.suppliers[supplier].provider;
-                done.before.restore(provider, &mut self.followers[follower]);
+                let provider = &mut self.provider_nodes[provider_node].provider;
+                done.before
+                    .restore(provider, &mut self.consumer_nodes[consumer_node]);
                 Err(cause)
             }
         }
@@ -63,19 +68,20 @@ impl World {
     /// Does what goes on between the two at these places. After a refusal the world is as before.
     fn perform(
         &mut self,
-        supplier: usize,
-        follower: usize,
+        provider_node: usize,
+        consumer_node: usize,
         exchange: Exchange,
     ) -> Result<Performed, Cause>
-        requires supplier { supplier < length self.old.suppliers }
-        requires follower { follower < length self.old.followers }
-        ensures does { PerformsAt self.old supplier follower (part_of exchange) self.new result }
+        requires provider_node { provider_node < length self.old.provider_nodes }
+        requires consumer_node { consumer_node < length self.old.consumer_nodes }
+        ensures does { PerformsAt self.old provider_node consumer_node
+            (part_of exchange) self.new result }
         ensures err { OnErr result (self.new ≡ self.old) }
     {
-        match self.top_of(&self.suppliers[supplier].name) {
+        match self.top_of(&self.provider_nodes[provider_node].name) {
             Ok(top) => {
-                let from = &mut self.suppliers[supplier];
-                let to = &mut self.followers[follower];
+                let from = &mut self.provider_nodes[provider_node];
+                let to = &mut self.consumer_nodes[consumer_node];
                 serve(self.alloc, from, top, to, exchange)
             }
             Err(_) => {
@@ -88,16 +94,17 @@ impl World {
     /// The node at this place commits these stages, one write for each, where it is a replica. After a
     /// refusal its directory is as before.
     #[tactic(auto, using(crate::proofs::OwnCommits::at_place, crate::proofs::OwnCommits::commits_nothing, crate::proofs::OwnCommits::own_same))]
-    fn commit(&mut self, place: usize, stages: Vec<Stage>) -> Result<(), Cause>
-        requires { place < length self.old.followers }
-        ensures does { IfSome (slice_get self.old.followers place)
-            (λ follower. Leaves (spec.commits_of self.old follower stages.items) self.new result) }
+    fn commit(&mut self, place: usize, stages: Vec<StoredStage>) -> Result<(), Cause>
+        requires { place < length self.old.consumer_nodes }
+        ensures does { IfSome (slice_get self.old.consumer_nodes place)
+            (λ consumer_node.
+            Leaves (spec.commits_of self.old consumer_node stages.items) self.new result) }
         ensures err { OnErr result (self.new ≡ self.old) }
     {
-        let Some(own) = self.supplier_place(&self.followers[place].name) else {
+        let Some(own) = self.provider_node_place(&self.consumer_nodes[place].name) else {
             return Ok(());
         };
-        let wanted = self.followers[place].consumer.inner().spec();
-        self.suppliers[own].commit_all(self.alloc, wanted, stages, self.clock)
+        let wanted = self.consumer_nodes[place].consumer.inner().spec();
+        self.provider_nodes[own].commit_all(wanted, stages, self.clock)
     }
 }

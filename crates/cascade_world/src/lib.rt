@@ -1,4 +1,4 @@
-//! The world of a script: its nodes, and what each event does and tells.
+//! The world of a script: its nodes, and what each event does and reports.
 //!
 //! A consumer gets its content from its provider by messages of LDAP alone. What the provider hands
 //! out goes into the consumer's link as bytes, and the consumer takes what these bytes spell.

@@ -8,7 +8,7 @@ ghost use Rattle.cascade_world.specs.World.{Does};
 
 use crate::world::{Lines, World, no_lines};
 use cascade_exchange::MOST_NODES;
-use cascade_nodes::{Follower, Supplier, discard};
+use cascade_nodes::{ConsumerNode, ProviderNode, discard};
 use cascade_script::Cause;
 use dn_names::Dn;
 use entry_tree::Spec;
@@ -19,8 +19,10 @@ use sync_provider::Kind;
 impl World {
     /// The number of the next node, where there is room for one.
     fn next_number(&self) -> Result<u16, Cause>
-        ensures ok { IfOk result (λ number. (number ≡ self.now.nodes + 1) × (self.now.nodes < most_nodes)) }
-        ensures fault { IfErr result (λ cause. (cause ≡ Cause.LimitReached most_nodes) × (most_nodes ≤ self.now.nodes)) }
+        ensures ok { IfOk result (λ number.
+            (number ≡ self.now.nodes + 1) × (self.now.nodes < most_nodes)) }
+        ensures fault { IfErr result (λ cause.
+            (cause ≡ Cause.LimitReached most_nodes) × (most_nodes ≤ self.now.nodes)) }
     {
         if usize::from(self.nodes) >= MOST_NODES {
             return Err(Cause::LimitReached(MOST_NODES as u64));
@@ -37,8 +39,8 @@ impl World {
             return Err(Cause::NameTaken);
         }
         let number = self.next_number()?;
-        let root = Supplier::new(self.alloc, name, suffix, number, Kind::Root)?;
-        self.suppliers.push(root)?;
+        let root = ProviderNode::new(self.alloc, name, suffix, number, Kind::Root)?;
+        self.provider_nodes.push(root)?;
         self.nodes = number;
         Ok(no_lines(self.alloc))
     }
@@ -46,19 +48,29 @@ impl World {
     /// Whether a name is free, its provider is there and offers what is wanted, and there is room for
     /// a node. The answer is its number.
     #[tactic(auto, using(crate::proofs::Declaring::taken, crate::proofs::Declaring::no_source, crate::proofs::Declaring::outside, crate::proofs::Declaring::no_room, crate::proofs::Declaring::followed))]
-    fn next_follower(&self, name: &Octets, source: &Octets, wanted: &Spec) -> Result<u16, Cause>
-        ensures ok { IfOk result (λ number. (number ≡ self.now.nodes + 1) × (self.now.nodes < most_nodes)
-            × ((after : spec.State) → spec.declare_follower self.now name.now source.now (search_of wanted.now) after ≡ Ok (after, []))) }
+    fn next_consumer_node(
+        &self,
+        name: &Octets,
+        source: &Octets,
+        wanted: &Spec,
+    ) -> Result<u16, Cause>
+        ensures ok { IfOk result (λ number.
+            (number ≡ self.now.nodes + 1) × (self.now.nodes < most_nodes)
+            × ((after : spec.WorldState)
+            → spec.declare_consumer_node self.now name.now source.now (search_of wanted.now) after
+            ≡ Ok (after, []))) }
         ensures fault { IfErr result (λ cause.
-            (after : spec.State) → spec.declare_follower self.now name.now source.now (search_of wanted.now) after ≡ Err cause) }
+            (after : spec.WorldState)
+            → spec.declare_consumer_node self.now name.now source.now (search_of wanted.now) after
+            ≡ Err cause) }
     {
         if self.has_node(name) {
             return Err(Cause::NameTaken);
         }
-        let Some(place) = self.supplier_place(source) else {
+        let Some(place) = self.provider_node_place(source) else {
             return Err(Cause::UnknownNode);
         };
-        if !self.suppliers[place].offers(wanted) {
+        if !self.provider_nodes[place].offers(wanted) {
             return Err(Cause::OutsideSuffix);
         }
         self.next_number()
@@ -72,13 +84,17 @@ impl World {
         wanted: Spec,
         reload: bool,
     ) -> Result<Lines, Cause>
-        ensures steps { Does (spec.step self.old (order.Consumer name source (search_of wanted) reload)) self.new result }
+        ensures steps { Does
+            (spec.step self.old (order.Consumer name source (search_of wanted) reload)) self.new
+            result }
         ensures err { OnErr result (self.new ≡ self.old) }
     {
-        match self.next_follower(&name, &source, &wanted) {
+        match self.next_consumer_node(&name, &source, &wanted) {
             Ok(number) => {
-                let follower = Follower::wanting(self.alloc, name, source, wanted, reload)?;
-                self.followers.push(follower)?;
+                let consumer_node = ConsumerNode::wanting(
+                    self.alloc, name, source, wanted, reload,
+                )?;
+                self.consumer_nodes.push(consumer_node)?;
                 self.nodes = number;
                 Ok(no_lines(self.alloc))
             }
@@ -98,13 +114,17 @@ impl World {
         wanted: Spec,
         reload: bool,
     ) -> Result<Lines, Cause>
-        ensures steps { Does (spec.step self.old (order.Replica name source (search_of wanted) reload)) self.new result }
+        ensures steps { Does
+            (spec.step self.old (order.Replica name source (search_of wanted) reload)) self.new
+            result }
         ensures err { OnErr result (self.new ≡ self.old) }
     {
-        match self.next_follower(&name, &source, &wanted) {
+        match self.next_consumer_node(&name, &source, &wanted) {
             Ok(number) => {
-                let follower = Follower::wanting(self.alloc, name, source, wanted, reload)?;
-                self.add_replica(number, follower)?;
+                let consumer_node = ConsumerNode::wanting(
+                    self.alloc, name, source, wanted, reload,
+                )?;
+                self.add_replica(number, consumer_node)?;
                 Ok(no_lines(self.alloc))
             }
             Err(cause) => {
@@ -115,40 +135,40 @@ impl World {
     }
 
     /// Adds a consumer, and a directory of its name for what it takes, which get this number.
-    fn add_replica(&mut self, number: u16, follower: Follower) -> Result<(), NoMemory>
+    fn add_replica(&mut self, number: u16, consumer_node: ConsumerNode) -> Result<(), NoMemory>
         requires next { number ≡ self.old.nodes + 1 }
         requires room { self.old.nodes < most_nodes }
-        ensures ok { OnOk result (self.new ≡ spec.with_replica self.old follower) }
+        ensures ok { OnOk result (self.new ≡ spec.with_replica self.old consumer_node) }
         ensures err { OnErr result (self.new ≡ self.old) }
     {
-        match Supplier::replica(self.alloc, &follower.name, number) {
+        match ProviderNode::replica(self.alloc, &consumer_node.name, number) {
             Ok(own) => {
-                self.add_pair(own, follower)?;
+                self.add_pair(own, consumer_node)?;
                 self.nodes = number;
                 Ok(())
             }
             Err(full) => {
-                discard(follower);
+                discard(consumer_node);
                 Err(full)
             }
         }
     }
 
     /// Adds a directory and a consumer, or neither. The number of nodes stays.
-    fn add_pair(&mut self, own: Supplier, follower: Follower) -> Result<(), NoMemory>
+    fn add_pair(&mut self, own: ProviderNode, consumer_node: ConsumerNode) -> Result<(), NoMemory>
         ensures ok { OnOk result (self.new ≡ record self.old {
-          suppliers = self.old.suppliers ++ own ∷ [];
-          followers = self.old.followers ++ follower ∷ [];
+          provider_nodes = self.old.provider_nodes ++ own ∷ [];
+          consumer_nodes = self.old.consumer_nodes ++ consumer_node ∷ [];
         }) }
         ensures err { OnErr result (self.new ≡ self.old) }
     {
-        if self.suppliers.reserve(1).is_err() || self.followers.reserve(1).is_err() {
+        if self.provider_nodes.reserve(1).is_err() || self.consumer_nodes.reserve(1).is_err() {
             discard(own);
-            discard(follower);
+            discard(consumer_node);
             return Err(AllocError);
         }
-        self.suppliers.push_reserved(own);
-        self.followers.push_reserved(follower);
+        self.provider_nodes.push_reserved(own);
+        self.consumer_nodes.push_reserved(consumer_node);
         Ok(())
     }
 }

@@ -22,26 +22,29 @@ impl World {
         ensures steps { Does (spec.step self.old (order.Repoint name source)) self.new result }
         ensures err { OnErr result (self.new ≡ self.old) }
     {
-        let Some(follower) = self.follower_place(&name) else {
+        let Some(consumer_node) = self.consumer_node_place(&name) else {
             return Err(Cause::UnknownNode);
         };
-        let Some(supplier) = self.supplier_place(&source) else {
+        let Some(provider_node) = self.provider_node_place(&source) else {
             return Err(Cause::UnknownNode);
         };
         if self.is_fed(&name, &source) {
             return Err(Cause::Circle);
         }
-        if !self.suppliers[supplier].offers(self.followers[follower].consumer.inner().spec()) {
+        if !self.provider_nodes[provider_node].offers(
+            self.consumer_nodes[consumer_node].consumer.inner().spec(),
+        ) {
             return Err(Cause::OutsideSuffix);
         }
         let lines = self.exchange(name, Exchange::Idle)?;
-        self.followers[follower].source = source;
+        self.consumer_nodes[consumer_node].source = source;
         Ok(lines)
     }
 
     /// A consumer wants this from now on: a busy one is cut, loses its cookie, and keeps its entries.
     pub(crate) fn respec(&mut self, name: Octets, wanted: Spec) -> Result<Lines, Cause>
-        ensures steps { Does (spec.step self.old (order.Respec name (search_of wanted))) self.new result }
+        ensures steps { Does (spec.step self.old (order.Respec name (search_of wanted)))
+            self.new result }
         ensures err { OnErr result (self.new ≡ self.old) }
     {
         match self.check_offered(&name, &wanted) {
@@ -57,10 +60,11 @@ impl World {
     fn check_offered(&self, name: &Octets, wanted: &Spec) -> Result<(), Cause>
         ensures ok { OnOk result (spec.respec self.now name.now (search_of wanted.now)
             ≡ spec.exchange self.now name.now (exchange.respecs (search_of wanted.now))) }
-        ensures fault { IfErr result (λ cause. spec.respec self.now name.now (search_of wanted.now) ≡ Err cause) }
+        ensures fault { IfErr result (λ cause.
+            spec.respec self.now name.now (search_of wanted.now) ≡ Err cause) }
     {
-        let (supplier, _) = self.places(name)?;
-        if !self.suppliers[supplier].offers(wanted) {
+        let (provider_node, _) = self.places(name)?;
+        if !self.provider_nodes[provider_node].offers(wanted) {
             return Err(Cause::OutsideSuffix);
         }
         Ok(())
@@ -69,10 +73,10 @@ impl World {
     /// The place of the name that the node of this name follows.
     #[tactic(auto, using(crate::proofs::Upwards::source_at, crate::proofs::Upwards::source_nowhere))]
     fn source_of(&self, name: &Octets) -> Option<&Octets>
-        ensures { option_copied result ≡ nodes.source_of self.now.followers name.now }
+        ensures { option_copied result ≡ nodes.source_of self.now.consumer_nodes name.now }
     {
-        match self.follower_place(name) {
-            Some(place) => Some(&self.followers[place].source),
+        match self.consumer_node_place(name) {
+            Some(place) => Some(&self.consumer_nodes[place].source),
             None => None,
         }
     }
@@ -83,7 +87,7 @@ impl World {
         ensures { result ≡ spec.is_fed self.now other.now name.now }
     {
         let mut at = name;
-        let mut left = self.followers.len();
+        let mut left = self.consumer_nodes.len();
         while left > 0 {
             if *at == *other {
                 return true;
@@ -103,7 +107,7 @@ impl World {
         ensures { IfOk result (λ top. top ≡ spec.top_of self.now name.now) }
     {
         let mut at = name;
-        let mut left = self.followers.len();
+        let mut left = self.consumer_nodes.len();
         while left > 0 {
             match self.source_of(at) {
                 Some(source) => at = source,

@@ -1,29 +1,27 @@
-//! The nodes of a script, and what each event does and tells.
+//! The nodes of a script, and what each event does and reports.
 ghost use Rattle.std.specs.Prelude.{◌≡◌, ◌+◌, ◌<◌, ◌≤◌, ◌∷◌, [], length, position, IfOk, IfErr, OnErr, Err};
 ghost use Rattle.std.specs.List.{list_any};
 ghost use Rattle.cascade_script.specs.Orders.{order_of};
 ghost use Rattle.cascade_script.specs.Orders.{Order as order};
-ghost use Rattle.cascade_report.specs.Report.{lines_text};
-ghost use Rattle.cascade_report.specs.Report.Told.{Wrote};
+ghost use Rattle.cascade_report.specs.ReportLines.{lines_text};
+ghost use Rattle.cascade_report.specs.ReportLines.ReportLine.{Wrote};
 ghost use Rattle.cascade_world.specs.World as spec;
 ghost use Rattle.cascade_exchange.specs.Cookies.{most_nodes};
 ghost use Rattle.cascade_world.specs.World.{StepsBy, Does};
-ghost use Rattle.cascade_exchange.specs.Exchange.{Pair, Outcome};
+ghost use Rattle.cascade_exchange.specs.Exchange.{Agreement, ExchangeOutcome};
 ghost use Rattle.cascade_world.specs.Places.{ArePlaces, Writes};
 
 use cascade_exchange::Exchange;
-use cascade_nodes::{Follower, Source, Supplier, discard};
+use cascade_nodes::{ConsumerNode, ProviderNode, ScriptProvider, discard};
 use cascade_report::{each_of, push_wrote, text_of};
 use cascade_script::{Cause, Command, Event, ScriptFault};
 use entry_tree::{OpFault, read_op};
 use ldap_ber::{NoMemory, Octets};
+use ldap_constants::{OTHER, SUCCESS};
 use schema_rules::Change;
 use std::alloc::Global;
 use std::marker::Model;
 use sync_messages::Mode;
-
-/// other (RFC 4511, appendix A.1): the provider's answer where memory ran out.
-const OTHER: u32 = 80;
 
 /// The lines of an event as bytes, each ended by a line feed.
 pub type Lines = Octets;
@@ -35,8 +33,8 @@ pub struct World {
     pub(crate) clock: u64,
     /// How many nodes are declared: a replica is one, and has a directory and a consumer.
     pub(crate) nodes: u16,
-    pub(crate) suppliers: Vec<Supplier>,
-    pub(crate) followers: Vec<Follower>,
+    pub(crate) provider_nodes: Vec<ProviderNode>,
+    pub(crate) consumer_nodes: Vec<ConsumerNode>,
 }
 
 /// Contracts see the time, the number of nodes, and the directories and the consumers, each in the
@@ -44,27 +42,27 @@ pub struct World {
 impl Model for World {
     ghost use Rattle.std.specs.Prelude.{◌≡◌, ◌+◌, ◌≤◌, length};
     ghost use Rattle.std.specs.Coded.{codes};
-    ghost use Rattle.cascade_nodes.specs.contracts.node.Supplier as supplier;
-    ghost use Rattle.cascade_nodes.specs.contracts.node.Follower as follower;
+    ghost use Rattle.cascade_nodes.specs.contracts.node.ProviderNode as provider_node;
+    ghost use Rattle.cascade_nodes.specs.contracts.node.ConsumerNode as consumer_node;
     ghost use Rattle.cascade_exchange.specs.Cookies.{most_nodes};
-    ghost use Rattle.cascade_world.specs.World.{State};
+    ghost use Rattle.cascade_world.specs.World.{WorldState};
 
-    ghost Value = { State };
+    ghost Value = { WorldState };
 
-    ghost coded = { Prim.hlevel (codes, supplier.the_row.coded, follower.the_row.coded) };
+    ghost coded = { Prim.hlevel (codes, provider_node.the_row.coded, consumer_node.the_row.coded) };
 
     ghost view = { λ w. record {
       clock = w.clock;
       nodes = w.nodes;
-      suppliers = w.suppliers.items;
-      followers = w.followers.items;
+      provider_nodes = w.provider_nodes.items;
+      consumer_nodes = w.consumer_nodes.items;
     } };
 
     ghost invariant = { λ w. w.nodes ≤ most_nodes };
 }
 
 impl World {
-    /// No node, and the first moment of 1970.
+    /// A world without nodes, at the first moment of 1970. It is `NoMemory` where memory runs out.
     pub fn new(alloc: Global) -> Result<World, NoMemory>
         ensures { IfOk result (λ world. world ≡ spec.no_nodes) }
     {
@@ -72,12 +70,14 @@ impl World {
             alloc,
             clock: 0,
             nodes: 0,
-            suppliers: Vec::new(alloc),
-            followers: Vec::new(alloc),
+            provider_nodes: Vec::new(alloc),
+            consumer_nodes: Vec::new(alloc),
         })
     }
 
-    /// Does an event, and gives its lines. After a refusal the world is as before.
+    /// Does an event, and gives its lines. It is a refusal with the number of its line, for one of
+    /// the causes that name a node, a limit, a circle, a suffix or a cookie, or `NoMemory`; and
+    /// then the world is as before.
     #[tactic(auto, using(crate::proofs::Steps::refused_at))]
     pub fn step(&mut self, event: Event) -> Result<Lines, ScriptFault>
         ensures steps { StepsBy self.old event.line (order_of event.command) self.new result }
@@ -131,65 +131,73 @@ impl World {
 
     // ---- nodes by their names
 
-    pub(crate) fn supplier_place(&self, name: &Octets) -> Option<usize>
-        ensures { result ≡ position (spec.is_supplier name.now) self.now.suppliers }
+    pub(crate) fn provider_node_place(&self, name: &Octets) -> Option<usize>
+        ensures { result ≡ position (spec.is_provider_node name.now) self.now.provider_nodes }
     {
-        self.suppliers
+        self.provider_nodes
             .iter()
-            .position(|supplier| *name == supplier.name)
+            .position(|provider_node| *name == provider_node.name)
     }
 
-    pub(crate) fn follower_place(&self, name: &Octets) -> Option<usize>
-        ensures { result ≡ position (spec.is_follower name.now) self.now.followers }
+    pub(crate) fn consumer_node_place(&self, name: &Octets) -> Option<usize>
+        ensures { result ≡ position (spec.is_consumer_node name.now) self.now.consumer_nodes }
     {
-        self.followers
+        self.consumer_nodes
             .iter()
-            .position(|follower| *name == follower.name)
+            .position(|consumer_node| *name == consumer_node.name)
     }
 
-    fn has_supplier(&self, name: &Octets) -> bool
-        ensures { result ≡ list_any (spec.is_supplier name.now) self.now.suppliers }
+    fn has_provider_node(&self, name: &Octets) -> bool
+        ensures { result ≡ list_any (spec.is_provider_node name.now) self.now.provider_nodes }
     {
-        self.suppliers.iter().any(|supplier| *name == supplier.name)
+        self.provider_nodes
+            .iter()
+            .any(|provider_node| *name == provider_node.name)
     }
 
-    fn has_follower(&self, name: &Octets) -> bool
-        ensures { result ≡ list_any (spec.is_follower name.now) self.now.followers }
+    fn has_consumer_node(&self, name: &Octets) -> bool
+        ensures { result ≡ list_any (spec.is_consumer_node name.now) self.now.consumer_nodes }
     {
-        self.followers.iter().any(|follower| *name == follower.name)
+        self.consumer_nodes
+            .iter()
+            .any(|consumer_node| *name == consumer_node.name)
     }
 
     pub(crate) fn has_node(&self, name: &Octets) -> bool
         ensures { result ≡ spec.has_node name.now self.now }
     {
-        self.has_supplier(name) || self.has_follower(name)
+        self.has_provider_node(name) || self.has_consumer_node(name)
     }
 
     /// The places of a consumer's provider and of the consumer.
     pub(crate) fn places(&self, name: &Octets) -> Result<(usize, usize), Cause>
         ensures ok { IfOk result (ArePlaces self.now name.now) }
-        ensures fault { IfErr result (λ cause. (cause ≡ Cause.UnknownNode) × ((part : Pair → Outcome) → spec.exchange self.now name.now part ≡ Err Cause.UnknownNode)) }
+        ensures fault { IfErr result (λ cause.
+            (cause ≡ Cause.UnknownNode)
+            × ((part : Agreement → ExchangeOutcome)
+            → spec.exchange self.now name.now part ≡ Err Cause.UnknownNode)) }
     {
-        let Some(follower) = self.follower_place(name) else {
+        let Some(consumer_node) = self.consumer_node_place(name) else {
             return Err(Cause::UnknownNode);
         };
-        match self.supplier_place(&self.followers[follower].source) {
-            Some(supplier) => Ok((supplier, follower)),
+        match self.provider_node_place(&self.consumer_nodes[consumer_node].source) {
+            Some(provider_node) => Ok((provider_node, consumer_node)),
             None => Err(Cause::UnknownNode),
         }
     }
 
     // ---- writes
 
-    #[tactic(auto, using(crate::proofs::Steps::no_supplier, crate::proofs::Steps::write_same))]
+    #[tactic(auto, using(crate::proofs::Steps::no_provider_node, crate::proofs::Steps::write_same))]
     fn write(&mut self, name: &Octets, change: &Change) -> Result<Lines, Cause>
-        ensures steps { Does (spec.step self.old (order.Write name.now change.now)) self.new result }
+        ensures steps { Does (spec.step self.old (order.Write name.now change.now))
+            self.new result }
         ensures err { OnErr result (self.new ≡ self.old) }
     {
-        let Some(place) = self.supplier_place(name) else {
+        let Some(place) = self.provider_node_place(name) else {
             return Err(Cause::UnknownNode);
         };
-        let provider = &mut self.suppliers[place].provider;
+        let provider = &mut self.provider_nodes[place].provider;
         write_to(self.alloc, provider, name.as_slice(), self.clock, change)
     }
 
@@ -198,10 +206,10 @@ impl World {
         ensures steps { Does (spec.step self.old (order.Log name.now limit)) self.new result }
         ensures err { OnErr result (self.new ≡ self.old) }
     {
-        let Some(place) = self.supplier_place(name) else {
+        let Some(place) = self.provider_node_place(name) else {
             return Err(Cause::UnknownNode);
         };
-        self.suppliers[place].provider.set_log_limit(limit);
+        self.provider_nodes[place].provider.set_log_limit(limit);
         Ok(no_lines(self.alloc))
     }
 
@@ -210,27 +218,34 @@ impl World {
         ensures steps { Does (spec.step self.old (order.Queue name.now limit)) self.new result }
         ensures err { OnErr result (self.new ≡ self.old) }
     {
-        let Some(place) = self.supplier_place(name) else {
+        let Some(place) = self.provider_node_place(name) else {
             return Err(Cause::UnknownNode);
         };
-        self.suppliers[place].provider.set_queue_limit(limit);
+        self.provider_nodes[place].provider.set_queue_limit(limit);
         Ok(no_lines(self.alloc))
     }
 
     // ---- entries
 
-    #[tactic(auto, using(crate::proofs::Showing::shows_supplier, crate::proofs::Showing::shows_follower, crate::proofs::Showing::shown_none))]
+    #[tactic(auto, using(crate::proofs::Showing::shows_provider_node, crate::proofs::Showing::shows_consumer_node, crate::proofs::Showing::shown_none))]
     fn show(&self, name: &Octets) -> Result<Lines, Cause>
         ensures { Does (spec.step self.now (order.Show name.now)) self.now result }
     {
-        if let Some(supplier) = self.supplier_place(name) {
-            let entries = each_of(self.alloc, self.suppliers[supplier].provider.entries())?;
+        if let Some(provider_node) = self.provider_node_place(name) {
+            let entries = each_of(
+                self.alloc,
+                self.provider_nodes[provider_node].provider.entries(),
+            )?;
             return Ok(Octets::from(text_of(self.alloc, &entries)?));
         }
-        let Some(follower) = self.follower_place(name) else {
+        let Some(consumer_node) = self.consumer_node_place(name) else {
             return Err(Cause::UnknownNode);
         };
-        let entries = self.followers[follower].consumer.inner().entries().list()?;
+        let entries = self.consumer_nodes[consumer_node]
+            .consumer
+            .inner()
+            .entries()
+            .list()?;
         Ok(Octets::from(text_of(self.alloc, &entries)?))
     }
 }
@@ -241,11 +256,11 @@ pub(crate) fn no_lines(alloc: Global) -> Lines
     Octets::from(Vec::new(alloc))
 }
 
-/// Writes to a supplier, and tells it.
+/// Writes to a provider node, and reports it.
 #[tactic(auto, using(crate::proofs::Writing::grown, crate::proofs::Writing::refused_same))]
 fn write_to(
     alloc: Global,
-    provider: &mut Source,
+    provider: &mut ScriptProvider,
     name: &[u8],
     now: u64,
     change: &Change,
@@ -256,7 +271,7 @@ fn write_to(
         Ok(op) => {
             // The line of an accepted write is made before the write, which then can't fail any more.
             let number = provider.writes();
-            let accepted = wrote_lines(alloc, name, 0, number + 1)?;
+            let accepted = wrote_lines(alloc, name, SUCCESS, number + 1)?;
             let reply = provider.write(op, now);
             if reply.code == OTHER {
                 return Err(Cause::NoMemory);
@@ -276,6 +291,6 @@ fn wrote_lines(alloc: Global, name: &[u8], code: u32, number: u64) -> Result<Lin
     ensures { IfOk result (λ lines. lines ≡ lines_text (Wrote name.now code number ∷ [])) }
 {
     let mut lines = Vec::new(alloc);
-    push_wrote(alloc, &mut lines, name, code, number)?;
+    push_wrote(&mut lines, name, code, number)?;
     Ok(Octets::from(lines))
 }

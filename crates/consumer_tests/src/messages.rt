@@ -2,6 +2,7 @@
 //! and its attributes with bars between them, each `type=value;value` or `type` alone, where `CSN` stands for an
 //! entryCSN. `done` and `doneDeletes`: a code, and a cookie or `-` where there is a Sync Done control.
 use ldap_ber::{NoMemory, Octets, OctetsList};
+use ldap_constants::{SUCCESS, SYNC_DONE, SYNC_INFO, SYNC_STATE};
 use ldap_messages::{Control, ControlList, LdapResult, Message, Protocol};
 use schema_rules::{RawAttribute, RawList};
 use std::alloc::Global;
@@ -12,13 +13,7 @@ pub(crate) const ID: u32 = 1;
 
 pub(crate) const CSN: &str = "20260101000000.000000Z#000000#001#000000";
 
-const SYNC_STATE: &str = "1.3.6.1.4.1.4203.1.9.1.2";
-
-const SYNC_DONE: &str = "1.3.6.1.4.1.4203.1.9.1.3";
-
-const SYNC_INFO: &str = "1.3.6.1.4.1.4203.1.9.1.4";
-
-/// The first word of the text, and what is behind it.
+/// The first word of the text, and what is after it.
 pub(crate) fn parted(text: &str) -> (&str, &str) {
     text.split_once(' ').unwrap_or((text, ""))
 }
@@ -45,7 +40,7 @@ pub(crate) fn sent(alloc: Global, text: &str) -> Result<Message, NoMemory> {
         "done" | "doneDeletes" => done(alloc, word == "doneDeletes", rest),
         "badInfo" => response(alloc, SYNC_INFO, Some("\x04")),
         "noInfo" => response(alloc, SYNC_INFO, None),
-        "otherInfo" => response(alloc, "1.3.6.1.4.1.4203.1.9.1.5", Some("\x04")),
+        "otherInfo" => response(alloc, b"1.3.6.1.4.1.4203.1.9.1.5", Some("\x04")),
         "uncontrolled" | "badState" | "badDone" => ill_controlled(alloc, word, rest),
         "reference" | "otherReference" | "otherSearch" | "unbind" => odd(alloc, word),
         _ => info(alloc, word, rest),
@@ -61,10 +56,10 @@ fn message(op: Protocol, controls: ControlList) -> Message {
 }
 
 /// One control of that name.
-fn controls_of(alloc: Global, name: &str, value: Octets) -> Result<ControlList, NoMemory> {
+fn controls_of(alloc: Global, name: &[u8], value: Octets) -> Result<ControlList, NoMemory> {
     let mut controls = ControlList::new(alloc);
     controls.push(Control {
-        name: octets(alloc, name)?,
+        name: Octets::from_slice(alloc, name)?,
         critical: false,
         value: Some(value),
     })?;
@@ -126,8 +121,8 @@ fn entry(alloc: Global, state: State, text: &str) -> Result<Message, NoMemory> {
 fn done_op(alloc: Global, code: i64) -> Result<Protocol, NoMemory> {
     Ok(Protocol::SearchResultDone(LdapResult {
         code,
-        matched: octets(alloc, "")?,
-        message: octets(alloc, "")?,
+        matched_dn: octets(alloc, "")?,
+        diagnostic_message: octets(alloc, "")?,
         referral: None,
     }))
 }
@@ -154,12 +149,12 @@ fn done_controls(
     controls_of(alloc, SYNC_DONE, done.write(alloc)?)
 }
 
-fn response(alloc: Global, name: &str, value: Option<&str>) -> Result<Message, NoMemory> {
+fn response(alloc: Global, name: &[u8], value: Option<&str>) -> Result<Message, NoMemory> {
     let value = match value {
         Some(value) => Some(octets(alloc, value)?),
         None => None,
     };
-    let name = Some(octets(alloc, name)?);
+    let name = Some(Octets::from_slice(alloc, name)?);
     let op = Protocol::IntermediateResponse { name, value };
     Ok(message(op, ControlList::new(alloc)))
 }
@@ -169,7 +164,7 @@ fn info(alloc: Global, word: &str, text: &str) -> Result<Message, NoMemory> {
     let info = info_of(alloc, word, text)?;
     let value = info.write(alloc);
     discard(info);
-    let (name, value) = (Some(octets(alloc, SYNC_INFO)?), Some(value?));
+    let (name, value) = (Some(Octets::from_slice(alloc, SYNC_INFO)?), Some(value?));
     let op = Protocol::IntermediateResponse { name, value };
     Ok(message(op, ControlList::new(alloc)))
 }
@@ -201,7 +196,7 @@ fn id_list(alloc: Global, text: &str) -> Result<IdList, NoMemory> {
 fn ill_controlled(alloc: Global, word: &str, text: &str) -> Result<Message, NoMemory> {
     let controls = bad_controls(alloc, word)?;
     let op = match word {
-        "badDone" => done_op(alloc, 0)?,
+        "badDone" => done_op(alloc, i64::from(SUCCESS))?,
         _ => entry_op(alloc, text)?,
     };
     Ok(message(op, controls))
@@ -220,7 +215,7 @@ fn bad_controls(alloc: Global, word: &str) -> Result<ControlList, NoMemory> {
 fn odd(alloc: Global, word: &str) -> Result<Message, NoMemory> {
     let op = match word {
         "unbind" => Protocol::UnbindRequest,
-        "otherSearch" => done_op(alloc, 0)?,
+        "otherSearch" => done_op(alloc, i64::from(SUCCESS))?,
         _ => reference(alloc)?,
     };
     let id = if word == "otherSearch" || word == "otherReference" {

@@ -1,11 +1,12 @@
 //! A copy of what a search selects, in whole lists (RFC 4533, sections 3.3 and 3.4).
 use entry_tree::Entry;
 use ldap_ber::{NoMemory, Octets};
+use ldap_constants::{E_SYNC_REFRESH_REQUIRED, SUCCESS};
 use ldap_messages::Message;
 use std::alloc::{AllocError, Global};
 use std::mem;
 use sync_messages::SyncDone;
-use sync_wire::{Heard, HearingFault, hear};
+use sync_wire::{DecodeFault, SyncEvent, decode};
 
 /// The name of the entry, as it is written.
 pub fn name_of(entry: &Entry) -> Result<Octets, NoMemory> {
@@ -28,7 +29,7 @@ pub struct PlainCopy {
     pub held: Vec<(u128, Vec<u8>)>,
     cookie: Option<Vec<u8>>,
     /// The ID of the search that runs.
-    pub running: Option<u32>,
+    pub session: Option<u32>,
     persists: bool,
     /// Whether the refresh is over, and whether its present phase is.
     refreshed: bool,
@@ -43,7 +44,7 @@ impl PlainCopy {
         PlainCopy {
             held: Vec::new(alloc),
             cookie: None,
-            running: None,
+            session: None,
             persists: false,
             refreshed: false,
             ended: false,
@@ -54,7 +55,7 @@ impl PlainCopy {
 
     /// Begins a search.
     pub fn ask(&mut self, id: u32, persists: bool) {
-        self.running = Some(id);
+        self.session = Some(id);
         self.persists = persists;
         self.refreshed = false;
         self.ended = false;
@@ -74,39 +75,39 @@ impl PlainCopy {
         }
     }
 
-    /// Takes a message. One that is refused, and the end of a search, leave none behind.
+    /// Takes a message. One that is refused, and the end of a search, leave none after.
     pub fn take(&mut self, alloc: Global, message: &Message) -> Result<Answer, NoMemory> {
         let mut answer = Answer::Refused;
-        if self.running == Some(message.id) {
-            match hear(alloc, message, self.refreshed) {
-                Ok(heard) => answer = self.take_heard(alloc, heard)?,
-                Err(HearingFault::NoMemory) => return Err(AllocError),
+        if self.session == Some(message.id) {
+            match decode(alloc, message, self.refreshed) {
+                Ok(decoded) => answer = self.take_decoded(alloc, decoded)?,
+                Err(DecodeFault::NoMemory) => return Err(AllocError),
                 Err(_) => {}
             }
         }
         if matches!(answer, Answer::Over(_) | Answer::Refused) {
-            self.running = None;
+            self.session = None;
         }
         Ok(answer)
     }
 
-    fn take_heard(&mut self, alloc: Global, heard: Heard) -> Result<Answer, NoMemory> {
-        match heard {
-            Heard::Put(entry, cookie) => {
+    fn take_decoded(&mut self, alloc: Global, decoded: SyncEvent) -> Result<Answer, NoMemory> {
+        match decoded {
+            SyncEvent::AddOrModify(entry, cookie) => {
                 self.put(alloc, &entry)?;
                 self.changed(alloc, cookie)
             }
-            Heard::Gone(uuid, cookie) => {
+            SyncEvent::Delete(uuid, cookie) => {
                 self.drop_each(&[uuid])?;
                 self.changed(alloc, cookie)
             }
-            Heard::Present(uuid) => self.name(&[uuid]),
-            Heard::IdSet {
+            SyncEvent::Present(uuid) => self.name(&[uuid]),
+            SyncEvent::IdSet {
                 deletes: false,
                 uuids,
                 ..
             } => self.name(uuids.list()),
-            Heard::IdSet {
+            SyncEvent::IdSet {
                 deletes: true,
                 uuids,
                 cookie,
@@ -114,14 +115,13 @@ impl PlainCopy {
                 self.drop_each(uuids.list())?;
                 self.changed(alloc, cookie)
             }
-            Heard::NewCookie(cookie) => self.changed(alloc, Some(cookie)),
-            Heard::PhaseEnds {
-                deletes,
-                done,
-                cookie,
-            } => self.end_phase(alloc, deletes, done, cookie),
-            Heard::Done { code, control } => self.end_search(alloc, code, control),
-            Heard::Passed => Ok(Answer::Staged),
+            SyncEvent::NewCookie(cookie) => self.changed(alloc, Some(cookie)),
+            SyncEvent::RefreshDelete { done, cookie } => self.end_phase(alloc, true, done, cookie),
+            SyncEvent::RefreshPresent { done, cookie } => self.end_phase(
+                alloc, false, done, cookie,
+            ),
+            SyncEvent::Done { code, control } => self.end_search(alloc, code, control),
+            SyncEvent::Ignored => Ok(Answer::Staged),
         }
     }
 
@@ -194,14 +194,14 @@ impl PlainCopy {
     }
 
     /// What is held and was neither named nor put.
-    fn unspoken(&self, alloc: Global) -> Result<Vec<u128>, NoMemory> {
-        let mut unspoken = Vec::new(alloc);
+    fn unmentioned(&self, alloc: Global) -> Result<Vec<u128>, NoMemory> {
+        let mut unmentioned = Vec::new(alloc);
         for (uuid, _) in &self.held {
             if !self.named.contains(uuid) && !self.is_put(*uuid) {
-                unspoken.push(*uuid)?;
+                unmentioned.push(*uuid)?;
             }
         }
-        Ok(unspoken)
+        Ok(unmentioned)
     }
 
     /// Ends a phase, if it may end. What a present phase did not speak of is gone.
@@ -210,8 +210,8 @@ impl PlainCopy {
             return Ok(deletes);
         }
         self.ended = true;
-        let unspoken = self.unspoken(alloc)?;
-        self.drop_each(unspoken.as_slice())?;
+        let unmentioned = self.unmentioned(alloc)?;
+        self.drop_each(unmentioned.as_slice())?;
         Ok(true)
     }
 
@@ -238,11 +238,10 @@ impl PlainCopy {
         code: i64,
         control: Option<SyncDone>,
     ) -> Result<Answer, NoMemory> {
-        // syncRefreshRequired (RFC 4533, section 2.6)
-        if code == 4096 {
+        if code == i64::from(E_SYNC_REFRESH_REQUIRED) {
             self.cookie = None;
         }
-        if code != 0 || self.persists {
+        if code != i64::from(SUCCESS) || self.persists {
             return Ok(Answer::Over(code));
         }
         let Some(
@@ -257,7 +256,7 @@ impl PlainCopy {
         if !self.ends(alloc, refresh_deletes)? {
             return Ok(Answer::Refused);
         }
-        self.running = None;
+        self.session = None;
         self.store(alloc, cookie)
     }
 }

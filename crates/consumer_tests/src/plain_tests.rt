@@ -113,7 +113,7 @@ fn agree(consumer: &Consumer, plain: &PlainCopy) -> Result<bool, NoMemory> {
     let entries = consumer.entries().list()?;
     Ok(
         entries.len() == plain.held.len()
-            && consumer.is_running() == plain.running.is_some()
+            && consumer.has_session() == plain.session.is_some()
             && plain.has_cookie(consumer.cookie())
             && holds_each(plain, &entries)?,
     )
@@ -179,7 +179,7 @@ fn each_agrees(alloc: Global, pairs: &[Pair], copies: &mut Vec<Pair>) -> Result<
     Ok(true)
 }
 
-/// Whether both make the same of all sequences of three messages behind the first ones, behind one of which at
+/// Whether both make the same of all sequences of three messages after the first ones, after one of which at
 /// least the search goes on.
 fn sequences_agree(
     alloc: Global,
@@ -197,7 +197,7 @@ fn sequences_agree(
             return Ok(false);
         }
     }
-    Ok(pairs.iter().any(|pair| pair.plain.running.is_some()))
+    Ok(pairs.iter().any(|pair| pair.plain.session.is_some()))
 }
 
 fn mode_agrees(alloc: Global, mode: Mode) -> Result<bool, Fail> {

@@ -1,6 +1,6 @@
 //! Requests as they are spelled: RFC 4533, section 2.2, by the grammar of RFC 4511, section 4.5.1.
 ghost use Rattle.std.specs.Prelude.{◌≡◌, ◌≤◌, IsTrue};
-ghost use Rattle.ldap_filter.specs.Tree.{tree_of, depth};
+ghost use Rattle.ldap_filter.specs.FilterTree.{tree_of, depth};
 ghost use Rattle.ldap_messages.specs.Operation.{IsOfGrammar, operation_of};
 
 use crate::messages::discard;

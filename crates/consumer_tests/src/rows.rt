@@ -1,4 +1,4 @@
-//! Rows of tests: a message or something that is done with a consumer, and behind ` -> ` what is told of it.
+//! Rows of tests: a message or something that is done with a consumer, and after ` -> ` what is reported of it.
 //! A line that begins with `#` says something of the rows below it.
 //!
 //! `new`, `once` and `stay` begin with a new consumer, or a search in one of the modes. There are two
@@ -8,6 +8,7 @@ use crate::requests::{is_presence, requested};
 use dn_names::Dn;
 use entry_tree::{Entry, Scope, Spec};
 use ldap_filter::Filter;
+use schema_rules::Attribute;
 use std::alloc::Global;
 use std::mem;
 use std::process::Abort;
@@ -15,7 +16,7 @@ use std::test::Fail;
 use sync_consumer::{Commit, Consumer, Taken};
 use sync_messages::Mode;
 
-/// Asserts that each row is told as it has it.
+/// Asserts that each row is reported as it has it.
 pub(crate) fn check_rows(rt: &impl Abort, alloc: Global, rows: &str) -> Result<(), Fail> {
     let mut consumer = new_consumer(alloc)?;
     let done = check_beside(rt, alloc, &mut consumer, rows);
@@ -45,8 +46,8 @@ fn check_each(
     for row in rows.lines() {
         match row.split_once(" -> ") {
             Some((asked, wanted)) => {
-                let told = told(alloc, consumer, asked)?;
-                assert!(rt; told.as_str() == wanted, "{row}: {told}");
+                let notified = notified(alloc, consumer, asked)?;
+                assert!(rt; notified.as_str() == wanted, "{row}: {notified}");
             }
             None => change(alloc, consumer, other, row)?,
         }
@@ -54,7 +55,7 @@ fn check_each(
     Ok(())
 }
 
-/// What nothing is told of.
+/// What nothing is reported of.
 fn change(
     alloc: Global,
     consumer: &mut Consumer,
@@ -99,14 +100,14 @@ pub(crate) fn new_consumer(alloc: Global) -> Result<Consumer, Fail> {
     Ok(Consumer::new(alloc, spec(alloc, b"o=x", Scope::Sub)?, false)?)
 }
 
-fn told(alloc: Global, consumer: &mut Consumer, asked: &str) -> Result<String, Fail> {
+fn notified(alloc: Global, consumer: &mut Consumer, asked: &str) -> Result<String, Fail> {
     let (word, of) = parted(asked);
     match word {
         "has" => Ok(shown(alloc, consumer)?),
-        "running" => Ok(format!(in alloc; "{}", consumer.is_running())?),
+        "running" => Ok(format!(in alloc; "{}", consumer.has_session())?),
         "request" => requested(alloc, consumer),
-        "spec" => spec_told(alloc, consumer.spec()),
-        "entry" => entry_told(alloc, consumer.entries().get(number(of))),
+        "spec" => spec_notified(alloc, consumer.spec()),
+        "entry" => entry_notified(alloc, consumer.entries().get(number(of))),
         "above" => identities(alloc, &consumer.entries().above(number(of))?),
         "list" => identities(alloc, &consumer.entries().list()?),
         "bounds" => bounds(alloc, consumer),
@@ -122,12 +123,12 @@ fn taken(alloc: Global, consumer: &mut Consumer, text: &str) -> Result<String, F
     let message = sent(alloc, text)?;
     let taken = consumer.take(&message);
     discard(message);
-    let told = taken_told(alloc, &taken);
+    let notified = taken_notified(alloc, &taken);
     discard(taken);
-    told
+    notified
 }
 
-fn taken_told(alloc: Global, taken: &Taken) -> Result<String, Fail> {
+fn taken_notified(alloc: Global, taken: &Taken) -> Result<String, Fail> {
     match taken {
         Taken::Staged => Ok("Staged".to_string(alloc)?),
         Taken::Stored(commit) => committed(alloc, "Stored", commit),
@@ -141,15 +142,27 @@ fn taken_told(alloc: Global, taken: &Taken) -> Result<String, Fail> {
 /// The identities put, those dropped, and the cookie.
 fn committed(alloc: Global, word: &str, commit: &Commit) -> Result<String, Fail> {
     let mut text = word.to_string(alloc)?;
-    for entry in commit.puts.list() {
-        text.push_str(&format!(in alloc; " +{}", entry.uuid)?)?;
-    }
-    for uuid in commit.drops.list() {
-        text.push_str(&format!(in alloc; " -{uuid}")?)?;
-    }
+    text.push_str(&put(alloc, commit.puts.list())?)?;
+    text.push_str(&dropped(alloc, commit.drops.list())?)?;
     if let Some(cookie) = &commit.cookie {
         text.push(' ')?;
         text.push_str(utf8(cookie.as_slice()))?;
+    }
+    Ok(text)
+}
+
+fn put(alloc: Global, entries: &[Entry]) -> Result<String, Fail> {
+    let mut text = String::new(alloc);
+    for entry in entries {
+        text.push_str(&format!(in alloc; " +{}", entry.uuid)?)?;
+    }
+    Ok(text)
+}
+
+fn dropped(alloc: Global, uuids: &[u128]) -> Result<String, Fail> {
+    let mut text = String::new(alloc);
+    for uuid in uuids {
+        text.push_str(&format!(in alloc; " -{uuid}")?)?;
     }
     Ok(text)
 }
@@ -185,14 +198,14 @@ fn bounds(alloc: Global, consumer: &Consumer) -> Result<String, Fail> {
     Ok(format!(in alloc; "{count} {is_empty} {:?}", entries.greatest())?)
 }
 
-fn spec_told(alloc: Global, spec: &Spec) -> Result<String, Fail> {
+fn spec_notified(alloc: Global, spec: &Spec) -> Result<String, Fail> {
     let base = spec.base.write()?;
     let base = utf8(base.as_slice());
     Ok(format!(in alloc; "{base} {:?} {}", spec.scope, is_presence(&spec.filter))?)
 }
 
-/// The name of an entry, whether it has the stamp, and its attributes.
-fn entry_told(alloc: Global, entry: Option<&Entry>) -> Result<String, Fail> {
+/// The name of an entry, whether it has the CSN, and its attributes.
+fn entry_notified(alloc: Global, entry: Option<&Entry>) -> Result<String, Fail> {
     let Some(entry) = entry else {
         return Ok("none".to_string(alloc)?);
     };
@@ -200,15 +213,20 @@ fn entry_told(alloc: Global, entry: Option<&Entry>) -> Result<String, Fail> {
     let is_stamped = utf8(&entry.csn.write()) == CSN;
     let mut text = format!(in alloc; "{} {is_stamped}", utf8(name.as_slice()))?;
     for attribute in entry.attrs.list() {
-        text.push_str(&format!(in alloc; " {}", utf8(attribute.kind.name()))?)?;
-        for value in attribute.values.list() {
-            text.push_str(&format!(in alloc; ";{}", utf8(value.as_slice()))?)?;
-        }
+        text.push_str(&attribute_notified(alloc, attribute)?)?;
     }
     Ok(text)
 }
 
-/// What comes of an entry with a description of so many letters.
+fn attribute_notified(alloc: Global, attribute: &Attribute) -> Result<String, Fail> {
+    let mut text = format!(in alloc; " {}", utf8(attribute.kind.name()))?;
+    for value in attribute.values.list() {
+        text.push_str(&format!(in alloc; ";{}", utf8(value.as_slice()))?)?;
+    }
+    Ok(text)
+}
+
+/// What comes of an entry with a description of n letters.
 fn heavy(alloc: Global, consumer: &mut Consumer, letters: u128) -> Result<String, Fail> {
     let mut text = "add 4 - cn=j,o=x CSN|description=".to_string(alloc)?;
     for _ in 0..letters {
@@ -217,13 +235,13 @@ fn heavy(alloc: Global, consumer: &mut Consumer, letters: u128) -> Result<String
     taken(alloc, consumer, &text)
 }
 
-/// What comes of so many entries, one after another, as far as each is staged.
+/// What comes of n entries, one after another, as far as each is staged.
 fn staged(alloc: Global, consumer: &mut Consumer, count: u128) -> Result<String, Fail> {
     for uuid in 0..count {
         let text = format!(in alloc; "add {uuid} - cn={uuid} CSN")?;
-        let told = taken(alloc, consumer, &text)?;
-        if told.as_str() != "Staged" {
-            return Ok(told);
+        let notified = taken(alloc, consumer, &text)?;
+        if notified.as_str() != "Staged" {
+            return Ok(notified);
         }
     }
     Ok("Staged".to_string(alloc)?)

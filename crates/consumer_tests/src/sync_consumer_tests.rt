@@ -151,7 +151,7 @@ done 4096 -> Over(4096)
 has -> 4 -
 ";
 
-/// Entries, by what is against them.
+/// Entries, by what rejects them.
 const ENTRIES: &str = "\
 # Entries, each the first message of a search that persists
 new
@@ -220,7 +220,7 @@ modify 4 - o=x CSN|cn;lang-de=x -> Staged
 new
 stay
 modify 4 - cn=* CSN -> Staged
-# An entry is refused behind one that was staged: no part of the stage is put.
+# An entry is refused after one that was staged: no part of the stage is put.
 new
 once
 add 4 - o=x objectClass=organization|o=x|CSN -> Staged
@@ -310,7 +310,7 @@ has -> 4 5 c
 list -> 4 5 
 above 4 -> 5 
 bounds -> 2 false Some(5)
-# What is wanted is told.
+# What is wanted is reported.
 new
 spec -> o=x Sub true
 # A cut drops what is staged.

@@ -7,15 +7,15 @@ use Rattle.std.specs.Char.{digit_value, is_digit, is_ascii_uppercase}
 use Rattle.std.specs.Fmt.{digit_glyph}
 use Rattle.std.proofs.lemmas.Bool.{and_parts, cases_Bool, eqb-true, false≢true, ltb-true, or_cases, or_left, or_parts, or_right}
 use Rattle.std.proofs.lemmas.Bool.Decides.{nat_tests}
-use Rattle.std.proofs.lemmas.List.{map-append, length-map}
+use Rattle.std.proofs.lemmas.List.{map-append, length-map, nil_from_length}
 use Rattle.std.proofs.lemmas.List.Folds.{list_any-append}
 use Rattle.std.proofs.lemmas.Option.{none-some, same_Some, some_pair_parts}
 use Rattle.csn_cookie.specs.declared.cookie.Cookie.{Cookie}
 use Rattle.csn_cookie.specs.Digits.{◌>>=◌, field, are_digits, number_at, lower_number_at, after, whole, lower_digit}
-use Rattle.csn_cookie.specs.Csn.{Stamp, IsCsn, IsSpelling, csn_at, csn_text}
+use Rattle.csn_cookie.specs.Csn.{CsnValue, IsCsn, IsSpelling, csn_at, csn_text}
 use Rattle.csn_cookie.specs.Cookie.{IsCookie, IsCookieSpelling, rid_text, ids_text, text_round, cookie_text, rid_at, ids_at, cookie_of_text, IsBlank, is_blank}
 use Rattle.csn_cookie.proofs.FieldLemmas.{number_at-spelled, spelled-number_at, lower-field, length-field, are_digits-field}
-use Rattle.csn_cookie.proofs.ReadingLemmas.{goes_on, after-front, front-after}
+use Rattle.csn_cookie.proofs.ReadingLemmas.{goes_on, after-prefix, prefix-after}
 use Rattle.csn_cookie.proofs.SpellingLemmas.{csn_at-spelled, spelled-csn_at, lower-csn_text, whole_is}
 
 -- digits that stand as they are written
@@ -23,23 +23,23 @@ use Rattle.csn_cookie.proofs.SpellingLemmas.{csn_at-spelled, spelled-csn_at, low
 decimal_mark : (c d : ℕ) → digit_value d < 10 → lower_digit c ≡ d → c ≡ d
 decimal_mark c d digit e = grind (arith, nat_tests)
 
-decimal_exact : (front spelled : List ℕ) → are_digits 10 spelled ≡ true → map lower_digit front ≡ spelled → front ≡ spelled
+decimal_exact : (prefix spelled : List ℕ) → are_digits 10 spelled ≡ true → map lower_digit prefix ≡ spelled → prefix ≡ spelled
 decimal_exact [] spelled digits e = e
-decimal_exact (c ∷ front) [] digits e = absurd cc
-decimal_exact (c ∷ front) (d ∷ spelled) digits e =
+decimal_exact (c ∷ prefix) [] digits e = absurd cc
+decimal_exact (c ∷ prefix) (d ∷ spelled) digits e =
     let parts = and_parts (is_digit d 10) (are_digits 10 spelled) digits in
     let first : lower_digit c ≡ d = cc in
-    let rest : map lower_digit front ≡ spelled = cc in
-    rw (decimal_mark c d (ltb-true _ _ parts.0) first, decimal_exact front spelled parts.1 rest)
+    let rest : map lower_digit prefix ≡ spelled = cc in
+    rw (decimal_mark c d (ltb-true _ _ parts.0) first, decimal_exact prefix spelled parts.1 rest)
 
 lower_mark : (c : ℕ) → is_ascii_uppercase c ≡ false → lower_digit c ≡ c
 lower_mark c h = grind (arith, nat_tests)
 
-lower_exact : (front : List ℕ) → list_any is_ascii_uppercase front ≡ false → map lower_digit front ≡ front
+lower_exact : (prefix : List ℕ) → list_any is_ascii_uppercase prefix ≡ false → map lower_digit prefix ≡ prefix
 lower_exact [] h = refl
-lower_exact (c ∷ front) h =
-    let parts = or_parts (is_ascii_uppercase c) (list_any is_ascii_uppercase front) h in
-    rw (lower_mark c parts.0, lower_exact front parts.1)
+lower_exact (c ∷ prefix) h =
+    let parts = or_parts (is_ascii_uppercase c) (list_any is_ascii_uppercase prefix) h in
+    rw (lower_mark c parts.0, lower_exact prefix parts.1)
 
 glyph_lower : (d : ℕ) → d < 16 → is_ascii_uppercase (digit_glyph false d) ≡ false
 glyph_lower d small = grind (arith, nat_tests)
@@ -54,8 +54,8 @@ field_lower base (suc width) n low high =
 decimal_is : (width n : ℕ) (text rest : List ℕ) → number_at 10 width text ≡ Some (n, rest) → (n < 10 ^ width) × (text ≡ field 10 width n ++ rest)
 decimal_is width n text rest read =
     let is = number_at-spelled 10 width n text rest (omega arith) read in
-    let front = decimal_exact is.1.front (field 10 width n) (are_digits-field 10 width n (omega arith) (omega arith)) is.1.lower in
-    (is.0, is.1.whole ∙ ap (λ f. f ++ rest) front)
+    let prefix = decimal_exact is.1.prefix (field 10 width n) (are_digits-field 10 width n (omega arith) (omega arith)) is.1.lower in
+    (is.0, is.1.whole ∙ ap (λ f. f ++ rest) prefix)
 
 lower_is : (width n : ℕ) (text rest : List ℕ) → lower_number_at 16 width text ≡ Some (n, rest) → (n < 16 ^ width) × (text ≡ field 16 width n ++ rest)
 unfolding lower_number_at
@@ -64,10 +64,10 @@ lower_is width n text rest h =
       | inl upper ↦ absurd (none-some (n, rest) (rw upper at h))
       | inr lower ↦
           let is = number_at-spelled 16 width n text rest (omega arith) (rw lower at h) in
-          let long : length is.1.front ≡ width = sym (length-map is.1.front lower_digit) ∙ ap length is.1.lower ∙ length-field 16 width n in
-          let taken : take width text ≡ is.1.front = ap (take width) is.1.whole ∙ take_at is.1.front rest width long in
-          let front = sym (lower_exact is.1.front (rw taken at lower)) ∙ is.1.lower in
-          (is.0, is.1.whole ∙ ap (λ f. f ++ rest) front)
+          let long : length is.1.prefix ≡ width = sym (length-map is.1.prefix lower_digit) ∙ ap length is.1.lower ∙ length-field 16 width n in
+          let taken : take width text ≡ is.1.prefix = ap (take width) is.1.whole ∙ take_at is.1.prefix rest width long in
+          let prefix = sym (lower_exact is.1.prefix (rw taken at lower)) ∙ is.1.lower in
+          (is.0, is.1.whole ∙ ap (λ f. f ++ rest) prefix)
     ]
 
 -- and their reading
@@ -84,15 +84,15 @@ unfolding lower_number_at
 lower_number_at-field width n rest small =
     rw (take_at (field 16 width n) rest width (length-field 16 width n), field_lower 16 width n (omega arith) (omega arith)) (number_at-field 16 width n rest (omega arith) (omega arith) small)
 
-csn_at-text : (csn : Stamp) (text rest : List ℕ) → IsCsn csn → IsSpelling csn text → csn_at (text ++ rest) ≡ Some (csn, rest)
+csn_at-text : (csn : CsnValue) (text rest : List ℕ) → IsCsn csn → IsSpelling csn text → csn_at (text ++ rest) ≡ Some (csn, rest)
 csn_at-text csn text rest is spells =
     let e : map lower_digit (text ++ rest) ≡ csn_text csn ++ map lower_digit rest = map-append lower_digit text rest ∙ rw spells refl in
     let read = spelled-csn_at (text ++ rest) (map lower_digit rest) csn is e in
     let back = csn_at-spelled (text ++ rest) read.rest csn read.read_is in
-    let long : length back.1.front ≡ length text =
-    sym (length-map back.1.front lower_digit) ∙ ap length (back.1.lower ∙ sym spells) ∙ length-map text lower_digit in
+    let long : length back.1.prefix ≡ length text =
+    sym (length-map back.1.prefix lower_digit) ∙ ap length (back.1.lower ∙ sym spells) ∙ length-map text lower_digit in
     let tail : read.rest ≡ rest =
-    sym (drop_at back.1.front read.rest (length text) long) ∙ ap (drop (length text)) (sym back.1.whole) ∙ drop_at text rest (length text) refl in
+    sym (drop_at back.1.prefix read.rest (length text) long) ∙ ap (drop (length text)) (sym back.1.whole) ∙ drop_at text rest (length text) refl in
     read.read_is ∙ ap (λ r. Some (csn, r)) tail
 
 -- one text after another
@@ -105,11 +105,11 @@ rid_is : (n : ℕ) (text rest : List ℕ) → rid_at text ≡ Some (n, rest) →
 rid_is n text rest h =
     goes_on (after (codes "rid=") text) _ (n, rest) h (λ t read number.
     let is = decimal_is 3 n t rest number in
-    (is.0, text_then (codes "rid=") (field 10 3 n) rest (after-front (codes "rid=") text t read) is.1))
+    (is.0, text_then (codes "rid=") (field 10 3 n) rest (after-prefix (codes "rid=") text t read) is.1))
 
 rid_at-text : (n : ℕ) (rest : List ℕ) → n < 1000 → rid_at (rid_text n ++ rest) ≡ Some (n, rest)
 rid_at-text n rest small =
-    rw (front-after (codes "rid=") (field 10 3 n ++ rest)) (number_at-field 10 3 n rest (omega arith) (omega arith) small)
+    rw (prefix-after (codes "rid=") (field 10 3 n ++ rest)) (number_at-field 10 3 n rest (omega arith) (omega arith) small)
 
 abbrev HasIds : List ℕ → List ℕ → ℕ × ℕ → Type 0
 HasIds text rest ids = (ids.0 < 1000) × (ids.1 < 2 ^ 12) × (text ≡ ids_text ids.0 ids.1 ++ rest)
@@ -121,7 +121,7 @@ ids_is ids text rest h =
     goes_on (lower_number_at 16 3 t₂) _ (ids, rest) h₂ (λ (sid, t₃) read₃ h₃.
     let first = rid_is rid text t₁ read₁ in
     let last = lower_is 3 sid t₂ t₃ read₃ in
-    let both = text_then (rid_text rid) (codes ",sid=") t₂ first.1 (after-front (codes ",sid=") t₁ t₂ read₂) in
+    let both = text_then (rid_text rid) (codes ",sid=") t₂ first.1 (after-prefix (codes ",sid=") t₁ t₂ read₂) in
     let whole_text = text_then (rid_text rid ++ codes ",sid=") (field 16 3 sid) t₃ both last.1 in
     let same = some_pair_parts (rid, sid) ids t₃ rest h₃ in
     subst (HasIds text rest) same.0 (first.0, last.0, whole_text ∙ ap (λ r. ids_text rid sid ++ r) same.1))))
@@ -132,7 +132,7 @@ ids_at-text rid sid rest small short =
       append_assoc (rid_text rid ++ codes ",sid=") (field 16 3 sid) rest,
       append_assoc (rid_text rid) (codes ",sid=") (field 16 3 sid ++ rest),
       rid_at-text rid (codes ",sid=" ++ (field 16 3 sid ++ rest)) small,
-      front-after (codes ",sid=") (field 16 3 sid ++ rest),
+      prefix-after (codes ",sid=") (field 16 3 sid ++ rest),
       lower_number_at-field 3 sid rest short,
     ) refl
 
@@ -154,14 +154,14 @@ cookie_of_text-spelled text cookie h =
     let first = ids_is ids text t₁ read₁ in
     let middle = csn_at-spelled t₂ t₃ csn read₃ in
     let last = lower_is 32 history t₄ t₅ read₅ in
-    let front = middle.1.front in
-    let two = text_then (ids_text ids.0 ids.1) (codes ",csn=") t₂ first.2 (after-front (codes ",csn=") t₁ t₂ read₂) in
-    let three = text_then (ids_text ids.0 ids.1 ++ codes ",csn=") front t₃ two middle.1.whole in
-    let four = text_then (ids_text ids.0 ids.1 ++ codes ",csn=" ++ front) (codes ",gen=") t₄ three (after-front (codes ",gen=") t₃ t₄ read₄) in
-    let five = text_then (ids_text ids.0 ids.1 ++ codes ",csn=" ++ front ++ codes ",gen=") (field 16 32 history) t₅ four last.1 in
-    let round : text ≡ text_round found front = five ∙ ap (λ r. text_round found front ++ r) all.1 ∙ append-nil (text_round found front) in
+    let prefix = middle.1.prefix in
+    let two = text_then (ids_text ids.0 ids.1) (codes ",csn=") t₂ first.2 (after-prefix (codes ",csn=") t₁ t₂ read₂) in
+    let three = text_then (ids_text ids.0 ids.1 ++ codes ",csn=") prefix t₃ two middle.1.whole in
+    let four = text_then (ids_text ids.0 ids.1 ++ codes ",csn=" ++ prefix) (codes ",gen=") t₄ three (after-prefix (codes ",gen=") t₃ t₄ read₄) in
+    let five = text_then (ids_text ids.0 ids.1 ++ codes ",csn=" ++ prefix ++ codes ",gen=") (field 16 32 history) t₅ four last.1 in
+    let round : text ≡ text_round found prefix = five ∙ ap (λ r. text_round found prefix ++ r) all.1 ∙ append-nil (text_round found prefix) in
     subst (SpellsCookie text) all.0
-    (record { rid = first.0; sid = first.1; csn = middle.0; history = last.0 }, record { csn = front; spells = middle.1.lower; round = round }))))))
+    (record { rid = first.0; sid = first.1; csn = middle.0; history = last.0 }, record { csn = prefix; spells = middle.1.lower; round = round }))))))
 
 round_joined : (a b c d e : List ℕ) → a ++ b ++ c ++ d ++ e ≡ a ++ (b ++ (c ++ (d ++ (e ++ []))))
 round_joined a b c d e = simp (append_assoc, append-nil)
@@ -174,9 +174,9 @@ spelled-cookie_of_text text cookie is spells =
     rw (
       whole_text,
       ids_at-text cookie.rid cookie.sid _ is.rid is.sid,
-      front-after (codes ",csn=") _,
+      prefix-after (codes ",csn=") _,
       csn_at-text cookie.csn spells.csn _ is.csn spells.spells,
-      front-after (codes ",gen=") _,
+      prefix-after (codes ",gen=") _,
       lower_number_at-field 32 cookie.history [] is.history,
     ) refl
 
@@ -231,16 +231,12 @@ blank_ids text h =
     let is = ids_is ids text [] read in
     inr (inr (ids.0, ids.1, is.0, is.1, is.2 ∙ append-nil (ids_text ids.0 ids.1))))
 
-no_text : (text : List ℕ) → length text ≡ 0 → text ≡ []
-no_text [] e = refl
-no_text (c ∷ text) e = absurd (omega arith)
-
 pub is_blank-blank : (text : List ℕ) → is_blank text ≡ true → IsBlank text
 unfolding is_blank
 is_blank-blank text h =
     elim (or_cases ((length text == 0) || is_some (rid_at text >>= whole)) (is_some (ids_at text >>= whole)) h) [
       | inl first ↦ elim (or_cases (length text == 0) (is_some (rid_at text >>= whole)) first) [
-        | inl none ↦ inl (no_text text (eqb-true (length text) 0 none))
+        | inl none ↦ inl (nil_from_length text (eqb-true (length text) 0 none))
         | inr rid ↦ blank_rid text rid
       ]
       | inr ids ↦ blank_ids text ids

@@ -16,9 +16,9 @@ use Rattle.csn_cookie.specs.Digits.{field, are_digits, number_at, lower_digit}
 
 -- the text begins with a spelling of this one, where hexadecimal digits stand in either case, and goes on with the rest
 pub record Spells (text spelled rest : List ℕ) : Type 0 where
-  pub front : List ℕ
-  pub whole : text ≡ front ++ rest
-  pub lower : map lower_digit front ≡ spelled
+  pub prefix : List ℕ
+  pub whole : text ≡ prefix ++ rest
+  pub lower : map lower_digit prefix ≡ spelled
 
 -- one digit
 
@@ -94,9 +94,9 @@ lower-field base (suc width) n low high =
 field-push : (base width : ℕ) (text : List ℕ) (c : ℕ) → base ≤ 16 → digit_value c < base → field base width (digits_value base text) ≡ map lower_digit text
     → field base (suc width) (digits_value base (text ++ c ∷ [])) ≡ map lower_digit (text ++ c ∷ [])
 unfolding field
-field-push base width text c high digit front =
+field-push base width text c high digit prefix =
     let glyph = digit_glyph-digit_value c (omega arith) in
-    rw (digits_value_push base text c, digits_div (digits_value base text) digit, digits_mod (digits_value base text) digit, front, glyph, map-append)
+    rw (digits_value_push base text c, digits_div (digits_value base text) digit, digits_mod (digits_value base text) digit, prefix, glyph, map-append)
 
 -- the digits of a number are those that spell it, with letters in lower case
 pub field-digits_value : (base width : ℕ) (text : List ℕ) → base ≤ 16 → length text ≡ width → are_digits base text ≡ true
@@ -111,9 +111,9 @@ field-digits_value base (suc width) text high long digits =
     let parts = and_parts (are_digits base (take width text)) (is_digit (get_or text width 0) base && true)
     (rw list_all-append at (rw whole at digits)) in
     let digit : digit_value (get_or text width 0) < base = ltb-true _ _ (and_parts (is_digit (get_or text width 0) base) true parts.1).0 in
-    let front = field-digits_value base width (take width text) high (rw length-take (omega arith)) parts.0 in
+    let prefix = field-digits_value base width (take width text) high (rw length-take (omega arith)) parts.0 in
     subst (λ t. field base (suc width) (digits_value base t) ≡ map lower_digit t) (sym whole)
-    (field-push base width (take width text) (get_or text width 0) high digit front)
+    (field-push base width (take width text) (get_or text width 0) high digit prefix)
 
 -- reading a field
 
@@ -137,9 +137,9 @@ number_at-spelled base width n text rest high h =
     let read = read_parts base width n text rest h in
     let long : length (take width text) ≡ width = rw length-take (omega (arith, read.0)) in
     let small = digits_value-lt base (take width text) (AllDigits-are_digits base (take width text) read.1) in
-    let front = field-digits_value base width (take width text) high long read.1 in (
+    let prefix = field-digits_value base width (take width text) high long read.1 in (
       rw (read.2, long) at small,
-      record { front = take width text; whole = sym (take-append-drop width text) ∙ ap (λ r. take width text ++ r) read.3; lower = sym (rw read.2 at front) },
+      record { prefix = take width text; whole = sym (take-append-drop width text) ∙ ap (λ r. take width text ++ r) read.3; lower = sym (rw read.2 at prefix) },
     )
 
 -- and what the text spells is read
@@ -152,10 +152,10 @@ spelled-number_at base width n text lower low high small e =
     sym (length-map text lower_digit) ∙ ap length e ∙ rw (length-append, length-field base width n) refl in
     let long : width ≤ length text = omega (arith, total) in
     let seam = length-field base width n in
-    let front : map lower_digit (take width text) ≡ field base width n =
+    let prefix : map lower_digit (take width text) ≡ field base width n =
     sym (take-map lower_digit width text) ∙ ap (take width) e ∙ take_at (field base width n) lower width seam in
     let rest : map lower_digit (drop width text) ≡ lower =
     sym (drop-map lower_digit width text) ∙ ap (drop width) e ∙ drop_at (field base width n) lower width seam in
-    let digits : are_digits base (take width text) ≡ true = sym (are_digits-lower base (take width text)) ∙ rw front (are_digits-field base width n low high) in
-    let value : digits_value base (take width text) ≡ n = sym (digits_value_after-lower base 0 (take width text)) ∙ rw front (digits_value-field base width n low high small) in
+    let digits : are_digits base (take width text) ≡ true = sym (are_digits-lower base (take width text)) ∙ rw prefix (are_digits-field base width n low high) in
+    let value : digits_value base (take width text) ≡ n = sym (digits_value_after-lower base 0 (take width text)) ∙ rw prefix (digits_value-field base width n low high small) in
     (rw (le-ltb (length text) width long, digits, value) refl, rest)

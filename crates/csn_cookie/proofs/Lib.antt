@@ -1,8 +1,10 @@
 pub mod DigitsLemmas
 pub mod CalendarLemmas
-pub mod MomentLemmas
+pub mod InstantLemmas
 pub mod FieldLemmas
 pub mod ReadingLemmas
+pub mod SizeLemmas
 pub mod SpellingLemmas
 pub mod CookieLemmas
 pub mod OrderLemmas
+pub mod UptoLemmas

@@ -28,26 +28,26 @@ number_then base width text next y high h give =
 -- one spelling after another
 pub spells_then : {text a middle b rest : List ℕ} → Spells text a middle → Spells middle b rest → Spells text (a ++ b) rest
 spells_then {text} {a} {middle} {b} {rest} first second = record {
-  front = first.front ++ second.front;
-  whole = first.whole ∙ ap (λ r. first.front ++ r) second.whole ∙ sym (append_assoc first.front second.front rest);
-  lower = map-append lower_digit first.front second.front ∙ rw (first.lower, second.lower) refl;
+  prefix = first.prefix ++ second.prefix;
+  whole = first.whole ∙ ap (λ r. first.prefix ++ r) second.whole ∙ sym (append_assoc first.prefix second.prefix rest);
+  lower = map-append lower_digit first.prefix second.prefix ∙ rw (first.lower, second.lower) refl;
 }
 
 -- the text after these bytes
 
-pub after-front : (front text rest : List ℕ) → after front text ≡ Some rest → text ≡ front ++ rest
+pub after-prefix : (prefix text rest : List ℕ) → after prefix text ≡ Some rest → text ≡ prefix ++ rest
 unfolding after
-after-front front text rest h =
-    elim (cases_Bool (starts_with nat_eq text front)) [
-      | inl begins ↦ (starts_is Decides-eqb text front (starts_with nat_eq text front) refl).0 begins ∙ ap (λ r. front ++ r) (same_Some _ _ (rw begins at h))
+after-prefix prefix text rest h =
+    elim (cases_Bool (starts_with nat_eq text prefix)) [
+      | inl begins ↦ (starts_is Decides-eqb text prefix (starts_with nat_eq text prefix) refl).0 begins ∙ ap (λ r. prefix ++ r) (same_Some _ _ (rw begins at h))
       | inr other ↦ absurd (none-some rest (rw other at h))
     ]
 
-pub front-after : (front rest : List ℕ) → after front (front ++ rest) ≡ Some rest
+pub prefix-after : (prefix rest : List ℕ) → after prefix (prefix ++ rest) ≡ Some rest
 unfolding after
-front-after front rest =
-    let begins = (starts_is Decides-eqb (front ++ rest) front (starts_with nat_eq (front ++ rest) front) refl).1 rest refl in
-    rw begins (ap Some (drop_at front rest (length front) refl))
+prefix-after prefix rest =
+    let begins = (starts_is Decides-eqb (prefix ++ rest) prefix (starts_with nat_eq (prefix ++ rest) prefix) refl).1 rest refl in
+    rw begins (ap Some (drop_at prefix rest (length prefix) refl))
 
 -- no other byte is written as this one
 abbrev pub IsMark : ℕ → Type 0
@@ -77,7 +77,7 @@ pub mark_then : {B G : Type 0} (mark : ℕ) (text : List ℕ) (next : List ℕ �
     → ((rest : List ℕ) → Spells text (mark ∷ []) rest → next rest ≡ Some y → G) → G
 mark_then mark text next y is h give =
     goes_on (after (mark ∷ []) text) next y h (λ rest read next_is.
-    give rest (record { front = mark ∷ []; whole = after-front (mark ∷ []) text rest read; lower = ap (λ c. c ∷ []) is.0 }) next_is)
+    give rest (record { prefix = mark ∷ []; whole = after-prefix (mark ∷ []) text rest read; lower = ap (λ c. c ∷ []) is.0 }) next_is)
 
 -- a text that spells the mark first
 pub spelled-after : (mark : ℕ) (text lower : List ℕ) → IsMark mark → map lower_digit text ≡ mark ∷ lower
@@ -86,4 +86,4 @@ spelled-after mark [] lower is e = absurd cc
 spelled-after mark (c ∷ text) lower is e =
     let first : lower_digit c ≡ mark = cc in
     let rest : map lower_digit text ≡ lower = cc in
-    (rw (is.1 c first) (front-after (mark ∷ []) text), rest)
+    (rw (is.1 c first) (prefix-after (mark ∷ []) text), rest)

@@ -11,11 +11,12 @@ pub record CalendarDate : Type 0 where
 -- the day after
 abbrev pub next_date : CalendarDate → CalendarDate
 next_date d =
-    if nat_lt d.day (days_in_month (pos d.year) d.month) then record { year = d.year; month = d.month; day = d.day + 1 }
+    if nat_lt d.day (days_in_month (pos d.year) d.month)
+    then record { year = d.year; month = d.month; day = d.day + 1 }
     else if nat_lt d.month 12 then record { year = d.year; month = d.month + 1; day = 1 }
     else record { year = d.year + 1; month = 1; day = 1 }
 
--- the date so many days after 1 January 1970
+-- the date n days after 1 January 1970
 unfoldable pub date_after : ℕ → CalendarDate
 date_after zero = record { year = 1970; month = 1; day = 1 }
 date_after (suc days) = next_date (date_after days)

@@ -15,7 +15,8 @@ ids_text rid sid = rid_text rid ++ codes ",sid=" ++ field 16 3 sid
 -- `rid=DDD,sid=HHH,csn=CSN,gen=` and 32 hexadecimal digits, where this is the text of the CSN
 abbrev pub text_round : Cookie → List ℕ → List ℕ
 text_round cookie csn =
-    ids_text cookie.rid cookie.sid ++ codes ",csn=" ++ csn ++ codes ",gen=" ++ field 16 32 cookie.history
+    ids_text cookie.rid cookie.sid ++ codes ",csn=" ++ csn ++ codes ",gen="
+    ++ field 16 32 cookie.history
 
 -- the same, where the CSN has its letters in lower case too
 unfoldable pub cookie_text : Cookie → List ℕ
@@ -67,4 +68,5 @@ IsBlank text =
 
 -- whether it does, by reading it
 unfoldable pub is_blank : List ℕ → Bool
-is_blank text = (length text == 0) || is_some (rid_at text >>= whole) || is_some (ids_at text >>= whole)
+is_blank text =
+    (length text == 0) || is_some (rid_at text >>= whole) || is_some (ids_at text >>= whole)

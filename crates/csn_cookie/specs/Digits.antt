@@ -1,4 +1,4 @@
--- Numbers in a fixed count of digits, and the front of a text.
+-- Numbers in a fixed count of digits, and the prefix of a text.
 use Rattle.std.specs.Prelude.{ℕ, zero, suc, ◌+◌, ◌/◌, ◌%◌, ◌&&◌, Bool, false, List, [], ◌∷◌, ◌++◌, length, take, drop, Option, Some, None, option_map, nat_eq, nat_le, nat_lt, if◌then◌else◌}
 use Rattle.std.specs.List.{list_all, list_any, starts_with}
 use Rattle.std.specs.Char.{is_digit, is_ascii_uppercase}
@@ -11,10 +11,11 @@ abbrev pub ◌>>=◌ : {A B : Type 0} → Option A → (A → Option B) → Opti
 None >>= read = None
 (Some x) >>= read = read x
 
--- the number in so many digits of the base, zeros in front and letters in lower case
+-- the number in n digits of the base, leading zeros and letters in lower case
 unfoldable pub field : ℕ → ℕ → ℕ → List ℕ
 field base zero number = []
-field base (suc width) number = field base width (number / base) ++ digit_glyph false (number % base) ∷ []
+field base (suc width) number =
+    field base width (number / base) ++ digit_glyph false (number % base) ∷ []
 
 -- whether each byte is a digit of the base, a letter in either case
 abbrev pub are_digits : ℕ → List ℕ → Bool
@@ -24,7 +25,7 @@ are_digits base text = list_all (λ c. is_digit c base) text
 abbrev pub number_of : ℕ → List ℕ → Option ℕ
 number_of base text = if are_digits base text then Some (digits_value base text) else None
 
--- the number in the next so many digits, and the text after them
+-- the number in the next n digits, and the text after them
 unfoldable pub number_at : ℕ → ℕ → List ℕ → Option (ℕ × List ℕ)
 number_at base width text =
     if nat_lt (length text) width then None
@@ -37,7 +38,7 @@ lower_number_at base width text =
 
 -- the text after these bytes, where it begins with them
 unfoldable pub after : List ℕ → List ℕ → Option (List ℕ)
-after front text = if starts_with nat_eq text front then Some (drop (length front) text) else None
+after prefix text = if starts_with nat_eq text prefix then Some (drop (length prefix) text) else None
 
 -- the value that was read, where no text is left
 abbrev pub whole : {A : Type 0} → A × List ℕ → Option A

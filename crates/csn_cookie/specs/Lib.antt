@@ -1,6 +1,6 @@
 pub mod Digits
 pub mod Calendar
-pub mod Moment
+pub mod Instant
 pub mod Csn
 pub mod CsnMaker
 pub mod Cookie

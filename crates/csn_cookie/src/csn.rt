@@ -3,11 +3,11 @@
 ghost use Rattle.std.specs.Prelude.{◌≡◌, ◌≤◌, ◌<◌, ◌^◌, ◌↔◌, Some, option_map, IsNone, IfOk, IfErr, IfSome};
 ghost use Rattle.std.specs.Result.{result_ok};
 ghost use Rattle.csn_cookie.specs.Csn as spec;
-ghost use Rattle.csn_cookie.specs.CsnMaker.{next_csn, stamp_at, IsGreatest};
+ghost use Rattle.csn_cookie.specs.CsnMaker.{next_csn, csn_from, IsGreatest};
 
 use crate::digits::{after, number_at};
 use crate::fault::CookieFault;
-use crate::moment::{Moment, micros_at};
+use crate::instant::{Instant, micros_at};
 use crate::text::Text;
 use std::marker::Model;
 
@@ -28,9 +28,9 @@ pub struct Csn {
 }
 
 impl Model for Csn {
-    ghost use Rattle.csn_cookie.specs.Csn.{Stamp, IsCsn};
+    ghost use Rattle.csn_cookie.specs.Csn.{CsnValue, IsCsn};
 
-    ghost Value = { Stamp };
+    ghost Value = { CsnValue };
 
     ghost view = { λ c. record { micros = c.micros; count = c.count; sid = c.sid; part = c.part } };
 
@@ -55,7 +55,7 @@ impl Csn {
         requires micros { micros ≤ spec.greatest_micros }
         requires count { count < 2 ^ 24 }
         requires sid { sid < 4096 }
-        ensures { result ≡ stamp_at sid micros count }
+        ensures { result ≡ csn_from sid micros count }
     {
         Csn {
             micros,
@@ -125,7 +125,7 @@ impl Csn {
         // It is Ok exactly where the text spells a CSN.
         ensures bounds { IfOk result spec.IsCsn }
         ensures spelled { IfOk result (λ csn. spec.IsSpelling csn text.now) }
-        ensures only { (csn : spec.Stamp) → spec.IsCsn csn → spec.IsSpelling csn text.now
+        ensures only { (csn : spec.CsnValue) → spec.IsCsn csn → spec.IsSpelling csn text.now
             → result ≡ Ok csn }
     {
         csn_of_text(text).ok_or(CookieFault::NotACsn)
@@ -137,7 +137,7 @@ impl Csn {
         ensures read_again { spec.csn_of_text result ≡ Some self.now }
 
         // No other CSN is written so.
-        ensures one { (csn : spec.Stamp) → spec.IsCsn csn → spec.csn_text csn ≡ result
+        ensures one { (csn : spec.CsnValue) → spec.IsCsn csn → spec.csn_text csn ≡ result
             → csn ≡ self.now }
     {
         self.to_text()
@@ -149,7 +149,7 @@ impl Csn {
         ensures text { result ≡ spec.csn_text self.now }
     {
         let mut text = Text::<40>::new();
-        text.push(&Moment::new(self.micros).write());
+        text.push(&Instant::new(self.micros).write());
         text.push(b"#");
         text.push_number(16, 6, self.count.into());
         text.push(b"#");
@@ -171,7 +171,7 @@ fn csn_of_text(text: &[u8]) -> Option<Csn>
     }
 }
 
-/// The CSN at the front of the text, and the text after it.
+/// The CSN at the start of the text, and the text after it.
 #[tactic(auto, unfolding(crate::specs::Csn::csn_at))]
 pub fn csn_at(text: &[u8]) -> Option<(Csn, &[u8])>
     ensures { option_map (λ p. (p.0, p.1.now)) result ≡ spec.csn_at text.now }
@@ -189,7 +189,7 @@ pub fn csn_at(text: &[u8]) -> Option<(Csn, &[u8])>
     Some((csn, text))
 }
 
-/// `#` and a number in so many hexadecimal digits, and the text after them.
+/// `#` and a number in n hexadecimal digits, and the text after them.
 fn part_at(width: usize, text: &[u8]) -> Option<(u128, &[u8])>
     requires { width < 7 }
     ensures value { option_map (λ p. (p.0, p.1.now)) result ≡ spec.part_at width text.now }

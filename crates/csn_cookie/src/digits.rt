@@ -18,7 +18,7 @@ fn digit_of(value: u8) -> u8
     }
 }
 
-/// Fills the text with the digits of the number, zeros in front.
+/// Fills the text with the digits of the number, leading zeros.
 pub fn write_digits(radix: u8, number: u128, text: &mut [u8])
     requires low { 2 ≤ radix }
     requires high { radix ≤ 16 }
@@ -47,7 +47,7 @@ fn number_of(radix: u8, text: &[u8]) -> Option<u128>
     Some(number)
 }
 
-/// The number in the next so many digits, and the text after them.
+/// The number in the next n digits, and the text after them.
 #[tactic(auto, unfolding(crate::specs::Digits::number_at))]
 pub fn number_at(radix: u8, width: usize, text: &[u8]) -> Option<(u128, &[u8])>
     requires low { 2 ≤ radix }
@@ -77,7 +77,7 @@ pub fn lower_number_at(radix: u8, width: usize, text: &[u8]) -> Option<(u128, &[
     number_at(radix, width, text)
 }
 
-/// Whether a letter in upper case stands among the first so many bytes.
+/// Whether a letter in upper case stands among the first n bytes.
 fn has_upper(width: usize, text: &[u8]) -> bool
     ensures { result ≡ list_any is_ascii_uppercase (take width text.now) }
 {
@@ -86,8 +86,8 @@ fn has_upper(width: usize, text: &[u8]) -> bool
 
 /// The text after these bytes, where it begins with them.
 #[tactic(auto, unfolding(crate::specs::Digits::after))]
-pub fn after<'a>(front: &[u8], text: &'a [u8]) -> Option<&'a [u8]>
-    ensures { option_map (λ rest. rest.now) result ≡ spec.after front.now text.now }
+pub fn after<'a>(prefix: &[u8], text: &'a [u8]) -> Option<&'a [u8]>
+    ensures { option_map (λ rest. rest.now) result ≡ spec.after prefix.now text.now }
 {
-    text.strip_prefix(front)
+    text.strip_prefix(prefix)
 }

@@ -9,8 +9,8 @@ mod cookie;
 mod csn;
 mod digits;
 mod fault;
+mod instant;
 mod maker;
-mod moment;
 mod text;
 
 pub use cookie::{Cookie, is_blank};

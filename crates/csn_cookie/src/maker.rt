@@ -16,9 +16,9 @@ pub struct CsnMaker {
 }
 
 impl Model for CsnMaker {
-    ghost use Rattle.csn_cookie.specs.Csn.{Stamp};
+    ghost use Rattle.csn_cookie.specs.Csn.{CsnValue};
 
-    ghost Value = { Stamp };
+    ghost Value = { CsnValue };
 
     ghost view = { λ m. m.last };
 }

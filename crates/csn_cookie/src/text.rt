@@ -1,4 +1,4 @@
-//! Texts of a fixed length, written from the front.
+//! Texts of a fixed length, written from the prefix.
 
 ghost use Rattle.std.specs.Prelude.{◌≡◌, ◌≤◌, ◌+◌, [], ◌++◌, length};
 ghost use Rattle.csn_cookie.specs.Digits.{field};
@@ -24,6 +24,7 @@ impl<const N: usize> Model for Text<N> {
 }
 
 impl<const N: usize> Text<N> {
+    /// Makes a text of which nothing is written yet.
     pub fn new() -> Text<N>
         ensures { result ≡ [] }
     {
@@ -33,7 +34,7 @@ impl<const N: usize> Text<N> {
         }
     }
 
-    /// Appends the number in so many digits, zeros in front.
+    /// Appends the number in n digits, leading zeros.
     pub fn push_number(&mut self, radix: u8, width: usize, number: u128)
         requires low { 2 ≤ radix }
         requires high { radix ≤ 16 }
@@ -47,6 +48,7 @@ impl<const N: usize> Text<N> {
         self.len = end;
     }
 
+    /// Appends these bytes, for which there has to be room.
     pub fn push(&mut self, bytes: &[u8])
         requires room { length self.old + length bytes.now ≤ N }
         ensures text { self.new ≡ self.old ++ bytes.now }

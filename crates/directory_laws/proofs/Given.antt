@@ -46,6 +46,7 @@ given-with_change change (a ∷ attrs) kind keeps all =
 
 -- ---- what an edit leaves
 
+-- attributes without some values are those that a client may give
 pub given-without_values : (attrs : List Attribute) (kind : ℕ) (values : List (List ℕ)) → list_all is_given attrs ≡ true → list_all is_given (without_values attrs kind values) ≡ true
 given-without_values attrs kind values all =
     let keys = keys_of kind values in
@@ -91,6 +92,7 @@ given-after_edit attrs edit sound all =
     let syntax = and_parts (list_all (is_of_syntax edit.kind) edit.values) _ user.1 in
     given-changed edit.how attrs edit.kind edit.values (and_from (not (is_operational edit.kind)) (list_all (is_of_syntax edit.kind) edit.values) user.0 syntax.0) all
 
+-- attributes after edits are those that a client may give
 pub given-after_edits : (attrs : List Attribute) (edits : List Edit) → list_all is_sound_edit edits ≡ true → list_all is_given attrs ≡ true
     → list_all is_given (after_edits attrs edits) ≡ true
 given-after_edits attrs [] sound all = all

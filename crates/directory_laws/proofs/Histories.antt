@@ -38,12 +38,14 @@ accepted-take suffix history writes count accepted number other low =
     let within : number < count = omega (arith, length-take count writes) in
     rw (take-take number count writes (omega arith), get_or-take count writes number other within) (accepted number other (omega (arith, length-take count writes)))
 
+-- each entry of each state can be sent
 pub sent-state_of : (suffix : List (List TypeAndValue)) (history : ℕ) (writes : List Write) (number : ℕ) → WereAccepted suffix history writes → All CanBeSent (state_of history writes number)
 sent-state_of suffix history writes number accepted =
     sent-state_from (take number writes) suffix history [] 0 (All-nil CanBeSent) (accepted-take suffix history writes number accepted)
 
 -- ---- one more write
 
+-- accepted writes and one more that is accepted are accepted writes
 pub WereAccepted-push : (suffix : List (List TypeAndValue)) (history : ℕ) (writes : List Write) (write : Write) → WereAccepted suffix history writes
     → IsAccepted suffix (state_of history writes (length writes)) write → WereAccepted suffix history (writes ++ write ∷ [])
 WereAccepted-push suffix history writes write accepted last number other low =
@@ -57,11 +59,9 @@ WereAccepted-push suffix history writes write accepted last number other low =
 
 -- ---- fewer writes
 
-pub WereAccepted-front : (suffix : List (List TypeAndValue)) (history : ℕ) (writes more : List Write) → WereAccepted suffix history (writes ++ more) → WereAccepted suffix history writes
-WereAccepted-front suffix history writes more accepted number other low =
+-- the first of accepted writes were accepted
+pub WereAccepted-prefix : (suffix : List (List TypeAndValue)) (history : ℕ) (writes more : List Write) → WereAccepted suffix history (writes ++ more) → WereAccepted suffix history writes
+WereAccepted-prefix suffix history writes more accepted number other low =
     subst (IsAccepted suffix (state_of history writes number)) (get_or_append_left writes more other number low)
     (subst (λ before. IsAccepted suffix (state_from history [] 0 before) (get_or (writes ++ more) number other)) (take-append-le number writes more (omega (arith, low)))
     (accepted number other (omega (arith, low, length-append writes more))))
-
-pub WereAccepted-take : (suffix : List (List TypeAndValue)) (history : ℕ) (writes : List Write) (count : ℕ) → WereAccepted suffix history writes → WereAccepted suffix history (take count writes)
-WereAccepted-take suffix history writes count accepted = accepted-take suffix history writes count accepted

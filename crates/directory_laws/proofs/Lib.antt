@@ -1,7 +1,6 @@
 -- Lemmas of the crate.
 pub mod Branches
 pub mod Codes
-pub mod EqualNames
 pub mod Given
 pub mod Histories
 pub mod Members
@@ -16,7 +15,7 @@ pub mod Renaming
 pub mod Results
 pub mod Sending
 pub mod Sizes
-pub mod Stamps
+pub mod Csns
 pub mod States
 pub mod TreeMoves
 pub mod TreeWrites

@@ -15,11 +15,13 @@ AllPass-above : (name : List (List TypeAndValue)) (superior : Option (List (List
 AllPass-above name None is above = All-drop passes 1 name is.rdns
 AllPass-above name (Some superior) is above = above.rdns
 
+-- the new name of a Rename consists of RDNs
 pub AllPass-new_name : (e : Entry) (rdn : List TypeAndValue) (superior : Option (List (List TypeAndValue))) → IsName e.dn → is_rdn rdn ≡ true → IfSome superior IsName
     → AllPass is_rdn (new_name e rdn superior)
 AllPass-new_name e rdn superior is sound above =
     All-cons passes rdn (unwrap_or superior (parent_of e.dn)) sound (AllPass-above e.dn superior is above)
 
+-- a name that is moved is a name, where it is not too long
 pub IsName-moved_name : (name from to : List (List TypeAndValue)) → IsName name → AllPass is_rdn to → length (moved_name name from to) ≤ most_rdns → IsName (moved_name name from to)
 IsName-moved_name name from to is all few = record {
   rdns = All-append passes (take (length name - length from) name) to (All-take passes (length name - length from) name is.rdns) all;

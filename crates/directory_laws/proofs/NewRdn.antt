@@ -1,17 +1,15 @@
 -- A new RDN keeps a list of attributes that a client may give.
-use Rattle.std.proofs.Common.{◌≡◌, ℕ, Bool, true, false, not, ◌&&◌, List, [], ◌∷◌, fold, is_some, refl, inl, inr}
+use Rattle.std.proofs.Common.{◌≡◌, Bool, true, not, ◌&&◌, List, [], ◌∷◌, fold, refl}
 use Rattle.std.specs.List.{list_all}
-use Rattle.std.proofs.lemmas.Bool.{and_parts, and_from, cond_both, cases_Bool, not_from_false}
+use Rattle.std.proofs.lemmas.Bool.{and_parts, and_from, cond_both, not_from_false}
 use Rattle.schema_rules.specs.declared.attributes.Attribute.{Attribute}
-use Rattle.schema_rules.specs.declared.types.Rule.{Rule}
-use Rattle.schema_rules.specs.declared.types.Rule.TheVariants.{Class, Folded, FoldedAscii, ExactAscii, Whole, Flag, Time, Operational}
 use Rattle.schema_rules.specs.Attributes.{IsAttributeList, is_given, with_values}
-use Rattle.schema_rules.specs.Keys.{key_of, key_by}
-use Rattle.schema_rules.specs.Schema.{type_rule, is_operational, is_operational_rule}
+use Rattle.schema_rules.specs.Schema.{is_operational}
 use Rattle.schema_rules.proofs.Joining.{is_given-with_values}
 use Rattle.dn_names.specs.Names.{TypeAndValue}
 use Rattle.dn_names.specs.Sound.{has_key, is_rdn}
 use Rattle.dn_names.proofs.Equality.{rdn-keyed}
+use Rattle.dn_names.proofs.Rereading.{user_type}
 use Rattle.entry_tree.specs.Edits.{has_pair_value, with_pair, without_pair, pairs_gone, with_rdn}
 use Rattle.entry_tree.proofs.AttributeLists.{IsAttributeList-with_value, IsAttributeList-without_values}
 use Rattle.directory_laws.proofs.Given.{given-without_values}
@@ -20,26 +18,6 @@ use Rattle.directory_laws.proofs.Given.{given-without_values}
 pub record IsGivenList (attrs : List Attribute) : Type 0 where
   pub list : IsAttributeList attrs
   pub given : list_all is_given attrs ≡ true
-
--- ---- a value that has a key is not of an operational type
-
-no_key : (rule : Rule) (value : List ℕ) → is_operational_rule rule ≡ true → is_some (key_by rule value) ≡ false
-no_key Class value operational = (cc)
-no_key Folded value operational = (cc)
-no_key FoldedAscii value operational = (cc)
-no_key ExactAscii value operational = (cc)
-no_key Whole value operational = (cc)
-no_key Flag value operational = (cc)
-no_key Time value operational = (cc)
-no_key Operational value operational = refl
-
-user_type : (kind : ℕ) (value : List ℕ) → is_some (key_of kind value) ≡ true → is_operational kind ≡ false
-unfolding key_of
-user_type kind value keyed =
-    elim (cases_Bool (is_operational kind)) [
-      | inl operational ↦ absurd (let none : is_some (key_by (type_rule kind) value) ≡ false = no_key (type_rule kind) value operational in cc)
-      | inr user ↦ user
-    ]
 
 given-pair : (pair : TypeAndValue) → has_key pair ≡ true → is_given (record { kind = pair.kind; values = pair.value ∷ [] }) ≡ true
 given-pair pair keyed =
@@ -70,6 +48,7 @@ IsGivenList-without_pairs attrs (pair ∷ pairs) held =
       given = given-without_values attrs pair.kind (pair.value ∷ []) held.given;
     })
 
+-- attributes with another RDN are those that a client may give
 pub IsGivenList-with_rdn : (attrs : List Attribute) (old new : List TypeAndValue) (deletes : Bool) → is_rdn new ≡ true → IsGivenList attrs → IsGivenList (with_rdn attrs old new deletes)
 IsGivenList-with_rdn attrs old new deletes sound held =
     let added = IsGivenList-with_pairs attrs new (rdn-keyed new sound) held in

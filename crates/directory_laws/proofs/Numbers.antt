@@ -1,7 +1,6 @@
 -- Each entry of a directory has the identity of the write that added it.
 use Rattle.std.proofs.Common.{◌≡◌, ◌≢◌, ◌≤◌, ◌<◌, ◌+◌, ◌^◌, ℕ, Bool, not, cond, List, Option, Some, None, ap, sym, refl, subst, ◌∙◌, inl, inr, arith}
-use Rattle.std.proofs.lemmas.Bool.{eqb-true, cond_both}
-use Rattle.csn_cookie.specs.Csn.{Stamp}
+use Rattle.csn_cookie.specs.Csn.{CsnValue}
 use Rattle.dn_names.specs.Names.{TypeAndValue}
 use Rattle.dn_names.proofs.SortedLists.{In}
 use Rattle.entry_tree.specs.declared.edit.Edit.{Edit}
@@ -13,21 +12,24 @@ use Rattle.entry_tree.specs.Effects.{edited, modified, moved, new_name, new_attr
 use Rattle.entry_tree.specs.History.{identity}
 use Rattle.entry_tree.specs.State.{is_identified, is_named, entry_named}
 use Rattle.entry_tree.proofs.Moving.{moved_keeps}
+use Rattle.entry_tree.proofs.Replacing.{replaced_keeps}
 use Rattle.directory_laws.proofs.Members.{filter_in, map_in}
 use Rattle.directory_laws.proofs.Trees.{put_in}
 
--- the identity is that of one of so many writes
+-- the identity is that of one of n writes
 pub record IsNumbered (history before uuid : ℕ) : Type 0 where
   pub number : ℕ
   pub from : 0 < number
   pub upto : number ≤ before
   pub is : uuid ≡ identity history number
 
+-- an identity that was given out before is given out before a later write
 pub IsNumbered-later : (history before uuid : ℕ) → IsNumbered history before uuid → IsNumbered history (before + 1) uuid
 IsNumbered-later history before uuid numbered =
     let upto : numbered.number ≤ before = numbered.upto in
     record { number = numbered.number; from = numbered.from; upto = omega (arith, upto); is = numbered.is }
 
+-- the identity of the next write is given out then
 pub IsNumbered-next : (history before : ℕ) → IsNumbered history (before + 1) (identity history (before + 1))
 IsNumbered-next history before = record { number = before + 1; from = omega arith; upto = omega arith; is = refl }
 
@@ -42,22 +44,19 @@ IsNumbered-new history before uuid numbered upto same =
 
 -- ---- the identities after a write
 
-pub edited_keeps : (e : Entry) (edits : List Edit) (csn : Stamp) (other : Entry) → (cond (is_identified e.uuid other) (edited e edits csn) other).uuid ≡ other.uuid
-edited_keeps e edits csn other =
-    cond_both (is_identified e.uuid other) (edited e edits csn) other (λ (x : Entry). x.uuid ≡ other.uuid) (λ same. sym (eqb-true other.uuid e.uuid same)) (λ _. refl)
-
 module _ (P : ℕ → Type 0) where
+  -- each entry has an identity with this property
   abbrev pub Each : List Entry → Type 0
   Each entries = (e : Entry) → In e entries → P e.uuid
 
-  each_modified : (entries : List Entry) (found : Option Entry) (edits : List Edit) (csn : Stamp) → Each entries → Each (modified entries found edits csn)
+  each_modified : (entries : List Entry) (found : Option Entry) (edits : List Edit) (csn : CsnValue) → Each entries → Each (modified entries found edits csn)
   each_modified entries None edits csn each x member = each x member
   each_modified entries (Some e) edits csn each x member =
       let f : Entry → Entry = λ other. cond (is_identified e.uuid other) (edited e edits csn) other in
       let was = map_in f entries x member in
-      subst P (sym (ap (λ (y : Entry). y.uuid) was.2 ∙ edited_keeps e edits csn was.0)) (each was.0 was.1)
+      subst P (sym (ap (λ (y : Entry). y.uuid) was.2 ∙ replaced_keeps e.uuid (edited e edits csn) refl was.0)) (each was.0 was.1)
 
-  each_renamed : (entries : List Entry) (found : Option Entry) (rdn : List TypeAndValue) (deletes : Bool) (superior : Option (List (List TypeAndValue))) (csn : Stamp)
+  each_renamed : (entries : List Entry) (found : Option Entry) (rdn : List TypeAndValue) (deletes : Bool) (superior : Option (List (List TypeAndValue))) (csn : CsnValue)
       → Each entries → Each (renamed entries found rdn deletes superior csn)
   each_renamed entries None rdn deletes superior csn each x member = each x member
   each_renamed entries (Some top) rdn deletes superior csn each x member =
@@ -66,7 +65,8 @@ module _ (P : ℕ → Type 0) where
       let was = map_in (moved top name attrs csn) entries x member in
       subst P (sym (ap (λ (y : Entry). y.uuid) was.2 ∙ moved_keeps top name attrs csn was.0)) (each was.0 was.1)
 
-  pub each_effect : (op : Op) (entries : List Entry) (uuid : ℕ) (csn : Stamp) → IsWellFormed op → P uuid → Each entries → Each (effect entries op uuid csn)
+  -- each identity has a property after a write, where that of the write has it
+  pub each_effect : (op : Op) (entries : List Entry) (uuid : ℕ) (csn : CsnValue) → IsWellFormed op → P uuid → Each entries → Each (effect entries op uuid csn)
   each_effect (Add name attrs) entries uuid csn formed new each x member =
       let e : Entry = record { uuid = uuid; csn = csn; dn = name; attrs = attrs } in
       elim (put_in e entries x member) [

@@ -5,9 +5,10 @@ use Rattle.std.specs.List.{All, list_all, list_any, filter_map, cons_option}
 use Rattle.std.proofs.lemmas.Bool.{and_parts, and_from, or_parts, not_from_false}
 use Rattle.std.proofs.lemmas.List.{take_more, take_all}
 use Rattle.std.proofs.lemmas.List.Elements.{All-nil, All-cons, All-get_or}
+use Rattle.ldap_constants.specs.declared.result_codes.TheConstants.{ATTRIBUTE_OR_VALUE_EXISTS}
 use Rattle.schema_rules.specs.declared.attributes.Attribute.{Attribute}
 use Rattle.schema_rules.specs.declared.raw.RawAttribute.{RawAttribute}
-use Rattle.schema_rules.specs.Attributes.{IsAttributeList, is_given, is_sound, repeats_value, typed, typed_code, raw_code, first_code, joined, without_twins, read_joined, read_attributes}
+use Rattle.schema_rules.specs.Attributes.{IsAttributeList, is_given, is_sound, repeats_value, typed, typed_code, raw_code, first_code, joined, without_duplicates, read_joined, read_attributes}
 use Rattle.schema_rules.specs.Schema.{type_named}
 use Rattle.schema_rules.proofs.Joined.{joined-push}
 use Rattle.schema_rules.proofs.Joining.{IsAttributeList-with_values, is_given-with_values}
@@ -47,20 +48,20 @@ IsGivenList-push xs a fine held =
       given = is_given-with_values (joined xs) a.kind a.values held.given fine.given;
     })
 
-IsGivenList-front : (xs : List Attribute) (n : ℕ) → n ≤ length xs → All IsGiven xs → IsGivenList (joined (take n xs))
-IsGivenList-front xs zero within all = nothing
-IsGivenList-front xs (suc n) within all =
+IsGivenList-prefix : (xs : List Attribute) (n : ℕ) → n ≤ length xs → All IsGiven xs → IsGivenList (joined (take n xs))
+IsGivenList-prefix xs zero within all = nothing
+IsGivenList-prefix xs (suc n) within all =
     let d : Attribute = record { kind = 0; values = [] } in
     let on : suc n ≡ n + 1 = omega arith in
     rw (on, take_more xs n d (omega arith))
-    (IsGivenList-push (take n xs) (get_or xs n d) (All-get_or IsGiven xs n d (omega arith) all) (IsGivenList-front xs n (omega arith) all))
+    (IsGivenList-push (take n xs) (get_or xs n d) (All-get_or IsGiven xs n d (omega arith) all) (IsGivenList-prefix xs n (omega arith) all))
 
 IsGivenList-joined : (xs : List Attribute) → All IsGiven xs → IsGivenList (joined xs)
 IsGivenList-joined xs all =
     let P : List Attribute → Type 0 = λ ys. IsGivenList (joined ys) in
-    subst P (take_all (length xs) xs (omega arith)) (IsGivenList-front xs (length xs) (omega arith) all)
+    subst P (take_all (length xs) xs (omega arith)) (IsGivenList-prefix xs (length xs) (omega arith) all)
 
--- ---- without twins
+-- ---- without duplicates
 
 sound-given : (attrs : List Attribute) → list_all is_given attrs ≡ true → list_any repeats_value attrs ≡ false → list_all is_sound attrs ≡ true
 sound-given [] given apart = refl
@@ -75,14 +76,15 @@ pub record IsSoundList (attrs : List Attribute) : Type 0 where
   pub list : IsAttributeList attrs
   pub sound : list_all is_sound attrs ≡ true
 
-IsSoundList-apart : (attrs read : List Attribute) → IsGivenList attrs → without_twins attrs ≡ Ok read → IsSoundList read
+IsSoundList-apart : (attrs read : List Attribute) → IsGivenList attrs → without_duplicates attrs ≡ Ok read → IsSoundList read
 IsSoundList-apart attrs read held same = by (list_any repeats_value attrs) refl same
   where
-    by : (twins : Bool) → list_any repeats_value attrs ≡ twins → cond {A = Result (List Attribute) ℕ} twins (Err 20) (Ok attrs) ≡ Ok read → IsSoundList read
+    by : (duplicates : Bool) → list_any repeats_value attrs ≡ duplicates → cond {A = Result (List Attribute) ℕ} duplicates (Err ATTRIBUTE_OR_VALUE_EXISTS) (Ok attrs) ≡ Ok read → IsSoundList read
     by true is e = absurd (cc)
     by false is e =
         rw (← value_is attrs read e) (record { list = held.list; sound = sound-given attrs held.given is })
 
+-- attributes that are read are sound
 pub read_attributes-sound : (raws : List RawAttribute) (attrs : List Attribute) → read_attributes raws ≡ Ok attrs → IsSoundList attrs
 unfolding read_attributes
 read_attributes-sound raws attrs read = by (first_code raws) refl read

@@ -3,6 +3,7 @@ use Rattle.std.proofs.Common.{◌≡◌, ℕ, Bool, true, false, not, ◌&&◌, 
 use Rattle.std.specs.Option.{option_map}
 use Rattle.std.specs.List.{list_all, filter_map, cons_option}
 use Rattle.std.proofs.lemmas.Bool.{and_from}
+use Rattle.ldap_constants.specs.declared.result_codes.TheConstants.{CONSTRAINT_VIOLATION, INVALID_ATTRIBUTE_SYNTAX}
 use Rattle.schema_rules.specs.declared.raw.How.{How}
 use Rattle.schema_rules.specs.declared.raw.RawEdit.{RawEdit}
 use Rattle.schema_rules.specs.Attributes.{is_of_syntax}
@@ -13,7 +14,7 @@ use Rattle.entry_tree.specs.Reading.{given_code, typed_code, raw_code, typed, ty
 use Rattle.entry_tree.specs.Sound.{may_be_empty, is_sound_edit}
 use Rattle.directory_laws.proofs.Results.{none_first, none_second, value_is}
 
-given_code-none : (may none all : Bool) → cond {A = Option ℕ} (not may && none) (Some 21) (cond {A = Option ℕ} all None (Some 21)) ≡ None → (all && (may || not none)) ≡ true
+given_code-none : (may none all : Bool) → cond {A = Option ℕ} (not may && none) (Some INVALID_ATTRIBUTE_SYNTAX) (cond {A = Option ℕ} all None (Some INVALID_ATTRIBUTE_SYNTAX)) ≡ None → (all && (may || not none)) ≡ true
 given_code-none true none true e = refl
 given_code-none true none false e = absurd (cc)
 given_code-none false true all e = absurd (cc)
@@ -23,7 +24,7 @@ given_code-none false false false e = absurd (cc)
 typed_code-none : (how : How) (kind : ℕ) (values : List (List ℕ)) → typed_code how (Some kind) values ≡ None → is_sound_edit (record { how = how; kind = kind; values = values }) ≡ true
 typed_code-none how kind values none = by (is_operational kind) none
   where
-    by : (operational : Bool) → cond operational (Some 19) (given_code how kind values) ≡ None
+    by : (operational : Bool) → cond operational (Some CONSTRAINT_VIOLATION) (given_code how kind values) ≡ None
         → (not operational && (list_all (is_of_syntax kind) values && (may_be_empty how || not (nat_eq (length values) 0)))) ≡ true
     by true e = absurd (cc)
     by false e = given_code-none (may_be_empty how) (nat_eq (length values) 0) (list_all (is_of_syntax kind) values) e
@@ -40,6 +41,7 @@ sound-typed (raw ∷ raws) none =
         and_from (is_sound_edit (record { how = raw.how; kind = kind; values = raw.attribute.values })) (list_all is_sound_edit (filter_map typed raws))
         (typed_code-none raw.how kind raw.attribute.values code) rest
 
+-- edits that are read are sound
 pub read_edits-sound : (raws : List RawEdit) (edits : List Edit) → read_edits raws ≡ Ok edits → list_all is_sound_edit edits ≡ true
 read_edits-sound raws edits read = by (first_code raw_code raws) refl read
   where

@@ -7,7 +7,7 @@ use Rattle.dn_names.specs.declared.fault.NameFault.{NameFault}
 use Rattle.dn_names.specs.declared.fault.NameFault.TheVariants.{BadName, TooLong}
 use Rattle.dn_names.specs.Keys.{has_double}
 use Rattle.dn_names.specs.Names.{TypeAndValue}
-use Rattle.dn_names.specs.Reading.{and_then, with_first, is_plain, pairs_of, checked_rdn, rdn_of, first_rdn, behind_comma, rdns_of, signs_of, signs_width, name_of_text, rdn_of_text}
+use Rattle.dn_names.specs.Reading.{and_then, with_first, is_plain, pairs_of, checked_rdn, rdn_of, first_rdn, after_comma, rdns_of, signs_of, signs_width, name_of_text, rdn_of_text}
 use Rattle.dn_names.specs.Sound.{IsName, is_rdn, most_rdns, most_bytes}
 use Rattle.dn_names.specs.Writing.{rdn_text}
 use Rattle.dn_names.proofs.Pieces.{read_is_rdn}
@@ -36,13 +36,14 @@ rdn_of-sound place ended signs rdn read =
     by (Err fault) is same = absurd (cc)
     by (Ok pairs) is same = checked-sound place ended signs pairs rdn is same
 
+-- what is read as an RDN is one
 pub rdn_of_text-sound : (text : List ℕ) (rdn : List TypeAndValue) → rdn_of_text text ≡ Ok rdn → is_rdn rdn ≡ true
 unfolding rdn_of_text
 rdn_of_text-sound text rdn read = rdn_of-sound 0 false (signs_of text) rdn read
 
 -- ---- names
 
--- sound RDNs, and at most so many
+-- sound RDNs, and at most n
 abbrev AreWithin : ℕ → List (List TypeAndValue) → Type 0
 AreWithin room name = AllPass is_rdn name × (length name ≤ room)
 
@@ -62,17 +63,18 @@ rdns_of-sound zero bytes signs name read = by (first_rdn bytes signs) read
     by : (one : Result (List TypeAndValue) NameFault) → and_then one (λ rdn. Err (TooLong (bytes - signs_width signs))) ≡ Ok name → AreWithin 0 name
     by (Err fault) same = absurd (cc)
     by (Ok rdn) same = absurd (cc)
-rdns_of-sound (suc room) bytes signs name read = by (first_rdn bytes signs) refl (λ rdns is. rdns_of-sound room bytes (behind_comma signs) rdns is) read
+rdns_of-sound (suc room) bytes signs name read = by (first_rdn bytes signs) refl (λ rdns is. rdns_of-sound room bytes (after_comma signs) rdns is) read
   where
     by : (one : Result (List TypeAndValue) NameFault) → first_rdn bytes signs ≡ one
-        → ((rdns : List (List TypeAndValue)) → rdns_of room bytes (behind_comma signs) ≡ Ok rdns → AreWithin room rdns)
-        → and_then one (λ rdn. cond (list_any (is_plain 44) signs) (with_first rdn (rdns_of room bytes (behind_comma signs))) (Ok (rdn ∷ []))) ≡ Ok name
+        → ((rdns : List (List TypeAndValue)) → rdns_of room bytes (after_comma signs) ≡ Ok rdns → AreWithin room rdns)
+        → and_then one (λ rdn. cond (list_any (is_plain 44) signs) (with_first rdn (rdns_of room bytes (after_comma signs))) (Ok (rdn ∷ []))) ≡ Ok name
         → AreWithin (suc room) name
     by (Err fault) is later same = absurd (cc)
     by (Ok rdn) is later same =
-        first-sound room (list_any (is_plain 44) signs) rdn name (rdns_of room bytes (behind_comma signs))
+        first-sound room (list_any (is_plain 44) signs) rdn name (rdns_of room bytes (after_comma signs))
         (rdn_of-sound (bytes - signs_width signs) (list_any (is_plain 44) signs) (before_first (is_plain 44) signs) rdn is) later same
 
+-- what is read as a name is one
 pub name_of_text-sound : (text : List ℕ) (name : List (List TypeAndValue)) → name_of_text text ≡ Ok name → IsName name
 unfolding name_of_text
 name_of_text-sound text name read = by (nat_eq (length text) 0) read

@@ -59,6 +59,7 @@ IsAskable op = IsWellFormed op × (is_sound_op op ≡ true)
 abbrev AreEdits : List Edit → Type 0
 AreEdits edits = list_all is_sound_edit edits ≡ true
 
+-- what a change is read as is a write that a client may ask for
 pub gives-change : (change : Change) (op : Op) → read_change change ≡ Ok op → IsAskable op
 unfolding read_change
 gives-change (change.Add name raws) =

@@ -6,7 +6,7 @@ use Rattle.std.proofs.lemmas.Bool.{cond_both, or_parts, ltb-false}
 use Rattle.std.proofs.lemmas.List.Elements.{All-nil, All-cons, All-head, All-tail}
 use Rattle.schema_rules.specs.declared.attributes.Attribute.{Attribute}
 use Rattle.schema_rules.specs.Attributes.{weight_of}
-use Rattle.csn_cookie.specs.Csn.{Stamp, IsCsn}
+use Rattle.csn_cookie.specs.Csn.{CsnValue, IsCsn}
 use Rattle.dn_names.specs.Names.{TypeAndValue, is_at_or_below, moved_name}
 use Rattle.dn_names.specs.Sound.{IsName, is_rdn, most_rdns}
 use Rattle.entry_tree.specs.declared.entry.Entry.{Entry}
@@ -34,10 +34,10 @@ right_false true b here e = e
 right_false false b here e = absurd (cc)
 
 -- an entry that is not moved to too long a name
-CanBeSent-moved : (top : Entry) (name : List (List TypeAndValue)) (attrs : List Attribute) (csn : Stamp) (e : Entry)
+CanBeSent-moved : (top : Entry) (name : List (List TypeAndValue)) (attrs : List Attribute) (csn : CsnValue) (e : Entry)
     → AllPass is_rdn name → AreSound attrs → IsCsn csn → CanBeSent e
     → (is_at_or_below e.dn top.dn && nat_lt most_rdns (length (moved_name e.dn top.dn name))) ≡ false → CanBeSent (moved top name attrs csn e)
-CanBeSent-moved top name attrs csn e all fresh stamp sound short =
+CanBeSent-moved top name attrs csn e all fresh is_csn sound short =
     cond_both (is_at_or_below e.dn top.dn)
     (let new : Entry = record { uuid = e.uuid; csn = csn; dn = moved_name e.dn top.dn name; attrs = cond (nat_eq e.uuid top.uuid) attrs e.attrs } in new)
     e CanBeSent below (λ _. sound)
@@ -53,25 +53,26 @@ CanBeSent-moved top name attrs csn e all fresh stamp sound short =
       listed = has.held.list;
       given = has.held.given;
       light = has.light;
-      stamp = stamp;
+      is_csn = is_csn;
       identity = sound.identity;
     }
 
-all-moved : (top : Entry) (name : List (List TypeAndValue)) (attrs : List Attribute) (csn : Stamp) (entries : List Entry)
+all-moved : (top : Entry) (name : List (List TypeAndValue)) (attrs : List Attribute) (csn : CsnValue) (entries : List Entry)
     → AllPass is_rdn name → AreSound attrs → IsCsn csn → All CanBeSent entries → has_too_long entries top name ≡ false
     → All CanBeSent (map (moved top name attrs csn) entries)
-all-moved top name attrs csn [] all fresh stamp sound short = All-nil CanBeSent
-all-moved top name attrs csn (e ∷ entries) all fresh stamp sound short =
+all-moved top name attrs csn [] all fresh is_csn sound short = All-nil CanBeSent
+all-moved top name attrs csn (e ∷ entries) all fresh is_csn sound short =
     let parts = or_parts (is_at_or_below e.dn top.dn && nat_lt most_rdns (length (moved_name e.dn top.dn name))) (has_too_long entries top name) short in
     All-cons CanBeSent (moved top name attrs csn e) (map (moved top name attrs csn) entries)
-    (CanBeSent-moved top name attrs csn e all fresh stamp (All-head CanBeSent e entries sound) parts.0)
-    (all-moved top name attrs csn entries all fresh stamp (All-tail CanBeSent e entries sound) parts.1)
+    (CanBeSent-moved top name attrs csn e all fresh is_csn (All-head CanBeSent e entries sound) parts.0)
+    (all-moved top name attrs csn entries all fresh is_csn (All-tail CanBeSent e entries sound) parts.1)
 
+-- entries can be sent after a Rename
 pub sent-renamed : (suffix : List (List TypeAndValue)) (entries : List Entry) (found : Option Entry) (rdn : List TypeAndValue) (deletes : Bool)
-    (superior : Option (List (List TypeAndValue))) (csn : Stamp) → All CanBeSent entries → IfSome found CanBeSent → is_rdn rdn ≡ true → IfSome superior IsName
+    (superior : Option (List (List TypeAndValue))) (csn : CsnValue) → All CanBeSent entries → IfSome found CanBeSent → is_rdn rdn ≡ true → IfSome superior IsName
     → IsCsn csn → rename_code suffix entries found rdn deletes superior ≡ None → All CanBeSent (renamed entries found rdn deletes superior csn)
-sent-renamed suffix entries None rdn deletes superior csn sound here is above stamp none = sound
-sent-renamed suffix entries (Some top) rdn deletes superior csn sound here is above stamp none =
+sent-renamed suffix entries None rdn deletes superior csn sound here is above is_csn none = sound
+sent-renamed suffix entries (Some top) rdn deletes superior csn sound here is above is_csn none =
     let name = new_name top rdn superior in
     let attrs = new_attributes top rdn deletes in
     let movable = IsMovable-moved suffix entries top name attrs superior none in
@@ -79,4 +80,4 @@ sent-renamed suffix entries (Some top) rdn deletes superior csn sound here is ab
     (record {
       held = IsGivenList-with_rdn top.attrs (own_pairs top.dn) rdn deletes is (of_entry top here).held;
       light = movable.light;
-    }) stamp sound movable.short
+    }) is_csn sound movable.short

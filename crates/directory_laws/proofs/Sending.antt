@@ -40,10 +40,11 @@ readable a some given =
       classes = λ class k d low. names_class a.kind (get_or a.values k d) class (syntax k d low);
     }
 
+-- an entry that can be sent is read again as it was
 pub IsReadAgain-sent : (e : Entry) → CanBeSent e → IsReadAgain e
 IsReadAgain-sent e sent = record {
   name = name_read_again e.dn sent.name;
-  stamp = csn_of_text-csn_text e.csn sent.stamp;
+  is_csn = csn_of_text-csn_text e.csn sent.is_csn;
   attributes = λ k d low. readable (get_or e.attrs k d) (sent.listed.filled k d low) (AllPass-from_list_all is_given e.attrs sent.given k d low);
   once = sent.listed.once;
 }

@@ -2,7 +2,7 @@
 use Rattle.std.proofs.Common.{◌≡◌, ◌≤◌, ◌+◌, ◌-◌, ◌∙◌, ℕ, Bool, not, List, set, get_or, Option, Some, None, sym, refl, subst}
 use Rattle.std.specs.List.{filter, position}
 use Rattle.schema_rules.specs.Attributes.{entry_code, weight_of}
-use Rattle.csn_cookie.specs.Csn.{Stamp}
+use Rattle.csn_cookie.specs.Csn.{CsnValue}
 use Rattle.dn_names.specs.Names.{TypeAndValue}
 use Rattle.entry_tree.specs.declared.edit.Edit.{Edit}
 use Rattle.entry_tree.specs.declared.entry.Entry.{Entry}
@@ -43,7 +43,7 @@ weighed-edited entries e edits none =
     let kept = none_second (entry_code attrs) _ checked in
     light_where_none (weight_of attrs) (weight_with entries e (weight_of attrs)) (none_second (kept_code e.dn attrs) _ kept)
 
-small-edited : (entries : List Entry) (name : List (List TypeAndValue)) (e : Entry) (edits : List Edit) (csn : Stamp) (place : ℕ) → IsSmall entries → entry_named entries name ≡ Some e
+small-edited : (entries : List Entry) (name : List (List TypeAndValue)) (e : Entry) (edits : List Edit) (csn : CsnValue) (place : ℕ) → IsSmall entries → entry_named entries name ≡ Some e
     → position (is_named name) entries ≡ Some place → modify_code entries (Some e) edits ≡ None → IsSmall (modified entries (entry_named entries name) edits csn)
 small-edited entries name e edits csn place small found at none =
     let new = edited e edits csn in
@@ -56,7 +56,7 @@ small-edited entries name e edits csn place small found at none =
     (at_total (set entries place new) (others + weight_of new.attrs)
     (IsDirectory-replaced entries (total_weight entries) others (weight_of new.attrs) place e new small (within entries name place e placed) is refl rest refl (weighed-edited entries e edits none)))
 
-small-modified : (entries : List Entry) (name : List (List TypeAndValue)) (found : Option Entry) (edits : List Edit) (csn : Stamp) → IsSmall entries → entry_named entries name ≡ found
+small-modified : (entries : List Entry) (name : List (List TypeAndValue)) (found : Option Entry) (edits : List Edit) (csn : CsnValue) → IsSmall entries → entry_named entries name ≡ found
     → modify_code entries found edits ≡ None → IsSmall (modified entries (entry_named entries name) edits csn)
 small-modified entries name None edits csn small is none = subst (λ found. IsSmall (modified entries found edits csn)) (sym is) small
 small-modified entries name (Some e) edits csn small is none = by (position (is_named name) entries) refl
@@ -68,7 +68,7 @@ small-modified entries name (Some e) edits csn small is none = by (position (is_
 -- ---- Rename
 
 small-moved : (suffix : List (List TypeAndValue)) (entries : List Entry) (name : List (List TypeAndValue)) (top : Entry) (rdn : List TypeAndValue) (deletes : Bool)
-    (superior : Option (List (List TypeAndValue))) (csn : Stamp) → IsSmall entries → entry_named entries name ≡ Some top → rename_code suffix entries (Some top) rdn deletes superior ≡ None
+    (superior : Option (List (List TypeAndValue))) (csn : CsnValue) → IsSmall entries → entry_named entries name ≡ Some top → rename_code suffix entries (Some top) rdn deletes superior ≡ None
     → IsSmall (renamed entries (Some top) rdn deletes superior csn)
 small-moved suffix entries name top rdn deletes superior csn small is none =
     let new = new_name top rdn superior in
@@ -82,14 +82,15 @@ small-moved suffix entries name top rdn deletes superior csn small is none =
     moved_directory top new attrs csn entries (total_weight entries) after small held light (total_moved top new attrs csn entries small.ascends held)
 
 small-renamed : (suffix : List (List TypeAndValue)) (entries : List Entry) (name : List (List TypeAndValue)) (found : Option Entry) (rdn : List TypeAndValue) (deletes : Bool)
-    (superior : Option (List (List TypeAndValue))) (csn : Stamp) → IsSmall entries → entry_named entries name ≡ found → rename_code suffix entries found rdn deletes superior ≡ None
+    (superior : Option (List (List TypeAndValue))) (csn : CsnValue) → IsSmall entries → entry_named entries name ≡ found → rename_code suffix entries found rdn deletes superior ≡ None
     → IsSmall (renamed entries found rdn deletes superior csn)
 small-renamed suffix entries name None rdn deletes superior csn small is none = small
 small-renamed suffix entries name (Some top) rdn deletes superior csn small is none = small-moved suffix entries name top rdn deletes superior csn small is none
 
 -- ---- each kind of write
 
-pub small-effect : (op : Op) (suffix : List (List TypeAndValue)) (entries : List Entry) (uuid : ℕ) (csn : Stamp) → IsSmall entries → IsWellFormed op → code_of suffix entries op ≡ None → IsSmall (effect entries op uuid csn)
+-- entries are few and light after an accepted write
+pub small-effect : (op : Op) (suffix : List (List TypeAndValue)) (entries : List Entry) (uuid : ℕ) (csn : CsnValue) → IsSmall entries → IsWellFormed op → code_of suffix entries op ≡ None → IsSmall (effect entries op uuid csn)
 small-effect (Add name attrs) suffix entries uuid csn small formed none =
     let e : Entry = record { uuid = uuid; csn = csn; dn = name; attrs = attrs } in
     let room = add_where_none suffix entries name attrs none in

@@ -5,6 +5,7 @@ use Rattle.std.specs.Option.{option_or}
 use Rattle.std.proofs.lemmas.Bool.{and_parts}
 use Rattle.std.proofs.lemmas.List.{length-take}
 use Rattle.dn_names.specs.Names.{TypeAndValue}
+use Rattle.dn_names.proofs.EqualNames.{AreEqual, AreEqual-same_name}
 use Rattle.dn_names.proofs.SortedLists.{In}
 use Rattle.entry_tree.specs.declared.entry.Entry.{Entry}
 use Rattle.entry_tree.specs.declared.op.Write.{Write}
@@ -15,7 +16,6 @@ use Rattle.entry_tree.proofs.Identities.{above}
 use Rattle.sync_model.specs.Law.{IsWithin}
 use Rattle.sync_model.specs.Within.{same_named}
 use Rattle.directory_laws.specs.Accepted.{IsAccepted, WereAccepted}
-use Rattle.directory_laws.proofs.EqualNames.{AreEqual, AreEqual-same_name}
 use Rattle.directory_laws.proofs.Histories.{AllAccepted, accepted-take}
 use Rattle.directory_laws.proofs.Members.{in_found, above_in}
 use Rattle.directory_laws.proofs.Numbers.{IsNumbered, IsNumbered-later, IsNumbered-next, IsNumbered-new, each_effect}
@@ -35,6 +35,7 @@ small-state_from (write ∷ writes) suffix history entries before small accepted
     small-state_from writes suffix history (effect entries write.op uuid write.csn) (before + 1) (small-effect write.op suffix entries uuid write.csn small first.formed first.free)
     (λ number other low. accepted (suc number) other (omega arith))
 
+-- each state has few and light entries
 pub small-state_of : (suffix : List (List TypeAndValue)) (history : ℕ) (writes : List Write) (number : ℕ) → WereAccepted suffix history writes → IsSmall (state_of history writes number)
 small-state_of suffix history writes number accepted =
     small-state_from (take number writes) suffix history [] 0 (record { ascends = refl; weighed = refl; few = omega arith; light = omega arith }) (accepted-take suffix history writes number accepted)
@@ -79,6 +80,7 @@ same_named-none (e ∷ entries) asc apart =
         let same : x.uuid ≡ e.uuid = apart x e (inr found.0) (inl refl) (AreEqual-same_name x.dn e.dn found.1) in
         absurd (omega (arith, far, same))
 
+-- each state keeps within the limits
 pub IsWithin-state_of : (suffix : List (List TypeAndValue)) (history : ℕ) (writes : List Write) → WereAccepted suffix history writes → length writes ≤ 2 ^ 62 → (number : ℕ)
     → IsWithin (state_of history writes number)
 IsWithin-state_of suffix history writes accepted few number =

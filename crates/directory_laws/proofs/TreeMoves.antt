@@ -1,9 +1,11 @@
 -- A tree of which a branch moves to another name.
 use Rattle.std.proofs.Common.{◌≡◌, ◌<◌, ◌+◌, ◌-◌, suc, true, false, not, ◌&&◌, ◌||◌, cond, nat_eq, List, ◌∷◌, length, map, take, drop, Option, Some, None, sym, ap, ◌∙◌, ◌⊎◌, inl, inr, subst, arith}
 use Rattle.std.proofs.lemmas.Bool.{both_ways, not-false, not_from_false, and_from, or_parts, eqb-true, cond-true, cond-false, cases_Bool, cases_eq}
+use Rattle.ldap_constants.specs.declared.result_codes.TheConstants.{NO_SUCH_OBJECT, UNWILLING_TO_PERFORM, ENTRY_ALREADY_EXISTS}
 use Rattle.schema_rules.specs.declared.attributes.Attribute.{Attribute}
-use Rattle.csn_cookie.specs.Csn.{Stamp}
+use Rattle.csn_cookie.specs.Csn.{CsnValue}
 use Rattle.dn_names.specs.Names.{TypeAndValue, same_name, is_at_or_below, parent_of, moved_name}
+use Rattle.dn_names.proofs.EqualNames.{AreEqual, AreEqual-same_name, same_name-AreEqual, length-AreEqual, AreEqual-sym}
 use Rattle.dn_names.proofs.SortedLists.{In}
 use Rattle.entry_tree.specs.declared.entry.Entry.{Entry}
 use Rattle.entry_tree.specs.Codes.{has_superior, is_within, is_taken_from, target_code}
@@ -13,7 +15,6 @@ use Rattle.entry_tree.proofs.Moving.{moved_keeps}
 use Rattle.entry_tree.proofs.Replacing.{ascends_mapped}
 use Rattle.directory_laws.proofs.Branches.{IsBelow, IsBelow-is_at_or_below, is_at_or_below-IsBelow, IsBelow-equal, IsBelow-trans, IsBelow-itself, IsBelow-longer, IsChild, IsBelow-child, IsBelow-parent, moved_apart, moved_meets, moved_child, moved_base}
 use Rattle.directory_laws.proofs.Codes.{no_test, no_other}
-use Rattle.directory_laws.proofs.EqualNames.{AreEqual, AreEqual-same_name, same_name-AreEqual, length-AreEqual, AreEqual-sym}
 use Rattle.directory_laws.proofs.Members.{in_any, any_in, in_map, map_in, only_one}
 use Rattle.directory_laws.proofs.Trees.{HasParent, IsRooted, IsTree, named_above}
 
@@ -66,21 +67,22 @@ place_of suffix entries top rdn (Some superior) tree member has other outside fr
       only = not_taken entries top (rdn ∷ superior) free;
     }
 
+-- the new name of an entry has its place in the tree
 pub HasPlace-target : (suffix : List (List TypeAndValue)) (entries : List Entry) (top : Entry) (rdn : List TypeAndValue) (superior : Option (List (List TypeAndValue))) → IsTree suffix entries → In top entries
     → target_code suffix entries top (new_name top rdn superior) superior ≡ None → HasPlace entries top (new_name top rdn superior)
 HasPlace-target suffix entries top rdn superior tree member none =
     let name = new_name top rdn superior in
-    let taken = cond (is_taken_from top entries name) (Some 68) None in
-    let unwilling = cond (same_name top.dn suffix || is_within top superior) (Some 53) taken in
-    let rest : unwilling ≡ None = no_other (not (has_superior entries superior)) 32 unwilling none in
-    let parts = or_parts (same_name top.dn suffix) (is_within top superior) (no_test (same_name top.dn suffix || is_within top superior) 53 taken rest) in
-    let last : taken ≡ None = no_other (same_name top.dn suffix || is_within top superior) 53 taken rest in
-    place_of suffix entries top rdn superior tree member (not-false (has_superior entries superior) (no_test (not (has_superior entries superior)) 32 unwilling none)) parts.0 parts.1
-    (no_test (is_taken_from top entries name) 68 None last)
+    let taken = cond (is_taken_from top entries name) (Some ENTRY_ALREADY_EXISTS) None in
+    let unwilling = cond (same_name top.dn suffix || is_within top superior) (Some UNWILLING_TO_PERFORM) taken in
+    let rest : unwilling ≡ None = no_other (not (has_superior entries superior)) NO_SUCH_OBJECT unwilling none in
+    let parts = or_parts (same_name top.dn suffix) (is_within top superior) (no_test (same_name top.dn suffix || is_within top superior) UNWILLING_TO_PERFORM taken rest) in
+    let last : taken ≡ None = no_other (same_name top.dn suffix || is_within top superior) UNWILLING_TO_PERFORM taken rest in
+    place_of suffix entries top rdn superior tree member (not-false (has_superior entries superior) (no_test (not (has_superior entries superior)) NO_SUCH_OBJECT unwilling none)) parts.0 parts.1
+    (no_test (is_taken_from top entries name) ENTRY_ALREADY_EXISTS None last)
 
 -- ---- the entries once they moved
 
-module _ (suffix : List (List TypeAndValue)) (entries : List Entry) (top : Entry) (name : List (List TypeAndValue)) (attrs : List Attribute) (csn : Stamp) (tree : IsTree suffix entries)
+module _ (suffix : List (List TypeAndValue)) (entries : List Entry) (top : Entry) (name : List (List TypeAndValue)) (attrs : List Attribute) (csn : CsnValue) (tree : IsTree suffix entries)
     (member : In top entries) (place : HasPlace entries top name) where
   abbrev step : Entry → Entry
   step e = moved top name attrs csn e
@@ -183,6 +185,7 @@ module _ (suffix : List (List TypeAndValue)) (entries : List Entry) (top : Entry
         | inr stays ↦ subst (λ (e : Entry). IsRooted suffix (map step entries) e.dn) (sym stays.1) (rooted_rest x in_x stays.0)
       ]
 
+  -- entries are a tree after one of them is moved
   pub IsTree-moved : IsTree suffix (map (moved top name attrs csn) entries)
   IsTree-moved = record {
     ascends = ascends_mapped step (moved_keeps top name attrs csn) entries ∙ tree.ascends;

@@ -3,6 +3,7 @@ use Rattle.std.proofs.Common.{◌≡◌, ◌≢◌, ◌≤◌, ◌+◌, ℕ, zer
 use Rattle.std.specs.List.{filter}
 use Rattle.std.proofs.lemmas.Bool.{both_ways, not-false, not_from_false, and_from, and_cases, or_parts, lt-ltb, cases_Bool, cases_order}
 use Rattle.dn_names.specs.Names.{TypeAndValue, same_name, is_at_or_below, is_child_of}
+use Rattle.dn_names.proofs.EqualNames.{AreEqual, AreEqual-same_name, same_name-AreEqual, length-AreEqual, AreEqual-sym}
 use Rattle.dn_names.proofs.SortedLists.{In}
 use Rattle.entry_tree.specs.declared.entry.Entry.{Entry}
 use Rattle.entry_tree.specs.Codes.{has_no_place}
@@ -10,7 +11,6 @@ use Rattle.entry_tree.specs.State.{ascends, put, is_named, has_name, has_parent,
 use Rattle.entry_tree.proofs.Directory.{ascends_filter}
 use Rattle.entry_tree.proofs.Putting.{ascends_put}
 use Rattle.directory_laws.proofs.Branches.{IsBelow, IsBelow-is_at_or_below, is_at_or_below-IsBelow, IsBelow-trans, IsBelow-itself, equal_where_long, IsChild, IsChild-is_child_of, IsBelow-child, IsBelow-parent}
-use Rattle.directory_laws.proofs.EqualNames.{AreEqual, AreEqual-same_name, same_name-AreEqual, length-AreEqual, AreEqual-sym}
 use Rattle.directory_laws.proofs.Members.{in_any, any_in, in_filter, filter_in, in_map, map_in, in_append_left, in_append_right, append_in}
 
 -- one of the entries stands directly above the name
@@ -22,11 +22,13 @@ pub record IsRooted (suffix : List (List TypeAndValue)) (entries : List Entry) (
   pub below : IsBelow name suffix
   pub held : AreEqual name suffix ⊎ HasParent entries name
 
+-- each entry but that of the suffix has its parent, and no two have one name
 pub record IsTree (suffix : List (List TypeAndValue)) (entries : List Entry) : Type 0 where
   pub ascends : ascends entries ≡ true
   pub apart : (a b : Entry) → In a entries → In b entries → AreEqual a.dn b.dn → a.uuid ≡ b.uuid
   pub rooted : (e : Entry) → In e entries → IsRooted suffix entries e.dn
 
+-- no entries are a tree
 pub IsTree-nil : (suffix : List (List TypeAndValue)) → IsTree suffix []
 IsTree-nil suffix = record {
   ascends = refl;
@@ -61,6 +63,7 @@ rooted_over suffix old new name over rooted = record {
 
 -- ---- an entry that is put
 
+-- an entry after a put is the new one or was there before
 pub put_in : (e : Entry) (entries : List Entry) (x : Entry) → In x (put e entries) → (x ≡ e) ⊎ In x entries
 put_in e entries x member =
     elim (append_in (filter (λ other. nat_lt other.uuid e.uuid) entries) (e ∷ filter (λ other. nat_lt e.uuid other.uuid) entries) x member) [
@@ -93,6 +96,7 @@ IsRooted-placed suffix entries name placed =
       ];
     }
 
+-- a tree with one more entry at a free place is one
 pub IsTree-put : (suffix : List (List TypeAndValue)) (entries : List Entry) (e : Entry) → has_no_place suffix entries e.dn ≡ false → has_name entries e.dn ≡ false
     → ((other : Entry) → In other entries → other.uuid ≢ e.uuid) → IsTree suffix entries → IsTree suffix (put e entries)
 IsTree-put suffix entries e placed free fresh tree = record {
@@ -116,6 +120,7 @@ IsTree-put suffix entries e placed free fresh tree = record {
 
 -- ---- entries that are removed
 
+-- a tree without an entry that has none below it is one
 pub IsTree-without : (suffix : List (List TypeAndValue)) (entries : List Entry) (name : List (List TypeAndValue)) → has_below entries name ≡ false → IsTree suffix entries
     → IsTree suffix (filter (λ e. not (is_named name e)) entries)
 IsTree-without suffix entries name leaf tree = record {
@@ -143,6 +148,7 @@ IsTree-without suffix entries name leaf tree = record {
 
 -- ---- entries that keep their identities and names
 
+-- a tree whose entries keep their names and identities is one
 pub IsTree-map : (f : Entry → Entry) (suffix : List (List TypeAndValue)) (entries : List Entry) → ((e : Entry) → In e entries → (f e).uuid ≡ e.uuid)
     → ((e : Entry) → In e entries → (f e).dn ≡ e.dn) → ascends (map f entries) ≡ true → IsTree suffix entries → IsTree suffix (map f entries)
 IsTree-map f suffix entries uuids named_same ascending tree = record {

@@ -6,7 +6,7 @@ use Rattle.std.proofs.lemmas.Bool.{cond_both}
 use Rattle.std.proofs.lemmas.List.Elements.{All-cons, All-append, All-filter, All-head, All-tail, All-map, All-weaker}
 use Rattle.schema_rules.specs.declared.attributes.Attribute.{Attribute}
 use Rattle.schema_rules.specs.Attributes.{is_given, is_sound, repeats_value, weight_of}
-use Rattle.csn_cookie.specs.Csn.{Stamp, IsCsn}
+use Rattle.csn_cookie.specs.Csn.{CsnValue, IsCsn}
 use Rattle.dn_names.specs.Names.{TypeAndValue}
 use Rattle.entry_tree.specs.declared.edit.Edit.{Edit}
 use Rattle.entry_tree.specs.declared.entry.Entry.{Entry}
@@ -49,48 +49,49 @@ sent-put e entries here sound =
 
 -- ---- Modify
 
-CanBeSent-edited : (e : Entry) (edits : List Edit) (csn : Stamp) → CanBeSent e → list_all is_sound_edit edits ≡ true → IsCsn csn
+CanBeSent-edited : (e : Entry) (edits : List Edit) (csn : CsnValue) → CanBeSent e → list_all is_sound_edit edits ≡ true → IsCsn csn
     → weight_of (edited e edits csn).attrs ≤ 65536 → CanBeSent (edited e edits csn)
-CanBeSent-edited e edits csn sound asked stamp light = record {
+CanBeSent-edited e edits csn sound asked is_csn light = record {
   name = sound.name;
   listed = IsAttributeList-after_edits e.attrs edits asked sound.listed;
   given = given-after_edits e.attrs edits asked sound.given;
   light = light;
-  stamp = stamp;
+  is_csn = is_csn;
   identity = sound.identity;
 }
 
-sent-modified : (entries : List Entry) (found : Option Entry) (edits : List Edit) (csn : Stamp) → All CanBeSent entries → IfSome found CanBeSent
+sent-modified : (entries : List Entry) (found : Option Entry) (edits : List Edit) (csn : CsnValue) → All CanBeSent entries → IfSome found CanBeSent
     → list_all is_sound_edit edits ≡ true → IsCsn csn → modify_code entries found edits ≡ None → All CanBeSent (modified entries found edits csn)
-sent-modified entries None edits csn sound here asked stamp none = sound
-sent-modified entries (Some e) edits csn sound here asked stamp none =
+sent-modified entries None edits csn sound here asked is_csn none = sound
+sent-modified entries (Some e) edits csn sound here asked is_csn none =
     All-map CanBeSent (λ (other : Entry). cond (is_identified e.uuid other) (edited e edits csn) other) entries
     (All-weaker CanBeSent (λ (other : Entry). CanBeSent (cond (is_identified e.uuid other) (edited e edits csn) other))
     (λ other held. cond_both (is_identified e.uuid other) (edited e edits csn) other CanBeSent
-    (λ _. CanBeSent-edited e edits csn here asked stamp (light-edited entries e edits none)) (λ _. held)) entries sound)
+    (λ _. CanBeSent-edited e edits csn here asked is_csn (light-edited entries e edits none)) (λ _. held)) entries sound)
 
 -- ---- each kind of write
 
-sent-op : (op : Op) (suffix : List (List TypeAndValue)) (entries : List Entry) (uuid : ℕ) (csn : Stamp) → All CanBeSent entries → IsWellFormed op → is_sound_op op ≡ true
+sent-op : (op : Op) (suffix : List (List TypeAndValue)) (entries : List Entry) (uuid : ℕ) (csn : CsnValue) → All CanBeSent entries → IsWellFormed op → is_sound_op op ≡ true
     → IsCsn csn → code_of suffix entries op ≡ None → uuid < 2 ^ 128 → All CanBeSent (effect entries op uuid csn)
-sent-op (Add name attrs) suffix entries uuid csn sound formed asked stamp none below =
+sent-op (Add name attrs) suffix entries uuid csn sound formed asked is_csn none below =
     sent-put (record { uuid = uuid; csn = csn; dn = name; attrs = attrs }) entries
     (record {
       name = formed.0;
       listed = formed.1;
       given = given-sound attrs asked;
       light = light-added suffix entries name attrs none;
-      stamp = stamp;
+      is_csn = is_csn;
       identity = below;
     }) sound
-sent-op (Delete name) suffix entries uuid csn sound formed asked stamp none below = All-filter (λ e. not (is_named name e)) CanBeSent entries sound
-sent-op (Modify name edits) suffix entries uuid csn sound formed asked stamp none below =
-    sent-modified entries (entry_named entries name) edits csn sound (sent-found (is_named name) entries sound) asked stamp none
-sent-op (Rename name rdn deletes superior) suffix entries uuid csn sound formed asked stamp none below =
-    sent-renamed suffix entries (entry_named entries name) rdn deletes superior csn sound (sent-found (is_named name) entries sound) formed.0 formed.1 stamp none
-sent-op (Commit puts drops) suffix entries uuid csn sound formed asked stamp none below = absurd formed
+sent-op (Delete name) suffix entries uuid csn sound formed asked is_csn none below = All-filter (λ e. not (is_named name e)) CanBeSent entries sound
+sent-op (Modify name edits) suffix entries uuid csn sound formed asked is_csn none below =
+    sent-modified entries (entry_named entries name) edits csn sound (sent-found (is_named name) entries sound) asked is_csn none
+sent-op (Rename name rdn deletes superior) suffix entries uuid csn sound formed asked is_csn none below =
+    sent-renamed suffix entries (entry_named entries name) rdn deletes superior csn sound (sent-found (is_named name) entries sound) formed.0 formed.1 is_csn none
+sent-op (Commit puts drops) suffix entries uuid csn sound formed asked is_csn none below = absurd formed
 
+-- entries can be sent after an accepted write
 pub sent-effect : (suffix : List (List TypeAndValue)) (entries : List Entry) (write : Write) (uuid : ℕ) → All CanBeSent entries → IsAccepted suffix entries write
     → uuid < 2 ^ 128 → All CanBeSent (effect entries write.op uuid write.csn)
 sent-effect suffix entries write uuid sound accepted below =
-    sent-op write.op suffix entries uuid write.csn sound accepted.formed accepted.sound accepted.stamp accepted.free below
+    sent-op write.op suffix entries uuid write.csn sound accepted.formed accepted.sound accepted.is_csn accepted.free below

@@ -12,8 +12,8 @@ use Rattle.entry_tree.specs.Codes.{code_of}
 use Rattle.entry_tree.specs.History.{state_of}
 use Rattle.entry_tree.specs.Sound.{is_sound_op}
 
--- the names that a write gives are names, and what it adds has each type once and none without values; no client asks
--- for a commit
+-- the names that a write gives are names, and what it adds has each type once and none without
+-- values; no client asks for a commit
 abbrev pub IsWellFormed : Op → Type 0
 IsWellFormed (Add name attrs) = IsName name × IsAttributeList attrs
 IsWellFormed (Delete name) = ⊤
@@ -21,14 +21,16 @@ IsWellFormed (Modify name edits) = ⊤
 IsWellFormed (Rename name rdn deletes superior) = (is_rdn rdn ≡ true) × IfSome superior IsName
 IsWellFormed (Commit puts drops) = ⊥
 
--- a client may ask for the write, its stamp is in range, and nothing is against it in these entries
-pub record IsAccepted (suffix : List (List TypeAndValue)) (entries : List Entry) (write : Write) : Type 0 where
+-- a client may ask for the write, its CSN is in range, and nothing rejects it in these entries
+pub record IsAccepted
+    (suffix : List (List TypeAndValue)) (entries : List Entry) (write : Write) : Type 0 where
   pub formed : IsWellFormed write.op
   pub sound : is_sound_op write.op ≡ true
-  pub stamp : IsCsn write.csn
+  pub is_csn : IsCsn write.csn
   pub free : code_of suffix entries write.op ≡ None
 
 -- each write was accepted in the entries that the writes before it left
 abbrev pub WereAccepted : List (List TypeAndValue) → ℕ → List Write → Type 0
 WereAccepted suffix history writes =
-    (number : ℕ) (other : Write) → number < length writes → IsAccepted suffix (state_of history writes number) (get_or writes number other)
+    (number : ℕ) (other : Write) → number < length writes
+    → IsAccepted suffix (state_of history writes number) (get_or writes number other)

@@ -1,7 +1,8 @@
--- The laws of a directory's histories: its entries can be sent, and its states keep within the limits.
+-- The laws of a directory's histories: its entries can be sent, and its states
+-- keep within the limits.
 use Rattle.std.specs.Prelude.{◌≡◌, ◌<◌, ◌≤◌, ◌^◌, ℕ, true, List, [], ◌∷◌, ◌++◌, length, All, IfSome, Ok}
 use Rattle.schema_rules.specs.declared.raw.Change.{Change}
-use Rattle.csn_cookie.specs.Csn.{Stamp, IsCsn, start}
+use Rattle.csn_cookie.specs.Csn.{CsnValue, IsCsn, start}
 use Rattle.csn_cookie.specs.CsnMaker.{next_csn}
 use Rattle.dn_names.specs.Names.{TypeAndValue}
 use Rattle.entry_tree.specs.declared.entry.Entry.{Entry}
@@ -17,17 +18,20 @@ use Rattle.directory_laws.specs.Accepted.{IsWellFormed, IsAccepted, WereAccepted
 use Rattle.sync_wire.specs.CanBeSent.{CanBeSent}
 use Rattle.directory_laws.specs.Reading.{IsReadAgain}
 
--- each entry after the first so many writes can be sent
+-- each entry after the first n writes can be sent
 abbrev pub EntriesCanBeSent : Type 0
 EntriesCanBeSent =
-    (suffix : List (List TypeAndValue)) (history : ℕ) (writes : List Write) → WereAccepted suffix history writes
+    (suffix : List (List TypeAndValue)) (history : ℕ) (writes : List Write)
+    → WereAccepted suffix history writes
     → (number : ℕ) → All CanBeSent (state_of history writes number)
 
 -- an accepted write leaves entries that can be sent where there were such
 abbrev pub WritesKeepEntries : Type 0
 WritesKeepEntries =
-    (suffix : List (List TypeAndValue)) (entries : List Entry) (write : Write) (uuid : ℕ) → All CanBeSent entries
-    → IsAccepted suffix entries write → uuid < 2 ^ 128 → All CanBeSent (effect entries write.op uuid write.csn)
+    (suffix : List (List TypeAndValue)) (entries : List Entry) (write : Write) (uuid : ℕ)
+    → All CanBeSent entries
+    → IsAccepted suffix entries write → uuid < 2 ^ 128
+    → All CanBeSent (effect entries write.op uuid write.csn)
 
 -- what can be sent is read again
 abbrev pub SentIsReadAgain : Type 0
@@ -36,39 +40,49 @@ SentIsReadAgain = (e : Entry) → CanBeSent e → IsReadAgain e
 -- one more write, which is accepted in the entries that the others left
 abbrev pub AcceptedWritesGrow : Type 0
 AcceptedWritesGrow =
-    (suffix : List (List TypeAndValue)) (history : ℕ) (writes : List Write) (write : Write) → WereAccepted suffix history writes
-    → IsAccepted suffix (state_of history writes (length writes)) write → WereAccepted suffix history (writes ++ write ∷ [])
+    (suffix : List (List TypeAndValue)) (history : ℕ) (writes : List Write) (write : Write)
+    → WereAccepted suffix history writes
+    → IsAccepted suffix (state_of history writes (length writes)) write
+    → WereAccepted suffix history (writes ++ write ∷ [])
 
 -- the first writes of a list that was accepted were accepted
-abbrev pub FrontsWereAccepted : Type 0
-FrontsWereAccepted =
-    (suffix : List (List TypeAndValue)) (history : ℕ) (writes more : List Write) → WereAccepted suffix history (writes ++ more) → WereAccepted suffix history writes
+abbrev pub PrefixesWereAccepted : Type 0
+PrefixesWereAccepted =
+    (suffix : List (List TypeAndValue)) (history : ℕ) (writes more : List Write)
+    → WereAccepted suffix history (writes ++ more) → WereAccepted suffix history writes
 
 -- ---- states
 
--- so many writes of a history have identities of their own
+-- n writes of a history have identities of their own
 abbrev pub most_identities : ℕ
 most_identities = 2 ^ 62
 
 -- each state has no more entries, and no heavier ones, than a directory may have
 abbrev pub StatesAreSmall : Type 0
 StatesAreSmall =
-    (suffix : List (List TypeAndValue)) (history : ℕ) (writes : List Write) → WereAccepted suffix history writes
-    → (number : ℕ) → (length (state_of history writes number) ≤ most_entries) × (total_weight (state_of history writes number) ≤ most_weight)
+    (suffix : List (List TypeAndValue)) (history : ℕ) (writes : List Write)
+    → WereAccepted suffix history writes
+    → (number : ℕ)
+    → (length (state_of history writes number) ≤ most_entries)
+    × (total_weight (state_of history writes number) ≤ most_weight)
 
 -- and no two of one name, where no identity was given twice
 abbrev pub StatesAreWithin : Type 0
 StatesAreWithin =
-    (suffix : List (List TypeAndValue)) (history : ℕ) (writes : List Write) → WereAccepted suffix history writes → length writes ≤ most_identities
+    (suffix : List (List TypeAndValue)) (history : ℕ) (writes : List Write)
+    → WereAccepted suffix history writes → length writes ≤ most_identities
     → (number : ℕ) → IsWithin (state_of history writes number)
 
 -- ---- what holds of each write
 
--- the stamp of a directory without writes, and each that is drawn after one in range
-abbrev pub DrawnStampsAreInRange : Type 0
-DrawnStampsAreInRange =
-    ((sid : ℕ) → sid < 2 ^ 12 → IsCsn (start sid)) × ((now : ℕ) (last : Stamp) → IsCsn last → IfSome (next_csn now last) IsCsn)
+-- the CSN of a directory without writes, and each that is drawn after one in range
+abbrev pub DrawnCsnsAreInRange : Type 0
+DrawnCsnsAreInRange =
+    ((sid : ℕ) → sid < 2 ^ 12 → IsCsn (start sid))
+    × ((now : ℕ) (last : CsnValue) → IsCsn last → IfSome (next_csn now last) IsCsn)
 
 -- a write that was read is well formed, and a client may ask for it
 abbrev pub ReadWritesAreSound : Type 0
-ReadWritesAreSound = (change : Change) (op : Op) → read_change change ≡ Ok op → IsWellFormed op × (is_sound_op op ≡ true)
+ReadWritesAreSound =
+    (change : Change) (op : Op) → read_change change ≡ Ok op
+    → IsWellFormed op × (is_sound_op op ≡ true)

@@ -1,11 +1,11 @@
 //! What holds of a directory after any writes that it accepted: each of its entries is read again as a search sends it
 //! (RFC 4511, section 4.5.2), and all of them keep within the limits. There is no code here but the functions that carry
-//! the laws, and one that tells what holds of a write.
+//! the laws, and one that reports what holds of a write.
 #![tactic(auto)]
 
 ghost use Rattle.std.specs.Prelude.{◌≡◌, false};
 ghost use Rattle.directory_laws.specs.Accepted.{IsWellFormed};
-ghost use Rattle.directory_laws.specs.Law.{EntriesCanBeSent, WritesKeepEntries, SentIsReadAgain, AcceptedWritesGrow, FrontsWereAccepted, StatesAreSmall, StatesAreWithin, DrawnStampsAreInRange, ReadWritesAreSound};
+ghost use Rattle.directory_laws.specs.Law.{EntriesCanBeSent, WritesKeepEntries, SentIsReadAgain, AcceptedWritesGrow, PrefixesWereAccepted, StatesAreSmall, StatesAreWithin, DrawnCsnsAreInRange, ReadWritesAreSound};
 ghost use Rattle.entry_tree.specs.Sound.{is_commit};
 
 use entry_tree::Op;
@@ -20,31 +20,31 @@ pub fn writes_keep_entries()
     ensures { WritesKeepEntries }
 {}
 
-/// The parts of an entry that can be sent are read again as they were written: its name, its stamp and its attributes.
+/// The parts of an entry that can be sent are read again as they were written: its name, its CSN and its attributes.
 pub fn sent_is_read_again()
     ensures { SentIsReadAgain }
 {}
 
-/// Accepted writes and one more, which is accepted behind them, are accepted writes.
+/// Accepted writes and one more, which is accepted after them, are accepted writes.
 pub fn accepted_writes_grow()
     ensures { AcceptedWritesGrow }
 {}
 
 /// The first of writes that were accepted one after another were accepted.
-pub fn fronts_were_accepted()
-    ensures { FrontsWereAccepted }
+pub fn prefixes_were_accepted()
+    ensures { PrefixesWereAccepted }
 {}
 
-/// Each state of a directory keeps within the limits: it has at most so many entries, of at most so much weight, after
+/// Each state of a directory keeps within the limits: it has at most n entries, of at most so much weight, after
 /// any number of writes, and no two of one name as long as the identities that writes give do not begin again.
 pub fn states_are_within()
     ensures small { StatesAreSmall }
     ensures within { StatesAreWithin }
 {}
 
-/// A directory draws stamps in range alone.
-pub fn drawn_stamps_are_in_range()
-    ensures { DrawnStampsAreInRange }
+/// A directory draws CSNs in range alone.
+pub fn drawn_csns_are_in_range()
+    ensures { DrawnCsnsAreInRange }
 {}
 
 /// What a change is read as is a write that the laws speak of.
@@ -52,7 +52,7 @@ pub fn read_writes_are_sound()
     ensures { ReadWritesAreSound }
 {}
 
-/// Tells of what a client asks for that its names are names, and what it adds is a list of attributes. It does
+/// Reports of what a client asks for that its names are names, and what it adds is a list of attributes. It does
 /// nothing.
 pub fn is_well_formed(op: &Op)
     requires { is_commit op.now ≡ false }

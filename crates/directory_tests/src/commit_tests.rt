@@ -20,7 +20,7 @@ use sync_messages::IdList;
 /// The most that an entry weighs.
 const MOST_ENTRY_WEIGHT: u64 = 65_536;
 
-/// The entry of `IDENTITY NUMBER NAME|type=value;value|..`, with the stamp of that number.
+/// The entry of `IDENTITY NUMBER NAME|type=value;value|..`, with the CSN of that number.
 fn entry_of(alloc: Global, line: &str) -> Result<Entry, Fail>
     ensures sound { IfOk result (λ entry. is_sound_put entry ≡ true) }
     ensures light { IfOk result (λ entry. is_light entry ≡ true) }
@@ -74,9 +74,9 @@ fn previewed(alloc: Global, tree: &Tree, puts: EntryList, drops: IdList) -> Resu
     let suffix = Dn::parse(alloc, b"o=x")?;
     let mark = mark_of(alloc, NEXT)?;
     let op = Op::Commit(puts, drops);
-    let touches = tree.preview(&op, &suffix, mark.number as u128, mark.csn);
+    let entry_changes = tree.preview(&op, &suffix, mark.number as u128, mark.csn);
     discard(op);
-    shown(alloc, touches)
+    shown(alloc, entry_changes)
 }
 
 /// What a commit to the directory touches.
@@ -88,15 +88,15 @@ fn applied(alloc: Global, tree: &mut Tree, puts: EntryList, drops: IdList) -> Re
     let suffix = Dn::parse(alloc, b"o=x")?;
     let mark = mark_of(alloc, NEXT)?;
     let op = Op::Commit(puts, drops);
-    let touches = tree.apply(&op, &suffix, mark.number as u128, mark.csn);
+    let entry_changes = tree.apply(&op, &suffix, mark.number as u128, mark.csn);
     discard(op);
-    shown(alloc, touches)
+    shown(alloc, entry_changes)
 }
 
 fn shown(alloc: Global, outcome: Result<Touched, OpFault>) -> Result<Vec<u8>, Fail> {
-    let touches = outcome?;
-    let lines = difference(alloc, &touches);
-    discard(touches);
+    let entry_changes = outcome?;
+    let lines = difference(alloc, &entry_changes);
+    discard(entry_changes);
     Ok(lines?)
 }
 
@@ -105,7 +105,7 @@ type Row = (&'static [&'static str], &'static [u128], &'static str);
 
 const ROWS: [Row; 11] = [
     (&[], &[], ""),
-    // New entries, told in ascending order; nothing asks for a superior.
+    // New entries, reported in ascending order; nothing asks for a superior.
     (
         &[
             "9 8 ou=e,ou=z,o=x|objectClass=organizationalUnit|ou=e",
@@ -153,7 +153,7 @@ const ROWS: [Row; 11] = [
         &[5],
         "",
     ),
-    // Another stamp alone.
+    // Another CSN alone.
     (
         &["5 6 ou=s,ou=a,o=x|objectClass=organizationalUnit|ou=s"],
         &[],
@@ -178,7 +178,7 @@ const ROWS: [Row; 11] = [
     ),
 ];
 
-/// The preview of a commit to the first directory tells what the commit then touches.
+/// The preview of a commit to the first directory reports what the commit then touches.
 fn check_row(rt: &impl Abort, alloc: Global, row: &Row) -> Result<(), Fail> {
     let (puts, drops, wanted) = row;
     let mut tree = first_tree(alloc)?;

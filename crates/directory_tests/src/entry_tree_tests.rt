@@ -27,7 +27,7 @@ pub(crate) const NEXT: u32 = 9;
 /// Drops a value through its bound, so that no proof goes through the cases of its type.
 pub(crate) fn discard<T: Drop>(_value: T) {}
 
-/// Asserts that what was found is what is wanted, or tells the row.
+/// Asserts that what was found is what is wanted, or reports the row.
 pub(crate) fn assert_same<T: PartialEq + Debug>(rt: &impl Abort, row: &str, found: &T, wanted: &T) {
     assert!(rt;
         *found == *wanted,
@@ -60,7 +60,7 @@ fn raw_attribute(alloc: Global, text: &str) -> Result<RawAttribute, NoMemory> {
     })
 }
 
-/// What an edit does, by its sign, and the text behind it.
+/// What an edit does, by its sign, and the text after it.
 fn signed(text: &str) -> Option<(How, &str)> {
     if let Some(rest) = text.strip_prefix('+') {
         return Some((How::Add, rest));
@@ -71,7 +71,7 @@ fn signed(text: &str) -> Option<(How, &str)> {
     text.strip_prefix('=').map(|rest| (How::Replace, rest))
 }
 
-/// The text before the first bar, and that behind it, where there is one.
+/// The text before the first bar, and that after it, where there is one.
 pub(crate) fn parted(text: &str) -> (&str, Option<&str>) {
     match text.split_once('|') {
         None => (text, None),
@@ -121,7 +121,7 @@ fn rename_of(alloc: Global, name: Octets, text: &str) -> Result<Change, NoMemory
     Ok(Change::Rename(name, rdn, what == "drop", superior))
 }
 
-/// The write of a line: what it does and the name, and then what else it takes, each behind a bar.
+/// The write of a line: what it does and the name, and then what else it takes, each after a bar.
 fn change_of(alloc: Global, line: &str) -> Result<Change, Fail> {
     let (head, rest) = parted(line);
     let (verb, name) = head.split_once(' ').ok_or("no name")?;
@@ -134,7 +134,7 @@ fn change_of(alloc: Global, line: &str) -> Result<Change, Fail> {
     }
 }
 
-/// The number of a write, and its stamp.
+/// The number of a write, and its CSN.
 #[derive(Clone, Copy)]
 pub(crate) struct WriteMark {
     pub(crate) number: u32,
@@ -156,9 +156,9 @@ fn applied(
     mark: WriteMark,
 ) -> Result<Touched, OpFault> {
     let op = read_op(alloc, change)?;
-    let touches = tree.apply(&op, suffix, mark.number as u128, mark.csn);
+    let entry_changes = tree.apply(&op, suffix, mark.number as u128, mark.csn);
     discard(op);
-    touches
+    entry_changes
 }
 
 /// What comes of a write to the directory `o=x`.
@@ -185,9 +185,9 @@ fn previewed(
     mark: WriteMark,
 ) -> Result<Touched, OpFault> {
     let op = read_op(alloc, change)?;
-    let touches = tree.preview(&op, suffix, mark.number as u128, mark.csn);
+    let entry_changes = tree.preview(&op, suffix, mark.number as u128, mark.csn);
     discard(op);
-    touches
+    entry_changes
 }
 
 /// What would come of a write to the directory `o=x`.
@@ -367,16 +367,16 @@ fn codes_of_rename(rt: HostRuntime) -> Result<(), Fail> {
     check_codes(&rt, rt.alloc(), &RENAME_CODES)
 }
 
-/// The front, as many times the piece, and then the end.
+/// The prefix, as many times the piece, and then the end.
 fn repeated(
     alloc: Global,
-    front: &str,
+    prefix: &str,
     piece: &str,
     count: usize,
     end: &str,
 ) -> Result<String, NoMemory> {
     let mut text = String::new(alloc);
-    text.push_str(front)?;
+    text.push_str(prefix)?;
     for _ in 0..count {
         text.push_str(piece)?;
     }
@@ -398,8 +398,8 @@ pub(crate) const FIRST_WEIGHT: u64 = SUFFIX_WEIGHT + UNIT_WEIGHT + PERSON_WEIGHT
 /// of the description 11.
 const MOST: usize = 65_536 - 29 - 3 - 11;
 
-/// Writes one after another around that limit: the front, how many letters of a description stand
-/// behind it, and the code.
+/// Writes one after another around that limit: the prefix, how many letters of a description stand
+/// after it, and the code.
 const HEAVY: [(&str, usize, u32); 5] = [
     ("modify ou=a,o=x|+description=", MOST + 1, 11),
     ("modify ou=a,o=x|+description=", MOST, 0),
@@ -413,8 +413,8 @@ const HEAVY: [(&str, usize, u32); 5] = [
 ];
 
 fn check_heavy(rt: &impl Abort, alloc: Global, tree: &mut Tree) -> Result<(), Fail> {
-    for (front, count, wanted) in &HEAVY {
-        let line = repeated(alloc, front, "d", *count, "")?;
+    for (prefix, count, wanted) in &HEAVY {
+        let line = repeated(alloc, prefix, "d", *count, "")?;
         assert_code(rt, alloc, tree, line.as_str(), *wanted)?;
     }
     Ok(())
@@ -445,7 +445,7 @@ fn deep_tree(alloc: Global) -> Result<Tree, Fail> {
     Ok(tree)
 }
 
-/// Writes to that directory: the front, how often `ou=d,` stands behind it, the end, and the code.
+/// Writes to that directory: the prefix, how often `ou=d,` stands after it, the end, and the code.
 const DEEP: [(&str, usize, &str, u32); 4] = [
     // The deepest would have 33 RDNs below the new superior.
     ("rename ou=d,ou=b,o=x|ou=e|drop|ou=s,ou=a,o=x", 0, "", 11),
@@ -456,8 +456,8 @@ const DEEP: [(&str, usize, &str, u32); 4] = [
 ];
 
 fn check_deep(rt: &impl Abort, alloc: Global, tree: &mut Tree) -> Result<(), Fail> {
-    for (front, count, end, wanted) in &DEEP {
-        let line = repeated(alloc, front, "ou=d,", *count, end)?;
+    for (prefix, count, end, wanted) in &DEEP {
+        let line = repeated(alloc, prefix, "ou=d,", *count, end)?;
         assert_code(rt, alloc, tree, line.as_str(), *wanted)?;
     }
     Ok(())
@@ -470,7 +470,7 @@ fn long_names(rt: HostRuntime) -> Result<(), Fail> {
     check_deep(&rt, rt.alloc(), &mut tree)
 }
 
-/// Puts the sign, the identity and the number of the stamp.
+/// Puts the sign, the identity and the number of the CSN.
 fn push_head(line: &mut Vec<u8>, sign: &str, entry: &Entry) -> Result<(), NoMemory> {
     let alloc = *line.allocator();
     let number = entry.csn.micros();
@@ -486,7 +486,7 @@ fn push_name(line: &mut Vec<u8>, entry: &Entry) -> Result<(), NoMemory> {
     Ok(())
 }
 
-/// Puts each value with its type in front of it and a bar behind it.
+/// Puts each value with its type in front of it and a bar after it.
 fn push_attribute(line: &mut Vec<u8>, attribute: &Attribute) -> Result<(), NoMemory> {
     for value in attribute.values.list() {
         line.extend_from_slice(attribute.kind.name())?;
@@ -497,7 +497,7 @@ fn push_attribute(line: &mut Vec<u8>, attribute: &Attribute) -> Result<(), NoMem
     Ok(())
 }
 
-/// Puts the entry on a line: the sign, its identity, the number of its stamp, its name, and its
+/// Puts the entry on a line: the sign, its identity, the number of its CSN, its name, and its
 /// attributes, each value with its type.
 fn push_entry(line: &mut Vec<u8>, sign: &str, entry: &Entry) -> Result<(), NoMemory> {
     push_head(line, sign, entry)?;
@@ -524,20 +524,20 @@ fn push_found(line: &mut Vec<u8>, sign: &str, entry: &Option<Entry>) -> Result<(
 }
 
 /// What a write touches: a line of what was, and one of what is.
-pub(crate) fn difference(alloc: Global, touches: &Touched) -> Result<Vec<u8>, NoMemory> {
+pub(crate) fn difference(alloc: Global, entry_changes: &Touched) -> Result<Vec<u8>, NoMemory> {
     let mut lines = Vec::new(alloc);
-    for touch in touches.list() {
-        push_found(&mut lines, "-", &touch.was)?;
-        push_found(&mut lines, "+", &touch.now)?;
+    for entry_change in entry_changes.list() {
+        push_found(&mut lines, "-", &entry_change.before)?;
+        push_found(&mut lines, "+", &entry_change.after)?;
     }
     Ok(lines)
 }
 
 /// What the write of that number touches.
 fn touched(alloc: Global, tree: &mut Tree, line: &str, number: u32) -> Result<Vec<u8>, Fail> {
-    let touches = outcome(alloc, tree, line, number)??;
-    let shown = difference(alloc, &touches);
-    discard(touches);
+    let entry_changes = outcome(alloc, tree, line, number)??;
+    let shown = difference(alloc, &entry_changes);
+    discard(entry_changes);
     Ok(shown?)
 }
 
@@ -565,7 +565,7 @@ const EFFECTS: [(&str, &str); 4] = [
         "delete ou=s,ou=a,o=x",
         "-5 5 ou=s,ou=a,o=x objectClass=organizationalUnit|ou=s\n",
     ),
-    // The entries below move too, with their own RDNs, and each gets the stamp.
+    // The entries below move too, with their own RDNs, and each gets the CSN.
     (
         "rename ou=a,o=x|ou=n|drop|OU=B,o=x",
         "-2 2 ou=a,o=x objectClass=organizationalUnit|ou=a\n\
@@ -619,7 +619,7 @@ const UNITS: [(&str, &str); 13] = [
         "modify ou=b,o=x|-ou|+ou=b",
         "ou=b,o=x objectClass=organizationalUnit|l=p|ou=b",
     ),
-    // The stamp alone.
+    // The CSN alone.
     (
         "modify ou=b,o=x",
         "ou=b,o=x objectClass=organizationalUnit|ou=b|ou=bb|l=p",
@@ -677,7 +677,7 @@ const PREVIEWS: [(&str, u32, u32); 16] = [
     ("delete ou=a,o=x", 9, 66),
     ("delete ou=z,o=x", 9, 32),
     ("modify ou=b,o=x|+ou=c|+description=d", 9, 0),
-    // The stamp that is there.
+    // The CSN that is there.
     ("modify ou=b,o=x", 3, 0),
     ("modify ou=b,o=x|-l=q", 9, 16),
     ("modify ou=b,o=x|-ou=b", 9, 67),
@@ -698,7 +698,7 @@ struct Answer {
 fn answer_of(alloc: Global, outcome: &Result<Touched, OpFault>) -> Result<Answer, Fail> {
     let code = code_of(outcome)?;
     let touched = match outcome {
-        Ok(touches) => difference(alloc, touches)?,
+        Ok(entry_changes) => difference(alloc, entry_changes)?,
         Err(_) => Vec::new(alloc),
     };
     Ok(Answer { code, touched })

@@ -5,7 +5,8 @@ use Rattle.std.specs.List.{list_all}
 use Rattle.std.specs.Option.{option_or}
 use Rattle.std.proofs.lemmas.Bool.{false≢true, leb-false, ltb-false, lt-ltb, le-ltb, le-leb}
 use Rattle.std.proofs.lemmas.Bool.Decides.{nat_tests}
-use Rattle.csn_cookie.specs.Csn.{Stamp}
+use Rattle.ldap_constants.specs.declared.result_codes.TheConstants.{SUCCESS}
+use Rattle.csn_cookie.specs.Csn.{CsnValue}
 use Rattle.csn_cookie.specs.CsnMaker.{greatest_count}
 use Rattle.entry_tree.specs.Effects.{committed}
 use Rattle.entry_tree.specs.Fitting as fitting
@@ -19,7 +20,7 @@ use Rattle.entry_tree.specs.declared.op.Op.{Op}
 use Rattle.entry_tree.specs.declared.op.Op.TheVariants.{Add, Delete, Modify, Rename, Commit}
 use Rattle.entry_tree.specs.declared.op.Write.{Write}
 use Rattle.directory_writes.specs.Commits.{held_refusal, log_refusal, commit_refusal, Opposes}
-use Rattle.directory_writes.specs.Directory.{DirectoryState, entries_of, next_stamp, most_writes, most_writes_weight, judged, write_code, code_of_judged}
+use Rattle.directory_writes.specs.Directory.{DirectoryState, entries_of, csn_of_next_write, most_writes, most_writes_weight, judged, write_code, code_of_judged}
 use Rattle.directory_writes.specs.Weights.{op_weight, kept_weight}
 use Rattle.directory_writes.specs.declared.commit.CommitFault.{CommitFault}
 use Rattle.directory_writes.specs.declared.commit.CommitFault.TheVariants.{LimitReached, DuplicateName, NoMemory}
@@ -35,10 +36,11 @@ plain_fits entries (Commit puts drops) plain = absurd (false≢true (sym plain))
 
 -- a commit that has nothing against it fits, and is accepted
 pub record IsOpen (d : DirectoryState) (puts : List Entry) (drops : List ℕ) (now : ℕ) : Type 0 where
+  -- a commit of light entries fits the entries of a directory
   pub fitting : list_all is_light puts ≡ true → fits (entries_of d) (Commit puts drops) ≡ true
   pub write : Write
   pub judged : judged d (Commit puts drops) now ≡ Ok write
-  pub code : write_code d (Commit puts drops) now ≡ 0
+  pub code : write_code d (Commit puts drops) now ≡ SUCCESS
 
 held_open : (entries : List Entry) → held_refusal entries ≡ None → may_be_held entries ≡ true
 held_open entries = by (nat_lt most_entries (length entries)) (nat_lt most_weight (total_weight entries)) (same_named entries)
@@ -57,15 +59,16 @@ room_left : (writes weight : ℕ) → nat_le most_writes writes ≡ false → na
 room_left writes weight few light =
     (λ i. lt-ltb writes most_writes (leb-false most_writes writes few) i && le-leb weight most_writes_weight (ltb-false most_writes_weight weight light) i)
 
+-- a commit that is not refused gets a CSN and the code 0
 pub commit_open : (d : DirectoryState) (puts : List Entry) (drops : List ℕ) (now : ℕ) → commit_refusal d puts drops now ≡ None → IsOpen d puts drops now
 commit_open d puts drops now =
-    by (nat_le most_writes (length d.writes)) refl (nat_lt most_writes_weight (kept_weight d.writes + op_weight (Commit puts drops))) refl (next_stamp d now) refl
+    by (nat_le most_writes (length d.writes)) refl (nat_lt most_writes_weight (kept_weight d.writes + op_weight (Commit puts drops))) refl (csn_of_next_write d now) refl
   where
     after : List Entry
     after = committed (entries_of d) puts drops
 
     by : (full : Bool) → nat_le most_writes (length d.writes) ≡ full → (heavy : Bool) → nat_lt most_writes_weight (kept_weight d.writes + op_weight (Commit puts drops)) ≡ heavy
-        → (next : Option Stamp) → next_stamp d now ≡ next
+        → (next : Option CsnValue) → csn_of_next_write d now ≡ next
         → option_or (cond full (Some (LimitReached most_writes)) (cond heavy (Some (LimitReached most_writes_weight)) (cond (is_none next) (Some (LimitReached greatest_count)) None))) (held_refusal after) ≡ None
         → IsOpen d puts drops now
     by true few heavy light next is h = let never : ⊥ = cc in absurd never
@@ -82,6 +85,7 @@ commit_open d puts drops now =
 
 -- ---- the causes
 
+-- entries that may be held are not refused
 pub open_held : (entries : List Entry) → may_be_held entries ≡ true → held_refusal entries ≡ None
 open_held entries = by (nat_lt most_entries (length entries)) (nat_lt most_weight (total_weight entries)) (same_named entries)
   where
@@ -98,7 +102,7 @@ of_refusal refusals.TooHeavy = LimitReached most_weight
 of_refusal (refusals.SameName one other) = DuplicateName one other
 of_refusal refusals.NoMemory = NoMemory
 
--- what a tree has against the entries is what is against them here
+-- what a tree has against the entries is what rejects them here
 pub held_opposed : (entries : List Entry) (refusal : CommitRefusal) → fitting.Opposes entries refusal → Opposes (held_refusal entries) (of_refusal refusal)
 held_opposed entries = by
   where
@@ -127,10 +131,11 @@ held_opposed entries = by
 capped_heavy : (kept weight : ℕ) → nat_lt most_writes_weight (kept + min weight (2 ^ 64 - 1)) ≡ nat_lt most_writes_weight (kept + weight)
 capped_heavy kept weight = grind (arith, nat_tests)
 
+-- a weight at the greatest number is refused as any above it
 pub log_capped : (d : DirectoryState) (weight capped now : ℕ) → capped ≡ min weight (2 ^ 64 - 1) → log_refusal d capped now ≡ log_refusal d weight now
 log_capped d weight capped now is =
     ap (λ b. cond (nat_le most_writes (length d.writes)) (Some (LimitReached most_writes))
-    (cond b (Some (LimitReached most_writes_weight)) (cond (is_none (next_stamp d now)) (Some (LimitReached greatest_count)) None)))
+    (cond b (Some (LimitReached most_writes_weight)) (cond (is_none (csn_of_next_write d now)) (Some (LimitReached greatest_count)) None)))
     (ap (λ w. nat_lt most_writes_weight (kept_weight d.writes + w)) is ∙ capped_heavy (kept_weight d.writes) weight)
 
 -- the first of two causes
@@ -142,10 +147,12 @@ first_opposed first second NoMemory is = is
 pub second_opposed : (first second : Option CommitFault) (fault : CommitFault) → first ≡ None → Opposes second fault → Opposes (option_or first second) fault
 second_opposed first second fault none is = subst (λ o. Opposes (option_or o second) fault) (sym none) is
 
+-- where the first gives no refusal, that of the second is the whole one
 pub second_of : {T : Type 0} (first second : Option CommitFault) (outcome : Result T CommitFault) → first ≡ None → IfErr outcome (Opposes second)
     → IfErr outcome (Opposes (option_or first second))
 second_of first second (Ok x) none is = is
 second_of first second (Err fault) none is = second_opposed first second fault none is
 
+-- where neither gives a refusal there is none
 pub none_opposed : (first second : Option CommitFault) → first ≡ None → second ≡ None → option_or first second ≡ None
 none_opposed first second none other = ap (λ o. option_or o second) none ∙ other

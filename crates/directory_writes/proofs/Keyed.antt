@@ -1,30 +1,27 @@
 -- What is kept in a map at its keys, which are numbers.
-use Rattle.std.proofs.Common.{◌≡◌, ◌≢◌, ◌<◌, ◌⊎◌, ℕ, Bool, true, false, cond, List, [], ◌∷◌, Option, Some, None, refl, ap, sym, ◌∙◌, inl, inr, subst, arith}
-use Rattle.std.specs.Cmp.{nat_cmp_is, ranks}
+use Rattle.std.proofs.Common.{◌≡◌, ◌≢◌, ◌<◌, ◌⊎◌, ℕ, Bool, true, false, cond, List, [], ◌∷◌, Option, Some, None, refl, ap, sym, ◌∙◌, inl, inr, arith}
+use Rattle.std.specs.Cmp.{nat_cmp_is}
 use Rattle.std.specs.Map.{lookup, remove_entry, set_value}
 use Rattle.std.specs.BTreeMap.{insert_entry, is_at}
-use Rattle.std.specs.Ordering.{nat_cmp, is_eq, match_ordering, MatchOrdering}
+use Rattle.std.specs.Ordering.{nat_cmp, is_eq, match_ordering}
 use Rattle.std.specs.declared.cmp.Ordering.TheVariants.{Less, Equal, Greater}
 use Rattle.std.proofs.lemmas.Bool.{cases_order, false≢true}
 
 abbrev Order : ℕ → ℕ → Type 0
 Order a b = (a ≡ b) ⊎ ((a < b) ⊎ (b < a))
 
+-- a smaller number is ordered before a greater one
 pub less_cmp : (a b : ℕ) → a < b → nat_cmp a b ≡ Less
 less_cmp a b h = sym (nat_cmp_is a b Less h)
 
+-- equal numbers are ordered as equal
 pub same_cmp : (a b : ℕ) → a ≡ b → nat_cmp a b ≡ Equal
 same_cmp a b h = sym (nat_cmp_is a b Equal h)
 
-more_cmp : (a b : ℕ) → b < a → nat_cmp a b ≡ Greater
+pub more_cmp : (a b : ℕ) → b < a → nat_cmp a b ≡ Greater
 more_cmp a b h = sym (nat_cmp_is a b Greater h)
 
-pub cmp_less : (a b : ℕ) → nat_cmp a b ≡ Less → a < b
-cmp_less a b h = subst (λ o. MatchOrdering o (a < b) (a ≡ b) (b < a)) h (ranks a b)
-
-pub cmp_same : (a b : ℕ) → nat_cmp a b ≡ Equal → a ≡ b
-cmp_same a b h = subst (λ o. MatchOrdering o (a < b) (a ≡ b) (b < a)) h (ranks a b)
-
+-- a key is at an equal one
 pub is_at-same : (a b : ℕ) → a ≡ b → is_at (nat_cmp a) b ≡ true
 is_at-same a b h = ap is_eq (same_cmp a b h)
 
@@ -36,6 +33,7 @@ is_at-other a b h = by (cases_order a b)
     by (inr (inl less)) = ap is_eq (less_cmp a b less)
     by (inr (inr more)) = ap is_eq (more_cmp a b more)
 
+-- a key that is at another one equals it
 pub at-is : (a b : ℕ) → is_at (nat_cmp a) b ≡ true → a ≡ b
 at-is a b h = by (cases_order a b)
   where
@@ -46,14 +44,17 @@ at-is a b h = by (cases_order a b)
 
 -- ---- what is kept at a key
 
+-- what a map has of a key
 abbrev pub kept_at : {X : Type 0} → List (ℕ × X) → ℕ → Option X
 kept_at es k = lookup (is_at (nat_cmp k)) es
 
+-- a map without a key
 abbrev pub closed_at : {X : Type 0} → List (ℕ × X) → ℕ → List (ℕ × X)
 closed_at es k = remove_entry (is_at (nat_cmp k)) es
 
 -- ---- what is put in
 
+-- a map has what was inserted of its key
 pub opened-same : {X : Type 0} (es : List (ℕ × X)) (k : ℕ) (s : X) → kept_at (insert_entry nat_cmp es k s) k ≡ Some s
 opened-same [] k s = ap (λ b. cond b (Some s) None) (is_at-same k k refl)
 opened-same (e ∷ es) k s = by (opened-same es k s) (cases_order k e.0)
@@ -70,6 +71,7 @@ opened-same (e ∷ es) k s = by (opened-same es k s) (cases_order k e.0)
         ∙ ap (λ b. cond b (Some e.1) (kept_at (insert_entry nat_cmp es k s) k)) (is_at-other k e.0 (λ same. omega arith))
         ∙ rest
 
+-- an insertion leaves what a map has of other keys
 pub opened-other : {X : Type 0} (es : List (ℕ × X)) (k q : ℕ) (s : X) → q ≢ k → kept_at (insert_entry nat_cmp es k s) q ≡ kept_at es q
 opened-other [] k q s far = ap (λ b. cond b (Some s) None) (is_at-other q k far)
 opened-other (e ∷ es) k q s far = by (opened-other es k q s far) (cases_order k e.0)
@@ -89,6 +91,7 @@ opened-other (e ∷ es) k q s far = by (opened-other es k q s far) (cases_order 
 
 -- ---- what is taken out, or renewed
 
+-- a removal leaves what a map has of other keys
 pub closed-other : {X : Type 0} (es : List (ℕ × X)) (k q : ℕ) → q ≢ k → kept_at (closed_at es k) q ≡ kept_at es q
 closed-other [] k q far = refl
 closed-other (e ∷ es) k q far = by (closed-other es k q far) (is_at (nat_cmp k) e.0) refl
@@ -97,9 +100,11 @@ closed-other (e ∷ es) k q far = by (closed-other es k q far) (is_at (nat_cmp k
     by rest true hit = sym (ap (λ b. cond b (Some e.1) (kept_at es q)) (is_at-other q e.0 (λ is. far (is ∙ sym (at-is k e.0 hit)))))
     by rest false miss = ap (cond (is_at (nat_cmp q) e.0) (Some e.1)) rest
 
+-- a map with another value of a key that it has
 abbrev pub put_on : {X : Type 0} → List (ℕ × X) → ℕ → X → List (ℕ × X)
 put_on es k s = set_value (is_at (nat_cmp k)) es s
 
+-- another value of a key leaves those of other keys
 pub put_on-other : {X : Type 0} (es : List (ℕ × X)) (k q : ℕ) (s : X) → q ≢ k → kept_at (put_on es k s) q ≡ kept_at es q
 put_on-other [] k q s far = refl
 put_on-other (e ∷ es) k q s far = by (put_on-other es k q s far) (is_at (nat_cmp k) e.0) refl
@@ -110,6 +115,7 @@ put_on-other (e ∷ es) k q s far = by (put_on-other es k q s far) (is_at (nat_c
         ap (λ b. cond b (Some s) (kept_at es q)) apart ∙ sym (ap (λ b. cond b (Some e.1) (kept_at es q)) apart)
     by rest false miss = ap (cond (is_at (nat_cmp q) e.0) (Some e.1)) rest
 
+-- a map has the value that was put in place of that of its key
 pub put_on-same : {X : Type 0} (es : List (ℕ × X)) (k : ℕ) (s was : X) → kept_at es k ≡ Some was → kept_at (put_on es k s) k ≡ Some s
 put_on-same [] k s was found = absurd (far found)
   where

@@ -20,6 +20,7 @@ place_made numbers u none = record { number = λ v number low found. opened-othe
     far : (v number : ℕ) → number_at numbers v ≡ Some number → v ≢ u
     far v number found same = false≢true (sym none ∙ ap (λ w. is_some (number_at numbers w)) (sym same) ∙ ap is_some found)
 
+-- an identity has a place once one is made for it
 pub place_is : (numbers : Numbers) (u : ℕ) → is_some (number_at (insert_entry nat_cmp numbers u 0) u) ≡ true
 place_is numbers u = ap is_some (opened-same numbers u 0)
 
@@ -31,11 +32,13 @@ places_kept numbers u = record { place = λ v here. by v here (cases_eq v u) }
     by v here (inl same) = ap (λ w. is_some (number_at (insert_entry nat_cmp numbers u 0) w)) same ∙ place_is numbers u
     by v here (inr far) = ap is_some (opened-other numbers u v 0 far) ∙ here
 
+-- places that there are stay where nothing changes
 pub places_itself : (numbers : Numbers) → KeepsPlaces numbers numbers
 places_itself numbers = record { place = λ u here. here }
 
 -- ---- the places of several
 
+-- one identity has a place
 pub have_one : (numbers : Numbers) (u : ℕ) → is_some (number_at numbers u) ≡ true → HavePlaces numbers (u ∷ [])
 have_one numbers u here = ap (λ b. b && true) here
 
@@ -50,6 +53,7 @@ have_more one two uuids u keeps have here =
     list_all-append (λ uuid. is_some (number_at two uuid)) uuids (u ∷ [])
     ∙ and_from (list_all (λ uuid. is_some (number_at two uuid)) uuids) (list_all (λ uuid. is_some (number_at two uuid)) (u ∷ [])) (have_kept one two uuids keeps have) (have_one two u here)
 
+-- the identities of one more entry have places
 pub next_place : (one two : Numbers) (entries : List Entry) (i : ℕ) (e : Entry) → i < length entries → KeepsPlaces one two → HavePlaces one (identities (take i entries))
     → is_some (number_at two (get_or entries i e).uuid) ≡ true → HavePlaces two (identities (take (i + 1) entries))
 next_place one two entries i e low keeps have here =
@@ -69,6 +73,7 @@ place_among numbers (v ∷ uuids) u places here = by (cases_eq u v) (place_among
 
 -- ---- a place is taken back where it has no number
 
+-- a place without a number may be taken back
 pub place_left : (numbers : Numbers) (u : ℕ) → number_at numbers u ≡ Some 0 → KeepsNumbers numbers (closed_at numbers u)
 place_left numbers u none = record { number = λ v number low found. closed-other numbers u v (far v number low found) ∙ found }
   where

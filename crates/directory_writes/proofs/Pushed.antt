@@ -6,12 +6,12 @@ use Rattle.std.proofs.lemmas.Bool.{cases_Bool, cases_eq, eq-eqb, ne_eqb, ltb-tru
 use Rattle.std.proofs.lemmas.List.{append-nil}
 use Rattle.entry_tree.specs.declared.entry.Entry.{Entry}
 use Rattle.entry_tree.specs.declared.op.Write.{Write}
-use Rattle.entry_tree.specs.declared.touched.Touch.{Touch}
+use Rattle.entry_tree.specs.declared.touched.EntryChange.{EntryChange}
 use Rattle.entry_tree.specs.Bytes.{is_one_found}
 use Rattle.entry_tree.specs.Effects.{effect}
 use Rattle.entry_tree.specs.History.{state_from, state_of, differing_over}
 use Rattle.entry_tree.specs.State.{ascends, entry_at}
-use Rattle.entry_tree.specs.Touched.{identities, joined, touch_at, is_change, touched}
+use Rattle.entry_tree.specs.Touched.{identities, joined, change_at, is_change, touched}
 use Rattle.session_log.specs.Calls.{IsLogOf}
 use Rattle.session_log.specs.Log.{Log}
 use Rattle.sync_model.specs.Stream.{among}
@@ -23,14 +23,11 @@ use Rattle.directory_writes.specs.Touches.{Numbers, uuids_of, last_touch, logged
 use Rattle.directory_writes.proofs.Effects.{IsThere, found_before}
 use Rattle.directory_writes.proofs.Keyed.{closed-other, put_on, put_on-same, put_on-other}
 use Rattle.directory_writes.proofs.Places.{place_among}
-use Rattle.directory_writes.proofs.Told.{Agree, agree-longer, notes-agree, last-agree, last-tells, noted_each-is}
+use Rattle.directory_writes.proofs.Notified.{Agree, agree-longer, notes-agree, last-agree, last-shows, noted_each-is}
 
 -- ---- the states around the last write
 
 module _ (history : ℕ) (writes : List Write) (w : Write) where
-  abbrev all : List Write
-  all = writes ++ w ∷ []
-
   before : ℕ → List Entry
   before = state_of history writes
 
@@ -53,6 +50,7 @@ module _ (history : ℕ) (writes : List Write) (w : Write) where
       ∙ ap (λ ws. entries_after history (take (length (writes ++ w ∷ [])) ws)) (sym (append-nil (writes ++ w ∷ [])))
       ∙ ap (entries_after history) (take-append_seam (writes ++ w ∷ []) [])
 
+  -- the log notes what one more write touched
   pub logged-push : (log : Log) → IsLogged history writes log
       → IsLogged history (writes ++ w ∷ []) (logged (length writes + 1) (entries_after history writes) (entries_after history (writes ++ w ∷ [])) log)
   logged-push log is =
@@ -66,7 +64,7 @@ module _ (history : ℕ) (writes : List Write) (w : Write) where
       us = uuids_of (touched (entries_after history writes) (entries_after history (writes ++ w ∷ [])))
 
 -- the state after all writes
-whole : (history : ℕ) (writes : List Write) → state_of history writes (length writes) ≡ entries_after history writes
+pub whole : (history : ℕ) (writes : List Write) → state_of history writes (length writes) ≡ entries_after history writes
 whole history writes =
     ap (λ ws. entries_after history (take (length writes) ws)) (sym (append-nil writes)) ∙ ap (entries_after history) (take-append_seam writes [])
 
@@ -79,7 +77,7 @@ no_state history writes = refl
 pub last-some : (history : ℕ) (writes : List Write) (u : ℕ) (e : Entry) → entry_at (state_of history writes (length writes)) u ≡ Some e
     → 0 < last_touch (state_of history writes) (length writes) u
 last-some history writes u e found = elim (cases_Bool (among u (differing_over (state_of history writes) 0 (length writes - 0)))) [
-  | inl here ↦ ltb-true 0 (last_touch (state_of history writes) (length writes) u) (last-tells (length writes) (state_of history writes) 0 u (omega arith) ∙ here)
+  | inl here ↦ ltb-true 0 (last_touch (state_of history writes) (length writes) u) (last-shows (length writes) (state_of history writes) 0 u (omega arith) ∙ here)
   | inr off ↦ absurd (never (sym found ∙ steady_within (state_of history writes) 0 (length writes) (length writes) u (omega arith) (omega arith) off ∙ ap (λ es. entry_at es u) (no_state history writes)))
 ]
   where
@@ -99,30 +97,30 @@ renewed-other : (number : ℕ) (numbers : Numbers) (v u : ℕ) (now : Option Ent
 renewed-other number numbers v u None far = closed-other numbers v u far
 renewed-other number numbers v u (Some e) far = put_on-other numbers v u number far
 
--- a change that tells what the identity has in these entries
-abbrev IsNow : List Entry → Touch → Type 0
-IsNow new touch = touch.now ≡ entry_at new touch.uuid
+-- a change that reports what the identity has in these entries
+abbrev IsNow : List Entry → EntryChange → Type 0
+IsNow new entry_change = entry_change.after ≡ entry_at new entry_change.uuid
 
 -- what is kept for an identity that has an entry: the number of the write, where it touched it
-at_renewed : (touches : List Touch) (number : ℕ) (numbers : Numbers) (new : List Entry) (u : ℕ) (e : Entry) → Each (IsNow new) touches → entry_at new u ≡ Some e
+at_renewed : (touches : List EntryChange) (number : ℕ) (numbers : Numbers) (new : List Entry) (u : ℕ) (e : Entry) → Each (IsNow new) touches → entry_at new u ≡ Some e
     → is_some (number_at numbers u) ≡ true → number_at (renewed number numbers touches) u ≡ cond (among u (uuids_of touches)) (Some number) (number_at numbers u)
 at_renewed [] number numbers new u e each found place = refl
 at_renewed (t ∷ ts) number numbers new u e each found place =
     at_renewed ts number next new u e each.1 found (step (cases_eq u t.uuid)) ∙ both (cases_eq u t.uuid)
   where
     next : Numbers
-    next = renewed_at number numbers t.uuid t.now
+    next = renewed_at number numbers t.uuid t.after
 
     set : u ≡ t.uuid → number_at next u ≡ Some number
     set here =
-        let now : t.now ≡ Some e = each.0 ∙ ap (entry_at new) (sym here) ∙ found in
+        let now : t.after ≡ Some e = each.0 ∙ ap (entry_at new) (sym here) ∙ found in
         ap (λ found_now. number_at (renewed_at number numbers t.uuid found_now) u) now
         ∙ ap (λ v. number_at (put_on numbers v number) u) (sym here)
         ∙ set-same numbers u number place
 
     step : (u ≡ t.uuid) ⊎ (u ≢ t.uuid) → is_some (number_at next u) ≡ true
     step (inl here) = ap is_some (set here)
-    step (inr far) = ap is_some (renewed-other number numbers t.uuid u t.now far) ∙ place
+    step (inr far) = ap is_some (renewed-other number numbers t.uuid u t.after far) ∙ place
 
     choose : (b : Bool) → cond b (Some number) (Some number) ≡ Some number
     choose true = refl
@@ -133,25 +131,27 @@ at_renewed (t ∷ ts) number numbers new u e each found place =
         ap (cond (among u (uuids_of ts)) (Some number)) (set here) ∙ choose (among u (uuids_of ts))
         ∙ sym (ap (λ b. cond (b || among u (uuids_of ts)) (Some number) (number_at numbers u)) (eq-eqb u t.uuid here))
     both (inr far) =
-        ap (cond (among u (uuids_of ts)) (Some number)) (renewed-other number numbers t.uuid u t.now far)
+        ap (cond (among u (uuids_of ts)) (Some number)) (renewed-other number numbers t.uuid u t.after far)
         ∙ sym (ap (λ b. cond (b || among u (uuids_of ts)) (Some number) (number_at numbers u)) (ne_eqb u t.uuid far))
 
-each-now : (old new : List Entry) (us : List ℕ) → Each (IsNow new) (filter is_change (map (touch_at old new) us))
+each-now : (old new : List Entry) (us : List ℕ) → Each (IsNow new) (filter is_change (map (change_at old new) us))
 each-now old new [] = tt
-each-now old new (u ∷ us) = step (is_change (touch_at old new u)) (each-now old new us) where
-  step : (b : Bool) → Each (IsNow new) (filter is_change (map (touch_at old new) us))
-      → Each (IsNow new) (cond b (touch_at old new u ∷ filter is_change (map (touch_at old new) us)) (filter is_change (map (touch_at old new) us)))
+each-now old new (u ∷ us) = step (is_change (change_at old new u)) (each-now old new us) where
+  step : (b : Bool) → Each (IsNow new) (filter is_change (map (change_at old new) us))
+      → Each (IsNow new) (cond b (change_at old new u ∷ filter is_change (map (change_at old new) us)) (filter is_change (map (change_at old new) us)))
   step true rest = (refl, rest)
   step false rest = rest
 
 -- ---- each entry has its number after one more write
 
+-- each entry has its number where the numbers are kept
 pub numbered-kept : (history : ℕ) (writes : List Write) (entries : List Entry) (old new : Numbers) → entries ≡ entries_after history writes
     → KeepsNumbers old new → AreNumbered history writes entries old → AreNumbered history writes entries new
 numbered-kept history writes entries old new made keeps each u e found =
     keeps.number u (last_touch (state_of history writes) (length writes) u)
     (last-some history writes u e (ap (λ es. entry_at es u) (whole history writes ∙ sym made) ∙ found)) (each u e found)
 
+-- each entry has its number after one more write
 pub numbered-push : (history : ℕ) (writes : List Write) (w : Write) (uuid : ℕ) (old new : List Entry) (numbers later : Numbers)
     → old ≡ entries_after history writes → new ≡ entries_after history (writes ++ w ∷ []) → new ≡ effect old w.op uuid w.csn
     → IsRenewed (length writes + 1) (arrivals w.op uuid) (touched old new) numbers later → AreNumbered history writes old numbers → AreNumbered history (writes ++ w ∷ []) new later

@@ -1,12 +1,13 @@
 -- What one more write makes of the parts that are kept beside the writes, and what later writes leave of an earlier state.
 use Rattle.std.proofs.Common.{◌≡◌, ◌<◌, ◌+◌, ◌-◌, ◌^◌, min, ℕ, List, [], ◌∷◌, ◌++◌, length, take, refl, ap, sym, ◌∙◌, arith, subst}
-use Rattle.std.specs.Prelude.{◌≤◌, ◌&&◌, nat_lt, nat_le, true, false, cond, Option, Some, None, Result, Ok, Err}
+use Rattle.std.specs.Prelude.{◌≤◌, ◌&&◌, nat_lt, nat_le, true, cond, Option, Some, None, Result, Ok, Err}
 use Rattle.std.proofs.Math.Seq.{take-append_seam}
 use Rattle.std.proofs.lemmas.List.{append-nil}
 use Rattle.std.proofs.lemmas.List.Sums.{sum_by-append}
 use Rattle.std.proofs.lemmas.Bool.{and_parts, leb-true}
 use Rattle.std.proofs.lemmas.Bool.Decides.{nat_tests}
-use Rattle.csn_cookie.specs.Csn.{Stamp, start, is_before}
+use Rattle.ldap_constants.specs.declared.result_codes.TheConstants.{SUCCESS, ADMIN_LIMIT_EXCEEDED, OTHER}
+use Rattle.csn_cookie.specs.Csn.{CsnValue, start, is_before}
 use Rattle.csn_cookie.specs.CsnMaker.{next_csn}
 use Rattle.dn_names.specs.Names.{TypeAndValue}
 use Rattle.entry_tree.specs.Codes.{code_of}
@@ -17,8 +18,8 @@ use Rattle.entry_tree.specs.Touched.{touched}
 use Rattle.entry_tree.specs.declared.entry.Entry.{Entry}
 use Rattle.entry_tree.specs.declared.op.Op.{Op}
 use Rattle.entry_tree.specs.declared.op.Write.{Write}
-use Rattle.entry_tree.specs.declared.touched.Touch.{Touch}
-use Rattle.directory_writes.specs.Directory.{DirectoryState, entries_after, entries_of, last_stamp, stamp_of, next_stamp, most_writes, most_writes_weight, has_room, judged_code, judged_at, judged, with_write, with_judged, written, code_of_judged, write_code, IsAccepted, IsKept}
+use Rattle.entry_tree.specs.declared.touched.EntryChange.{EntryChange}
+use Rattle.directory_writes.specs.Directory.{DirectoryState, entries_after, entries_of, last_csn, last_csn_of, csn_of_next_write, most_writes, most_writes_weight, has_room, judged_code, judged_at, judged, with_write, with_judged, written, code_of_judged, write_code, IsAccepted, IsKept}
 use Rattle.directory_writes.specs.Touches.{Numbers, arrivals, logged, all_notes, IsLogged, KeepsNumbers, IsRenewed, AreNumbered}
 use Rattle.directory_writes.specs.Weights.{op_weight, kept_weight}
 use Rattle.session_log.specs.Log.{Log, fresh, trimmed}
@@ -26,7 +27,7 @@ use Rattle.session_log.proofs.Covering.{IsLogOf-fresh, IsLogOf-trimmed}
 use Rattle.sync_model.proofs.Histories.{ascends-state_of}
 use Rattle.directory_writes.proofs.Judged.{accepted-push}
 use Rattle.directory_writes.proofs.Pushed.{logged-push, numbered-kept, numbered-push}
-use Rattle.directory_writes.proofs.Stamps.{rises-none, rises-push}
+use Rattle.directory_writes.proofs.Csns.{rises-none, rises-push}
 
 state_from-push : (history : ℕ) (entries : List Entry) (before : ℕ) (writes : List Write) (write : Write)
     → state_from history entries before (writes ++ write ∷ [])
@@ -41,15 +42,17 @@ state_from-push history entries before (first ∷ writes) write =
     state_from-push history next (before + 1) writes write
     ∙ ap (λ n. effect (state_from history next (before + 1) writes) write.op (identity history n) write.csn) number
 
+-- the entries after one more write are its effect on those before it
 pub entries_after-push : (history : ℕ) (writes : List Write) (write : Write)
     → entries_after history (writes ++ write ∷ []) ≡ effect (entries_after history writes) write.op (identity history (length writes + 1)) write.csn
 entries_after-push history writes write =
     let number : 0 + length writes + 1 ≡ length writes + 1 = omega arith in
     state_from-push history [] 0 writes write ∙ ap (λ n. effect (entries_after history writes) write.op (identity history n) write.csn) number
 
-pub last_stamp-push : (first : Stamp) (writes : List Write) (write : Write) → last_stamp first (writes ++ write ∷ []) ≡ write.csn
-last_stamp-push first [] write = refl
-last_stamp-push first (next ∷ writes) write = last_stamp-push next.csn writes write
+-- the last CSN is that of the last write
+pub last_csn-push : (first : CsnValue) (writes : List Write) (write : Write) → last_csn first (writes ++ write ∷ []) ≡ write.csn
+last_csn-push first [] write = refl
+last_csn-push first (next ∷ writes) write = last_csn-push next.csn writes write
 
 pub kept_weight-push : (writes : List Write) (write : Write) → kept_weight (writes ++ write ∷ []) ≡ kept_weight writes + op_weight write.op
 kept_weight-push writes write = omega (arith, sum_by-append (λ (w : Write). op_weight w.op) writes (write ∷ []))
@@ -61,7 +64,8 @@ no_numbers history entries numbers empty u e found = absurd (never (ap (λ es. e
   never : None ≡ Some e → ⊥
   never q = cc
 
-pub kept_none : (suffix : List (List TypeAndValue)) (sid history : ℕ) (writes : List Write) (entries : List Entry) (last : Stamp) (log : Log) (limit : ℕ) (numbers : Numbers)
+-- a directory without writes keeps its invariant
+pub kept_none : (suffix : List (List TypeAndValue)) (sid history : ℕ) (writes : List Write) (entries : List Entry) (last : CsnValue) (log : Log) (limit : ℕ) (numbers : Numbers)
     → writes ≡ [] → entries ≡ [] → last ≡ start sid → sid < 4096 → log ≡ fresh limit
     → IsKept (record { suffix = suffix; sid = sid; history = history; writes = writes; log = log }) entries last 0 numbers
 unfolding state_from
@@ -81,13 +85,15 @@ kept_none suffix sid history writes entries last log limit numbers none empty fi
 
 -- ---- over each history that begins with the writes of a directory
 
+-- the state of a longer history at the number of the kept writes is that of now
 pub state_now : (d : DirectoryState) (whole more : List Write) → d.writes ++ more ≡ whole → state_of d.history whole (length d.writes) ≡ entries_of d
 state_now d whole more is =
     ap (λ writes. entries_after d.history (take (length d.writes) writes)) (sym is) ∙ ap (entries_after d.history) (take-append_seam d.writes more)
 
-pub stamp_now : (d : DirectoryState) (whole more : List Write) → d.writes ++ more ≡ whole → last_stamp (start d.sid) (take (length d.writes) whole) ≡ stamp_of d
-stamp_now d whole more is =
-    ap (λ writes. last_stamp (start d.sid) (take (length d.writes) writes)) (sym is) ∙ ap (last_stamp (start d.sid)) (take-append_seam d.writes more)
+-- the CSN of a longer history at the number of the kept writes is that of now
+pub csn_now : (d : DirectoryState) (whole more : List Write) → d.writes ++ more ≡ whole → last_csn (start d.sid) (take (length d.writes) whole) ≡ last_csn_of d
+csn_now d whole more is =
+    ap (λ writes. last_csn (start d.sid) (take (length d.writes) writes)) (sym is) ∙ ap (last_csn (start d.sid)) (take-append_seam d.writes more)
 
 -- ---- what is kept within the limits
 
@@ -95,6 +101,7 @@ stamp_now d whole more is =
 capped_room : (kept weight : ℕ) → nat_le (kept + min weight (2 ^ 64 - 1)) most_writes_weight ≡ nat_le (kept + weight) most_writes_weight
 capped_room kept weight = grind (arith, nat_tests)
 
+-- room by count and capped weight is room for a write
 pub room_is : (writes : List Write) (op : Op) (weight : ℕ) → weight ≡ min (op_weight op) (2 ^ 64 - 1)
     → (nat_lt (length writes) most_writes && nat_le (kept_weight writes + weight) most_writes_weight) ≡ has_room writes op
 room_is writes op weight capped =
@@ -106,6 +113,7 @@ pub record IsWeighed (kept weight : ℕ) (writes : List Write) (op : Op) : Type 
   pub weighed : kept + weight ≡ kept_weight writes + op_weight op
   pub light : kept + weight ≤ most_writes_weight
 
+-- the kept writes weigh no more than their limit after a write with room
 pub room_weighs : (writes : List Write) (op : Op) (kept weight : ℕ) → kept ≡ kept_weight writes → weight ≡ min (op_weight op) (2 ^ 64 - 1) → has_room writes op ≡ true
     → IsWeighed kept weight writes op
 room_weighs writes op kept weight is capped room =
@@ -115,13 +123,12 @@ room_weighs writes op kept weight is capped room =
 
 -- ---- what is judged of an operation
 
-pub judged_full : (d : DirectoryState) (op : Op) (now : ℕ) → has_room d.writes op ≡ false → judged d op now ≡ Err 11
-judged_full d op now full = ap (λ b. cond b (judged_at d op (next_stamp d now)) (Err 11)) full
+-- a write with room is judged with the next CSN
+pub judged_next : (d : DirectoryState) (op : Op) (now : ℕ) (next : Option CsnValue) → has_room d.writes op ≡ true → csn_of_next_write d now ≡ next → judged d op now ≡ judged_at d op next
+judged_next d op now next room is = ap (λ b. cond b (judged_at d op (csn_of_next_write d now)) (Err ADMIN_LIMIT_EXCEEDED)) room ∙ ap (judged_at d op) is
 
-pub judged_next : (d : DirectoryState) (op : Op) (now : ℕ) (next : Option Stamp) → has_room d.writes op ≡ true → next_stamp d now ≡ next → judged d op now ≡ judged_at d op next
-judged_next d op now next room is = ap (λ b. cond b (judged_at d op (next_stamp d now)) (Err 11)) room ∙ ap (judged_at d op) is
-
-pub judged_good : (d : DirectoryState) (op : Op) (now : ℕ) (csn : Stamp) (code : Option ℕ) → has_room d.writes op ≡ true → next_stamp d now ≡ Some csn
+-- a write with room and a CSN is judged by its code
+pub judged_good : (d : DirectoryState) (op : Op) (now : ℕ) (csn : CsnValue) (code : Option ℕ) → has_room d.writes op ≡ true → csn_of_next_write d now ≡ Some csn
     → code_of d.suffix (entries_of d) op ≡ code → judged d op now ≡ judged_code op csn code
 judged_good d op now csn code room next is = judged_next d op now (Some csn) room next ∙ ap (judged_code op csn) is
 
@@ -144,25 +151,25 @@ after_is d entries after uuid w was made same =
     ∙ sym (entries_after-push d.history d.writes w)
 
 -- what it would change is what differs before and after it
-pub touches_are : (d : DirectoryState) (op : Op) (csn : Stamp) (entries : List Entry) (uuid : ℕ) (touches : List Touch) → entries ≡ entries_of d
+pub touches_are : (d : DirectoryState) (op : Op) (csn : CsnValue) (entries : List Entry) (uuid : ℕ) (touches : List EntryChange) → entries ≡ entries_of d
     → uuid ≡ identity d.history (length d.writes + 1) → touches ≡ touched entries (effect entries op uuid csn)
     → touches ≡ touched (entries_of d) (entries_after d.history (d.writes ++ (record { csn = csn; op = op }) ∷ []))
 touches_are d op csn entries uuid touches made same is =
     is ∙ (λ i. touched (made i) (after_is d entries (effect entries op uuid csn) uuid (record { csn = csn; op = op }) made refl same i))
 
 -- the log of the directory after the write is the one that is kept
-pub log_is : (d : DirectoryState) (entries after : List Entry) (last : Stamp) (kept : ℕ) (numbers later : Numbers) (log : Log) (uuid : ℕ) (w : Write) → IsKept d entries last kept numbers
+pub log_is : (d : DirectoryState) (entries after : List Entry) (last : CsnValue) (kept : ℕ) (numbers later : Numbers) (log : Log) (uuid : ℕ) (w : Write) → IsKept d entries last kept numbers
     → IsPushed d entries after numbers later log uuid w → log ≡ (with_write d w).log
 log_is d entries after last kept numbers later log uuid w was push =
     push.notes
     ∙ (λ i. logged (length d.writes + 1) (was.made i) (after_is d entries after uuid w was.made push.made push.same i) d.log)
 
-kept_push : (d : DirectoryState) (entries after : List Entry) (last : Stamp) (kept weight : ℕ) (numbers later : Numbers) (log : Log) (uuid : ℕ) (w : Write) → IsKept d entries last kept numbers
+kept_push : (d : DirectoryState) (entries after : List Entry) (last : CsnValue) (kept weight : ℕ) (numbers later : Numbers) (log : Log) (uuid : ℕ) (w : Write) → IsKept d entries last kept numbers
     → IsWeighed kept weight d.writes w.op → is_before last w.csn ≡ true → IsPushed d entries after numbers later log uuid w
     → IsKept (record d { writes = d.writes ++ w ∷ []; log = log }) after w.csn (kept + weight) later
 kept_push d entries after last kept weight numbers later log uuid w was weighs before push = record {
   made = after_is d entries after uuid w was.made push.made push.same;
-  stamped = sym (last_stamp-push (start d.sid) d.writes w);
+  stamped = sym (last_csn-push (start d.sid) d.writes w);
   weighed = weighs.weighed ∙ sym (kept_weight-push d.writes w);
   light = weighs.light;
   numbered = was.numbered;
@@ -172,7 +179,8 @@ kept_push d entries after last kept weight numbers later log uuid w was weighs b
   touched = numbered-push d.history d.writes w uuid entries after numbers later was.made (after_is d entries after uuid w was.made push.made push.same) push.made push.renews was.touched;
 }
 
-pub kept_after : (d : DirectoryState) (entries after : List Entry) (last drawn : Stamp) (kept weight : ℕ) (numbers later : Numbers) (log : Log) (uuid : ℕ) (w : Write) (writes : List Write)
+-- a directory keeps its invariant after one more write
+pub kept_after : (d : DirectoryState) (entries after : List Entry) (last drawn : CsnValue) (kept weight : ℕ) (numbers later : Numbers) (log : Log) (uuid : ℕ) (w : Write) (writes : List Write)
     → writes ≡ d.writes ++ w ∷ [] → drawn ≡ w.csn → IsKept d entries last kept numbers
     → IsWeighed kept weight d.writes w.op → is_before last w.csn ≡ true → IsPushed d entries after numbers later log uuid w
     → IsKept (record d { writes = writes; log = log }) after drawn (kept + weight) later
@@ -182,12 +190,12 @@ kept_after d entries after last drawn kept weight numbers later log uuid w write
     (kept_push d entries after last kept weight numbers later log uuid w was weighs before push))
 
 -- the entries are in ascending order of identity
-pub kept_ascends : (d : DirectoryState) (entries : List Entry) (last : Stamp) (kept : ℕ) (numbers : Numbers) → IsKept d entries last kept numbers → ascends entries ≡ true
+pub kept_ascends : (d : DirectoryState) (entries : List Entry) (last : CsnValue) (kept : ℕ) (numbers : Numbers) → IsKept d entries last kept numbers → ascends entries ≡ true
 kept_ascends d entries last kept numbers was =
     ap ascends (was.made ∙ sym (state_now d d.writes [] (append-nil d.writes))) ∙ ascends-state_of d.history d.writes (length d.writes)
 
 -- a write that is refused leaves what is kept, but for places that are made and taken back
-pub kept_refused : (d : DirectoryState) (entries after : List Entry) (last : Stamp) (kept : ℕ) (numbers later : Numbers) (log : Log) (writes : List Write) → IsKept d entries last kept numbers
+pub kept_refused : (d : DirectoryState) (entries after : List Entry) (last : CsnValue) (kept : ℕ) (numbers later : Numbers) (log : Log) (writes : List Write) → IsKept d entries last kept numbers
     → after ≡ entries → log ≡ d.log → KeepsNumbers numbers later → writes ≡ d.writes → IsKept (record d { writes = writes; log = log }) after last kept later
 kept_refused d entries after last kept numbers later log writes was same is keeps all =
     subst (λ ws. IsKept (record d { writes = ws; log = log }) after last kept later) (sym all)
@@ -205,7 +213,7 @@ kept_refused d entries after last kept numbers later log writes was same is keep
     }))
 
 -- a log that is trimmed keeps what it is the rest of
-pub kept_trimmed : (d : DirectoryState) (entries after : List Entry) (last : Stamp) (kept : ℕ) (numbers later : Numbers) (log : Log) (limit : ℕ) → IsKept d entries last kept numbers
+pub kept_trimmed : (d : DirectoryState) (entries after : List Entry) (last : CsnValue) (kept : ℕ) (numbers later : Numbers) (log : Log) (limit : ℕ) → IsKept d entries last kept numbers
     → after ≡ entries → log ≡ trimmed limit d.log → later ≡ numbers → IsKept (record d { log = log }) after last kept later
 kept_trimmed d entries after last kept numbers later log limit was left is same =
     subst (λ es. IsKept (record d { log = log }) es last kept later) (sym left)
@@ -222,7 +230,7 @@ kept_trimmed d entries after last kept numbers later log limit was left is same 
     })
 
 -- the directory that is kept after a write is the one that the write makes
-pub written_is : (d : DirectoryState) (entries after : List Entry) (last : Stamp) (kept : ℕ) (numbers later : Numbers) (log : Log) (uuid : ℕ) (op : Op) (csn : Stamp) (now : ℕ) (writes : List Write)
+pub written_is : (d : DirectoryState) (entries after : List Entry) (last : CsnValue) (kept : ℕ) (numbers later : Numbers) (log : Log) (uuid : ℕ) (op : Op) (csn : CsnValue) (now : ℕ) (writes : List Write)
     → IsKept d entries last kept numbers → has_room d.writes op ≡ true → next_csn now last ≡ Some csn → code_of d.suffix entries op ≡ None
     → writes ≡ d.writes ++ (record { csn = csn; op = op }) ∷ [] → IsPushed d entries after numbers later log uuid (record { csn = csn; op = op })
     → record d { writes = writes; log = log } ≡ written d op now
@@ -230,13 +238,13 @@ written_is d entries after last kept numbers later log uuid op csn now writes wa
     (λ i. record d { writes = all i; log = log_is d entries after last kept numbers later log uuid (record { csn = csn; op = op }) was push i })
     ∙ ap (with_judged d) (sym (judged_good d op now csn None room (ap (next_csn now) (sym was.stamped) ∙ next) (ap (λ es. code_of d.suffix es op) (sym was.made) ∙ free)))
 
--- want of memory (80) is no code of a write, so what has it leaves the directory
-pub unwritten : (d : DirectoryState) (op : Op) (now : ℕ) → write_code d op now ≡ 80 → written d op now ≡ d
+-- out of memory, which other reports, is no code of a write, so what has it leaves the directory
+pub unwritten : (d : DirectoryState) (op : Op) (now : ℕ) → write_code d op now ≡ OTHER → written d op now ≡ d
 unwritten d op now = by (judged d op now)
   where
-    by : (outcome : Result Write ℕ) → code_of_judged outcome ≡ 80 → with_judged d outcome ≡ d
+    by : (outcome : Result Write ℕ) → code_of_judged outcome ≡ OTHER → with_judged d outcome ≡ d
     by (Ok write) h = absurd (far h)
       where
-        far : ◌≡◌ {A = ℕ} 0 80 → ⊥
+        far : ◌≡◌ {A = ℕ} SUCCESS OTHER → ⊥
         far e = omega (arith, e)
     by (Err code) h = refl

@@ -1,4 +1,4 @@
--- What is against a commit of a replica (RFC 4533, section 3.3).
+-- What rejects a commit of a replica (RFC 4533, section 3.3).
 use Rattle.std.specs.Prelude.{◌≡◌, ℕ, ◌+◌, nat_lt, nat_le, length, List, Option, Some, None, option_map, is_none, if◌then◌else◌}
 use Rattle.std.specs.Option.{option_or}
 use Rattle.csn_cookie.specs.CsnMaker.{greatest_count}
@@ -6,33 +6,37 @@ use Rattle.entry_tree.specs.Effects.{committed}
 use Rattle.entry_tree.specs.State.{most_entries, most_weight, total_weight, same_named}
 use Rattle.entry_tree.specs.declared.entry.Entry.{Entry}
 use Rattle.entry_tree.specs.declared.op.Op.TheVariants.{Commit}
-use Rattle.directory_writes.specs.Directory.{DirectoryState, entries_of, next_stamp, most_writes, most_writes_weight}
+use Rattle.directory_writes.specs.Directory.{DirectoryState, entries_of, csn_of_next_write, most_writes, most_writes_weight}
 use Rattle.directory_writes.specs.Weights.{op_weight, kept_weight}
 use Rattle.directory_writes.specs.declared.commit.CommitFault.{CommitFault}
 use Rattle.directory_writes.specs.declared.commit.CommitFault.TheVariants.{LimitReached, DuplicateName, NoMemory}
 
--- what is against the entries that a commit would leave: more than 20,000, then heavier than 64 MiB, then two of one name
+-- what rejects the entries that a commit would leave: more than 20,000, then heavier than 64
+-- MiB, then two of one name
 abbrev pub held_refusal : List Entry → Option CommitFault
 held_refusal entries =
     if nat_lt most_entries (length entries) then Some (LimitReached most_entries)
     else if nat_lt most_weight (total_weight entries) then Some (LimitReached most_weight)
     else option_map (λ pair. DuplicateName pair.0 pair.1) (same_named entries)
 
--- what is against one more write of this weight where the clock shows `now`: as many writes are kept as may be, then the
--- kept writes would be too heavy, then no stamp is left
+-- what rejects one more write of this weight where the clock shows `now`: as many writes are
+-- kept as may be, then the kept writes would be too heavy, then no CSN is left
 abbrev pub log_refusal : DirectoryState → ℕ → ℕ → Option CommitFault
 log_refusal d weight now =
     if nat_le most_writes (length d.writes) then Some (LimitReached most_writes)
-    else if nat_lt most_writes_weight (kept_weight d.writes + weight) then Some (LimitReached most_writes_weight)
-    else if is_none (next_stamp d now) then Some (LimitReached greatest_count)
+    else if nat_lt most_writes_weight (kept_weight d.writes + weight)
+    then Some (LimitReached most_writes_weight)
+    else if is_none (csn_of_next_write d now) then Some (LimitReached greatest_count)
     else None
 
--- what is against a commit to the directory: first what is against one more write, then what is against the entries after it
+-- what rejects a commit to the directory: first what rejects one more write, then what is
+-- against the entries after it
 abbrev pub commit_refusal : DirectoryState → List Entry → List ℕ → ℕ → Option CommitFault
 commit_refusal d puts drops now =
-    option_or (log_refusal d (op_weight (Commit puts drops)) now) (held_refusal (committed (entries_of d) puts drops))
+    option_or (log_refusal d (op_weight (Commit puts drops)) now)
+    (held_refusal (committed (entries_of d) puts drops))
 
--- a fault tells what is against a commit; want of memory tells nothing
+-- a fault reports what rejects a commit; out of memory reports nothing
 abbrev pub Opposes : Option CommitFault → CommitFault → Type 0
 Opposes refusal (LimitReached limit) = refusal ≡ Some (LimitReached limit)
 Opposes refusal (DuplicateName one other) = refusal ≡ Some (DuplicateName one other)

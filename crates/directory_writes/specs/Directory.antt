@@ -1,7 +1,8 @@
 -- A directory by its accepted writes, and what a write does to it (RFC 4511, sections 4.6 to 4.9).
 use Rattle.std.specs.Prelude.{◌≡◌, ⊤, ℕ, ◌+◌, ◌<◌, ◌≤◌, Bool, true, ◌&&◌, nat_lt, nat_le, List, [], ◌∷◌, ◌++◌, length, map, Option, Some, None, Result, Ok, Err, if◌then◌else◌}
 use Rattle.std.specs.List.Sorted.{IsStrictlySortedBy}
-use Rattle.csn_cookie.specs.Csn.{Stamp, start, csn_cmp}
+use Rattle.ldap_constants.specs.declared.result_codes.TheConstants.{SUCCESS, ADMIN_LIMIT_EXCEEDED}
+use Rattle.csn_cookie.specs.Csn.{CsnValue, start, csn_cmp}
 use Rattle.csn_cookie.specs.CsnMaker.{next_csn}
 use Rattle.csn_cookie.specs.Cookie.{cookie_text}
 use Rattle.csn_cookie.specs.declared.cookie.Cookie.{Cookie}
@@ -20,8 +21,8 @@ use Rattle.session_log.specs.Log.{Log, fresh, trimmed}
 use Rattle.directory_writes.specs.Touches.{Numbers, logged, IsLogged, AreNumbered}
 use Rattle.directory_writes.specs.Weights.{op_weight, kept_weight}
 
--- the suffix, the number that its stamps carry, the number of its history, the accepted writes in order, and the log
--- of what they touched
+-- the suffix, the number that its CSNs carry, the number of its history, the accepted writes in
+-- order, and the log of what they touched
 pub record DirectoryState : Type 0 where
   pub suffix : List (List TypeAndValue)
   pub sid : ℕ
@@ -34,7 +35,14 @@ abbrev pub first_log_limit : ℕ
 first_log_limit = 1000
 
 abbrev pub fresh_directory : List (List TypeAndValue) → ℕ → ℕ → DirectoryState
-fresh_directory suffix sid history = record { suffix = suffix; sid = sid; history = history; writes = []; log = fresh first_log_limit }
+fresh_directory suffix sid history =
+    record {
+      suffix = suffix;
+      sid = sid;
+      history = history;
+      writes = [];
+      log = fresh first_log_limit;
+    }
 
 -- the entries after the writes of a list, from no entry
 abbrev pub entries_after : ℕ → List Write → List Entry
@@ -43,29 +51,29 @@ entries_after history writes = state_from history [] 0 writes
 abbrev pub entries_of : DirectoryState → List Entry
 entries_of d = entries_after d.history d.writes
 
--- ---- stamps
+-- ---- CSNs
 
--- the stamp of the last write, or the one before all
-abbrev pub last_stamp : Stamp → List Write → Stamp
-last_stamp first [] = first
-last_stamp first (write ∷ writes) = last_stamp write.csn writes
+-- the CSN of the last write, or the one before all
+abbrev pub last_csn : CsnValue → List Write → CsnValue
+last_csn first [] = first
+last_csn first (write ∷ writes) = last_csn write.csn writes
 
-abbrev pub stamp_of : DirectoryState → Stamp
-stamp_of d = last_stamp (start d.sid) d.writes
+abbrev pub last_csn_of : DirectoryState → CsnValue
+last_csn_of d = last_csn (start d.sid) d.writes
 
--- the stamp of the next write where the clock shows `now`, if one is left
-abbrev pub next_stamp : DirectoryState → ℕ → Option Stamp
-next_stamp d now = next_csn now (stamp_of d)
+-- the CSN of the next write where the clock shows `now`, if one is left
+abbrev pub csn_of_next_write : DirectoryState → ℕ → Option CsnValue
+csn_of_next_write d now = next_csn now (last_csn_of d)
 
-abbrev pub stamps : List Write → List Stamp
-stamps writes = map (λ write. write.csn) writes
+abbrev pub csns : List Write → List CsnValue
+csns writes = map (λ write. write.csn) writes
 
 -- the cookie of the content after the writes
-abbrev pub cookie_at : ℕ → ℕ → Stamp → Cookie
+abbrev pub cookie_at : ℕ → ℕ → CsnValue → Cookie
 cookie_at sid history csn = record { rid = 0; sid = sid; csn = csn; history = history }
 
 abbrev pub cookie_of : DirectoryState → List ℕ
-cookie_of d = cookie_text (cookie_at d.sid d.history (stamp_of d))
+cookie_of d = cookie_text (cookie_at d.sid d.history (last_csn_of d))
 
 -- ---- the limits of what is kept
 
@@ -76,36 +84,42 @@ abbrev pub most_writes_weight : ℕ
 most_writes_weight = 536870912
 
 abbrev pub has_room : List Write → Op → Bool
-has_room writes op = nat_lt (length writes) most_writes && nat_le (kept_weight writes + op_weight op) most_writes_weight
+has_room writes op =
+    nat_lt (length writes) most_writes
+    && nat_le (kept_weight writes + op_weight op) most_writes_weight
 
 -- ---- writes, judged on the state before them
 
-abbrev pub judged_code : Op → Stamp → Option ℕ → Result Write ℕ
+abbrev pub judged_code : Op → CsnValue → Option ℕ → Result Write ℕ
 judged_code op csn None = Ok (record { csn = csn; op = op })
 judged_code op csn (Some code) = Err code
 
--- adminLimitExceeded (11) where no stamp is left, then what is against the write
-abbrev pub judged_at : DirectoryState → Op → Option Stamp → Result Write ℕ
-judged_at d op None = Err 11
+-- adminLimitExceeded where no CSN is left, then what rejects the write
+abbrev pub judged_at : DirectoryState → Op → Option CsnValue → Result Write ℕ
+judged_at d op None = Err ADMIN_LIMIT_EXCEEDED
 judged_at d op (Some csn) = judged_code op csn (code_of d.suffix (entries_of d) op)
 
--- the write that an operation becomes, with its stamp, or the first code against it: adminLimitExceeded (11)
--- before all where it cannot be kept
+-- the write that an operation becomes, with its CSN, or the first code against it:
+-- adminLimitExceeded before all where it cannot be kept
 abbrev pub judged : DirectoryState → Op → ℕ → Result Write ℕ
-judged d op now = if has_room d.writes op then judged_at d op (next_stamp d now) else Err 11
+judged d op now =
+    if has_room d.writes op then judged_at d op (csn_of_next_write d now)
+    else Err ADMIN_LIMIT_EXCEEDED
 
 -- an accepted write, with a note for each identity whose entry it changes
 abbrev pub with_write : DirectoryState → Write → DirectoryState
 with_write d write = record d {
   writes = d.writes ++ write ∷ [];
-  log = logged (length d.writes + 1) (entries_of d) (entries_after d.history (d.writes ++ write ∷ [])) d.log;
+  log =
+      logged (length d.writes + 1) (entries_of d)
+      (entries_after d.history (d.writes ++ write ∷ [])) d.log;
 }
 
 abbrev pub with_judged : DirectoryState → Result Write ℕ → DirectoryState
 with_judged d (Ok write) = with_write d write
 with_judged d (Err code) = d
 
--- from now on the log keeps so many notes
+-- from now on the log keeps n notes
 abbrev pub with_log_limit : DirectoryState → ℕ → DirectoryState
 with_log_limit d limit = record d { log = trimmed limit d.log }
 
@@ -114,50 +128,54 @@ abbrev pub written : DirectoryState → Op → ℕ → DirectoryState
 written d op now = with_judged d (judged d op now)
 
 abbrev pub code_of_judged : Result Write ℕ → ℕ
-code_of_judged (Ok write) = 0
+code_of_judged (Ok write) = SUCCESS
 code_of_judged (Err code) = code
 
--- the code of an operation, which is success (0) where it is accepted
+-- the code of an operation, which is success where it is accepted
 abbrev pub write_code : DirectoryState → Op → ℕ → ℕ
 write_code d op now = code_of_judged (judged d op now)
 
--- a fault tells the code that is against the operation; want of memory tells nothing
+-- a fault reports the code that rejects the operation; out of memory reports nothing
 abbrev pub Refuses : Result Write ℕ → OpFault → Type 0
 Refuses outcome (Code code) = outcome ≡ Err code
 Refuses outcome NoMemory = Unit {0}
 
 -- ---- what holds of the accepted writes
 
--- an operation is sound, nothing is against it on these entries, and they have room for it
-pub record IsAccepted (suffix : List (List TypeAndValue)) (entries : List Entry) (op : Op) : Type 0 where
+-- an operation is sound, nothing rejects it on these entries, and they have room for it
+pub record IsAccepted
+    (suffix : List (List TypeAndValue)) (entries : List Entry) (op : Op) : Type 0 where
   pub sound : is_sound_op op ≡ true
   pub unopposed : code_of suffix entries op ≡ None
   pub fitting : fits entries op ≡ true
 
--- each write is accepted on the entries before it, from these entries and so many writes on
+-- each write is accepted on the entries before it, from these entries and n writes on
 abbrev pub AreAcceptedFrom : List (List TypeAndValue) → ℕ → List Entry → ℕ → List Write → Type 0
 AreAcceptedFrom suffix history entries before [] = ⊤
 AreAcceptedFrom suffix history entries before (write ∷ writes) =
     IsAccepted suffix entries write.op
-    × AreAcceptedFrom suffix history (effect entries write.op (identity history (before + 1)) write.csn) (before + 1) writes
+    × AreAcceptedFrom suffix history
+    (effect entries write.op (identity history (before + 1)) write.csn) (before + 1) writes
 
 -- the same from no entry on
 abbrev pub AreAccepted : List (List TypeAndValue) → ℕ → List Write → Type 0
 AreAccepted suffix history writes = AreAcceptedFrom suffix history [] 0 writes
 
--- each stamp is above those before it, and above the one before all
-abbrev pub StampsRise : ℕ → List Write → Type 0
-StampsRise sid writes = IsStrictlySortedBy csn_cmp (start sid ∷ stamps writes)
+-- each CSN is above those before it, and above the one before all
+abbrev pub CsnsRise : ℕ → List Write → Type 0
+CsnsRise sid writes = IsStrictlySortedBy csn_cmp (start sid ∷ csns writes)
 
--- what holds of a directory's writes and its log, and of the parts that are kept beside them: the entries, the last
--- stamp, the weight of the writes, and the number of each entry's last touch
-pub record IsKept (d : DirectoryState) (entries : List Entry) (last : Stamp) (weight : ℕ) (numbers : Numbers) : Type 0 where
+-- what holds of a directory's writes and its log, and of the parts that are kept beside them: the
+-- entries, the last CSN, the weight of the writes, and the number of each entry's last touch
+pub record IsKept
+    (d : DirectoryState) (entries : List Entry) (last : CsnValue)
+    (weight : ℕ) (numbers : Numbers) : Type 0 where
   pub made : entries ≡ entries_of d
-  pub stamped : last ≡ stamp_of d
+  pub stamped : last ≡ last_csn_of d
   pub weighed : weight ≡ kept_weight d.writes
   pub light : weight ≤ most_writes_weight
   pub numbered : d.sid < 4096
   pub accepted : AreAccepted d.suffix d.history d.writes
-  pub rises : StampsRise d.sid d.writes
+  pub rises : CsnsRise d.sid d.writes
   pub logged : IsLogged d.history d.writes d.log
   pub touched : AreNumbered d.history d.writes entries numbers

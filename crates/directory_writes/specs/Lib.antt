@@ -1,7 +1,8 @@
--- A directory by its accepted writes, what these touched, what is against a commit, and where a search begins.
+-- A directory by its accepted writes, what these touched, what rejects a commit, and
+-- where a search begins.
 pub mod Commits
 pub mod Directory
-pub mod Moment
+pub mod Snapshot
 pub mod Starting
 pub mod Touches
 pub mod Weights

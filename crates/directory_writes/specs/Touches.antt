@@ -1,4 +1,5 @@
--- Which writes touch an entry: those after which what its identity has differs from what it had before.
+-- Which writes touch an entry: those after which what its identity has differs
+-- from what it had before.
 use Rattle.std.specs.Prelude.{◌≡◌, ℕ, ◌<◌, zero, suc, ◌+◌, true, cond, is_some, List, [], ◌∷◌, ◌++◌, length, map, Option, Some, None}
 use Rattle.std.specs.List.{fold, list_all}
 use Rattle.std.specs.Ordering.{nat_cmp}
@@ -8,7 +9,7 @@ use Rattle.entry_tree.specs.declared.entry.Entry.{Entry}
 use Rattle.entry_tree.specs.declared.op.Op.{Op}
 use Rattle.entry_tree.specs.declared.op.Op.TheVariants.{Add, Delete, Modify, Rename, Commit}
 use Rattle.entry_tree.specs.declared.op.Write.{Write}
-use Rattle.entry_tree.specs.declared.touched.Touch.{Touch}
+use Rattle.entry_tree.specs.declared.touched.EntryChange.{EntryChange}
 use Rattle.entry_tree.specs.Bytes.{is_one_found}
 use Rattle.entry_tree.specs.History.{state_of}
 use Rattle.entry_tree.specs.State.{entry_at}
@@ -18,14 +19,15 @@ use Rattle.session_log.specs.Calls.{IsLogOf}
 use Rattle.session_log.specs.Log.{Log, noted}
 
 -- the identities of what differs, ascending
-abbrev pub uuids_of : List Touch → List ℕ
-uuids_of touches = map (λ touch. touch.uuid) touches
+abbrev pub uuids_of : List EntryChange → List ℕ
+uuids_of touches = map (λ entry_change. entry_change.uuid) touches
 
--- the number of the last of so many writes that touches the identity, or 0
+-- the number of the last of n writes that touches the identity, or 0
 abbrev pub last_touch : (ℕ → List Entry) → ℕ → ℕ → ℕ
 last_touch states zero uuid = 0
 last_touch states (suc count) uuid =
-    cond (is_one_found (entry_at (states count) uuid) (entry_at (states (count + 1)) uuid)) (last_touch states count uuid) (count + 1)
+    cond (is_one_found (entry_at (states count) uuid) (entry_at (states (count + 1)) uuid))
+    (last_touch states count uuid) (count + 1)
 
 -- ---- the log
 
@@ -40,12 +42,15 @@ logged number old new log = noted_each number (uuids_of (touched old new)) log
 abbrev pub notes_of : ℕ → List ℕ → List Note
 notes_of number uuids = map (λ uuid. record { number = number; uuid = uuid }) uuids
 
--- of each of so many writes, one note for each identity that it touched, ascending
+-- of each of n writes, one note for each identity that it touched, ascending
 abbrev pub all_notes : (ℕ → List Entry) → ℕ → List Note
 all_notes states zero = []
-all_notes states (suc count) = all_notes states count ++ notes_of (count + 1) (uuids_of (touched (states count) (states (count + 1))))
+all_notes states (suc count) =
+    all_notes states count
+    ++ notes_of (count + 1) (uuids_of (touched (states count) (states (count + 1))))
 
--- the log is what is left of all these notes: a front of them was dropped, and the floor is the greatest number there
+-- the log is what is left of all these notes: a prefix of them was dropped, and the floor is the
+-- greatest number there
 abbrev pub IsLogged : ℕ → List Write → Log → Type 0
 IsLogged history writes log = IsLogOf (all_notes (state_of history writes) (length writes)) log
 
@@ -58,21 +63,24 @@ Numbers = List (ℕ × ℕ)
 abbrev pub number_at : Numbers → ℕ → Option ℕ
 number_at numbers uuid = lookup (is_at (nat_cmp uuid)) numbers
 
--- the number of a write that changed what an identity has: where it has an entry now, that number is kept for it, if
--- it has a place
+-- the number of a write that changed what an identity has: where it has an entry now, that number
+-- is kept for it, if it has a place
 abbrev pub renewed_at : ℕ → Numbers → ℕ → Option Entry → Numbers
 renewed_at number numbers uuid None = remove_entry (is_at (nat_cmp uuid)) numbers
 renewed_at number numbers uuid (Some entry) = set_value (is_at (nat_cmp uuid)) numbers number
 
-abbrev pub renewed_by : ℕ → Numbers → Touch → Numbers
-renewed_by number numbers touch = renewed_at number numbers touch.uuid touch.now
+abbrev pub renewed_by : ℕ → Numbers → EntryChange → Numbers
+renewed_by number numbers entry_change =
+    renewed_at number numbers entry_change.uuid entry_change.after
 
-abbrev pub renewed : ℕ → Numbers → List Touch → Numbers
+abbrev pub renewed : ℕ → Numbers → List EntryChange → Numbers
 renewed number numbers touches = fold (renewed_by number) numbers touches
 
 -- what is kept for an identity stays
 pub record KeepsNumbers (old new : Numbers) : Type 0 where
-  pub number : (uuid number : ℕ) → 0 < number → number_at old uuid ≡ Some number → number_at new uuid ≡ Some number
+  pub number :
+      (uuid number : ℕ) → 0 < number → number_at old uuid ≡ Some number
+      → number_at new uuid ≡ Some number
 
 -- each of these identities has a place
 abbrev pub HavePlaces : Numbers → List ℕ → Type 0
@@ -83,7 +91,8 @@ pub record KeepsPlaces (old new : Numbers) : Type 0 where
   pub place : (uuid : ℕ) → is_some (number_at old uuid) ≡ true → is_some (number_at new uuid) ≡ true
 
 -- some identities got places, then what a write touched was renewed
-pub record IsRenewed (number : ℕ) (uuids : List ℕ) (touches : List Touch) (old new : Numbers) : Type 0 where
+pub record IsRenewed
+    (number : ℕ) (uuids : List ℕ) (touches : List EntryChange) (old new : Numbers) : Type 0 where
   pub made : Numbers
   pub places : HavePlaces made uuids
   pub kept : KeepsNumbers old made

@@ -34,7 +34,8 @@ abbrev pub given_weight : Op → ℕ
 given_weight (Add name attrs) = name_weight name + weight_of attrs
 given_weight (Delete name) = name_weight name
 given_weight (Modify name edits) = name_weight name + edits_weight edits
-given_weight (Rename name rdn deletes superior) = name_weight name + length (rdn_text rdn) + superior_weight superior
+given_weight (Rename name rdn deletes superior) =
+    name_weight name + length (rdn_text rdn) + superior_weight superior
 given_weight (Commit puts drops) = puts_weight puts + 16 * length drops
 
 abbrev pub op_weight : Op → ℕ

@@ -18,8 +18,8 @@ const MOST_WEIGHT: u64 = 67_108_864;
 /// Why a commit of a replica is refused.
 #[derive(Clone, Copy, Debug, PartialEq, Eq)]
 pub enum CommitFault {
-    /// A limit would be passed: so many writes are kept, so much the kept writes may weigh, so high
-    /// the counts of change numbers go, so many entries there may be, or so much they may weigh.
+    /// A limit would be passed: n writes are kept, so much the kept writes may weigh, so high
+    /// the counts of change numbers go, n entries there may be, or so much they may weigh.
     LimitReached(u64),
     /// These two entries would have one name: the first whose name a later one has, and the first
     /// such.
@@ -35,9 +35,10 @@ impl From<AllocError> for CommitFault {
     }
 }
 
-/// The fault tells the same of the entries.
+/// The fault reports the same of the entries.
 impl From<CommitRefusal> for CommitFault {
-    ghost from_gives = { λ given fault. (entries : List Entry) → fitting.Opposes entries given → Opposes (held_refusal entries) fault };
+    ghost from_gives = { λ given fault. (entries : List Entry)
+        → fitting.Opposes entries given → Opposes (held_refusal entries) fault };
 
     #[tactic(auto, using(crate::proofs::Commits::held_opposed))]
     fn from(refusal: CommitRefusal) -> CommitFault {

@@ -3,7 +3,7 @@
 ghost use Rattle.std.specs.Prelude.{◌≡◌, ◌+◌, ◌<◌, ◌≤◌, ◌&&◌, nat_lt, nat_le, true, [], ◌∷◌, ◌++◌, length, is_some, None, Some, Ok, IfOk, IfErr, OnOk, OnErr, IfSome};
 ghost use Rattle.std.specs.List.Sorted.{IsStrictlySortedBy};
 ghost use Rattle.std.specs.Ordering.{nat_cmp};
-ghost use Rattle.csn_cookie.specs.Csn as csns;
+ghost use Rattle.csn_cookie.specs.Csn as csn_specs;
 ghost use Rattle.entry_tree.specs.History.{identity as identity_of, state_of, touched_over};
 ghost use Rattle.entry_tree.specs.Fitting.{fits};
 ghost use Rattle.entry_tree.specs.State.{entry_at};
@@ -27,11 +27,9 @@ use csn_cookie::{Cookie, Csn, CsnMaker};
 use dn_names::Dn;
 use entry_tree::{Entry, Op, OpFault, Tree, Write};
 use ldap_ber::Octets;
+use ldap_constants::{ADMIN_LIMIT_EXCEEDED, SUCCESS};
 use std::alloc::{AllocError, Global};
 use std::marker::Model;
-
-/// adminLimitExceeded (RFC 4511, appendix A.1): no write more is kept.
-pub const ADMIN_LIMIT_EXCEEDED: u32 = 11;
 
 /// The most writes that are kept.
 const MOST_WRITES: usize = 1_000_000;
@@ -54,7 +52,7 @@ pub struct Directory {
     pub(crate) accepted: Vec<Write>,
     /// What the accepted writes weigh.
     pub(crate) weight: u64,
-    pub(crate) stamps: CsnMaker,
+    pub(crate) csn_maker: CsnMaker,
     pub(crate) held: Held,
 }
 
@@ -79,11 +77,11 @@ impl Model for Directory {
           writes = d.accepted.items;
           log = d.held.touches.log;
         })
-        d.held.entries d.stamps d.weight d.held.touches.numbers };
+        d.held.entries d.csn_maker d.weight d.held.touches.numbers };
 }
 
 impl Directory {
-    /// A directory without writes. Its number, which its stamps carry, is below 4096.
+    /// A directory without writes. Its number, which its CSNs carry, is below 4096.
     #[tactic(auto, using(crate::proofs::Writes::kept_none))]
     pub fn new(alloc: Global, suffix: Dn, sid: u16, history: u128) -> Directory
         requires { sid < 4096 }
@@ -95,23 +93,27 @@ impl Directory {
             history,
             accepted: Vec::new(alloc),
             weight: 0,
-            stamps: CsnMaker::new(sid),
+            csn_maker: CsnMaker::new(sid),
             held: Held::new(alloc, FIRST_LOG_LIMIT),
         }
     }
 
+    /// Lends the suffix, which names the naming context (RFC 4512, section 5.1): each entry that a
+    /// client adds is named at or below it. That of a replica is empty.
     pub fn suffix(&self) -> &Dn
         ensures { result.now ≡ self.now.suffix }
     {
         &self.suffix
     }
 
+    /// Gives the number that reports the cookies of this directory from those of another one.
     pub fn history(&self) -> u128
         ensures { result ≡ self.now.history }
     {
         self.history
     }
 
+    /// Lends the entries after all writes.
     pub fn tree(&self) -> &Tree
         ensures { result.now ≡ directory.entries_of self.now }
     {
@@ -122,14 +124,14 @@ impl Directory {
     pub fn accepted(&self) -> &[Write]
         ensures value { result.now ≡ self.now.writes }
         ensures accepted { directory.AreAccepted self.now.suffix self.now.history self.now.writes }
-        ensures rises { directory.StampsRise self.now.sid self.now.writes }
+        ensures rises { directory.CsnsRise self.now.sid self.now.writes }
     {
         self.accepted.as_slice()
     }
 
-    /// How many accepted writes have a stamp that is not greater than this one.
+    /// How many accepted writes have a CSN that is not greater than this one.
     pub fn upto(&self, csn: Csn) -> u64
-        ensures { result ≡ csns.upto (directory.stamps self.now.writes) csn }
+        ensures { result ≡ csn_specs.upto (directory.csns self.now.writes) csn }
     {
         self.accepted
             .iter()
@@ -139,19 +141,20 @@ impl Directory {
 
     /// The cookie of the content after all writes.
     pub fn cookie(&self) -> Cookie
-        ensures value { result ≡ directory.cookie_at self.now.sid self.now.history (directory.stamp_of self.now) }
+        ensures value { result
+            ≡ directory.cookie_at self.now.sid self.now.history (directory.last_csn_of self.now) }
         ensures number { result.sid < 4096 }
     {
         Cookie {
             rid: 0,
             sid: self.sid,
-            csn: self.stamps.last(),
+            csn: self.csn_maker.last(),
             history: self.history,
         }
     }
 
     /// The identities of the entries that the writes after write `number` touched, ascending. The
-    /// session log tells them from its floor on.
+    /// session log reports them from its floor on.
     #[tactic(auto, using(crate::proofs::Served::walk_since))]
     pub fn touched_since(&self, number: u64) -> Result<Vec<u128>, NoMemory>
         requires { self.now.log.floor ≤ number }
@@ -166,13 +169,14 @@ impl Directory {
     #[tactic(auto, using(crate::proofs::Served::number_is))]
     pub fn number_of(&self, uuid: u128) -> u64
         requires { is_some (entry_at (directory.entries_of self.now) uuid) ≡ true }
-        ensures { result ≡ last_touch (state_of self.now.history self.now.writes) (length self.now.writes) uuid }
+        ensures { result
+            ≡ last_touch (state_of self.now.history self.now.writes) (length self.now.writes) uuid }
     {
         self.held.touches.number_of(uuid).unwrap_or(0)
     }
 
     /// The number of writes that a request's cookie names, where one is given and is servable: it
-    /// is of this directory's history, and its stamp is not above the last one.
+    /// is of this directory's history, and its CSN is not above the last one.
     pub fn asked_prefix(&self, cookie: &Option<Octets>) -> Option<u64>
         ensures value { result ≡ starting.asked_prefix self.now cookie.now }
         ensures low { IfSome result (λ number. number ≤ length self.now.writes) }
@@ -186,19 +190,19 @@ impl Directory {
         }
     }
 
-    #[tactic(auto, using(crate::proofs::Stamps::upto_low))]
+    #[tactic(auto, using(crate::proofs::Csns::upto_low))]
     fn prefix_of(&self, cookie: &Cookie) -> Option<u64>
         ensures value { result ≡ starting.prefix_of self.now (Some cookie.now) }
         ensures low { IfSome result (λ number. number ≤ length self.now.writes) }
     {
-        if cookie.history == self.history && cookie.csn <= self.stamps.last() {
+        if cookie.history == self.history && cookie.csn <= self.csn_maker.last() {
             Some(self.upto(cookie.csn))
         } else {
             None
         }
     }
 
-    /// Where a search begins that has the content after so many writes, or none.
+    /// Where a search begins that has the content after n writes, or none.
     #[tactic(auto, using(crate::proofs::Served::covered, crate::proofs::Served::uncovered))]
     pub fn start_at(&self, prefix: Option<u64>) -> Start
         requires { IfSome prefix (λ number. number ≤ length self.now.writes) }
@@ -206,18 +210,18 @@ impl Directory {
         ensures served { IsServed self.now (start_of result) }
     {
         match prefix {
-            None => Start::Blank,
+            None => Start::InitialContent,
             Some(number) => {
                 if self.held.touches.covers(number) {
-                    Start::Covered(number)
+                    Start::DeletePhase(number)
                 } else {
-                    Start::Uncovered(number)
+                    Start::PresentPhase(number)
                 }
             }
         }
     }
 
-    /// The session log keeps so many notes from now on.
+    /// The session log keeps n notes from now on.
     pub fn set_log_limit(&mut self, limit: u64)
         ensures { self.new ≡ directory.with_log_limit self.old limit }
     {
@@ -225,7 +229,8 @@ impl Directory {
     }
 
     /// Applies a write where the clock shows `now`, in microseconds from the first moment of 1970
-    /// on, and answers its code. A write with another code than 0 leaves the directory as it was.
+    /// on, and answers its code. A write with another code than success leaves the directory as it
+    /// was.
     pub fn write(&mut self, op: Op, now: u64) -> Result<u32, NoMemory>
         requires sound { is_sound_op op ≡ true }
         requires fits { fits (directory.entries_of self.old) op ≡ true }
@@ -237,8 +242,8 @@ impl Directory {
         if !self.has_room(weight) {
             return Ok(ADMIN_LIMIT_EXCEEDED);
         }
-        let mut stamps = self.stamps.copy();
-        let Ok(csn) = stamps.next(now) else {
+        let mut csn_maker = self.csn_maker.copy();
+        let Ok(csn) = csn_maker.next(now) else {
             return Ok(ADMIN_LIMIT_EXCEEDED);
         };
         let number = self.accepted.len() as u64 + 1;
@@ -250,8 +255,8 @@ impl Directory {
         }
         self.accepted.push_reserved(Write { csn, op });
         self.weight += weight;
-        self.stamps = stamps;
-        Ok(0)
+        self.csn_maker = csn_maker;
+        Ok(SUCCESS)
     }
 
     /// What `write` would do where the clock shows `now`, or the code that it would answer. The
@@ -297,24 +302,25 @@ impl Directory {
         if weight > MOST_WRITES_WEIGHT - self.weight {
             return Err(CommitFault::LimitReached(MOST_WRITES_WEIGHT));
         }
-        let mut stamps = self.stamps.copy();
-        match stamps.next(now) {
+        let mut csn_maker = self.csn_maker.copy();
+        match csn_maker.next(now) {
             Ok(_) => Ok(()),
             Err(_) => Err(CommitFault::LimitReached(GREATEST_COUNT)),
         }
     }
 
-    /// The change number that this operation would get, or 11 where it cannot be kept.
+    /// The change number that this operation would get, or adminLimitExceeded where it cannot be
+    /// kept.
     fn next_csn(&self, op: &Op, now: u64) -> Result<Csn, OpFault>
         ensures room { OnOk result (directory.has_room self.now.writes op.now ≡ true) }
-        ensures value { IfOk result (λ csn. directory.next_stamp self.now now ≡ Some csn) }
+        ensures value { IfOk result (λ csn. directory.csn_of_next_write self.now now ≡ Some csn) }
         ensures refused { IfErr result (directory.Refuses (directory.judged self.now op.now now)) }
     {
         if !self.has_room(op_weight(op)?) {
             return Err(OpFault::Code(ADMIN_LIMIT_EXCEEDED));
         }
-        let mut stamps = self.stamps.copy();
-        match stamps.next(now) {
+        let mut csn_maker = self.csn_maker.copy();
+        match csn_maker.next(now) {
             Ok(csn) => Ok(csn),
             Err(_) => Err(OpFault::Code(ADMIN_LIMIT_EXCEEDED)),
         }
@@ -329,7 +335,7 @@ impl Directory {
     }
 }
 
-/// The code that a fault tells.
+/// The code that a fault reports.
 fn code_of(fault: OpFault) -> Result<u32, NoMemory>
     ensures { IfOk result (λ code. fault ≡ OpFault.Code code) }
 {

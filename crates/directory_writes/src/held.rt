@@ -3,7 +3,7 @@
 ghost use Rattle.std.specs.Prelude.{◌≡◌, [], true, None, OnOk, OnErr, IfOk, IfErr};
 ghost use Rattle.entry_tree.specs.Codes.{code_of};
 ghost use Rattle.entry_tree.specs.Effects.{committed, effect};
-ghost use Rattle.entry_tree.specs.Fault.{Tells};
+ghost use Rattle.entry_tree.specs.Fault.{HasCode};
 ghost use Rattle.entry_tree.specs.Fitting.{fits};
 ghost use Rattle.entry_tree.specs.Sound.{is_sound_op};
 ghost use Rattle.entry_tree.specs.State.{ascends};
@@ -37,7 +37,7 @@ impl Model for Held {
 }
 
 /// What a write gives beside its operation: its number, the identity of an entry that it adds, and
-/// its stamp.
+/// its CSN.
 #[derive(Clone, Copy, Debug)]
 pub(crate) struct Mark {
     pub(crate) number: u64,
@@ -46,7 +46,7 @@ pub(crate) struct Mark {
 }
 
 impl Held {
-    /// No entries. The log keeps so many notes.
+    /// No entries. The log keeps n notes.
     pub(crate) fn new(alloc: Global, limit: u64) -> Held
         ensures entries { result.entries ≡ [] }
         ensures log { result.touches.log ≡ fresh limit }
@@ -58,19 +58,21 @@ impl Held {
     }
 
     /// Applies a write to the entries of the directory with this suffix and notes what it touches,
-    /// or tells the first code that is against it. It is done whole or not at all.
+    /// or reports the first code that rejects it. It is done whole or not at all.
     #[tactic(auto, using(crate::proofs::Served::renews_left, crate::proofs::Served::keeps_both))]
     pub(crate) fn apply(&mut self, op: &Op, suffix: &Dn, mark: Mark) -> Result<(), OpFault>
         requires sound { is_sound_op op.now ≡ true }
         requires fits { fits self.old.entries op.now ≡ true }
         requires ascends { ascends self.old.entries ≡ true }
         ensures accepted { OnOk result (code_of suffix.now self.old.entries op.now ≡ None) }
-        ensures effect { OnOk result (self.new.entries ≡ effect self.old.entries op.now mark.uuid mark.csn) }
+        ensures effect { OnOk result
+            (self.new.entries ≡ effect self.old.entries op.now mark.uuid mark.csn) }
         ensures log { OnOk result (self.new.touches.log
             ≡ logged mark.number self.old.entries self.new.entries self.old.touches.log) }
         ensures numbers { OnOk result (IsRenewed mark.number (arrivals op.now mark.uuid)
-            (touched self.old.entries self.new.entries) self.old.touches.numbers self.new.touches.numbers) }
-        ensures refused { IfErr result (Tells (code_of suffix.now self.old.entries op.now)) }
+            (touched self.old.entries self.new.entries) self.old.touches.numbers
+            self.new.touches.numbers) }
+        ensures refused { IfErr result (HasCode (code_of suffix.now self.old.entries op.now)) }
         ensures entries { OnErr result (self.new.entries ≡ self.old.entries) }
         ensures same_log { OnErr result (self.new.touches.log ≡ self.old.touches.log) }
         ensures same_numbers { OnErr result
@@ -82,7 +84,7 @@ impl Held {
         outcome
     }
 
-    /// The same, where places that were made for entries to come may stay behind. All room is made
+    /// The same, where places that were made for entries to come may stay after. All room is made
     /// before the entries change.
     #[tactic(auto, using(crate::proofs::Effects::few_touched))]
     fn apply_with_places(&mut self, op: &Op, suffix: &Dn, mark: Mark) -> Result<(), OpFault>
@@ -90,12 +92,14 @@ impl Held {
         requires fits { fits self.old.entries op.now ≡ true }
         requires ascends { ascends self.old.entries ≡ true }
         ensures accepted { OnOk result (code_of suffix.now self.old.entries op.now ≡ None) }
-        ensures effect { OnOk result (self.new.entries ≡ effect self.old.entries op.now mark.uuid mark.csn) }
+        ensures effect { OnOk result
+            (self.new.entries ≡ effect self.old.entries op.now mark.uuid mark.csn) }
         ensures log { OnOk result (self.new.touches.log
             ≡ logged mark.number self.old.entries self.new.entries self.old.touches.log) }
         ensures numbers { OnOk result (IsRenewed mark.number (arrivals op.now mark.uuid)
-            (touched self.old.entries self.new.entries) self.old.touches.numbers self.new.touches.numbers) }
-        ensures refused { IfErr result (Tells (code_of suffix.now self.old.entries op.now)) }
+            (touched self.old.entries self.new.entries) self.old.touches.numbers
+            self.new.touches.numbers) }
+        ensures refused { IfErr result (HasCode (code_of suffix.now self.old.entries op.now)) }
         ensures entries { OnErr result (self.new.entries ≡ self.old.entries) }
         ensures same_log { OnErr result (self.new.touches.log ≡ self.old.touches.log) }
         ensures same_numbers { OnErr result
@@ -156,8 +160,10 @@ impl Held {
     /// Whether the entries after a commit may be held, or the first cause against them.
     #[tactic(auto, using(crate::proofs::Commits::open_held))]
     pub(crate) fn check_commit(&self, puts: &[Entry], drops: &[u128]) -> Result<(), CommitFault>
-        ensures ok { OnOk result (held_refusal (committed self.now.entries puts.now drops.now) ≡ None) }
-        ensures refused { IfErr result (Opposes (held_refusal (committed self.now.entries puts.now drops.now))) }
+        ensures ok { OnOk result
+            (held_refusal (committed self.now.entries puts.now drops.now) ≡ None) }
+        ensures refused { IfErr result
+            (Opposes (held_refusal (committed self.now.entries puts.now drops.now))) }
     {
         match self.tree.check_commit(puts, drops) {
             Ok(()) => Ok(()),
@@ -165,7 +171,7 @@ impl Held {
         }
     }
 
-    /// The log keeps so many notes from now on.
+    /// The log keeps n notes from now on.
     pub(crate) fn set_log_limit(&mut self, limit: u64)
         ensures entries { self.new.entries ≡ self.old.entries }
         ensures log { self.new.touches.log ≡ trimmed limit self.old.touches.log }

@@ -6,15 +6,15 @@
 mod commit;
 mod directory;
 mod held;
-mod moment;
 mod preview;
+mod snapshot;
 mod start;
 mod touches;
 mod weights;
 
 pub use commit::CommitFault;
-pub use directory::{ADMIN_LIMIT_EXCEEDED, Directory};
+pub use directory::Directory;
 pub use ldap_ber::NoMemory;
-pub use moment::DirectoryMoment;
 pub use preview::Preview;
+pub use snapshot::DirectorySnapshot;
 pub use start::Start;

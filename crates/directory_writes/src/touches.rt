@@ -9,7 +9,7 @@ ghost use Rattle.directory_writes.specs.Touches as spec;
 ghost use Rattle.directory_writes.specs.Touches.{number_at};
 
 use crate::NoMemory;
-use entry_tree::{Entry, Touch};
+use entry_tree::{Entry, EntryChange};
 use session_log::SessionLog;
 use std::alloc::Global;
 use std::collections::BTreeMap;
@@ -28,11 +28,15 @@ impl Model for Touches {
 
     ghost Value = { TouchState };
 
-    ghost view = { λ t. record { log = t.log.log; spare = t.log.spare; numbers = t.numbers.entries } };
+    ghost view = { λ t. record {
+      log = t.log.log;
+      spare = t.log.spare;
+      numbers = t.numbers.entries;
+    } };
 }
 
 impl Touches {
-    /// Nothing is touched yet. The log keeps so many notes.
+    /// Nothing is touched yet. The log keeps n notes.
     pub(crate) fn new(alloc: Global, limit: u64) -> Touches
         ensures log { result.log ≡ log.fresh limit }
         ensures numbers { result.numbers ≡ [] }
@@ -54,7 +58,7 @@ impl Touches {
         })
     }
 
-    /// Makes room for so many notes.
+    /// Makes room for n notes.
     pub(crate) fn make_room(&mut self, notes: usize) -> Result<(), NoMemory>
         ensures log { self.new.log ≡ self.old.log }
         ensures room { OnOk result (notes ≤ self.new.spare) }
@@ -101,9 +105,10 @@ impl Touches {
     }
 
     /// Notes what a write changed. It takes no memory.
-    pub(crate) fn note(&mut self, number: u64, touched: &[Touch])
+    pub(crate) fn note(&mut self, number: u64, touched: &[EntryChange])
         requires { length touched.now ≤ self.old.spare }
-        ensures log { self.new.log ≡ spec.noted_each number (spec.uuids_of touched.now) self.old.log }
+        ensures log { self.new.log
+            ≡ spec.noted_each number (spec.uuids_of touched.now) self.old.log }
         ensures numbers { self.new.numbers ≡ spec.renewed number self.old.numbers touched.now }
     {
         note_each(&mut self.log, number, touched);
@@ -117,7 +122,7 @@ impl Touches {
         self.numbers.get(&uuid).copied()
     }
 
-    /// Whether the log tells all that was touched after write `number`.
+    /// Whether the log reports all that was touched after write `number`.
     pub(crate) fn covers(&self, number: u64) -> bool
         ensures { result ≡ log.covers number self.now.log }
     {
@@ -133,7 +138,7 @@ impl Touches {
         self.log.since(number)
     }
 
-    /// The log keeps so many notes from now on.
+    /// The log keeps n notes from now on.
     pub(crate) fn set_limit(&mut self, limit: u64)
         ensures log { self.new.log ≡ log.trimmed limit self.old.log }
         ensures numbers { self.new.numbers ≡ self.old.numbers }
@@ -184,33 +189,34 @@ fn leave_each(numbers: &mut BTreeMap<u128, u64>, entries: &[Entry])
 }
 
 /// One note for each identity.
-fn note_each(log: &mut SessionLog, number: u64, touched: &[Touch])
+fn note_each(log: &mut SessionLog, number: u64, touched: &[EntryChange])
     requires { length touched.now ≤ log.old.spare }
     ensures { log.new.log ≡ spec.noted_each number (spec.uuids_of touched.now) log.old.log }
 {
-    for touch in touched {
-        log.note(number, touch.uuid);
+    for entry_change in touched {
+        log.note(number, entry_change.uuid);
     }
 }
 
 /// The entries that are there now get the number, where they have a place; the others lose theirs.
-fn renew_each(numbers: &mut BTreeMap<u128, u64>, number: u64, touched: &[Touch])
+fn renew_each(numbers: &mut BTreeMap<u128, u64>, number: u64, touched: &[EntryChange])
     ensures { numbers.new.entries ≡ spec.renewed number numbers.old.entries touched.now }
 {
-    for touch in touched {
-        renew(numbers, number, touch);
+    for entry_change in touched {
+        renew(numbers, number, entry_change);
     }
 }
 
-fn renew(numbers: &mut BTreeMap<u128, u64>, number: u64, touch: &Touch)
-    ensures { numbers.new.entries ≡ spec.renewed_by number numbers.old.entries touch.entry.now }
+fn renew(numbers: &mut BTreeMap<u128, u64>, number: u64, entry_change: &EntryChange)
+    ensures { numbers.new.entries
+        ≡ spec.renewed_by number numbers.old.entries entry_change.entry.now }
 {
-    match &touch.now {
+    match &entry_change.after {
         None => {
-            numbers.remove(&touch.uuid);
+            numbers.remove(&entry_change.uuid);
         }
         Some(_) => {
-            if let Some(kept) = numbers.get_mut(&touch.uuid) {
+            if let Some(kept) = numbers.get_mut(&entry_change.uuid) {
                 *kept = number;
             }
         }

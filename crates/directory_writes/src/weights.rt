@@ -43,7 +43,8 @@ pub(crate) fn op_weight(op: &Op) -> Result<u64, NoMemory>
 /// The same of a commit: each entry that it puts weighs 64 beside its name and its attributes, and
 /// each identity that it drops 16.
 pub(crate) fn commit_weight(puts: &[Entry], drops: &[u128]) -> Result<u64, NoMemory>
-    ensures { IfOk result (λ weight. weight ≡ min (spec.op_weight (ops.Commit puts.now drops.now)) (2 ^ 64 - 1)) }
+    ensures { IfOk result (λ weight.
+        weight ≡ min (spec.op_weight (ops.Commit puts.now drops.now)) (2 ^ 64 - 1)) }
 {
     let dropped = (drops.len() as u64).saturating_mul(DROP_WEIGHT);
     let put = puts_weight(puts)?;

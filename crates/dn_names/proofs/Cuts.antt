@@ -1,5 +1,5 @@
 -- Where a mark first stands, and what a list loses at its ends.
-use Rattle.std.proofs.Common.{◌≡◌, ℕ, suc, ◌+◌, ◌-◌, ◌<◌, ◌≤◌, Bool, true, false, ◌&&◌, List, [], ◌∷◌, ◌++◌, length, take, drop, reverse, Some, None, refl, sym, ◌∙◌, ap, arith, nat_lt, length-append, length-drop, inl, inr}
+use Rattle.std.proofs.Common.{◌≡◌, ℕ, suc, ◌+◌, ◌-◌, ◌≤◌, Bool, true, false, ◌&&◌, List, [], ◌∷◌, ◌++◌, length, take, drop, reverse, Some, None, refl, sym, ◌∙◌, ap, arith, nat_lt, length-append, inl, inr}
 use Rattle.std.specs.List.{list_any, list_all, position, position_or_len, prefix_len, suffix_len, slice_split, before_first, after_first, onto_first}
 use Rattle.std.specs.Char.{is_ascii_digit}
 use Rattle.std.specs.Str.{all_ascii_digits}
@@ -35,6 +35,7 @@ trailing-yes p xs x space =
     let short : length xs - prefix_len p (reverse xs) ≤ length xs = omega arith in
     rw (reverse-append xs (x ∷ []), space, left) (take-append-le (length xs - prefix_len p (reverse xs)) xs (x ∷ []) short)
 
+-- a list whose last item does not pass has nothing to cut off
 pub trailing-no : {X : Type 0} (p : X → Bool) (xs : List X) (x : X) → p x ≡ false
     → take (length (xs ++ x ∷ []) - suffix_len p (xs ++ x ∷ [])) (xs ++ x ∷ []) ≡ xs ++ x ∷ []
 trailing-no p xs x other =
@@ -42,10 +43,12 @@ trailing-no p xs x other =
 
 pub ruleset trailing = (trailing-yes, trailing-no)
 
+-- both tests of digits are the same
 pub all_digits : (text : List ℕ) → list_all is_ascii_digit text ≡ all_ascii_digits text
 all_digits [] = refl
 all_digits (c ∷ cs) = ap (λ rest. is_ascii_digit c && rest) (all_digits cs)
 
+-- the first place that passes is where the part before it ends
 pub position-within : {X : Type 0} (p : X → Bool) (xs : List X) (place : ℕ) → position p xs ≡ Some place → (list_any p xs ≡ true) × (place ≡ position_or_len p xs)
 position-within p xs place found =
     elim (cases_Bool (nat_lt (position_or_len p xs) (length xs))) [
@@ -53,6 +56,7 @@ position-within p xs place found =
       | inr beyond ↦ absurd (cc)
     ]
 
+-- where there is no place no item passes
 pub position-beyond : {X : Type 0} (p : X → Bool) (xs : List X) → position p xs ≡ None → list_any p xs ≡ false
 position-beyond p xs none =
     elim (cases_Bool (nat_lt (position_or_len p xs) (length xs))) [
@@ -60,18 +64,16 @@ position-beyond p xs none =
       | inr beyond ↦ any_within p xs ∙ beyond
     ]
 
+-- where no item passes the part before the first is the whole list
 pub before_first-none : {X : Type 0} (p : X → Bool) (xs : List X) → list_any p xs ≡ false → before_first p xs ≡ xs
 before_first-none p xs none = take_all (position_or_len p xs) xs (ltb-false (position_or_len p xs) (length xs) (sym (any_within p xs) ∙ none))
 
-pub shorter-after : {X : Type 0} (p : X → Bool) (xs : List X) → list_any p xs ≡ true → length (after_first p xs) < length xs
-shorter-after p xs some =
-    let within : position_or_len p xs < length xs = ltb-true (position_or_len p xs) (length xs) (sym (any_within p xs) ∙ some) in
-    omega (arith, length-drop (position_or_len p xs + 1) xs)
-
+-- a list is split at the first item that passes
 pub slice_split-some : {X : Type 0} (p : X → Bool) (d : X) (xs : List X) → list_any p xs ≡ true → slice_split p xs ≡ before_first p xs ∷ slice_split p (after_first p xs)
 slice_split-some p d xs some =
     slice_split_first p xs d (ltb-true (position_or_len p xs) (length xs) (sym (any_within p xs) ∙ some))
 
+-- a list is not split where no item passes
 pub slice_split-none : {X : Type 0} (p : X → Bool) (xs : List X) → list_any p xs ≡ false → slice_split p xs ≡ xs ∷ []
 slice_split-none p [] none = refl
 slice_split-none p (x ∷ xs) none =

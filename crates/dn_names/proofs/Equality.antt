@@ -25,6 +25,7 @@ past_the_table : (kind : ℕ) → 24 ≤ kind → type_rule kind ≡ Operational
 unfolding types
 past_the_table kind past = ap (λ row. row.rule) (get_or_past types kind no_type past)
 
+-- a type whose value has a key is in the schema
 pub keyed_below : (kind : ℕ) (value : List ℕ) → is_some (key_of kind value) ≡ true → kind < 24
 unfolding key_of
 keyed_below kind value keyed =
@@ -33,6 +34,7 @@ keyed_below kind value keyed =
       | inr past ↦ absurd (let none : key_by (type_rule kind) value ≡ None = rw (past_the_table kind past) refl in cc)
     ]
 
+-- a type whose value has a key is found by its name
 pub found_type : (kind : ℕ) (value : List ℕ) → is_some (key_of kind value) ≡ true → type_named (type_name kind) ≡ Some kind
 found_type kind value keyed = found_by_name kind kind refl (keyed_below kind value keyed)
 
@@ -140,6 +142,7 @@ abbrev pub AllKnown : List (List TypeAndValue) → Type 0
 AllKnown [] = Unit {0}
 AllKnown (rdn ∷ rdns) = AreKnown rdn × AllKnown rdns
 
+-- each pair of an RDN has a key
 pub rdn-keyed : (rdn : List TypeAndValue) → is_rdn rdn ≡ true → list_all has_key rdn ≡ true
 rdn-keyed rdn sound =
     let rest = and_parts (not (nat_eq (length rdn) 0)) (list_all has_key rdn && (not (has_double rdn) && nat_le (length (rdn_text rdn)) 1024)) sound in
@@ -169,11 +172,13 @@ all_same-from_sets (r ∷ rs) (q ∷ qs) known_one known_other sets =
     and_from (same_rdn r q) (list_all (λ rdns. same_rdn rdns.0 rdns.1) (zip rs qs)) (same-from_sets r q known_one.0 known_other.0 first)
     (all_same-from_sets rs qs known_one.1 known_other.1 rest)
 
+-- equal names have the same sets of pairs
 pub sets-from_same_name : (one other : List (List TypeAndValue)) → same_name one other ≡ true → map pair_set one ≡ map pair_set other
 sets-from_same_name one other same =
     let both = and_parts (nat_eq (length one) (length other)) (list_all (λ rdns. same_rdn rdns.0 rdns.1) (zip one other)) same in
     all_sets-from_same one other (eqb-true (length one) (length other) both.0) both.1
 
+-- names with the same sets of pairs are equal
 pub same_name-from_sets : (one other : List (List TypeAndValue)) → IsName one → IsName other → map pair_set one ≡ map pair_set other → same_name one other ≡ true
 same_name-from_sets one other sound_one sound_other sets =
     let long : length one ≡ length other = sym (length-map one pair_set) ∙ ap length sets ∙ length-map other pair_set in

@@ -1,4 +1,4 @@
--- The key of a name tells its sets of pairs.
+-- The key of a name reports its sets of pairs.
 use Rattle.std.proofs.Common.{◌≡◌, ℕ, List, [], ◌∷◌, ◌++◌, map, fold, refl, sym, ◌∙◌, ap, arith, append_assoc}
 use Rattle.std.specs.declared.cmp.Ordering.TheVariants.{Less, Equal, Greater}
 use Rattle.std.specs.Ordering.{match_ordering, nat_cmp}
@@ -12,6 +12,7 @@ use Rattle.dn_names.specs.Keys.{marked, pair_mark, pair_set, rdn_key, name_key}
 marks_differ : (a b : ℕ) → a ≡ 0 → b ≡ 1 → a ≡ b → ⊥
 marks_differ a b zero one same = omega arith
 
+-- two marked texts that begin one text are equal, and so is what follows them
 pub marked-apart : (one other rest more : List ℕ) → marked one ++ rest ≡ marked other ++ more → (one ≡ other) × (rest ≡ more)
 marked-apart [] [] rest more same = (refl, (cc))
 marked-apart [] (b ∷ bs) rest more same = let first : 0 ≡ 1 = (cc) in absurd (marks_differ 0 1 refl refl first)
@@ -20,10 +21,10 @@ marked-apart (a ∷ as') (b ∷ bs) rest more same =
     let first : a ≡ b = (cc) in
     let tails : marked as' ++ rest ≡ marked bs ++ more = (cc) in
     let later = marked-apart as' bs rest more tails in
-    let front : as' ≡ bs = later.0 in
+    let prefix : as' ≡ bs = later.0 in
     ((cc), later.1)
 
--- two texts that can be told apart, behind the mark of a pair
+-- two texts that can be reported apart, after the mark of a pair
 abbrev pub IsMark : List ℕ → Type 0
 IsMark mark = (name : List ℕ) × (key : List ℕ) × (mark ≡ 1 ∷ (marked name ++ marked key))
 
@@ -45,7 +46,7 @@ marks-fold marks (pair ∷ pairs) are =
 pub pair_set-marks : (pairs : List TypeAndValue) → AreMarks (pair_set pairs)
 pair_set-marks pairs = marks-fold [] pairs tt
 
--- a mark and what follows, told apart
+-- a mark and what follows, reported apart
 mark-apart : (one other rest more : List ℕ) → IsMark one → IsMark other → one ++ rest ≡ other ++ more → (one ≡ other) × (rest ≡ more)
 mark-apart one other rest more is_one is_other same =
     let left : one ++ rest ≡ 1 ∷ (marked is_one.0 ++ (marked is_one.1 ++ rest)) = rw is_one.2 (ap (λ t. 1 ∷ t) (append_assoc (marked is_one.0) (marked is_one.1) rest)) in
@@ -73,23 +74,26 @@ marks-apart (m ∷ ms) (n ∷ ns) rest more are_one are_other same =
     let tails : ms ≡ ns = later.0 in
     ((cc), later.1)
 
-rdn_key-front : (rdn : List TypeAndValue) (rest : List ℕ) → rdn_key rdn ++ rest ≡ joined (pair_set rdn) ++ 0 ∷ rest
-rdn_key-front rdn rest = append_assoc (joined (pair_set rdn)) (0 ∷ []) rest
+rdn_key-prefix : (rdn : List TypeAndValue) (rest : List ℕ) → rdn_key rdn ++ rest ≡ joined (pair_set rdn) ++ 0 ∷ rest
+rdn_key-prefix rdn rest = append_assoc (joined (pair_set rdn)) (0 ∷ []) rest
 
-not_empty : (front rest : List ℕ) → front ++ 0 ∷ rest ≡ [] → ⊥
-not_empty [] rest same = (cc)
-not_empty (a ∷ front) rest same = (cc)
+-- a list with an element in it
+pub not_empty : {X : Type 0} (prefix rest : List X) (x : X) → prefix ++ x ∷ rest ≡ [] → ⊥
+not_empty [] rest x same = (cc)
+not_empty (a ∷ prefix) rest x same = (cc)
 
+-- names with one key have the same sets of pairs
 pub name_key-apart : (one other : List (List TypeAndValue)) → name_key one ≡ name_key other → map pair_set one ≡ map pair_set other
 name_key-apart [] [] same = refl
-name_key-apart [] (r ∷ rs) same = absurd (not_empty (joined (pair_set r)) (name_key rs) (sym (rdn_key-front r (name_key rs)) ∙ sym same))
-name_key-apart (r ∷ rs) [] same = absurd (not_empty (joined (pair_set r)) (name_key rs) (sym (rdn_key-front r (name_key rs)) ∙ same))
+name_key-apart [] (r ∷ rs) same = absurd (not_empty (joined (pair_set r)) (name_key rs) 0 (sym (rdn_key-prefix r (name_key rs)) ∙ sym same))
+name_key-apart (r ∷ rs) [] same = absurd (not_empty (joined (pair_set r)) (name_key rs) 0 (sym (rdn_key-prefix r (name_key rs)) ∙ same))
 name_key-apart (r ∷ rs) (q ∷ qs) same =
-    let both = marks-apart (pair_set r) (pair_set q) (name_key rs) (name_key qs) (pair_set-marks r) (pair_set-marks q) (sym (rdn_key-front r (name_key rs)) ∙ same ∙ rdn_key-front q (name_key qs)) in
+    let both = marks-apart (pair_set r) (pair_set q) (name_key rs) (name_key qs) (pair_set-marks r) (pair_set-marks q) (sym (rdn_key-prefix r (name_key rs)) ∙ same ∙ rdn_key-prefix q (name_key qs)) in
     let first : pair_set r ≡ pair_set q = both.0 in
     let rest : map pair_set rs ≡ map pair_set qs = name_key-apart rs qs both.1 in
     cc
 
+-- names with the same sets of pairs have one key
 pub name_key-from_sets : (one other : List (List TypeAndValue)) → map pair_set one ≡ map pair_set other → name_key one ≡ name_key other
 name_key-from_sets one other same = of_sets one ∙ ap (flat_map (λ set. joined set ++ 0 ∷ [])) same ∙ sym (of_sets other)
   where

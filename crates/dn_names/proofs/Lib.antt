@@ -1,5 +1,7 @@
+pub mod Alike
 pub mod Appending
 pub mod Cuts
+pub mod EqualNames
 pub mod Equality
 pub mod KeyTexts
 pub mod Marks
@@ -7,5 +9,6 @@ pub mod PairSets
 pub mod Pieces
 pub mod Rereading
 pub mod SignLists
+pub mod Sizes
 pub mod SortedLists
 pub mod Sums

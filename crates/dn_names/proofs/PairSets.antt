@@ -25,6 +25,7 @@ pair_set-push pairs pair =
     ap (fold (insert_key (slice_cmp nat_cmp)) []) (map-append pair_mark pairs (pair ∷ []))
     ∙ fold-append (insert_key (slice_cmp nat_cmp)) [] (map pair_mark pairs) (pair_mark pair ∷ [])
 
+-- the set of some pairs with one more
 pub pair_set_more : (pairs : List TypeAndValue) (i : ℕ) (d : TypeAndValue) → i < length pairs
     → pair_set (take (i + 1) pairs) ≡ insert_key (slice_cmp nat_cmp) (pair_set (take i pairs)) (pair_mark (get_or pairs i d))
 pair_set_more pairs i d within = ap pair_set (take_more pairs i d within) ∙ pair_set-push (take i pairs) (get_or pairs i d)

@@ -1,4 +1,5 @@
 -- Reading a list piece by piece.
+use Rattle.std.proofs.Math.Bool.{or-false}
 use Rattle.std.proofs.Common.{◌≡◌, ◌≢◌, ℕ, zero, suc, ◌+◌, ◌-◌, ◌<◌, ◌≤◌, Bool, true, false, not, ◌||◌, nat_lt, nat_eq, List, [], ◌∷◌, ◌++◌, length, Option, Some, None, is_some, option_and_then, if◌then◌else◌, Result, Ok, Err, refl, sym, ap, arith, append_assoc, length-append}
 use Rattle.std.specs.List.{list_any, list_all, slice_split, before_first, after_first, prefix_len, position_or_len}
 use Rattle.std.proofs.lemmas.List.Splits.{length-slice_split}
@@ -14,17 +15,13 @@ use Rattle.dn_names.specs.declared.fault.NameFault.{NameFault}
 use Rattle.dn_names.specs.declared.fault.NameFault.TheVariants.{BadName, UnknownType, TooLong, NoMemory}
 use Rattle.dn_names.specs.declared.signs.Sign.{Sign}
 use Rattle.dn_names.specs.declared.signs.Sign.TheVariants.{Stray}
-use Rattle.dn_names.specs.Reading.{IsFaultOf, and_then, with_first, or_bad, is_plain, pair_of, pair_at, pairs_of, type_of, value_of, value_signs, octets_of, is_empty, first_rdn, rdns_of, behind_comma, signs_width, sign_width, signs_of, rdn_of, checked_rdn, name_of_text}
+use Rattle.dn_names.specs.Reading.{IsFaultOf, and_then, with_first, or_bad, is_plain, pair_of, pair_at, pairs_of, type_of, value_of, value_signs, octets_of, is_empty, first_rdn, rdns_of, after_comma, signs_width, sign_width, signs_of, rdn_of, checked_rdn, name_of_text}
 use Rattle.dn_names.proofs.Cuts.{slice_split-some, slice_split-none, before_first-none}
 
 -- the items before what the rest is read as
 abbrev pub with_all : {A : Type 0} → List A → Result (List A) NameFault → Result (List A) NameFault
 with_all items (Ok more) = Ok (items ++ more)
 with_all items (Err fault) = Err fault
-
-pub with_all-none : {A : Type 0} (read : Result (List A) NameFault) → read ≡ with_all [] read
-with_all-none (Ok more) = refl
-with_all-none (Err fault) = refl
 
 pub with_all-push : {A : Type 0} (items : List A) (item : A) (read : Result (List A) NameFault) → with_all items (with_first item read) ≡ with_all (items ++ item ∷ []) read
 with_all-push items item (Ok more) = ap Ok (sym (append_assoc items (item ∷ []) more))
@@ -37,10 +34,6 @@ IsFaultOf-along one other (BadName place) along same = along (BadName place) sam
 IsFaultOf-along one other (UnknownType place) along same = along (UnknownType place) same
 IsFaultOf-along one other (TooLong place) along same = along (TooLong place) same
 IsFaultOf-along one other NoMemory along same = tt
-
-or-false : (b : Bool) → (b || false) ≡ b
-or-false true = refl
-or-false false = refl
 
 filled : {A : Type 0} (parts : List A) → length parts ≢ 0 → not (is_empty parts) ≡ true
 filled [] some = absurd (some refl)
@@ -63,6 +56,7 @@ pairs_of-last place ended signs none = rw (slice_split-none (is_plain 43) signs 
 
 module _ (place : ℕ) (ended : Bool) (whole : Result (List TypeAndValue) NameFault) (pairs : List TypeAndValue) (rest : List Sign)
     (so_far : whole ≡ with_all pairs (pairs_of place ended (slice_split (is_plain 43) rest))) where
+  -- a pair before a plus sign is read, and the pairs after it are left
   pub next_pair : list_any (is_plain 43) rest ≡ true → (pair : TypeAndValue) → pair_of place true (before_first (is_plain 43) rest) ≡ Ok pair
       → whole ≡ with_all (pairs ++ pair ∷ []) (pairs_of place ended (slice_split (is_plain 43) (after_first (is_plain 43) rest)))
   next_pair more pair read =
@@ -71,15 +65,18 @@ module _ (place : ℕ) (ended : Bool) (whole : Result (List TypeAndValue) NameFa
   pub next_fault : list_any (is_plain 43) rest ≡ true → (fault : NameFault) → pair_of place true (before_first (is_plain 43) rest) ≡ Err fault → whole ≡ Err fault
   next_fault more fault read = rw (so_far, pairs_of-more place ended rest more, read) refl
 
+  -- the last pair is read, and with it all of them
   pub last_pair : list_any (is_plain 43) rest ≡ false → (pair : TypeAndValue) → pair_of place ended (before_first (is_plain 43) rest) ≡ Ok pair → whole ≡ Ok (pairs ++ pair ∷ [])
   last_pair none pair read = rw (so_far, pairs_of-last place ended rest none, read) refl
 
   pub last_fault : list_any (is_plain 43) rest ≡ false → (fault : NameFault) → pair_of place ended (before_first (is_plain 43) rest) ≡ Err fault → whole ≡ Err fault
   last_fault none fault read = rw (so_far, pairs_of-last place ended rest none, read) refl
 
+  -- a pair before a plus sign that is refused is the fault of the RDN
   pub next_refused : list_any (is_plain 43) rest ≡ true → (fault : NameFault) → IsFaultOf (pair_of place true (before_first (is_plain 43) rest)) fault → IsFaultOf whole fault
   next_refused more fault refused = IsFaultOf-along (pair_of place true (before_first (is_plain 43) rest)) whole fault (next_fault more) refused
 
+  -- the last pair that is refused is the fault of the RDN
   pub last_refused : list_any (is_plain 43) rest ≡ false → (fault : NameFault) → IsFaultOf (pair_of place ended (before_first (is_plain 43) rest)) fault → IsFaultOf whole fault
   last_refused none fault refused = IsFaultOf-along (pair_of place ended (before_first (is_plain 43) rest)) whole fault (last_fault none) refused
 
@@ -139,11 +136,13 @@ pairs_of-keyed place ended (part ∷ parts) pairs read =
 
 -- ---- a step of the loop over the RDNs
 
+-- an RDN before a comma is the first of the name
 pub rdns_of-more : (room bytes : ℕ) (signs : List Sign) (rdn : List TypeAndValue) → list_any (is_plain 44) signs ≡ true → first_rdn bytes signs ≡ Ok rdn
-    → rdns_of (suc room) bytes signs ≡ with_first rdn (rdns_of room bytes (behind_comma signs))
+    → rdns_of (suc room) bytes signs ≡ with_first rdn (rdns_of room bytes (after_comma signs))
 unfolding rdns_of
 rdns_of-more room bytes signs rdn more read = rw (read, more) refl
 
+-- an RDN without a comma is all of the name
 pub rdns_of-last : (room bytes : ℕ) (signs : List Sign) (rdn : List TypeAndValue) → list_any (is_plain 44) signs ≡ false → first_rdn bytes signs ≡ Ok rdn
     → rdns_of (suc room) bytes signs ≡ Ok (rdn ∷ [])
 unfolding rdns_of
@@ -160,25 +159,29 @@ rdns_of-fault (suc room) bytes signs fault read = rw read refl
 
 module _ (bytes : ℕ) (whole : Result (List (List TypeAndValue)) NameFault) (rdns : List (List TypeAndValue)) (rest : List Sign)
     (so_far : whole ≡ with_all rdns (rdns_of (32 - length rdns) bytes rest)) where
+  -- an RDN before a comma is read, and the RDNs after it are left
   pub next_rdn : (rdn : List TypeAndValue) (all : List (List TypeAndValue)) → all ≡ rdns ++ rdn ∷ [] → length rdns < 32 → list_any (is_plain 44) rest ≡ true
-      → first_rdn bytes rest ≡ Ok rdn → whole ≡ with_all all (rdns_of (32 - length all) bytes (behind_comma rest))
+      → first_rdn bytes rest ≡ Ok rdn → whole ≡ with_all all (rdns_of (32 - length all) bytes (after_comma rest))
   next_rdn rdn all is_all room more read =
       let before : 32 - length rdns ≡ suc (31 - length rdns) = omega arith in
       let after : 32 - length (rdns ++ rdn ∷ []) ≡ 31 - length rdns = omega (arith, length-append rdns (rdn ∷ [])) in
       rw (is_all, after, so_far, before, rdns_of-more (31 - length rdns) bytes rest rdn more read)
-      (with_all-push rdns rdn (rdns_of (31 - length rdns) bytes (behind_comma rest)))
+      (with_all-push rdns rdn (rdns_of (31 - length rdns) bytes (after_comma rest)))
 
+  -- the last RDN is read, and with it the name
   pub last_rdn : (rdn : List TypeAndValue) (all : List (List TypeAndValue)) → all ≡ rdns ++ rdn ∷ [] → length rdns < 32 → list_any (is_plain 44) rest ≡ false
       → first_rdn bytes rest ≡ Ok rdn → whole ≡ Ok all
   last_rdn rdn all is_all room none read =
       let before : 32 - length rdns ≡ suc (31 - length rdns) = omega arith in
       rw (is_all, so_far, before, rdns_of-last (31 - length rdns) bytes rest rdn none read) refl
 
+  -- an RDN after the most that there may be is refused as too long
   pub no_room : (rdn : List TypeAndValue) → 32 ≤ length rdns → first_rdn bytes rest ≡ Ok rdn → whole ≡ Err (TooLong (bytes - signs_width rest))
   no_room rdn full read =
       let before : 32 - length rdns ≡ 0 = omega arith in
       rw (so_far, before, rdns_of-full bytes rest rdn read) refl
 
+  -- an RDN that is refused is the fault of the name
   pub rdn_refused : (fault : NameFault) → IsFaultOf (first_rdn bytes rest) fault → IsFaultOf whole fault
   rdn_refused fault refused =
       IsFaultOf-along (first_rdn bytes rest) whole fault
@@ -186,10 +189,12 @@ module _ (bytes : ℕ) (whole : Result (List (List TypeAndValue)) NameFault) (rd
 
 -- ---- an RDN and its pairs
 
+-- an RDN that begins with a space is refused
 pub rdn_of-spaced : (place : ℕ) (ended : Bool) (signs : List Sign) → nat_lt 0 (prefix_len (is_plain 32) signs) ≡ true → rdn_of place ended signs ≡ Err (BadName place)
 unfolding rdn_of
 rdn_of-spaced place ended signs space = rw space refl
 
+-- an RDN whose pairs are read is checked next
 pub rdn_of-pairs : (place : ℕ) (ended : Bool) (signs : List Sign) (pairs : List TypeAndValue) → nat_lt 0 (prefix_len (is_plain 32) signs) ≡ false
     → pairs_of place ended (slice_split (is_plain 43) signs) ≡ Ok pairs → rdn_of place ended signs ≡ checked_rdn place pairs
 unfolding rdn_of
@@ -200,20 +205,25 @@ rdn_of-fault : (place : ℕ) (ended : Bool) (signs : List Sign) (fault : NameFau
 unfolding rdn_of
 rdn_of-fault place ended signs fault none read = rw (none, read) refl
 
+-- an RDN with a pair that is refused is refused for it
 pub rdn_of-refused : (place : ℕ) (ended : Bool) (signs : List Sign) (fault : NameFault) → nat_lt 0 (prefix_len (is_plain 32) signs) ≡ false
     → IsFaultOf (pairs_of place ended (slice_split (is_plain 43) signs)) fault → IsFaultOf (rdn_of place ended signs) fault
 rdn_of-refused place ended signs fault none refused =
     IsFaultOf-along (pairs_of place ended (slice_split (is_plain 43) signs)) (rdn_of place ended signs) fault (λ f read. rdn_of-fault place ended signs f none read) refused
 
+-- an RDN with two pairs of one type and key is refused
 pub checked-double : (place : ℕ) (pairs : List TypeAndValue) → has_double pairs ≡ true → checked_rdn place pairs ≡ Err (BadName place)
 checked-double place pairs double = rw double refl
 
+-- an RDN that is written in too many bytes is refused
 pub checked-long : (place : ℕ) (pairs : List TypeAndValue) → has_double pairs ≡ false → 1024 < length (rdn_text pairs) → checked_rdn place pairs ≡ Err (TooLong place)
 checked-long place pairs single long = rw (single, lt-ltb 1024 (length (rdn_text pairs)) long) refl
 
+-- an RDN without two such pairs and not too long is as it was read
 pub checked-fine : (place : ℕ) (pairs : List TypeAndValue) → has_double pairs ≡ false → length (rdn_text pairs) ≤ 1024 → checked_rdn place pairs ≡ Ok pairs
 checked-fine place pairs single fits = rw (single, le-ltb 1024 (length (rdn_text pairs)) fits) refl
 
+-- the pairs that are read and checked are an RDN
 pub read_is_rdn : (place : ℕ) (ended : Bool) (signs : List Sign) (pairs : List TypeAndValue) → pairs_of place ended (slice_split (is_plain 43) signs) ≡ Ok pairs
     → has_double pairs ≡ false → length (rdn_text pairs) ≤ 1024 → is_rdn pairs ≡ true
 read_is_rdn place ended signs pairs read single fits =
@@ -221,14 +231,16 @@ read_is_rdn place ended signs pairs read single fits =
     let some : length pairs ≢ 0 = omega (arith, keyed.1, length-slice_split (is_plain 43) signs) in
     rw (ne_eqb (length pairs) 0 some, keyed.0, single, le-leb (length (rdn_text pairs)) 1024 fits) refl
 
-pub width-behind_comma : (signs : List Sign) → signs_width (behind_comma signs) ≤ signs_width signs
-width-behind_comma signs =
+-- what follows the first comma is no wider than the whole
+pub width-after_comma : (signs : List Sign) → signs_width (after_comma signs) ≤ signs_width signs
+width-after_comma signs =
     omega (
       arith,
       sum_by-take-drop sign_width (after_first (is_plain 44) signs) (prefix_len (is_plain 32) (after_first (is_plain 44) signs)),
       sum_by-take-drop sign_width signs (position_or_len (is_plain 44) signs + 1),
     )
 
+-- a name with one more RDN is one, where it is not too long
 pub IsName-push : (rdns : List (List TypeAndValue)) (rdn : List TypeAndValue) → IsName rdns → is_rdn rdn ≡ true → length rdns < 32 → IsName (rdns ++ rdn ∷ [])
 IsName-push rdns rdn sound one room = record {
   rdns = grind (arith, elements, sound.rdns);
@@ -237,10 +249,12 @@ IsName-push rdns rdn sound one room = record {
 
 -- ---- a name and its RDNs
 
+-- the empty text is the empty name
 pub name_of_text-empty : (text : List ℕ) → nat_eq (length text) 0 ≡ true → name_of_text text ≡ Ok []
 unfolding name_of_text
 name_of_text-empty text none = rw none refl
 
+-- another text is read RDN by RDN
 pub name_of_text-rdns : (text : List ℕ) → nat_eq (length text) 0 ≡ false → name_of_text text ≡ rdns_of 32 (length text) (signs_of text)
 unfolding name_of_text
 name_of_text-rdns text some = rw some refl

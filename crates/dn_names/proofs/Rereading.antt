@@ -16,12 +16,12 @@ use Rattle.dn_names.specs.Names.{TypeAndValue}
 use Rattle.dn_names.specs.Keys.{has_double}
 use Rattle.dn_names.specs.Sound.{has_key, is_rdn, IsName}
 use Rattle.dn_names.specs.Writing.{is_special, is_special_at_edge, byte_text, bytes_text, value_text, pair_text, more_pairs_text, rdn_text, more_rdns_text, name_text}
-use Rattle.dn_names.specs.Reading.{is_escapable, escape, signs_of, is_plain, string_byte, is_refused, each_some, octets_of, plain_byte, trimmed, type_of, value_of, value_signs, pair_of, pairs_of, rdn_of, is_empty, with_first, first_rdn, rdns_of, behind_comma, without_leading_spaces, signs_width, rdn_of_text, name_of_text}
+use Rattle.dn_names.specs.Reading.{is_escapable, escape, signs_of, is_plain, string_byte, is_refused, each_some, octets_of, plain_byte, trimmed, type_of, value_of, value_signs, pair_of, pairs_of, rdn_of, is_empty, with_first, first_rdn, rdns_of, after_comma, without_leading_spaces, signs_width, rdn_of_text, name_of_text}
 use Rattle.dn_names.proofs.SignLists.{signs_of-cons, signs_of-nil}
 use Rattle.dn_names.proofs.Cuts.{slice_split-none, before_first-none}
 use Rattle.dn_names.proofs.Pieces.{rdn_of-pairs, checked-fine, rdns_of-more, rdns_of-last, name_of_text-empty, name_of_text-rdns}
 use Rattle.dn_names.proofs.Equality.{keyed_below, found_type, rdn-keyed}
-use Rattle.dn_names.proofs.Marks.{BeginsOtherwise, EndsOtherwise, before_mark, after_mark, has_mark, split_at_mark, none_leading, kept_front, kept_back, otherwise_from_none, ends_from_none}
+use Rattle.dn_names.proofs.Marks.{BeginsOtherwise, EndsOtherwise, before_mark, after_mark, has_mark, split_at_mark, none_leading, kept_prefix, kept_back, otherwise_from_none, ends_from_none}
 
 -- ---- what is known of an RDN
 
@@ -251,8 +251,8 @@ value_of-back : (kind : ℕ) (value : List ℕ) → is_some (key_of kind value) 
 value_of-back kind value keyed = rw (octets-back value, keyed) refl
 
 value_signs-back : (ended : Bool) (value : List ℕ) → value_signs ended (bytes_signs true value) ≡ bytes_signs true value
-value_signs-back true value = rw (kept_front (is_plain 32) (bytes_signs true value) (value_begins value)) (kept_back (is_plain 32) (bytes_signs true value) (value_ends true value))
-value_signs-back false value = kept_front (is_plain 32) (bytes_signs true value) (value_begins value)
+value_signs-back true value = rw (kept_prefix (is_plain 32) (bytes_signs true value) (value_begins value)) (kept_back (is_plain 32) (bytes_signs true value) (value_ends true value))
+value_signs-back false value = kept_prefix (is_plain 32) (bytes_signs true value) (value_begins value)
 
 -- ---- a type read again
 
@@ -268,7 +268,7 @@ plain-back (byte ∷ bytes) = rw (plain-back bytes) refl
 trimmed-back : (name : List ℕ) → is_clean name ≡ true → trimmed (map Plain name) ≡ map Plain name
 trimmed-back name clean =
     let none : list_any (is_plain 32) (map Plain name) ≡ false = no_mark_in 32 refl name clean in
-    rw (kept_front (is_plain 32) (map Plain name) (otherwise_from_none (is_plain 32) (map Plain name) none))
+    rw (kept_prefix (is_plain 32) (map Plain name) (otherwise_from_none (is_plain 32) (map Plain name) none))
     (kept_back (is_plain 32) (map Plain name) (ends_from_none (is_plain 32) (map Plain name) none))
 
 type_of-back : (place : ℕ) (pair : TypeAndValue) → IsReadable pair → type_of place (map Plain (type_name pair.kind)) ≡ Ok pair.kind
@@ -355,15 +355,15 @@ rdns-back (suc room) bytes rdn (next ∷ rdns) within sound readable all_sound a
     let whole : List Sign = rdn_signs rdn ++ Plain 44 ∷ (rdn_signs next ++ more_rdns_signs rdns) in
     let none : list_any (is_plain 44) (rdn_signs rdn) ≡ false = no_comma rdn readable in
     let more : list_any (is_plain 44) whole ≡ true = has_mark (is_plain 44) (rdn_signs rdn) (Plain 44) (rdn_signs next ++ more_rdns_signs rdns) refl in
-    let front : before_first (is_plain 44) whole ≡ rdn_signs rdn = before_mark (is_plain 44) (rdn_signs rdn) (Plain 44) (rdn_signs next ++ more_rdns_signs rdns) none refl in
+    let prefix : before_first (is_plain 44) whole ≡ rdn_signs rdn = before_mark (is_plain 44) (rdn_signs rdn) (Plain 44) (rdn_signs next ++ more_rdns_signs rdns) none refl in
     let after : after_first (is_plain 44) whole ≡ rdn_signs next ++ more_rdns_signs rdns = after_mark (is_plain 44) (rdn_signs rdn) (Plain 44) (rdn_signs next ++ more_rdns_signs rdns) none refl in
-    let first : first_rdn bytes whole ≡ Ok rdn = rw (more, front) (rdn-back (bytes - signs_width whole) true rdn sound readable) in
+    let first : first_rdn bytes whole ≡ Ok rdn = rw (more, prefix) (rdn-back (bytes - signs_width whole) true rdn sound readable) in
     let sound_next : is_rdn next ≡ true = all_sound 0 next (omega arith) in
-    let behind : behind_comma whole ≡ rdn_signs next ++ more_rdns_signs rdns =
-    ap without_leading_spaces after ∙ kept_front (is_plain 32) (rdn_signs next ++ more_rdns_signs rdns) (rdn_begins next (more_rdns_signs rdns) sound_next all_readable.0) in
+    let beyond : after_comma whole ≡ rdn_signs next ++ more_rdns_signs rdns =
+    ap without_leading_spaces after ∙ kept_prefix (is_plain 32) (rdn_signs next ++ more_rdns_signs rdns) (rdn_begins next (more_rdns_signs rdns) sound_next all_readable.0) in
     let later : rdns_of (suc room) bytes (rdn_signs next ++ more_rdns_signs rdns) ≡ Ok (next ∷ rdns) =
     rdns-back room bytes next rdns (omega arith) sound_next all_readable.0 (λ k d inside. all_sound (suc k) d (omega arith)) all_readable.1 in
-    rdns_of-more (suc room) bytes whole rdn more first ∙ ap (λ signs. with_first rdn (rdns_of (suc room) bytes signs)) behind ∙ ap (with_first rdn) later
+    rdns_of-more (suc room) bytes whole rdn more first ∙ ap (λ signs. with_first rdn (rdns_of (suc room) bytes signs)) beyond ∙ ap (with_first rdn) later
 
 -- ---- what is known of the types of the table
 
@@ -377,7 +377,8 @@ clean_name kind below =
     ∙ ap (λ tests. get_or tests kind true) all_clean
     ∙ get_or-map-range_with_len (λ n. true) 0 24 kind kind true below (zero-add kind)
 
-no_key : (rule : Rule) (value : List ℕ) → is_operational_rule rule ≡ true → is_some (key_by rule value) ≡ false
+-- a value of an operational type has no key
+pub no_key : (rule : Rule) (value : List ℕ) → is_operational_rule rule ≡ true → is_some (key_by rule value) ≡ false
 no_key Class value operational = (cc)
 no_key Folded value operational = (cc)
 no_key FoldedAscii value operational = (cc)
@@ -387,7 +388,8 @@ no_key Flag value operational = (cc)
 no_key Time value operational = (cc)
 no_key Operational value operational = refl
 
-user_type : (kind : ℕ) (value : List ℕ) → is_some (key_of kind value) ≡ true → is_operational kind ≡ false
+-- what has a key is of a type of users
+pub user_type : (kind : ℕ) (value : List ℕ) → is_some (key_of kind value) ≡ true → is_operational kind ≡ false
 unfolding key_of
 user_type kind value keyed =
     elim (cases_Bool (is_operational kind)) [
@@ -417,6 +419,7 @@ readable_rdns (rdn ∷ rdns) sound = (readable_rdn rdn (sound 0 rdn (omega arith
 
 -- ---- the laws
 
+-- an RDN is read again from its text
 pub rdn_read_again : (rdn : List TypeAndValue) → is_rdn rdn ≡ true → rdn_of_text (rdn_text rdn) ≡ Ok rdn
 unfolding rdn_of_text
 rdn_read_again rdn sound =
@@ -434,6 +437,7 @@ rdn_text-filled (pair ∷ pairs) rest sound =
       length-append (type_name pair.kind) (61 ∷ value_text pair.value),
     ))
 
+-- a name is read again from its text
 pub name_read_again : (name : List (List TypeAndValue)) → IsName name → name_of_text (name_text name) ≡ Ok name
 name_read_again [] sound = name_of_text-empty [] refl
 name_read_again (rdn ∷ rdns) sound =

@@ -12,15 +12,18 @@ signs_after-drop zero (b ∷ bs) = refl
 signs_after-drop (suc n) [] = refl
 signs_after-drop (suc n) (b ∷ bs) = signs_after-drop n bs
 
+-- the signs of a text are its first one and those of the rest
 pub signs_of-cons : (b : ℕ) (bs : List ℕ) → signs_of (b ∷ bs) ≡ sign_of b bs ∷ signs_of (drop (sign_width (sign_of b bs) - 1) bs)
 unfolding signs_of
 signs_of-cons b bs = ap (λ rest. sign_of b bs ∷ rest) (signs_after-drop (sign_width (sign_of b bs) - 1) bs)
 
+-- the empty text has no signs
 pub signs_of-nil : (text : List ℕ) → length text ≡ 0 → signs_of text ≡ []
 unfolding signs_of
 signs_of-nil [] none = refl
 signs_of-nil (b ∷ bs) none = absurd (omega arith)
 
+-- the first sign of a text is that of its first byte
 pub signs_of-first : (text : List ℕ) → 0 < length text → signs_of text ≡ sign_of (get_or text 0 0) (drop 1 text) ∷ signs_of (drop (sign_width (sign_of (get_or text 0 0) (drop 1 text)) - 1) (drop 1 text))
 signs_of-first [] some = absurd (omega arith)
 signs_of-first (b ∷ bs) some = signs_of-cons b bs
@@ -61,6 +64,7 @@ signs_after-width zero (b ∷ bs) within =
 signs_after-width (suc n) [] within = absurd (omega arith)
 signs_after-width (suc n) (b ∷ bs) within = omega (arith, signs_after-width n bs (omega arith))
 
+-- the signs of a text are as wide as the text is long
 pub signs_of-width : (text : List ℕ) → signs_width (signs_of text) ≡ length text
 unfolding signs_of
 signs_of-width text = omega (arith, signs_after-width 0 text (omega arith))

@@ -12,10 +12,12 @@ In x [] = ⊥
 In x (y ∷ ys) = (x ≡ y) ⊎ In x ys
 
 module _ {K : Type 0} (R : K → K → Ordering) where
+  -- a key is below each of these
   abbrev pub Below : K → List K → Type 0
   Below x [] = Unit {0}
   Below x (y ∷ ys) = (R x y ≡ Less) × Below x ys
 
+  -- keys ascend
   abbrev pub Sorted : List K → Type 0
   Sorted [] = Unit {0}
   Sorted (x ∷ xs) = Below x xs × Sorted xs
@@ -44,12 +46,14 @@ module _ {K : Type 0} {R : K → K → Ordering} (order : IsTotalOrder R) (exact
   sorted_at key x xs Equal known below sorted rest = (below, sorted)
   sorted_at key x xs Greater known below sorted rest = (below-insert x key xs (turned key x Greater known) below, rest)
 
+  -- ascending keys ascend with one more at its place
   pub sorted-insert : (xs : List K) (key : K) → Sorted R xs → Sorted R (insert_key R xs key)
   sorted-insert [] key sorted = (tt, tt)
   sorted-insert (x ∷ xs) key sorted = sorted_at key x xs (R key x) refl sorted.0 sorted.1 (sorted-insert xs key sorted.1)
 
   -- ---- the members after a key was put in
 
+  -- a key after an insertion is the new one or was there before
   pub new_or_old : (m key : K) (xs : List K) → In m (insert_key R xs key) → (m ≡ key) ⊎ In m xs
   new_or_old m key [] member = member
   new_or_old m key (x ∷ xs) member = at (R key x) member (new_or_old m key xs)
@@ -61,6 +65,7 @@ module _ {K : Type 0} {R : K → K → Ordering} (order : IsTotalOrder R) (exact
       at Greater (inl first) later = inr (inl first)
       at Greater (inr rest) later = elim (later rest) [ inl new ↦ inl new | inr old ↦ inr (inr old) ]
 
+  -- an inserted key is there
   pub new_is_in : (key : K) (xs : List K) → In key (insert_key R xs key)
   new_is_in key [] = inl refl
   new_is_in key (x ∷ xs) = at (R key x) refl (new_is_in key xs)
@@ -70,6 +75,7 @@ module _ {K : Type 0} {R : K → K → Ordering} (order : IsTotalOrder R) (exact
       at Equal known later = inl (exact key x known)
       at Greater known later = inr later
 
+  -- a key that was there before an insertion is there after it
   pub old_is_in : (m key : K) (xs : List K) → In m xs → In m (insert_key R xs key)
   old_is_in m key [] member = absurd member
   old_is_in m key (x ∷ xs) member = at (R key x) member (old_is_in m key xs)
@@ -100,6 +106,7 @@ module _ {K : Type 0} {R : K → K → Ordering} (order : IsTotalOrder R) (exact
         | inr rest ↦ rest
       ]
 
+  -- ascending lists with the same keys are equal
   pub same_members : (xs ys : List K) → Sorted R xs → Sorted R ys → ((m : K) → In m xs → In m ys) → ((m : K) → In m ys → In m xs) → xs ≡ ys
   same_members [] [] sorted_x sorted_y there back = refl
   same_members [] (y ∷ ys) sorted_x sorted_y there back = absurd (back y (inl refl))

@@ -1,10 +1,7 @@
 -- Numbers in base 256.
-use Rattle.std.proofs.Common.{ℕ, zero, suc, ◌+◌, ◌*◌, ◌<◌, ◌^◌, arith, add-one}
-use Rattle.std.proofs.Math.Nat.{pow-suc}
+use Rattle.std.proofs.Common.{ℕ, zero, suc, ◌<◌, ◌^◌, arith}
 
-pub next_digit : (n i digit : ℕ) → n < 256 ^ i → digit < 256 → n * 256 + digit < 256 ^ (i + 1)
-next_digit n i digit small less = rw (add-one, pow-suc) (omega arith)
-
+-- a number below a power of 256 of at most three is below the third
 pub four_digits : (n i : ℕ) → n < 256 ^ i → i < 4 → n < 256 ^ 3
 four_digits n zero small within = omega arith
 four_digits n (suc zero) small within = omega arith

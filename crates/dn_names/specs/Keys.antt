@@ -7,7 +7,8 @@ use Rattle.std.specs.BTreeSet.{insert_key}
 use Rattle.schema_rules.specs.Schema.{type_name}
 use Rattle.dn_names.specs.Names.{TypeAndValue, pair_key}
 
--- bytes with a mark before each and another at the end, so that what follows cannot be taken for them
+-- bytes with a mark before each and another at the end, so that what follows
+-- cannot be taken for them
 abbrev pub marked : List ℕ → List ℕ
 marked [] = 0 ∷ []
 marked (b ∷ bs) = 1 ∷ b ∷ marked bs

@@ -19,7 +19,8 @@ use Rattle.dn_names.specs.declared.signs.Sign.TheVariants.{Plain, Escaped, Hexad
 -- ---- faults
 
 -- the second step where the first gave a value
-abbrev pub and_then : {A B : Type 0} → Result A NameFault → (A → Result B NameFault) → Result B NameFault
+abbrev pub and_then :
+    {A B : Type 0} → Result A NameFault → (A → Result B NameFault) → Result B NameFault
 and_then (Ok a) next = next a
 and_then (Err fault) next = Err fault
 
@@ -33,7 +34,7 @@ abbrev pub or_bad : {A : Type 0} → ℕ → Option A → Result A NameFault
 or_bad place (Some a) = Ok a
 or_bad place None = Err (BadName place)
 
--- the fault is the one that was found; want of memory tells nothing
+-- the fault is the one that was found; out of memory reports nothing
 abbrev pub IsFaultOf : {A : Type 0} → Result A NameFault → NameFault → Type 0
 IsFaultOf {A} read (BadName place) = read ≡ Err (BadName place)
 IsFaultOf {A} read (UnknownType place) = read ≡ Err (UnknownType place)
@@ -56,7 +57,8 @@ abbrev pub escape : List ℕ → Sign
 escape [] = Stray
 escape (byte ∷ []) = if is_escapable byte then Escaped byte else Stray
 escape (byte ∷ next ∷ rest) =
-    if is_escapable byte then Escaped byte else hex_pair (hex_digit_value byte) (hex_digit_value next)
+    if is_escapable byte then Escaped byte
+    else hex_pair (hex_digit_value byte) (hex_digit_value next)
 
 -- the sign that begins with this byte, where these follow
 abbrev pub sign_of : ℕ → List ℕ → Sign
@@ -72,7 +74,8 @@ sign_width Stray = 1
 -- the signs of a text, of which the first bytes belong to the sign before
 abbrev pub signs_after : ℕ → List ℕ → List Sign
 signs_after skipped [] = []
-signs_after zero (byte ∷ rest) = sign_of byte rest ∷ signs_after (sign_width (sign_of byte rest) - 1) rest
+signs_after zero (byte ∷ rest) =
+    sign_of byte rest ∷ signs_after (sign_width (sign_of byte rest) - 1) rest
 signs_after (suc skipped) (byte ∷ rest) = signs_after skipped rest
 
 unfoldable pub signs_of : List ℕ → List Sign
@@ -101,7 +104,8 @@ trimmed signs = without_trailing_spaces (without_leading_spaces signs)
 -- what each sign gives, where each gives something
 abbrev pub each_some : {A B : Type 0} → (A → Option B) → List A → Option (List B)
 each_some give [] = Some []
-each_some give (a ∷ as') = option_and_then (λ b. option_map (λ bs. b ∷ bs) (each_some give as')) (give a)
+each_some give (a ∷ as') =
+    option_and_then (λ b. option_map (λ bs. b ∷ bs) (each_some give as')) (give a)
 
 abbrev pub plain_byte : Sign → Option ℕ
 plain_byte (Plain byte) = Some byte
@@ -121,11 +125,14 @@ is_descriptor (byte ∷ rest) = is_ascii_alphabetic byte && list_all is_keychar 
 
 -- numericoid = number 1*( DOT number )  (RFC 4512, section 1.4)
 abbrev pub is_numeric_oid : List ℕ → Bool
-is_numeric_oid name = list_any (nat_eq 46) name && list_all is_number (slice_split (λ byte. byte == 46) name)
+is_numeric_oid name =
+    list_any (nat_eq 46) name && list_all is_number (slice_split (λ byte. byte == 46) name)
 
 -- a name that no type of the schema has
 abbrev pub unknown_type : ℕ → List ℕ → Result ℕ NameFault
-unknown_type place name = if is_descriptor name || is_numeric_oid name then Err (UnknownType place) else Err (BadName place)
+unknown_type place name =
+    if is_descriptor name || is_numeric_oid name then Err (UnknownType place)
+    else Err (BadName place)
 
 -- an operational type is as unknown as one that is not in the schema
 abbrev pub known_type : ℕ → List ℕ → Option ℕ → Result ℕ NameFault
@@ -135,7 +142,8 @@ known_type place name None = unknown_type place name
 -- attributeType = descr / numericoid
 abbrev pub type_of : ℕ → List Sign → Result ℕ NameFault
 type_of place signs =
-    and_then (or_bad place (each_some plain_byte (trimmed signs))) (λ name. known_type place name (type_named name))
+    and_then (or_bad place (each_some plain_byte (trimmed signs)))
+    (λ name. known_type place name (type_named name))
 
 -- ---- values
 
@@ -162,7 +170,8 @@ length_of octets = fold (λ sum octet. sum * 256 + octet) 0 octets
 abbrev pub body_of : ℕ → List ℕ → Option (List ℕ)
 body_of count body = if length body == count then Some body else None
 
--- a length in the definite form, of one octet or with one to four more, and its body (X.690, section 8.1.3)
+-- a length in the definite form, of one octet or with one to four more, and its body
+-- (X.690, section 8.1.3)
 abbrev pub sized_body : ℕ → List ℕ → Option (List ℕ)
 sized_body count rest =
     if nat_lt count 128 then body_of count rest
@@ -178,33 +187,41 @@ string_body (tag ∷ count ∷ rest) = if is_string_tag tag then sized_body coun
 
 -- hexstring = SHARP 1*hexpair, the octets of an element
 abbrev pub hex_value : List Sign → Option (List ℕ)
-hex_value digits = option_and_then (λ text. option_and_then string_body (result_ok (decode_of text))) (each_some plain_byte digits)
+hex_value digits =
+    option_and_then (λ text. option_and_then string_body (result_ok (decode_of text)))
+    (each_some plain_byte digits)
 
 -- attributeValue = string / hexstring
 abbrev pub octets_of : List Sign → Option (List ℕ)
 octets_of [] = Some []
-octets_of (sign ∷ signs) = if is_plain 35 sign then hex_value signs else each_some string_byte (sign ∷ signs)
+octets_of (sign ∷ signs) =
+    if is_plain 35 sign then hex_value signs else each_some string_byte (sign ∷ signs)
 
 -- a value that is of the type's syntax
 abbrev pub value_of : ℕ → List Sign → Option (List ℕ)
-value_of kind signs = option_and_then (λ value. if is_some (key_of kind value) then Some value else None) (octets_of signs)
+value_of kind signs =
+    option_and_then (λ value. if is_some (key_of kind value) then Some value else None)
+    (octets_of signs)
 
 -- ---- pairs, RDNs and names
 
 -- the signs of the value, without the spaces before a separator
 abbrev pub value_signs : Bool → List Sign → List Sign
 value_signs ended signs =
-    if ended then without_trailing_spaces (without_leading_spaces signs) else without_leading_spaces signs
+    if ended then without_trailing_spaces (without_leading_spaces signs)
+    else without_leading_spaces signs
 
 abbrev pub pair_at : ℕ → Bool → List Sign → Result TypeAndValue NameFault
 pair_at place ended signs =
     and_then (type_of place (before_first (is_plain 61) signs)) (λ kind.
-    and_then (or_bad place (value_of kind (value_signs ended (after_first (is_plain 61) signs)))) (λ value.
+    and_then
+    (or_bad place (value_of kind (value_signs ended (after_first (is_plain 61) signs)))) (λ value.
     Ok (record { kind = kind; value = value })))
 
 -- attributeTypeAndValue = attributeType EQUALS attributeValue; a separator may follow
 abbrev pub pair_of : ℕ → Bool → List Sign → Result TypeAndValue NameFault
-pair_of place ended signs = if list_any (is_plain 61) signs then pair_at place ended signs else Err (BadName place)
+pair_of place ended signs =
+    if list_any (is_plain 61) signs then pair_at place ended signs else Err (BadName place)
 
 abbrev pub is_empty : {A : Type 0} → List A → Bool
 is_empty [] = true
@@ -213,7 +230,8 @@ is_empty (a ∷ rest) = false
 abbrev pub pairs_of : ℕ → Bool → List (List Sign) → Result (List TypeAndValue) NameFault
 pairs_of place ended [] = Ok []
 pairs_of place ended (part ∷ parts) =
-    and_then (pair_of place (ended || not (is_empty parts)) part) (λ pair. with_first pair (pairs_of place ended parts))
+    and_then (pair_of place (ended || not (is_empty parts)) part)
+    (λ pair. with_first pair (pairs_of place ended parts))
 
 -- no type twice with one key, and few enough bytes in writing
 abbrev pub checked_rdn : ℕ → List TypeAndValue → Result (List TypeAndValue) NameFault
@@ -228,25 +246,30 @@ rdn_of place ended signs =
     if nat_lt 0 (prefix_len (is_plain 32) signs) then Err (BadName place)
     else and_then (pairs_of place ended (slice_split (is_plain 43) signs)) (checked_rdn place)
 
--- what stands behind the first comma, without leading spaces
-abbrev pub behind_comma : List Sign → List Sign
-behind_comma signs = without_leading_spaces (after_first (is_plain 44) signs)
+-- what stands after the first comma, without leading spaces
+abbrev pub after_comma : List Sign → List Sign
+after_comma signs = without_leading_spaces (after_first (is_plain 44) signs)
 
--- the RDN up to the first comma, at the place where these signs begin in a text of so many bytes
+-- the RDN up to the first comma, at the place where these signs begin in a text of n bytes
 abbrev pub first_rdn : ℕ → List Sign → Result (List TypeAndValue) NameFault
 first_rdn bytes signs =
-    rdn_of (bytes - signs_width signs) (list_any (is_plain 44) signs) (before_first (is_plain 44) signs)
+    rdn_of (bytes - signs_width signs) (list_any (is_plain 44) signs)
+    (before_first (is_plain 44) signs)
 
--- distinguishedName = relativeDistinguishedName *( COMMA relativeDistinguishedName ), at most so many
+-- distinguishedName = relativeDistinguishedName *( COMMA
+-- relativeDistinguishedName ), at most n
 unfoldable pub rdns_of : ℕ → ℕ → List Sign → Result (List (List TypeAndValue)) NameFault
-rdns_of zero bytes signs = and_then (first_rdn bytes signs) (λ rdn. Err (TooLong (bytes - signs_width signs)))
+rdns_of zero bytes signs =
+    and_then (first_rdn bytes signs) (λ rdn. Err (TooLong (bytes - signs_width signs)))
 rdns_of (suc room) bytes signs =
     and_then (first_rdn bytes signs) (λ rdn.
-    if list_any (is_plain 44) signs then with_first rdn (rdns_of room bytes (behind_comma signs)) else Ok (rdn ∷ []))
+    if list_any (is_plain 44) signs then with_first rdn (rdns_of room bytes (after_comma signs))
+    else Ok (rdn ∷ []))
 
 -- the name of a text, or the first refused RDN; the empty text is the empty name
 unfoldable pub name_of_text : List ℕ → Result (List (List TypeAndValue)) NameFault
-name_of_text text = if length text == 0 then Ok [] else rdns_of most_rdns (length text) (signs_of text)
+name_of_text text =
+    if length text == 0 then Ok [] else rdns_of most_rdns (length text) (signs_of text)
 
 -- the RDN of a text, which begins at its first byte
 unfoldable pub rdn_of_text : List ℕ → Result (List TypeAndValue) NameFault

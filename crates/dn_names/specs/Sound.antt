@@ -20,7 +20,9 @@ has_key pair = is_some (key_of pair.kind pair.value)
 -- pairs that differ, one at least, in few enough bytes
 abbrev pub is_rdn : List TypeAndValue → Bool
 is_rdn pairs =
-    not (length pairs == 0) && (list_all has_key pairs && (not (has_double pairs) && nat_le (length (rdn_text pairs)) most_bytes))
+    not (length pairs == 0)
+    && (list_all has_key pairs
+    && (not (has_double pairs) && nat_le (length (rdn_text pairs)) most_bytes))
 
 pub record IsName (name : List (List TypeAndValue)) : Type 0 where
   pub rdns : AllPass is_rdn name

@@ -47,7 +47,7 @@ impl Dn {
         }
     }
 
-    /// Reads a name. The first refused RDN is told.
+    /// Reads a name. The first refused RDN is reported.
     pub fn parse(alloc: Global, text: &[u8]) -> Result<Dn, NameFault>
         ensures ok { IfOk result (λ dn. name_of_text text.now ≡ Ok dn) }
         ensures fault { IfErr result (IsFaultOf (name_of_text text.now)) }
@@ -61,6 +61,8 @@ impl Dn {
         })
     }
 
+    /// Lends the RDNs of the name (RFC 4514, section 2.1): the entry's own first, that at the root
+    /// of the tree last.
     pub fn rdns(&self) -> &[Rdn]
         ensures value { result.now ≡ self.now }
         ensures sound { IsName self.now }
@@ -68,6 +70,7 @@ impl Dn {
         self.rdns.as_slice()
     }
 
+    /// Makes the same name a second time. It is `NoMemory` where memory runs out.
     pub fn copy(&self) -> Result<Dn, NoMemory>
         ensures { IfOk result (λ dn. dn ≡ self.now) }
     {
@@ -134,7 +137,8 @@ impl Dn {
         })
     }
 
-    /// The name of the entry with this RDN directly below. The place of TooLong is 0.
+    /// The name of the entry with this RDN directly below. It is `TooLong`, with the place 0, where
+    /// that would have more than 32 RDNs, or `NoMemory`.
     pub fn below(&self, rdn: &Rdn) -> Result<Dn, NameFault>
         ensures ok { IfOk result (λ dn. limited (rdn.now ∷ self.now) ≡ Ok dn) }
         ensures fault { IfErr result (IsFaultOf (limited (rdn.now ∷ self.now))) }
@@ -148,7 +152,8 @@ impl Dn {
         Ok(Dn { rdns })
     }
 
-    /// The name with `to` in place of its suffix that equals `from`. The place of TooLong is 0.
+    /// The name with `to` in place of its suffix that equals `from`. It is `TooLong`, with the
+    /// place 0, where that would have more than 32 RDNs, or `NoMemory`.
     pub fn moved(&self, from: &Dn, to: &Dn) -> Result<Dn, NameFault>
         requires { is_at_or_below self.now from.now ≡ true }
         ensures ok { IfOk result (λ dn. limited (moved_name self.now from.now to.now) ≡ Ok dn) }
@@ -165,7 +170,7 @@ impl Dn {
     }
 }
 
-/// Reads the RDNs of a text of so many bytes.
+/// Reads the RDNs of a text of n bytes.
 fn read_rdns(alloc: Global, bytes: usize, signs: &[Sign]) -> Result<Vec<Rdn>, NameFault>
     requires { signs_width signs.now ≡ bytes }
     ensures ok { IfOk result (λ rdns. rdns_of most_rdns bytes signs.now ≡ Ok rdns.items) }
@@ -176,13 +181,13 @@ fn read_rdns(alloc: Global, bytes: usize, signs: &[Sign]) -> Result<Vec<Rdn>, Na
     let mut rest = signs;
     'rdns: loop {
         let place = bytes - width_of(rest);
-        let (first, behind) = cut(rest, b',');
-        let rdn = Rdn::read(alloc, place, behind.is_some(), first)?;
+        let (first, beyond) = cut(rest, b',');
+        let rdn = Rdn::read(alloc, place, beyond.is_some(), first)?;
         if rdns.len() >= MOST_RDNS {
             return Err(NameFault::TooLong(place));
         }
         rdns.push(rdn)?;
-        match behind {
+        match beyond {
             Some(after) => rest = without_leading_spaces(after),
             None => return Ok(rdns),
         }
@@ -222,7 +227,7 @@ fn append_copies(to: &mut Vec<Rdn>, rdns: &[Rdn]) -> Result<(), NoMemory>
 }
 
 /// The law of keys: two names are equal exactly where their keys are the same bytes.
-pub fn keys_tell_names()
+pub fn keys_show_names()
     ensures { (one other : List (List TypeAndValue)) → IsName one → IsName other
         → (name_key one ≡ name_key other) ↔ (same_name one other ≡ true) }
 {}

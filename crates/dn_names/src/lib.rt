@@ -12,7 +12,7 @@ mod signs;
 mod values;
 mod writing;
 
-pub use dn::{Dn, keys_tell_names};
+pub use dn::{Dn, keys_show_names};
 pub use fault::NameFault;
 pub use pair::Pair;
 pub use rdn::Rdn;

@@ -74,6 +74,8 @@ impl Rdn {
         Ok(Rdn { pairs })
     }
 
+    /// Lends the pairs of a type and a value, in the order in which they were written. No two of
+    /// them match.
     pub fn list(&self) -> &[Pair]
         ensures value { result.now ≡ self.now }
         ensures sound { is_rdn self.now ≡ true }
@@ -81,6 +83,7 @@ impl Rdn {
         self.pairs.as_slice()
     }
 
+    /// Makes the same RDN a second time. It is `NoMemory` where memory runs out.
     pub fn copy(&self) -> Result<Rdn, NoMemory>
         ensures { IfOk result (λ rdn. rdn ≡ self.now) }
     {

@@ -164,7 +164,8 @@ fn read_value(
     requires { is_operational kind ≡ false }
     ensures ok { IfOk result (λ pair.
         (pair.kind ≡ kind) × (spec.value_of kind signs.now ≡ Some pair.value)) }
-    ensures fault { IfErr result (spec.IsFaultOf (spec.or_bad place (spec.value_of kind signs.now))) }
+    ensures fault { IfErr result
+        (spec.IsFaultOf (spec.or_bad place (spec.value_of kind signs.now))) }
 {
     let Some(value) = octets_of(alloc, signs)? else {
         return Err(NameFault::BadName(place));

@@ -140,9 +140,9 @@ fn hex_digit(byte: u8) -> Option<u8>
     }
 }
 
-/// What stands before the first mark that is not escaped, and what stands behind it.
+/// What stands before the first mark that is not escaped, and what stands after it.
 pub(crate) fn cut(signs: &[Sign], mark: u8) -> (&[Sign], Option<&[Sign]>)
-    ensures front { result.0.now ≡ before_first (spec.is_plain mark) signs.now }
+    ensures prefix { result.0.now ≡ before_first (spec.is_plain mark) signs.now }
     ensures found { is_some result.1 ≡ list_any (spec.is_plain mark) signs.now }
     ensures back { MatchOption result.1 (list_any (spec.is_plain mark) signs.now ≡ false) (λ after.
         (list_any (spec.is_plain mark) signs.now ≡ true)

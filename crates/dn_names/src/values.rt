@@ -103,7 +103,8 @@ fn hex_value(alloc: Global, digits: &[Sign]) -> Result<Option<Vec<u8>>, NoMemory
 
 /// The bytes that the hexadecimal digits write, or None.
 fn decoded(alloc: Global, text: &[u8]) -> Result<Option<Vec<u8>>, NoMemory>
-    ensures { IfOk result (λ octets. option_map (λ v. v.items) octets ≡ result_ok (decode_of text.now)) }
+    ensures { IfOk result (λ octets.
+        option_map (λ v. v.items) octets ≡ result_ok (decode_of text.now)) }
 {
     match hex::decode(alloc, text) {
         Ok(bytes) => Ok(Some(bytes)),

@@ -19,7 +19,7 @@ pub(crate) fn append_rdns(text: &mut Vec<u8>, rdns: &[Rdn]) -> Result<(), NoMemo
     }
 }
 
-/// Appends RDNs, each behind a comma.
+/// Appends RDNs, each after a comma.
 fn append_more_rdns(text: &mut Vec<u8>, rdns: &[Rdn]) -> Result<(), NoMemory>
     ensures { OnOk result (text.new.items ≡ text.old.items ++ spec.more_rdns_text rdns.now) }
 {
@@ -43,7 +43,7 @@ pub(crate) fn append_pairs(text: &mut Vec<u8>, pairs: &[Pair]) -> Result<(), NoM
     }
 }
 
-/// Appends pairs, each behind a plus sign.
+/// Appends pairs, each after a plus sign.
 fn append_more_pairs(text: &mut Vec<u8>, pairs: &[Pair]) -> Result<(), NoMemory>
     ensures { OnOk result (text.new.items ≡ text.old.items ++ spec.more_pairs_text pairs.now) }
 {

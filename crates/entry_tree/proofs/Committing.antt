@@ -1,23 +1,25 @@
 -- Entries after a commit: their order, what each identity has, and what differs.
 use Rattle.std.proofs.Common.{◌≡◌, ◌<◌, ◌≤◌, ◌+◌, ℕ, Bool, true, false, not, cond, nat_eq, nat_lt, List, [], ◌∷◌, ◌++◌, length, take, get_or, map, reverse, Option, Some, None, refl, sym, ap, ◌∙◌, arith}
-use Rattle.std.specs.Prelude.{◌&&◌, ◌||◌, is_none, fold}
+use Rattle.std.specs.Prelude.{◌&&◌, is_none, fold}
 use Rattle.std.specs.List.{filter}
 use Rattle.std.specs.Option.{option_or}
 use Rattle.std.proofs.lemmas.Bool.{and_parts, or_parts, eqb-true, eq-eqb, ne_eqb, ltb-false, false≢true}
 use Rattle.std.proofs.lemmas.List.{reverse-append, take_more}
 use Rattle.std.proofs.lemmas.List.Sums.{fold-append}
 use Rattle.std.proofs.lemmas.List.Folds.{find-append}
+use Rattle.std.proofs.Math.Bool.{or-false}
 use Rattle.entry_writes.specs.declared.entry.Entry.{Entry}
-use Rattle.entry_writes.specs.declared.touched.Touch.{Touch}
+use Rattle.entry_writes.specs.declared.touched.EntryChange.{EntryChange}
 use Rattle.entry_writes.specs.Bytes.{is_one_found}
 use Rattle.entry_writes.specs.Effects.{is_one_of, committed}
 use Rattle.entry_tree.specs.Fitting.{may_be_held}
 use Rattle.entry_writes.specs.State.{ascends, entry_at, put, is_crowded, same_named, total_weight, most_entries, most_weight, IsDirectory}
-use Rattle.entry_writes.specs.Touched.{identities, joined, touch_at, is_change, touched}
+use Rattle.entry_writes.specs.Touched.{identities, joined, change_at, is_change, touched}
 use Rattle.entry_tree.proofs.Directory.{ascends_filter}
 use Rattle.entry_writes.proofs.Identities.{above}
 use Rattle.entry_tree.proofs.Putting.{ascends_put, entry_at_put, found_same}
 use Rattle.entry_tree.proofs.Rising.{below_all, rises, among, rises-joined, among-joined, same_passing}
+use Rattle.schema_rules.proofs.Lists.{option_or-assoc}
 
 -- each of these entries put in its place
 abbrev pub put_all : List Entry → List Entry → List Entry
@@ -29,6 +31,7 @@ pub ascends_puts : (puts es : List Entry) → ascends es ≡ true → ascends (p
 ascends_puts [] es asc = asc
 ascends_puts (e ∷ puts) es asc = ascends_puts puts (put e es) (ascends_put e es asc)
 
+-- entries ascend after a commit
 pub ascends_committed : (es puts : List Entry) (drops : List ℕ) → ascends es ≡ true → ascends (committed es puts drops) ≡ true
 ascends_committed es puts drops asc = ascends_puts puts (filter (λ e. not (is_one_of drops e)) es) (ascends_filter (λ e. not (is_one_of drops e)) es asc)
 
@@ -66,16 +69,12 @@ or_found : (b : Bool) (e : Entry) (found : Option Entry) → option_or (cond b (
 or_found true e found = refl
 or_found false e found = refl
 
-or_assoc : (a b c : Option Entry) → option_or (option_or a b) c ≡ option_or a (option_or b c)
-or_assoc None b c = refl
-or_assoc (Some e) b c = refl
-
 pub entry_at_puts : (puts es : List Entry) (u : ℕ) → ascends es ≡ true → entry_at (put_all es puts) u ≡ option_or (entry_at (reverse puts) u) (entry_at es u)
 entry_at_puts [] es u asc = refl
 entry_at_puts (e ∷ puts) es u asc =
     entry_at_puts puts (put e es) u (ascends_put e es asc)
     ∙ ap (option_or (entry_at (reverse puts) u)) (entry_at_put e es u asc ∙ sym (or_found (nat_eq e.uuid u) e (entry_at es u)))
-    ∙ sym (or_assoc (entry_at (reverse puts) u) (cond (nat_eq e.uuid u) (Some e) None) (entry_at es u))
+    ∙ sym (option_or-assoc (entry_at (reverse puts) u) (cond (nat_eq e.uuid u) (Some e) None) (entry_at es u))
     ∙ ap (λ found. option_or found (entry_at es u)) (sym (ap (λ xs. entry_at xs u) (reverse-append (e ∷ []) puts) ∙ find-append (λ x. nat_eq x.uuid u) (reverse puts) (e ∷ [])))
 
 -- the last entry of the identity that is put, or else none where it is dropped, or else the entry that it had
@@ -107,7 +106,7 @@ stays_committed es puts drops u asc off =
 
 -- ---- what differs
 
-changes_at : (t : ℕ → Touch) (us : List ℕ) → filter is_change (map t us) ≡ map t (filter (λ u. is_change (t u)) us)
+changes_at : (t : ℕ → EntryChange) (us : List ℕ) → filter is_change (map t us) ≡ map t (filter (λ u. is_change (t u)) us)
 changes_at t [] = refl
 changes_at t (u ∷ us) = by (is_change (t u)) (changes_at t us)
   where
@@ -131,22 +130,22 @@ rises-identities : (es : List Entry) → rises (identities es) ≡ ascends es
 rises-identities [] = refl
 rises-identities (e ∷ es) = λ i. above_identities e.uuid es i && rises-identities es i
 
-no_change : (uuid : ℕ) (was now : Option Entry) → was ≡ now → is_change (record { uuid = uuid; was = was; now = now }) ≡ false
+no_change : (uuid : ℕ) (was now : Option Entry) → was ≡ now → is_change (record { uuid = uuid; before = was; after = now }) ≡ false
 no_change uuid was now same = ap (λ found. not (is_one_found was found)) (sym same) ∙ ap not (found_same was)
 
 -- what differs is found at identities that have all of those that do not keep what they have
 pub touched_by : (old new : List Entry) (us : List ℕ) → ascends old ≡ true → rises us ≡ true → ((u : ℕ) → among u us ≡ false → entry_at old u ≡ entry_at new u)
-    → touched old new ≡ filter is_change (map (touch_at old new) us)
+    → touched old new ≡ filter is_change (map (change_at old new) us)
 touched_by old new us asc up stays =
-    changes_at (touch_at old new) both
-    ∙ ap (map (touch_at old new)) (same_passing changes both us both_rise up (λ u. in_both u (among u both) refl) (λ u. in_these u (among u us) refl))
-    ∙ sym (changes_at (touch_at old new) us)
+    changes_at (change_at old new) both
+    ∙ ap (map (change_at old new)) (same_passing changes both us both_rise up (λ u. in_both u (among u both) refl) (λ u. in_these u (among u us) refl))
+    ∙ sym (changes_at (change_at old new) us)
   where
     both : List ℕ
     both = joined (identities old) (identities new)
 
     changes : ℕ → Bool
-    changes u = is_change (touch_at old new u)
+    changes u = is_change (change_at old new u)
 
     both_rise : rises both ≡ true
     both_rise = rises-joined (identities old) (identities new) (rises-identities old ∙ asc)
@@ -161,23 +160,21 @@ touched_by old new us asc up stays =
         let p = or_parts (among u (identities new)) (among u (identities old)) (sym (among-joined u (identities old) (identities new)) ∙ off) in
         absurd (false≢true (sym (no_change u (entry_at old u) (entry_at new u) (nowhere old u p.1 ∙ sym (nowhere new u p.0))) ∙ change))
 
+-- a commit touches what it puts and drops, where that differs
 pub touched_committed : (es puts : List Entry) (drops : List ℕ) → ascends es ≡ true
-    → touched es (committed es puts drops) ≡ filter is_change (map (touch_at es (committed es puts drops)) (ids puts drops))
+    → touched es (committed es puts drops) ≡ filter is_change (map (change_at es (committed es puts drops)) (ids puts drops))
 touched_committed es puts drops asc =
     touched_by es (committed es puts drops) (ids puts drops) asc (rises-joined (joined [] drops) (identities puts) (rises-joined [] drops refl))
     (λ u off. stays_committed es puts drops u asc off)
 
 -- ---- the identities that are dropped, as a set
 
-or_nothing : (b : Bool) → (b || false) ≡ b
-or_nothing true = refl
-or_nothing false = refl
-
+-- dropping by a set of identities is dropping by their list
 pub kept_by_set : (drops : List ℕ) (es : List Entry) → filter (λ e. not (is_one_of (joined [] drops) e)) es ≡ filter (λ e. not (is_one_of drops e)) es
 kept_by_set drops es = λ i. filter (λ e. not (one e i)) es
   where
     one : (e : Entry) → is_one_of (joined [] drops) e ≡ is_one_of drops e
-    one e = among-joined e.uuid [] drops ∙ or_nothing (among e.uuid drops)
+    one e = among-joined e.uuid [] drops ∙ or-false (among e.uuid drops)
 
 -- ---- entries that may be held
 
@@ -190,9 +187,11 @@ room es free =
     by true h = sym h
     by false h = refl
 
+-- entries that may be held are not too heavy
 pub held_light : (es : List Entry) → may_be_held es ≡ true → total_weight es ≤ most_weight
 held_light es held = (room es (and_parts (not (is_crowded es)) (is_none (same_named es)) held).0).1
 
+-- entries after a commit that may be held are those of a directory
 pub directory_committed : (es puts : List Entry) (drops : List ℕ) (weight : ℕ) → ascends es ≡ true → may_be_held (committed es puts drops) ≡ true → weight ≡ total_weight (committed es puts drops)
     → IsDirectory (committed es puts drops) weight
 directory_committed es puts drops weight asc held weighs =
@@ -207,11 +206,13 @@ directory_committed es puts drops weight asc held weighs =
 
 -- ---- the steps of a commit
 
+-- the entries that are left after the drops of a commit
 pub left_by_steps : (es reserved left : List Entry) (drops dropped : List ℕ) → reserved ≡ es → dropped ≡ joined [] drops
     → left ≡ filter (λ e. not (is_one_of dropped e)) reserved → left ≡ filter (λ e. not (is_one_of drops e)) es
 left_by_steps es reserved left drops dropped same set removed =
     removed ∙ (λ i. filter (λ e. not (is_one_of (set i) e)) (same i)) ∙ kept_by_set drops es
 
+-- the entries after the drops and the puts of a commit are those after it
 pub committed_by_steps : (es puts left copied after : List Entry) (drops : List ℕ) → left ≡ filter (λ e. not (is_one_of drops e)) es → copied ≡ puts → after ≡ put_all left copied
     → after ≡ committed es puts drops
 committed_by_steps es puts left copied after drops removed same put = put ∙ (λ i. put_all (removed i) (same i))

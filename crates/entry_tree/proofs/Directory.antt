@@ -8,14 +8,13 @@ use Rattle.schema_rules.specs.Attributes.{weight_of}
 use Rattle.entry_writes.specs.declared.entry.Entry.{Entry}
 use Rattle.entry_writes.specs.State.{ascends, total_weight, IsDirectory}
 use Rattle.entry_writes.proofs.Identities.{above}
+use Rattle.entry_writes.proofs.Passing.{list_all-filter}
 
+-- some of the entries above an identity are above it
 pub above_filter : (p : Entry → Bool) (u : ℕ) (es : List Entry) → above u es ≡ true → above u (filter p es) ≡ true
-above_filter p u [] h = refl
-above_filter p u (e ∷ es) h =
-    let parts = and_parts (nat_lt u e.uuid) (above u es) h in
-    let rest = above_filter p u es parts.1 in
-    cond_both (p e) (e ∷ filter p es) (filter p es) (λ xs. above u xs ≡ true) (λ _. and_from (nat_lt u e.uuid) (above u (filter p es)) parts.0 rest) (λ _. rest)
+above_filter p u es h = list_all-filter (λ (later : Entry). nat_lt u later.uuid) p es h
 
+-- some of ascending entries ascend
 pub ascends_filter : (p : Entry → Bool) (es : List Entry) → ascends es ≡ true → ascends (filter p es) ≡ true
 ascends_filter p [] h = refl
 ascends_filter p (e ∷ es) h =

@@ -4,7 +4,7 @@ use Rattle.std.specs.List.{filter, sum_by, position}
 use Rattle.std.specs.Option.{option_or}
 use Rattle.std.proofs.lemmas.List.Quantifiers.{position-Some}
 use Rattle.schema_rules.specs.Attributes.{entry_code, weight_of}
-use Rattle.csn_cookie.specs.Csn.{Stamp}
+use Rattle.csn_cookie.specs.Csn.{CsnValue}
 use Rattle.dn_names.specs.Names.{TypeAndValue}
 use Rattle.entry_writes.specs.declared.edit.Edit.{Edit}
 use Rattle.entry_writes.specs.declared.entry.Entry.{Entry}
@@ -30,6 +30,7 @@ placed_by es read name search place e asc same searched hit at = record {
   at = at;
 }
 
+-- the place of an entry is one of the list
 pub within : (es : List Entry) (name : List (List TypeAndValue)) (place : ℕ) (e : Entry) → IsPlaced es name place e → place < length es
 within es name place e placed = (position-Some (is_named name) es place e placed.found).0
 
@@ -59,7 +60,8 @@ code_placed es name place e others edits placed rest =
 
 -- ---- its effect
 
-pub effect_placed : (es : List Entry) (name : List (List TypeAndValue)) (place : ℕ) (e : Entry) (edits : List Edit) (csn : Stamp) → IsPlaced es name place e
+-- editing the entry at its place is the effect of the Modify
+pub effect_placed : (es : List Entry) (name : List (List TypeAndValue)) (place : ℕ) (e : Entry) (edits : List Edit) (csn : CsnValue) → IsPlaced es name place e
     → set es place (edited e edits csn) ≡ modified es (entry_named es name) edits csn
 effect_placed es name place e edits csn placed =
     let new = edited e edits csn in
@@ -67,6 +69,7 @@ effect_placed es name place e edits csn placed =
     ∙ ap (λ (y : Entry). map (λ x. cond (is_identified y.uuid x) new x) es) (sym placed.at)
     ∙ ap (λ o. modified es o edits csn) (sym (named es name place e placed))
 
+-- replacing the entry at its place touches it alone
 pub touched_placed : (es : List Entry) (name : List (List TypeAndValue)) (place : ℕ) (e new : Entry) → IsPlaced es name place e → new.uuid ≡ e.uuid
     → touched es (set es place new) ≡ filter is_change (change_from e new ∷ [])
 touched_placed es name place e new placed same =

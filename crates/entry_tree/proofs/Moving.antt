@@ -1,14 +1,16 @@
 -- Entries that move with one of them.
-use Rattle.std.proofs.Common.{◌≡◌, ◌<◌, ◌≤◌, ◌+◌, ◌-◌, ◌^◌, min, ℕ, Bool, true, false, not, ◌&&◌, cond, nat_eq, nat_lt, nat_le, List, [], ◌∷◌, length, map, take, drop, Option, Some, None, unwrap_or, Result, Ok, Err, ap, sym, ◌∙◌, refl, arith, bytes_eq}
-use Rattle.std.specs.List.{filter, find, list_all, list_any, zip}
+use Rattle.std.proofs.Common.{◌≡◌, ◌<◌, ◌≤◌, ◌+◌, ◌-◌, ◌^◌, min, ℕ, Bool, true, false, not, ◌&&◌, cond, nat_eq, nat_lt, nat_le, List, [], ◌∷◌, length, map, take, drop, Option, Some, None, unwrap_or, Result, Ok, Err, ap, sym, ◌∙◌, refl, arith}
+use Rattle.std.specs.List.{filter, find, list_any}
 use Rattle.std.specs.Result.{result_ok}
 use Rattle.std.proofs.lemmas.Bool.{eq-eqb, eqb-true, ne_eqb, ltb-true, lt-ltb, le-leb, and_parts, and_from, or_left, or_right}
 use Rattle.std.proofs.lemmas.List.{length-append, length-map}
 use Rattle.std.proofs.lemmas.List.Sums.{sum_by-cons}
+use Rattle.ldap_constants.specs.declared.result_codes.TheConstants.{ADMIN_LIMIT_EXCEEDED}
 use Rattle.schema_rules.specs.declared.attributes.Attribute.{Attribute}
 use Rattle.schema_rules.specs.Attributes.{weight_of}
-use Rattle.csn_cookie.specs.Csn.{Stamp}
-use Rattle.dn_names.specs.Names.{TypeAndValue, pair_key, same_pair, has_pair, same_rdn, same_name, is_at_or_below, parent_of, moved_name}
+use Rattle.csn_cookie.specs.Csn.{CsnValue}
+use Rattle.dn_names.specs.Names.{TypeAndValue, same_name, is_at_or_below, parent_of, moved_name}
+use Rattle.dn_names.proofs.EqualNames.{name_refl}
 use Rattle.dn_names.specs.declared.fault.NameFault.{NameFault}
 use Rattle.dn_names.specs.declared.fault.NameFault.TheVariants.{TooLong}
 use Rattle.dn_names.specs.Reading.{limited}
@@ -19,35 +21,11 @@ use Rattle.entry_writes.specs.Edits.{with_rdn}
 use Rattle.entry_writes.specs.Effects.{moved, new_name, new_attributes}
 use Rattle.entry_writes.specs.State.{ascends, entry_at, is_identified, own_pairs, total_weight, weight_with, most_weight, IsDirectory}
 use Rattle.entry_writes.proofs.Identities.{above, none_at}
-use Rattle.entry_tree.proofs.Limits.{weight_code-told}
+use Rattle.entry_writes.proofs.Same.{bytes_same}
+use Rattle.entry_tree.proofs.Limits.{weight_code-shown}
 use Rattle.entry_tree.proofs.Replacing.{ascends_mapped}
 
 -- ---- a name is at or below itself
-
-bytes_same : (bytes : List ℕ) → bytes_eq bytes bytes ≡ true
-bytes_same [] = refl
-bytes_same (b ∷ bytes) = and_from (nat_eq b b) (bytes_eq bytes bytes) (eq-eqb b b refl) (bytes_same bytes)
-
-pair_same : (p : TypeAndValue) → same_pair p p ≡ true
-pair_same p = and_from (nat_eq p.kind p.kind) (bytes_eq (pair_key p) (pair_key p)) (eq-eqb p.kind p.kind refl) (bytes_same (pair_key p))
-
-each_there : (pairs all : List TypeAndValue) → ((p : TypeAndValue) → has_pair pairs p ≡ true → has_pair all p ≡ true) → list_all (has_pair all) pairs ≡ true
-each_there [] all there = refl
-each_there (p ∷ pairs) all there =
-    and_from (has_pair all p) (list_all (has_pair all) pairs) (there p (or_left (same_pair p p) (has_pair pairs p) (pair_same p)))
-    (each_there pairs all (λ q in_rest. there q (or_right (same_pair q p) (has_pair pairs q) in_rest)))
-
-rdn_same : (rdn : List TypeAndValue) → same_rdn rdn rdn ≡ true
-rdn_same rdn =
-    let all = each_there rdn rdn (λ p there. there) in
-    and_from (list_all (has_pair rdn) rdn) (list_all (has_pair rdn) rdn) all all
-
-rdns_same : (name : List (List TypeAndValue)) → list_all (λ rdns. same_rdn rdns.0 rdns.1) (zip name name) ≡ true
-rdns_same [] = refl
-rdns_same (rdn ∷ name) = and_from (same_rdn rdn rdn) (list_all (λ rdns. same_rdn rdns.0 rdns.1) (zip name name)) (rdn_same rdn) (rdns_same name)
-
-name_same : (name : List (List TypeAndValue)) → same_name name name ≡ true
-name_same name = and_from (nat_eq (length name) (length name)) _ (eq-eqb (length name) (length name) refl) (rdns_same name)
 
 none_dropped : (name : List (List TypeAndValue)) → drop (length name - length name) name ≡ name
 none_dropped name = let none : length name - length name ≡ 0 = omega arith in ap (λ n. drop n name) none
@@ -55,10 +33,11 @@ none_dropped name = let none : length name - length name ≡ 0 = omega arith in 
 pub below_itself : (name : List (List TypeAndValue)) → is_at_or_below name name ≡ true
 below_itself name =
     and_from (nat_le (length name) (length name)) (same_name (drop (length name - length name) name) name) (le-leb (length name) (length name) (omega arith))
-    (ap (λ xs. same_name xs name) (none_dropped name) ∙ name_same name)
+    (ap (λ xs. same_name xs name) (none_dropped name) ∙ name_refl name)
 
 -- ---- the entry that a test finds
 
+-- an entry that is found is that of its identity
 pub held_where_found : (p : Entry → Bool) (es : List Entry) (top : Entry) → ascends es ≡ true → find p es ≡ Some top → entry_at es top.uuid ≡ Some top
 held_where_found p [] top asc found = absurd (cc)
 held_where_found p (e ∷ es) top asc found =
@@ -124,10 +103,11 @@ others_weight (e ∷ es) top asc held =
     by later rest false miss there =
         omega (arith, rest there, sum_by-cons weight e es, sum_by-cons weight e (filter (λ x. not (is_identified top.uuid x)) es))
 
-module _ (top : Entry) (name : List (List TypeAndValue)) (attrs : List Attribute) (csn : Stamp) where
+module _ (top : Entry) (name : List (List TypeAndValue)) (attrs : List Attribute) (csn : CsnValue) where
   abbrev step : Entry → Entry
   step e = moved top name attrs csn e
 
+  -- a Rename leaves the identities
   pub moved_keeps : (e : Entry) → (moved top name attrs csn e).uuid ≡ e.uuid
   moved_keeps e = by (is_at_or_below e.dn top.dn)
     where
@@ -154,6 +134,7 @@ module _ (top : Entry) (name : List (List TypeAndValue)) (attrs : List Attribute
       let far : top.uuid < e.uuid = ltb-true top.uuid e.uuid p.0 in
       omega (arith, weight_other e (ne_eqb e.uuid top.uuid (λ same. omega arith)), total_others es p.1, sum_by-cons weight e es, sum_by-cons weight (step e) (map step es))
 
+  -- what entries weigh after a Rename
   pub total_moved : (es : List Entry) → ascends es ≡ true → entry_at es top.uuid ≡ Some top
       → total_weight (map (moved top name attrs csn) es) + weight_of top.attrs ≡ total_weight es + weight_of attrs
   total_moved [] asc held = absurd (cc)
@@ -186,12 +167,14 @@ module _ (top : Entry) (name : List (List TypeAndValue)) (attrs : List Attribute
 
 -- ---- too long a name
 
-pub too_long_top : (p : Entry → Bool) (es : List Entry) (top : Entry) (name : List (List TypeAndValue)) → find p es ≡ Some top → most_rdns < length name → length_code es top name ≡ Some 11
+-- a Rename to a name that is too long has the code 11
+pub too_long_top : (p : Entry → Bool) (es : List Entry) (top : Entry) (name : List (List TypeAndValue)) → find p es ≡ Some top → most_rdns < length name → length_code es top name ≡ Some ADMIN_LIMIT_EXCEEDED
 too_long_top p es top name found long =
-    ap (λ b. cond b (Some 11) None) (any_where_held p (λ other. is_at_or_below other.dn top.dn && nat_lt most_rdns (length (moved_name other.dn top.dn name))) es top found
+    ap (λ b. cond b (Some ADMIN_LIMIT_EXCEEDED) None) (any_where_held p (λ other. is_at_or_below other.dn top.dn && nat_lt most_rdns (length (moved_name other.dn top.dn name))) es top found
     (and_from (is_at_or_below top.dn top.dn) (nat_lt most_rdns (length (moved_name top.dn top.dn name))) (below_itself top.dn)
     (lt-ltb most_rdns (length (moved_name top.dn top.dn name)) (omega (arith, length-append (take (length top.dn - length top.dn) top.dn) name)))))
 
+-- a name that has no place in the limit is too long
 pub long_where_none : (name : List (List TypeAndValue)) → result_ok (limited name) ≡ None → most_rdns < length name
 long_where_none name none = by (nat_lt most_rdns (length name)) refl none
   where
@@ -201,26 +184,30 @@ long_where_none name none = by (nat_lt most_rdns (length name)) refl none
 
 -- ---- what the entry gets
 
+-- a new name that no code rejects, by the steps of the code
 pub target_none : (suffix : List (List TypeAndValue)) (es held : List Entry) (top : Entry) (rdn : List TypeAndValue) (above : List (List TypeAndValue)) (superior : Option (List (List TypeAndValue)))
     → held ≡ es → above ≡ unwrap_or superior (parent_of top.dn) → target_code suffix held top (rdn ∷ above) superior ≡ None
     → target_code suffix es top (new_name top rdn superior) superior ≡ None
 target_none suffix es held top rdn above superior same is none =
     ap (λ xs. target_code suffix xs top (new_name top rdn superior) superior) (sym same) ∙ ap (λ a. target_code suffix held top (rdn ∷ a) superior) (sym is) ∙ none
 
+-- the attributes of a Rename, by the steps of the code
 pub attributes_are : (top : Entry) (rdn old : List TypeAndValue) (deletes : Bool) (attrs : List Attribute) → attrs ≡ with_rdn top.attrs old rdn deletes → old ≡ own_pairs top.dn
     → attrs ≡ new_attributes top rdn deletes
 attributes_are top rdn old deletes attrs is own = is ∙ ap (λ pairs. with_rdn top.attrs pairs rdn deletes) own
 
 -- the weight that is judged
-pub weight_judged : (es : List Entry) (top : Entry) (attrs : List Attribute) (total left told : ℕ) → IsDirectory es total → entry_at es top.uuid ≡ Some top → left + weight_of top.attrs ≡ total
-    → told ≡ min (weight_of attrs) (2 ^ 64 - 1) → weight_code told (left + told) ≡ weight_code (weight_of attrs) (weight_with es top (weight_of attrs))
-weight_judged es top attrs total left told h held parts is =
+pub weight_judged : (es : List Entry) (top : Entry) (attrs : List Attribute) (total left shown : ℕ) → IsDirectory es total → entry_at es top.uuid ≡ Some top → left + weight_of top.attrs ≡ total
+    → shown ≡ min (weight_of attrs) (2 ^ 64 - 1) → weight_code shown (left + shown) ≡ weight_code (weight_of attrs) (weight_with es top (weight_of attrs))
+weight_judged es top attrs total left shown h held parts is =
     let was = h.weighed in
     let others : left ≡ total_weight (filter (λ e. not (is_identified top.uuid e)) es) = omega (arith, parts, was, others_weight es top h.ascends held) in
-    weight_code-told told (weight_of attrs) left is ∙ ap (λ n. weight_code (weight_of attrs) (n + weight_of attrs)) others
+    weight_code-shown shown (weight_of attrs) left is ∙ ap (λ n. weight_code (weight_of attrs) (n + weight_of attrs)) others
 
+-- an entry weighs no more than all
 pub part_le : (es : List Entry) (top : Entry) (total : ℕ) → IsDirectory es total → entry_at es top.uuid ≡ Some top → weight_of top.attrs ≤ total
 part_le es top total h held = let was = h.weighed in omega (arith, was, others_weight es top h.ascends held)
 
+-- an entry of equal lists is that of its identity in both
 pub held_seen : (es seen : List Entry) (top : Entry) → es ≡ seen → entry_at seen top.uuid ≡ Some top → entry_at es top.uuid ≡ Some top
 held_seen es seen top same held = ap (λ xs. entry_at xs top.uuid) same ∙ held

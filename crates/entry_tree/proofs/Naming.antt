@@ -15,8 +15,8 @@ use Rattle.entry_writes.specs.declared.entry.Entry.{Entry}
 use Rattle.entry_writes.specs.State.{entry_named, same_named}
 
 -- keys compare equal exactly where the names are
-pub keys_tell : (one other : List (List TypeAndValue)) → IsName one → IsName other → eq_by_cmp (slice_cmp nat_cmp) (name_key one) (name_key other) ≡ same_name one other
-keys_tell one other is_one is_other = sym (texts_ties (name_key one) (name_key other)) ∙ step _ _ refl refl where
+pub keys_show : (one other : List (List TypeAndValue)) → IsName one → IsName other → eq_by_cmp (slice_cmp nat_cmp) (name_key one) (name_key other) ≡ same_name one other
+keys_show one other is_one is_other = sym (texts_ties (name_key one) (name_key other)) ∙ step _ _ refl refl where
   step : (b s : Bool) → pointwise nat_eq (name_key one) (name_key other) ≡ b → same_name one other ≡ s → pointwise nat_eq (name_key one) (name_key other) ≡ same_name one other
   step true true p q = p ∙ sym q
   step false false p q = p ∙ sym q
@@ -37,7 +37,7 @@ module _ {K : Type 0} (text : K → List ℕ) where
   notes-cons old new entries key entry is_own own updates notes k name is_name its =
       updates k
       ∙ (λ i. cond (is_eq (slice_cmp nat_cmp (own i) (its i))) (Some entry.uuid) (old k))
-      ∙ ap (λ b. cond b (Some entry.uuid) (old k)) (keys_tell entry.dn name is_own is_name)
+      ∙ ap (λ b. cond b (Some entry.uuid) (old k)) (keys_show entry.dn name is_own is_name)
       ∙ ap (cond (same_name entry.dn name) (Some entry.uuid)) (notes k name is_name its)
       ∙ by (same_name entry.dn name)
     where
@@ -55,6 +55,7 @@ pair-cons entry entries later is = sym (ap (λ o. option_or (option_map (λ (n :
 
 -- ---- entries from the last one on
 
+-- the entries in reverse order with one more
 pub noted_more : {A : Type 0} (entry : A → Entry) (xs : List A) (x : A) → reverse (map entry (xs ++ x ∷ [])) ≡ entry x ∷ reverse (map entry xs)
 noted_more entry xs x = ap reverse (map_push entry xs x) ∙ reverse-append (map entry xs) (entry x ∷ [])
 
@@ -66,6 +67,7 @@ map-reverse f (x ∷ xs) =
     ∙ ap (λ ys. ys ++ f x ∷ []) (map-reverse f xs)
     ∙ sym (reverse-append (f x ∷ []) (map f xs))
 
+-- the entries in reverse order are all of them
 pub noted_all : {A : Type 0} (entry : A → Entry) (ys : List (Bor A)) (xs : List A) → map (λ (y : Bor A). y.now) ys ≡ reverse xs → reverse (map (λ (y : Bor A). entry y.now) ys) ≡ map entry xs
 noted_all {A} entry ys xs all =
     ap reverse (each ys ∙ ap (map entry) all ∙ map-reverse entry xs) ∙ reverse-reverse (map entry xs)

@@ -10,9 +10,9 @@ use Rattle.std.proofs.lemmas.List.Folds.{list_all-append}
 use Rattle.std.proofs.lemmas.List.Sums.{AllPass-from_list_all, fold-append, sum_by-cons}
 use Rattle.schema_rules.specs.Attributes.{weight_of}
 use Rattle.entry_writes.specs.declared.entry.Entry.{Entry}
-use Rattle.entry_writes.specs.declared.touched.Touch.{Touch}
+use Rattle.entry_writes.specs.declared.touched.EntryChange.{EntryChange}
 use Rattle.entry_writes.specs.State.{ascends, entry_at, put, total_weight, most_entries, most_weight, IsDirectory}
-use Rattle.entry_writes.specs.Touched.{identities, joined, touch_at, is_change, touched}
+use Rattle.entry_writes.specs.Touched.{identities, joined, change_at, is_change, touched}
 use Rattle.entry_writes.specs.Bytes.{is_one_found}
 use Rattle.entry_tree.proofs.Directory.{above_filter}
 use Rattle.entry_writes.proofs.Identities.{above, above_lower, holds, insert_same, each_held, none_at}
@@ -38,10 +38,10 @@ all_higher u (x ∷ es) h =
     let p = and_parts (nat_lt u x.uuid) (above u es) h in
     ap (λ b. cond b (x ∷ higher u es) (higher u es)) p.0 ∙ ap (λ xs. x ∷ xs) (all_higher u es p.1)
 
--- ---- behind the first entry, in its place, or before it
+-- ---- after the first entry, in its place, or before it
 
-put_behind : (e x : Entry) (es : List Entry) → x.uuid < e.uuid → put e (x ∷ es) ≡ x ∷ put e es
-put_behind e x es less =
+put_after : (e x : Entry) (es : List Entry) → x.uuid < e.uuid → put e (x ∷ es) ≡ x ∷ put e es
+put_after e x es less =
     ap (λ b. cond b (x ∷ lower e.uuid es) (lower e.uuid es) ++ e ∷ higher e.uuid (x ∷ es)) (lt-ltb x.uuid e.uuid less)
     ∙ ap (λ b. (x ∷ lower e.uuid es) ++ e ∷ cond b (x ∷ higher e.uuid es) (higher e.uuid es)) (le-ltb e.uuid x.uuid (omega arith))
 
@@ -61,7 +61,7 @@ put_before e x es less later =
     let far = above_all e.uuid x es less later in
     ap (λ xs. xs ++ e ∷ higher e.uuid (x ∷ es)) (none_lower e.uuid (x ∷ es) far) ∙ ap (λ xs. e ∷ xs) (all_higher e.uuid (x ∷ es) far)
 
--- the entry is equal to, behind or before the first
+-- the entry is equal to, after or before the first
 abbrev Order : Entry → Entry → Type 0
 Order x e = (x.uuid ≡ e.uuid) ⊎ ((x.uuid < e.uuid) ⊎ (e.uuid < x.uuid))
 
@@ -73,6 +73,7 @@ above_put u e es less later =
     ∙ and_from (above u (lower e.uuid es)) (above u (e ∷ higher e.uuid es)) (above_filter (λ (x : Entry). nat_lt x.uuid e.uuid) u es later)
     (and_from (nat_lt u e.uuid) (above u (higher e.uuid es)) (lt-ltb u e.uuid less) (above_filter (λ (x : Entry). nat_lt e.uuid x.uuid) u es later))
 
+-- entries ascend after a put
 pub ascends_put : (e : Entry) (es : List Entry) → ascends es ≡ true → ascends (put e es) ≡ true
 ascends_put e [] asc = refl
 ascends_put e (x ∷ es) asc =
@@ -84,7 +85,7 @@ ascends_put e (x ∷ es) asc =
         ap ascends (put_there e x es same later)
         ∙ and_from (above e.uuid es) (ascends es) (ap (λ n. above n es) (sym same) ∙ later) rest
     by later rest put_rest (inr (inl less)) =
-        ap ascends (put_behind e x es less)
+        ap ascends (put_after e x es less)
         ∙ and_from (above x.uuid (put e es)) (ascends (put e es)) (above_put x.uuid e es less later) put_rest
     by later rest put_rest (inr (inr more)) =
         ap ascends (put_before e x es more later)
@@ -98,7 +99,7 @@ length_put e (x ∷ es) asc =
   where
     by : above x.uuid es ≡ true → length (put e es) ≤ length es + 1 → Order x e → length (put e (x ∷ es)) ≤ length (x ∷ es) + 1
     by later rest (inl same) = omega (arith, ap length (put_there e x es same later))
-    by later rest (inr (inl less)) = omega (arith, rest, ap length (put_behind e x es less))
+    by later rest (inr (inl less)) = omega (arith, rest, ap length (put_after e x es less))
     by later rest (inr (inr more)) = omega (arith, ap length (put_before e x es more later))
 
 -- what the entry that is found weighs
@@ -108,6 +109,7 @@ found_weight found = unwrap_or (option_map (λ (e : Entry). weight_of e.attrs) f
 abbrev weight : Entry → ℕ
 weight e = weight_of e.attrs
 
+-- what entries weigh after a put
 pub total_put : (e : Entry) (es : List Entry) → ascends es ≡ true → total_weight (put e es) + found_weight (entry_at es e.uuid) ≡ total_weight es + weight_of e.attrs
 total_put e [] asc = omega (arith, sum_by-cons weight e [])
 total_put e (x ∷ es) asc =
@@ -123,11 +125,12 @@ total_put e (x ∷ es) asc =
         let found : found_weight (entry_at (x ∷ es) e.uuid) ≡ found_weight (entry_at es e.uuid) =
         ap (λ b. found_weight (cond b (Some x) (entry_at es e.uuid))) (ne_eqb x.uuid e.uuid (λ same. omega arith))
         in
-        omega (arith, found, rest, ap total_weight (put_behind e x es less), sum_by-cons weight x (put e es), sum_by-cons weight x es)
+        omega (arith, found, rest, ap total_weight (put_after e x es less), sum_by-cons weight x (put e es), sum_by-cons weight x es)
     by later rest (inr (inr more)) =
         let found : found_weight (entry_at (x ∷ es) e.uuid) ≡ 0 = ap found_weight (none_at (x ∷ es) e.uuid (above_all e.uuid x es more later)) in
         omega (arith, found, ap total_weight (put_before e x es more later), sum_by-cons weight e (x ∷ es))
 
+-- the entry of an identity weighs no more than all
 pub found_le : (es : List Entry) (u : ℕ) → found_weight (entry_at es u) ≤ total_weight es
 found_le [] u = omega arith
 found_le (x ∷ es) u = by (found_le es u) (nat_eq x.uuid u)
@@ -151,6 +154,7 @@ put_directory e es before after h few light weighed =
 
 -- ---- look-ups
 
+-- what an identity has after a put
 pub entry_at_put : (e : Entry) (es : List Entry) (u : ℕ) → ascends es ≡ true → entry_at (put e es) u ≡ cond (nat_eq e.uuid u) (Some e) (entry_at es u)
 entry_at_put e [] u asc = refl
 entry_at_put e (x ∷ es) u asc =
@@ -171,7 +175,7 @@ entry_at_put e (x ∷ es) u asc =
     by : above x.uuid es ≡ true → entry_at (put e es) u ≡ cond (nat_eq e.uuid u) (Some e) (entry_at es u) → Order x e
         → entry_at (put e (x ∷ es)) u ≡ cond (nat_eq e.uuid u) (Some e) (entry_at (x ∷ es) u)
     by later rest (inl same) = ap (λ xs. entry_at xs u) (put_there e x es same later) ∙ here same (nat_eq e.uuid u) refl
-    by later rest (inr (inl less)) = ap (λ xs. entry_at xs u) (put_behind e x es less) ∙ past less rest (nat_eq x.uuid u) refl
+    by later rest (inr (inl less)) = ap (λ xs. entry_at xs u) (put_after e x es less) ∙ past less rest (nat_eq x.uuid u) refl
     by later rest (inr (inr more)) = ap (λ xs. entry_at xs u) (put_before e x es more later)
 
 -- ---- the identities of both
@@ -188,7 +192,7 @@ identities_put e (x ∷ es) asc =
         ∙ ap (λ u. u ∷ identities es) same ∙ sym (ap identities (put_there e x es same later))
     by later rest (inr (inl less)) =
         ap (λ o. match_ordering o (e.uuid ∷ x.uuid ∷ identities es) (x.uuid ∷ identities es) (x.uuid ∷ insert_key nat_cmp (identities es) e.uuid)) (sym (nat_cmp_is e.uuid x.uuid Greater less))
-        ∙ ap (λ ids. x.uuid ∷ ids) rest ∙ sym (ap identities (put_behind e x es less))
+        ∙ ap (λ ids. x.uuid ∷ ids) rest ∙ sym (ap identities (put_after e x es less))
     by later rest (inr (inr more)) =
         ap (λ o. match_ordering o (e.uuid ∷ x.uuid ∷ identities es) (x.uuid ∷ identities es) (x.uuid ∷ insert_key nat_cmp (identities es) e.uuid)) (sym (nat_cmp_is e.uuid x.uuid Less more))
         ∙ sym (ap identities (put_before e x es more later))
@@ -220,7 +224,7 @@ joined_put e es asc =
 
 -- ---- what differs
 
-no_change : (t : ℕ → Touch) (u : ℕ) → ((v : ℕ) → nat_eq u v ≡ false → is_change (t v) ≡ false) → (es : List Entry) → above u es ≡ true → filter is_change (map t (identities es)) ≡ []
+no_change : (t : ℕ → EntryChange) (u : ℕ) → ((v : ℕ) → nat_eq u v ≡ false → is_change (t v) ≡ false) → (es : List Entry) → above u es ≡ true → filter is_change (map t (identities es)) ≡ []
 no_change t u stays [] later = refl
 no_change t u stays (x ∷ es) later =
     let p = and_parts (nat_lt u x.uuid) (above u es) later in
@@ -228,14 +232,14 @@ no_change t u stays (x ∷ es) later =
     ap (λ b. cond b (t x.uuid ∷ filter is_change (map t (identities es))) (filter is_change (map t (identities es)))) (stays x.uuid (ne_eqb u x.uuid (λ same. omega arith)))
     ∙ no_change t u stays es p.1
 
-one_change : (t : ℕ → Touch) (e : Entry) → ((v : ℕ) → nat_eq e.uuid v ≡ false → is_change (t v) ≡ false) → (es : List Entry) → ascends es ≡ true
+one_change : (t : ℕ → EntryChange) (e : Entry) → ((v : ℕ) → nat_eq e.uuid v ≡ false → is_change (t v) ≡ false) → (es : List Entry) → ascends es ≡ true
     → filter is_change (map t (identities (put e es))) ≡ filter is_change (t e.uuid ∷ [])
 one_change t e stays [] asc = refl
 one_change t e stays (x ∷ es) asc =
     let p = and_parts (above x.uuid es) (ascends es) asc in
     by p.0 (one_change t e stays es p.1) (cases_order x.uuid e.uuid)
   where
-    rest_of : List Entry → List Touch
+    rest_of : List Entry → List EntryChange
     rest_of xs = filter is_change (map t (identities xs))
 
     alone : (xs : List Entry) → above e.uuid xs ≡ true → filter is_change (map t (identities (e ∷ xs))) ≡ filter is_change (t e.uuid ∷ [])
@@ -246,35 +250,38 @@ one_change t e stays (x ∷ es) asc =
     by later rest (inl same) =
         ap (λ xs. filter is_change (map t (identities xs))) (put_there e x es same later) ∙ alone es (ap (λ n. above n es) (sym same) ∙ later)
     by later rest (inr (inl less)) =
-        ap (λ xs. filter is_change (map t (identities xs))) (put_behind e x es less)
+        ap (λ xs. filter is_change (map t (identities xs))) (put_after e x es less)
         ∙ ap (λ b. cond b (t x.uuid ∷ filter is_change (map t (identities (put e es)))) (filter is_change (map t (identities (put e es))))) (stays x.uuid (ne_eqb e.uuid x.uuid (λ same. omega arith)))
         ∙ rest
     by later rest (inr (inr more)) =
         ap (λ xs. filter is_change (map t (identities xs))) (put_before e x es more later) ∙ alone (x ∷ es) (above_all e.uuid x es more later)
 
+-- an entry or none is compared as one with itself
 pub found_same : (found : Option Entry) → is_one_found found found ≡ true
 found_same None = refl
 found_same (Some e) = entry_same e
 
 -- what the identity had, and the entry
-abbrev pub put_touch : Option Entry → Entry → Touch
-put_touch was e = record { uuid = e.uuid; was = was; now = Some e }
+abbrev pub put_change : Option Entry → Entry → EntryChange
+put_change was e = record { uuid = e.uuid; before = was; after = Some e }
 
-pub touched_put : (e : Entry) (old : List Entry) → ascends old ≡ true → touched old (put e old) ≡ filter is_change (put_touch (entry_at old e.uuid) e ∷ [])
+-- a put touches the entry's identity alone
+pub touched_put : (e : Entry) (old : List Entry) → ascends old ≡ true → touched old (put e old) ≡ filter is_change (put_change (entry_at old e.uuid) e ∷ [])
 touched_put e old asc =
-    ap (λ ids. filter is_change (map (touch_at old (put e old)) ids)) (joined_put e old asc)
-    ∙ one_change (touch_at old (put e old)) e stays old asc
-    ∙ ap (λ found. let t : Touch = record { uuid = e.uuid; was = entry_at old e.uuid; now = found } in filter is_change (t ∷ []))
+    ap (λ ids. filter is_change (map (change_at old (put e old)) ids)) (joined_put e old asc)
+    ∙ one_change (change_at old (put e old)) e stays old asc
+    ∙ ap (λ found. let t : EntryChange = record { uuid = e.uuid; before = entry_at old e.uuid; after = found } in filter is_change (t ∷ []))
     (entry_at_put e old e.uuid asc ∙ ap (λ b. cond b (Some e) (entry_at old e.uuid)) (eq-eqb e.uuid e.uuid refl))
   where
-    stays : (v : ℕ) → nat_eq e.uuid v ≡ false → is_change (touch_at old (put e old) v) ≡ false
+    stays : (v : ℕ) → nat_eq e.uuid v ≡ false → is_change (change_at old (put e old) v) ≡ false
     stays v other =
-        ap (λ found. let t : Touch = record { uuid = v; was = entry_at old v; now = found } in is_change t)
+        ap (λ found. let t : EntryChange = record { uuid = v; before = entry_at old v; after = found } in is_change t)
         (entry_at_put e old v asc ∙ ap (λ b. cond b (Some e) (entry_at old v)) other)
         ∙ ap (λ b. not b) (found_same (entry_at old v))
 
 -- ---- the write
 
+-- setting an entry at the place of its identity is a put
 pub set_puts : (e : Entry) (es : List Entry) (place : ℕ) → ascends es ≡ true → place < length es → (get_or es place e).uuid ≡ e.uuid → set es place e ≡ put e es
 set_puts e [] place asc low at = absurd (omega arith)
 set_puts e (x ∷ es) zero asc low at = sym (put_there e x es at (and_parts (above x.uuid es) (ascends es) asc).0)
@@ -282,8 +289,9 @@ set_puts e (x ∷ es) (suc place) asc low at =
     let p = and_parts (above x.uuid es) (ascends es) asc in
     let far : nat_lt x.uuid (get_or es place e).uuid ≡ true = AllPass-from_list_all (λ (y : Entry). nat_lt x.uuid y.uuid) es p.0 place e (omega arith) in
     let below : x.uuid < (get_or es place e).uuid = ltb-true x.uuid (get_or es place e).uuid far in
-    ap (λ xs. x ∷ xs) (set_puts e es place p.1 (omega arith) at) ∙ sym (put_behind e x es (omega arith))
+    ap (λ xs. x ∷ xs) (set_puts e es place p.1 (omega arith) at) ∙ sym (put_after e x es (omega arith))
 
+-- inserting an entry between those below and those above it is a put
 pub insert_puts : (e : Entry) (es : List Entry) (place : ℕ) → ascends es ≡ true → place ≤ length es → ((k : ℕ) → k < place → (get_or es k e).uuid < e.uuid)
     → ((k : ℕ) → place ≤ k → k < length es → e.uuid < (get_or es k e).uuid) → insert es place e ≡ put e es
 insert_puts e [] zero asc low below beyond = refl
@@ -291,4 +299,4 @@ insert_puts e [] (suc place) asc low below beyond = absurd (omega arith)
 insert_puts e (x ∷ es) zero asc low below beyond = sym (put_before e x es (beyond 0 (omega arith) (omega arith)) (and_parts (above x.uuid es) (ascends es) asc).0)
 insert_puts e (x ∷ es) (suc place) asc low below beyond =
     ap (λ xs. x ∷ xs) (insert_puts e es place (and_parts (above x.uuid es) (ascends es) asc).1 (omega arith) (λ k less. below (suc k) (omega arith)) (λ k more less. beyond (suc k) (omega arith) (omega arith)))
-    ∙ sym (put_behind e x es (below 0 (omega arith)))
+    ∙ sym (put_after e x es (below 0 (omega arith)))

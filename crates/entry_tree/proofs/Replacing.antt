@@ -1,13 +1,14 @@
 -- One entry takes the place of another of the same identity.
 use Rattle.std.proofs.Common.{◌≡◌, ◌<◌, ◌≤◌, ◌+◌, ℕ, zero, suc, Bool, true, false, not, ◌&&◌, cond, nat_eq, nat_lt, List, [], ◌∷◌, length, map, get_or, set, Some, None, ap, sym, ◌∙◌, refl, arith}
 use Rattle.std.specs.List.{filter, find, list_all, list_any, sum_by, position, position_or_len}
-use Rattle.std.proofs.lemmas.Bool.{eq-eqb, eqb-true, ne_eqb, ltb-true, ltb-false, and_parts, or_parts}
+use Rattle.std.proofs.lemmas.Bool.{eq-eqb, eqb-true, ne_eqb, ltb-true, and_parts, or_parts}
 use Rattle.std.proofs.lemmas.List.Quantifiers.{position-Some}
 use Rattle.std.proofs.lemmas.List.Sums.{AllPass-from_list_all, sum_by-cons, sum_by-set, fails_before_first}
 use Rattle.std.proofs.lemmas.List.{length-set}
 use Rattle.schema_rules.specs.Attributes.{weight_of}
+use Rattle.schema_rules.proofs.Joining.{none_long}
 use Rattle.entry_writes.specs.declared.entry.Entry.{Entry}
-use Rattle.entry_writes.specs.declared.touched.Touch.{Touch}
+use Rattle.entry_writes.specs.declared.touched.EntryChange.{EntryChange}
 use Rattle.entry_writes.specs.State.{ascends, is_identified, IsDirectory, most_weight}
 use Rattle.entry_writes.specs.Touched.{is_change, touched}
 use Rattle.entry_writes.proofs.Identities.{none_held, stepped, touched_mapped}
@@ -22,6 +23,7 @@ find_first p (x ∷ xs) zero d low here before = ap (λ b. cond b (Some x) (find
 find_first p (x ∷ xs) (suc i) d low here before =
     ap (λ b. cond b (Some x) (find p xs)) (before 0 (omega arith)) ∙ find_first p xs i d (omega arith) here (λ k h. before (suc k) (omega arith))
 
+-- what is found is the item at the first place that passes
 pub find_at_place : {X : Type 0} (p : X → Bool) (xs : List X) (i : ℕ) (d : X) → position p xs ≡ Some i → find p xs ≡ Some (get_or xs i d)
 find_at_place p xs i d found = let q = position-Some p xs i d found in find_first p xs i d q.0 q.1 q.2
 
@@ -30,13 +32,7 @@ find_nowhere p [] none = refl
 find_nowhere p (x ∷ xs) none =
     ap (λ b. cond b (Some x) (find p xs)) (none 0 x (omega arith)) ∙ find_nowhere p xs (λ k d low. none (suc k) d (omega arith))
 
-none_long : (m l : ℕ) → cond (nat_lt m l) (Some m) None ≡ None → l ≤ m
-none_long m l none = by (nat_lt m l) refl none
-  where
-    by : (b : Bool) → nat_lt m l ≡ b → cond b (Some m) None ≡ None → l ≤ m
-    by true e h = absurd (cc)
-    by false e h = ltb-false m l e
-
+-- nothing is found where no place passes
 pub find_no_place : {X : Type 0} (p : X → Bool) (xs : List X) → position p xs ≡ None → find p xs ≡ None
 find_no_place p xs none =
     let long = none_long (position_or_len p xs) (length xs) none in
@@ -80,6 +76,7 @@ set_is_map p new (e ∷ es) zero only = sym (ap (λ b. cond b new e ∷ map (rep
 set_is_map p new (e ∷ es) (suc place) only =
     ap (λ xs. e ∷ xs) (set_is_map p new es place only.1) ∙ sym (ap (λ b. cond b new e ∷ map (replaced p new) es) only.0)
 
+-- setting an entry at a place replaces that of its identity
 pub set_replaces : (es : List Entry) (place : ℕ) (d new : Entry) → ascends es ≡ true → place < length es
     → set es place new ≡ map (λ e. cond (is_identified (get_or es place d).uuid e) new e) es
 set_replaces es place d new asc low = set_is_map (is_identified (get_or es place d).uuid) new es place (only_at es place d asc low)
@@ -125,7 +122,8 @@ ascends_mapped f keeps (e ∷ es) =
     above u [] = refl
     above u (x ∷ xs) = ap (λ v. nat_lt u v && list_all (λ y. nat_lt u y.uuid) (map f xs)) (keeps x) ∙ ap (λ b. nat_lt u x.uuid && b) (above u xs)
 
-replaced_keeps : (u : ℕ) (new : Entry) → new.uuid ≡ u → (e : Entry) → (replaced (is_identified u) new e).uuid ≡ e.uuid
+-- an entry in the place of one of its identity changes no identity
+pub replaced_keeps : (u : ℕ) (new : Entry) → new.uuid ≡ u → (e : Entry) → (replaced (is_identified u) new e).uuid ≡ e.uuid
 replaced_keeps u new same e = by (nat_eq e.uuid u) refl
   where
     by : (b : Bool) → nat_eq e.uuid u ≡ b → (cond b new e).uuid ≡ e.uuid
@@ -144,8 +142,8 @@ skipped : (p : Entry → Bool) (new e : Entry) (es : List Entry) → p e ≡ fal
     → filter is_change (map (stepped (λ x. Some (replaced p new x))) (e ∷ es)) ≡ filter is_change (map (stepped (λ x. Some (replaced p new x))) es)
 skipped p new e es miss =
     let rest = filter is_change (map (stepped (λ x. Some (replaced p new x))) es) in
-    ap (λ b. let t : Touch = record { uuid = e.uuid; was = Some e; now = Some (cond b new e) } in cond (is_change t) (t ∷ rest) rest) miss
-    ∙ ap (λ b. let t : Touch = record { uuid = e.uuid; was = Some e; now = Some e } in cond (not b) (t ∷ rest) rest) (entry_same e)
+    ap (λ b. let t : EntryChange = record { uuid = e.uuid; before = Some e; after = Some (cond b new e) } in cond (is_change t) (t ∷ rest) rest) miss
+    ∙ ap (λ b. let t : EntryChange = record { uuid = e.uuid; before = Some e; after = Some e } in cond (not b) (t ∷ rest) rest) (entry_same e)
 
 changes_none : (p : Entry → Bool) (new : Entry) (es : List Entry) → list_any p es ≡ false → filter is_change (map (stepped (λ x. Some (replaced p new x))) es) ≡ []
 changes_none p new [] none = refl
@@ -154,18 +152,19 @@ changes_none p new (e ∷ es) none =
     skipped p new e es q.0 ∙ changes_none p new es q.1
 
 -- the entry before and after
-abbrev pub change_from : Entry → Entry → Touch
-change_from was now = record { uuid = was.uuid; was = Some was; now = Some now }
+abbrev pub change_from : Entry → Entry → EntryChange
+change_from was now = record { uuid = was.uuid; before = Some was; after = Some now }
 
 changes_only : (p : Entry → Bool) (new : Entry) (es : List Entry) (place : ℕ) (d : Entry) → IsOnly p es place
     → filter is_change (map (stepped (λ x. Some (replaced p new x))) es) ≡ filter is_change (change_from (get_or es place d) new ∷ [])
 changes_only p new [] place d only = absurd only
 changes_only p new (e ∷ es) zero d only =
     let rest = filter is_change (map (stepped (λ x. Some (replaced p new x))) es) in
-    ap (λ b. let t : Touch = record { uuid = e.uuid; was = Some e; now = Some (cond b new e) } in cond (is_change t) (t ∷ rest) rest) only.0
+    ap (λ b. let t : EntryChange = record { uuid = e.uuid; before = Some e; after = Some (cond b new e) } in cond (is_change t) (t ∷ rest) rest) only.0
     ∙ ap (λ xs. cond (is_change (change_from e new)) (change_from e new ∷ xs) xs) (changes_none p new es only.1)
 changes_only p new (e ∷ es) (suc place) d only = skipped p new e es only.0 ∙ changes_only p new es place d only.1
 
+-- replacing an entry touches its identity alone
 pub touched_replaced : (es : List Entry) (place : ℕ) (d new : Entry) → ascends es ≡ true → place < length es → new.uuid ≡ (get_or es place d).uuid
     → touched es (set es place new) ≡ filter is_change (change_from (get_or es place d) new ∷ [])
 touched_replaced es place d new asc low same =

@@ -9,24 +9,30 @@ use Rattle.std.proofs.lemmas.Bool.Decides.{nat_tests}
 use Rattle.std.proofs.lemmas.List.{take_more}
 use Rattle.std.proofs.lemmas.List.Sums.{fold-append}
 use Rattle.entry_writes.specs.Touched.{joined}
+use Rattle.entry_writes.proofs.Passing.{list_all-filter}
 
+-- whether a number is below all of these
 abbrev pub below_all : ℕ → List ℕ → Bool
 below_all n ns = list_all (nat_lt n) ns
 
+-- whether numbers ascend
 abbrev pub rises : List ℕ → Bool
 rises [] = true
 rises (n ∷ ns) = below_all n ns && rises ns
 
+-- whether a number is among these
 abbrev pub among : ℕ → List ℕ → Bool
 among u ns = list_any (nat_eq u) ns
 
-below_lower : (n m : ℕ) (ns : List ℕ) → n < m → below_all m ns ≡ true → below_all n ns ≡ true
+-- what is below one is below all that are above it
+pub below_lower : (n m : ℕ) (ns : List ℕ) → n < m → below_all m ns ≡ true → below_all n ns ≡ true
 below_lower n m [] less below = refl
 below_lower n m (k ∷ ns) less below = grind (arith, nat_tests, below_lower n m ns less)
 
 -- ---- numbers that are put in
 
-below-insert : (n : ℕ) (ns : List ℕ) (u : ℕ) → n < u → below_all n ns ≡ true → below_all n (insert_key nat_cmp ns u) ≡ true
+-- what is below all is below one more that is above it
+pub below-insert : (n : ℕ) (ns : List ℕ) (u : ℕ) → n < u → below_all n ns ≡ true → below_all n (insert_key nat_cmp ns u) ≡ true
 below-insert n [] u less below = grind (arith, nat_tests)
 below-insert n (m ∷ ns) u less below = grind (arith, nat_tests, below-insert n ns u less)
 
@@ -36,14 +42,17 @@ rises-insert (n ∷ ns) u up =
     let p = and_parts (below_all n ns) (rises ns) up in
     grind (arith, nat_tests, p.0, rises-insert ns u p.1, below-insert n ns u, below_lower u n ns)
 
+-- a union of ascending numbers ascends
 pub rises-joined : (ns more : List ℕ) → rises ns ≡ true → rises (joined ns more) ≡ true
 rises-joined ns [] up = up
 rises-joined ns (u ∷ more) up = rises-joined (insert_key nat_cmp ns u) more (rises-insert ns u up)
 
-among-insert : (u : ℕ) (ns : List ℕ) (n : ℕ) → among u (insert_key nat_cmp ns n) ≡ (nat_eq u n || among u ns)
+-- what is there with one more
+pub among-insert : (u : ℕ) (ns : List ℕ) (n : ℕ) → among u (insert_key nat_cmp ns n) ≡ (nat_eq u n || among u ns)
 among-insert u [] n = refl
 among-insert u (m ∷ ns) n = grind (arith, nat_tests, among-insert u ns n)
 
+-- a number is in a union where it is in one of its parts
 pub among-joined : (u : ℕ) (ns more : List ℕ) → among u (joined ns more) ≡ (among u more || among u ns)
 among-joined u ns [] = refl
 among-joined u ns (n ∷ more) =
@@ -57,19 +66,12 @@ among-joined u ns (n ∷ more) =
 
 -- ---- those that pass a test
 
-below-filter : (p : ℕ → Bool) (n : ℕ) (ns : List ℕ) → below_all n ns ≡ true → below_all n (filter p ns) ≡ true
-below-filter p n [] below = refl
-below-filter p n (m ∷ ns) below =
-    let parts = and_parts (nat_lt n m) (below_all n ns) below in
-    let rest = below-filter p n ns parts.1 in
-    cond_both (p m) (m ∷ filter p ns) (filter p ns) (λ xs. below_all n xs ≡ true) (λ _. and_from (nat_lt n m) (below_all n (filter p ns)) parts.0 rest) (λ _. rest)
-
 rises-filter : (p : ℕ → Bool) (ns : List ℕ) → rises ns ≡ true → rises (filter p ns) ≡ true
 rises-filter p [] up = refl
 rises-filter p (n ∷ ns) up =
     let parts = and_parts (below_all n ns) (rises ns) up in
     let rest = rises-filter p ns parts.1 in
-    cond_both (p n) (n ∷ filter p ns) (filter p ns) (λ xs. rises xs ≡ true) (λ _. and_from (below_all n (filter p ns)) (rises (filter p ns)) (below-filter p n ns parts.0) rest) (λ _. rest)
+    cond_both (p n) (n ∷ filter p ns) (filter p ns) (λ xs. rises xs ≡ true) (λ _. and_from (below_all n (filter p ns)) (rises (filter p ns)) (list_all-filter (nat_lt n) p ns parts.0) rest) (λ _. rest)
 
 among-filter : (p : ℕ → Bool) (u : ℕ) (ns : List ℕ) → among u (filter p ns) ≡ (p u && among u ns)
 among-filter p u [] = by (p u)
@@ -140,5 +142,6 @@ same_passing p ns ms up rising one other =
 
 -- ---- one more of a list
 
+-- a union with one more number of the second part
 pub joined_more : (ns us : List ℕ) (i : ℕ) → i < length us → joined ns (take (i + 1) us) ≡ insert_key nat_cmp (joined ns (take i us)) (get_or us i 0)
 joined_more ns us i low = ap (joined ns) (take_more us i 0 low) ∙ fold-append (insert_key nat_cmp) ns (take i us) (get_or us i 0 ∷ [])

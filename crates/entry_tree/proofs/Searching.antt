@@ -14,13 +14,15 @@ use Rattle.entry_writes.specs.State.{ascends, entry_at, put}
 use Rattle.entry_writes.proofs.Identities.{above}
 use Rattle.entry_tree.proofs.Putting.{set_puts, insert_puts}
 
-less_where : (a b : ℕ) → nat_cmp a b ≡ Less → a < b
+-- what the order of two numbers reports
+pub less_where : (a b : ℕ) → nat_cmp a b ≡ Less → a < b
 less_where a b is = subst (λ o. MatchOrdering o (a < b) (a ≡ b) (b < a)) is (ranks a b)
 
-same_where : (a b : ℕ) → nat_cmp a b ≡ Equal → a ≡ b
+-- numbers that are ordered as equal are equal
+pub same_where : (a b : ℕ) → nat_cmp a b ≡ Equal → a ≡ b
 same_where a b is = subst (λ o. MatchOrdering o (a < b) (a ≡ b) (b < a)) is (ranks a b)
 
-more_where : (a b : ℕ) → nat_cmp a b ≡ Greater → b < a
+pub more_where : (a b : ℕ) → nat_cmp a b ≡ Greater → b < a
 more_where a b is = subst (λ o. MatchOrdering o (a < b) (a ≡ b) (b < a)) is (ranks a b)
 
 rises : (es : List Entry) → ascends es ≡ true → (i j : ℕ) (d : Entry) → i ≤ j → j < length es → (get_or es i d).uuid ≤ (get_or es j d).uuid
@@ -37,10 +39,12 @@ rises (x ∷ es) asc (suc i) (suc j) d up low = rises es (and_parts (above x.uui
 index_rises : (a b u : ℕ) → a ≤ b → ordering_index (nat_cmp a u) ≤ ordering_index (nat_cmp b u)
 index_rises a b u le = grind (arith, nat_tests)
 
+-- setting an entry at the place that a search finds is a put
 pub set_found : (e : Entry) (es : List Entry) (place : ℕ) → ascends es ≡ true → place < length es → HoldsAt (λ (y : Entry). nat_cmp y.uuid e.uuid ≡ Equal) es place
     → set es place e ≡ put e es
 set_found e es place asc low at = set_puts e es place asc low (same_where (get_or es place e).uuid e.uuid (at e))
 
+-- inserting an entry at the place that a search gives is a put
 pub insert_found : (e : Entry) (es : List Entry) (place : ℕ) → ascends es ≡ true → place ≤ length es
     → (IsNonDecreasingBy (λ (y : Entry). ordering_index (nat_cmp y.uuid e.uuid)) es → IsPartitionPoint (λ (y : Entry). nat_cmp y.uuid e.uuid ≡ Less) (λ (y : Entry). nat_cmp y.uuid e.uuid ≡ Greater) es place)
     → insert es place e ≡ put e es
@@ -66,10 +70,12 @@ nowhere (x ∷ es) u other =
     ap (λ b. cond b (Some x) (entry_at es u)) (ne_eqb x.uuid u (λ same. other zero x (omega arith) same))
     ∙ nowhere es u (λ k d low same. other (suc k) d (omega (arith, low)) same)
 
+-- the entry at the place that a search finds is that of the identity
 pub held_at : (es : List Entry) (u place : ℕ) (e : Entry) → ascends es ≡ true → place < length es → HoldsAt (λ (y : Entry). nat_cmp y.uuid u ≡ Equal) es place → e ≡ get_or es place e
     → Some e ≡ entry_at es u
 held_at es u place e asc low at is = ap (λ x. Some x) is ∙ sym (at_place es u place e asc low (same_where (get_or es place e).uuid u (at e)))
 
+-- where a search finds no place the identity has no entry
 pub held_nowhere : (es : List Entry) (u place : ℕ) → ascends es ≡ true
     → (IsNonDecreasingBy (λ (y : Entry). ordering_index (nat_cmp y.uuid u)) es → IsPartitionPoint (λ (y : Entry). nat_cmp y.uuid u ≡ Less) (λ (y : Entry). nat_cmp y.uuid u ≡ Greater) es place)
     → None ≡ entry_at es u

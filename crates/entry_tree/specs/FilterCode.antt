@@ -1,9 +1,10 @@
--- A code of filters as trees, by which a proof tells values that hold them apart: signs in the order in which a
--- machine with two stacks, of filters and of lists of filters, builds the tree from them.
+-- A code of filters as trees, by which a proof reports values that hold them apart: signs
+-- in the order in which a machine with two stacks, of filters and of lists of filters,
+-- builds the tree from them.
 use Rattle.std.specs.Prelude.{◌≡◌, ℕ, Option, None, List, [], ◌∷◌, ◌++◌, fold, refl, ◌==◌, if◌then◌else◌}
 use Rattle.std.specs.Coded.{Coded, code_by, coded×, coded_ℕ, coded_list, coded_option}
 use Rattle.std.proofs.Common.{ap, ◌∙◌}
-use Rattle.ldap_filter.specs.Tree.{Tree, Trees, all_of, any_of, negated, equal, substrings, at_least, at_most, present, approx, extensible, no_trees, more_trees}
+use Rattle.ldap_filter.specs.FilterTree.{FilterTree, Trees, all_of, any_of, negated, equal, substrings, at_least, at_most, present, approx, extensible, no_trees, more_trees}
 
 abbrev bytes_code : Coded (List ℕ)
 bytes_code = coded_list coded_ℕ
@@ -16,10 +17,10 @@ abbrev sign : ℕ → List ℕ → List ℕ → Sign
 sign what name value = (what, (name, (value, (None, ([], None)))))
 
 abbrev Stacks : Type 0
-Stacks = List Tree × List Trees
+Stacks = List FilterTree × List Trees
 
 abbrev mutual
-  signs_of : Tree → List Sign
+  signs_of : FilterTree → List Sign
   signs_of (all_of ts) = signs_of_list ts ++ sign 0 [] [] ∷ []
   signs_of (any_of ts) = signs_of_list ts ++ sign 1 [] [] ∷ []
   signs_of (negated t) = signs_of t ++ sign 2 [] [] ∷ []
@@ -36,19 +37,19 @@ abbrev mutual
   signs_of_list (more_trees t ts) = signs_of t ++ (signs_of_list ts ++ sign 11 [] [] ∷ [])
 
 -- a filter or a list of filters on top of its stack
-abbrev on_trees : Tree → Stacks → Stacks
+abbrev on_trees : FilterTree → Stacks → Stacks
 on_trees t stacks = (t ∷ stacks.0, stacks.1)
 
 abbrev on_lists : Trees → Stacks → Stacks
 on_lists ts stacks = (stacks.0, ts ∷ stacks.1)
 
 -- what is built of the list on top
-abbrev of_list : (Trees → Tree) → Stacks → Stacks
+abbrev of_list : (Trees → FilterTree) → Stacks → Stacks
 of_list built (trees, []) = (trees, [])
 of_list built (trees, ts ∷ lists) = (built ts ∷ trees, lists)
 
 -- what is built of the filter on top
-abbrev of_tree : (Tree → Tree) → Stacks → Stacks
+abbrev of_tree : (FilterTree → FilterTree) → Stacks → Stacks
 of_tree built ([], lists) = ([], lists)
 of_tree built (t ∷ trees, lists) = (built t ∷ trees, lists)
 
@@ -58,7 +59,8 @@ of_both ([], lists) = ([], lists)
 of_both (t ∷ trees, []) = (t ∷ trees, [])
 of_both (t ∷ trees, ts ∷ lists) = (trees, more_trees t ts ∷ lists)
 
-abbrev act : ℕ → List ℕ → List ℕ → Option (List ℕ) → List (List ℕ) → Option (List ℕ) → Stacks → Stacks
+abbrev act :
+    ℕ → List ℕ → List ℕ → Option (List ℕ) → List (List ℕ) → Option (List ℕ) → Stacks → Stacks
 act what name value initial middle last stacks =
     if what == 0 then of_list all_of stacks
     else if what == 1 then of_list any_of stacks
@@ -79,22 +81,30 @@ act_by stacks s = act s.0 s.1.0 s.1.1.0 s.1.1.1.0 s.1.1.1.1.0 s.1.1.1.1.1 stacks
 abbrev built_by : Stacks → List Sign → Stacks
 built_by stacks signs = fold act_by stacks signs
 
-abbrev top : List Tree → Tree
+abbrev top : List FilterTree → FilterTree
 top [] = present []
 top (t ∷ trees) = t
 
-abbrev tree_by : List Sign → Tree
+abbrev tree_by : List Sign → FilterTree
 tree_by signs = top (built_by ([], []) signs).0
 
-fold_on : (stacks : Stacks) (one two : List Sign) → built_by stacks (one ++ two) ≡ built_by (built_by stacks one) two
+fold_on :
+    (stacks : Stacks) (one two : List Sign)
+    → built_by stacks (one ++ two) ≡ built_by (built_by stacks one) two
 fold_on stacks [] two = refl
 fold_on stacks (s ∷ one) two = fold_on (act_by stacks s) one two
 
 mutual
-  built_again : (t : Tree) (stacks : Stacks) → built_by stacks (signs_of t) ≡ on_trees t stacks
-  built_again (all_of ts) stacks = fold_on stacks (signs_of_list ts) _ ∙ ap (λ s. built_by s (sign 0 [] [] ∷ [])) (list_built_again ts stacks)
-  built_again (any_of ts) stacks = fold_on stacks (signs_of_list ts) _ ∙ ap (λ s. built_by s (sign 1 [] [] ∷ [])) (list_built_again ts stacks)
-  built_again (negated t) stacks = fold_on stacks (signs_of t) _ ∙ ap (λ s. built_by s (sign 2 [] [] ∷ [])) (built_again t stacks)
+  built_again : (t : FilterTree) (stacks : Stacks) → built_by stacks (signs_of t) ≡ on_trees t stacks
+  built_again (all_of ts) stacks =
+      fold_on stacks (signs_of_list ts) _
+      ∙ ap (λ s. built_by s (sign 0 [] [] ∷ [])) (list_built_again ts stacks)
+  built_again (any_of ts) stacks =
+      fold_on stacks (signs_of_list ts) _
+      ∙ ap (λ s. built_by s (sign 1 [] [] ∷ [])) (list_built_again ts stacks)
+  built_again (negated t) stacks =
+      fold_on stacks (signs_of t) _
+      ∙ ap (λ s. built_by s (sign 2 [] [] ∷ [])) (built_again t stacks)
   built_again (equal name value) stacks = refl
   built_again (substrings name initial middle last) stacks = refl
   built_again (at_least name value) stacks = refl
@@ -103,17 +113,24 @@ mutual
   built_again (approx name value) stacks = refl
   built_again (extensible body) stacks = refl
 
-  list_built_again : (ts : Trees) (stacks : Stacks) → built_by stacks (signs_of_list ts) ≡ on_lists ts stacks
+  list_built_again :
+      (ts : Trees) (stacks : Stacks) → built_by stacks (signs_of_list ts) ≡ on_lists ts stacks
   list_built_again no_trees stacks = refl
   list_built_again (more_trees t ts) stacks =
-      fold_on stacks (signs_of t) _ ∙ ap (λ s. built_by s (signs_of_list ts ++ sign 11 [] [] ∷ [])) (built_again t stacks)
-      ∙ fold_on (on_trees t stacks) (signs_of_list ts) _ ∙ ap (λ s. built_by s (sign 11 [] [] ∷ [])) (list_built_again ts (on_trees t stacks))
+      fold_on stacks (signs_of t) _
+      ∙ ap (λ s. built_by s (signs_of_list ts ++ sign 11 [] [] ∷ [])) (built_again t stacks)
+      ∙ fold_on (on_trees t stacks) (signs_of_list ts) _
+      ∙ ap (λ s. built_by s (sign 11 [] [] ∷ [])) (list_built_again ts (on_trees t stacks))
 
-pub same_tree_again : (t : Tree) → tree_by (signs_of t) ≡ t
+pub same_tree_again : (t : FilterTree) → tree_by (signs_of t) ≡ t
 same_tree_again t = ap (λ (s : Stacks). top s.0) (built_again t ([], []))
 
-abbrev pub tree_code : Coded Tree
+abbrev pub tree_code : Coded FilterTree
 tree_code =
     code_by (List Sign)
-    (coded_list (coded× coded_ℕ (coded× bytes_code (coded× bytes_code (coded× (coded_option bytes_code) (coded× (coded_list bytes_code) (coded_option bytes_code)))))))
+    (coded_list (coded× coded_ℕ
+    (coded× bytes_code
+    (coded× bytes_code
+    (coded× (coded_option bytes_code)
+    (coded× (coded_list bytes_code) (coded_option bytes_code)))))))
     signs_of tree_by same_tree_again

@@ -14,22 +14,25 @@ use Rattle.entry_writes.specs.State.{most_entry_weight, most_entries, most_weigh
 abbrev pub is_light : Entry → Bool
 is_light e = nat_le (weight_of e.attrs) most_entry_weight
 
--- entries that a directory may have: no more and no heavier ones than its limits allow, and no two of one name
+-- entries that a directory may have: no more and no heavier ones than its limits allow,
+-- and no two of one name
 abbrev pub may_be_held : List Entry → Bool
 may_be_held entries = not (is_crowded entries) && is_none (same_named entries)
 
--- what a commit puts is light, and what it leaves may be held; of the other writes their codes tell
+-- what a commit puts is light, and what it leaves may be held; of the other writes their codes report
 abbrev pub fits : List Entry → Op → Bool
 fits entries (Add name attrs) = true
 fits entries (Delete name) = true
 fits entries (Modify name edits) = true
 fits entries (Rename name rdn deletes superior) = true
-fits entries (Commit puts drops) = list_all is_light puts && may_be_held (committed entries puts drops)
+fits entries (Commit puts drops) =
+    list_all is_light puts && may_be_held (committed entries puts drops)
 
--- what is against entries that a directory may not have: their number, then their weight, then two of one name; want of
--- memory tells nothing
+-- what rejects entries that a directory may not have: their number, then their weight, then two
+-- of one name; out of memory reports nothing
 abbrev pub Opposes : List Entry → CommitRefusal → Type 0
 Opposes entries TooMany = most_entries < length entries
 Opposes entries TooHeavy = (length entries ≤ most_entries) × (most_weight < total_weight entries)
-Opposes entries (SameName one other) = (is_crowded entries ≡ false) × (same_named entries ≡ Some (one, other))
+Opposes entries (SameName one other) =
+    (is_crowded entries ≡ false) × (same_named entries ≡ Some (one, other))
 Opposes entries NoMemory = Unit {0}

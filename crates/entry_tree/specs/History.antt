@@ -6,8 +6,8 @@ use Rattle.entry_writes.specs.Effects.{effect}
 use Rattle.entry_tree.specs.Selection.{Search, select}
 use Rattle.entry_writes.specs.Touched.{touched, joined}
 
--- the identity of an entry that write `number` of a history adds: a UUID of version 8 (RFC 9562, section 5.8)
--- of the low 48 bits of the history's number and 62 bits of the write's
+-- the identity of an entry that write `number` of a history adds: a UUID of version 8 (RFC 9562,
+-- section 5.8) of the low 48 bits of the history's number and 62 bits of the write's
 abbrev pub identity : ℕ → ℕ → ℕ
 identity history number = (history % 2 ^ 48) * 2 ^ 80 + 8 * 2 ^ 76 + 2 * 2 ^ 62 + number % 2 ^ 62
 
@@ -15,7 +15,8 @@ identity history number = (history % 2 ^ 48) * 2 ^ 80 + 8 * 2 ^ 76 + 2 * 2 ^ 62 
 unfoldable pub state_from : ℕ → List Entry → ℕ → List Write → List Entry
 state_from history entries before [] = entries
 state_from history entries before (write ∷ writes) =
-    state_from history (effect entries write.op (identity history (before + 1)) write.csn) (before + 1) writes
+    state_from history (effect entries write.op (identity history (before + 1)) write.csn)
+    (before + 1) writes
 
 -- the entries after the first `count` writes of a history
 abbrev pub state_of : ℕ → List Write → ℕ → List Entry
@@ -25,11 +26,12 @@ state_of history writes count = state_from history [] 0 (take count writes)
 abbrev pub content : Search → ℕ → List Write → ℕ → List Entry
 content search history writes count = select search (state_of history writes count)
 
--- the identities that differ between neighbours of these states, over so many steps
+-- the identities that differ between neighbours of these states, over n steps
 unfoldable pub differing_over : (ℕ → List Entry) → ℕ → ℕ → List ℕ
 differing_over states from zero = []
 differing_over states from (suc steps) =
-    joined (differing_over states from steps) (map (λ touch. touch.uuid) (touched (states (from + steps)) (states (from + steps + 1))))
+    joined (differing_over states from steps)
+    (map (λ entry_change. entry_change.uuid) (touched (states (from + steps)) (states (from + steps + 1))))
 
 -- the identities that the writes after number `from` up to number `upto` change
 abbrev pub touched_over : ℕ → List Write → ℕ → ℕ → List ℕ
@@ -37,4 +39,5 @@ touched_over history writes from upto = differing_over (state_of history writes)
 
 -- and those that they change in what a specification selects
 abbrev pub changed_over : Search → ℕ → List Write → ℕ → ℕ → List ℕ
-changed_over search history writes from upto = differing_over (content search history writes) from (upto - from)
+changed_over search history writes from upto =
+    differing_over (content search history writes) from (upto - from)

@@ -1,5 +1,5 @@
--- What a specification selects from entries, histories of writes, and commits that there is room for, with what
--- entry_writes says of entries and writes.
+-- What a specification selects from entries, histories of writes, and commits that there is room
+-- for, with what entry_writes says of entries and writes.
 pub mod FilterCode
 pub mod Fitting
 pub mod History

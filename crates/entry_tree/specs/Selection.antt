@@ -2,7 +2,7 @@
 use Rattle.std.specs.Prelude.{Bool, true, false, ◌&&◌, List, filter}
 use Rattle.dn_names.specs.Names.{TypeAndValue, same_name, is_at_or_below, is_child_of}
 use Rattle.ldap_filter.specs.Same.{same_tree}
-use Rattle.ldap_filter.specs.Tree.{Tree, tree_of}
+use Rattle.ldap_filter.specs.FilterTree.{FilterTree, tree_of}
 use Rattle.ldap_filter.specs.Truth.{truth_on, is_true}
 use Rattle.entry_writes.specs.declared.entry.Entry.{Entry}
 use Rattle.entry_tree.specs.declared.spec.Scope.{Scope}
@@ -13,7 +13,7 @@ use Rattle.entry_tree.specs.declared.spec.Spec.{Spec}
 pub record Search : Type 0 where
   pub base : List (List TypeAndValue)
   pub scope : Scope
-  pub filter : Tree
+  pub filter : FilterTree
 
 abbrev pub search_of : Spec → Search
 search_of spec = record { base = spec.base; scope = spec.scope; filter = tree_of spec.filter }
@@ -26,7 +26,8 @@ is_in_scope Sub base name = is_at_or_below name base
 
 -- in the scope, and the filter is True, not False or Undefined
 abbrev pub is_selected : Search → Entry → Bool
-is_selected search e = is_in_scope search.scope search.base e.dn && is_true (truth_on e.attrs search.filter)
+is_selected search e =
+    is_in_scope search.scope search.base e.dn && is_true (truth_on e.attrs search.filter)
 
 abbrev pub select : Search → List Entry → List Entry
 select search entries = filter (is_selected search) entries
@@ -40,4 +41,5 @@ is_same_scope _ _ = false
 -- equal bases, and the same scope and filter
 abbrev pub is_same_search : Search → Search → Bool
 is_same_search one other =
-    same_name one.base other.base && (is_same_scope one.scope other.scope && same_tree one.filter other.filter)
+    same_name one.base other.base
+    && (is_same_scope one.scope other.scope && same_tree one.filter other.filter)

@@ -4,7 +4,7 @@ ghost use Rattle.std.specs.Option.{option_copied};
 ghost use Rattle.std.specs.Vec.{vec_capacity, vec_len};
 ghost use Rattle.schema_rules.specs.Attributes.{weight_of};
 ghost use Rattle.entry_writes.specs.Codes.{add_code};
-ghost use Rattle.entry_writes.specs.Fault.{Tells};
+ghost use Rattle.entry_writes.specs.Fault.{HasCode};
 ghost use Rattle.entry_writes.specs.State as state;
 ghost use Rattle.entry_writes.specs.Touched.{is_change, touched};
 
@@ -17,7 +17,7 @@ use schema_rules::Attrs;
 use std::alloc::Global;
 
 impl Tree {
-    /// Adds an entry to the directory with this suffix, or tells the first code that is against it.
+    /// Adds an entry to the directory with this suffix, or reports the first code that rejects it.
     /// An entry that has the identity goes. The answer is what differs. A refusal leaves the
     /// entries.
     pub(crate) fn add(
@@ -29,16 +29,19 @@ impl Tree {
         csn: Csn,
     ) -> Result<Touched, OpFault>
         ensures accepted { OnOk result (add_code suffix.now self.old dn.now attrs.now ≡ None) }
-        ensures effect { OnOk result (self.new ≡ state.put (record { uuid = uuid; csn = csn; dn = dn.now; attrs = attrs.now }) self.old) }
-        ensures touched { IfOk result (λ touches. touches ≡ touched self.old self.new) }
-        ensures refused { IfErr result (Tells (add_code suffix.now self.old dn.now attrs.now)) }
+        ensures effect { OnOk result
+            (self.new
+            ≡ state.put (record { uuid = uuid; csn = csn; dn = dn.now; attrs = attrs.now })
+            self.old) }
+        ensures touched { IfOk result (λ entry_changes. entry_changes ≡ touched self.old self.new) }
+        ensures refused { IfErr result (HasCode (add_code suffix.now self.old dn.now attrs.now)) }
         ensures err { OnErr result (self.new ≡ self.old) }
     {
         let entry = self.new_entry(suffix, dn, attrs, uuid, csn)?;
         Ok(self.put(entry)?)
     }
 
-    /// What differs after that addition, or the first code that is against it.
+    /// What differs after that addition, or the first code that rejects it.
     pub(crate) fn preview_add(
         &self,
         suffix: &Dn,
@@ -48,15 +51,18 @@ impl Tree {
         csn: Csn,
     ) -> Result<Touched, OpFault>
         ensures accepted { OnOk result (add_code suffix.now self.now dn.now attrs.now ≡ None) }
-        ensures touched { IfOk result (λ touches.
-            touches ≡ touched self.now (state.put (record { uuid = uuid; csn = csn; dn = dn.now; attrs = attrs.now }) self.now)) }
-        ensures refused { IfErr result (Tells (add_code suffix.now self.now dn.now attrs.now)) }
+        ensures touched { IfOk result (λ entry_changes.
+            entry_changes
+            ≡ touched self.now
+            (state.put (record { uuid = uuid; csn = csn; dn = dn.now; attrs = attrs.now })
+            self.now)) }
+        ensures refused { IfErr result (HasCode (add_code suffix.now self.now dn.now attrs.now)) }
     {
         let entry = self.new_entry(suffix, dn, attrs, uuid, csn)?;
         Ok(self.preview_put(&entry)?)
     }
 
-    /// The entry that is to be added, or the first code that is against it.
+    /// The entry that is to be added, or the first code that rejects it.
     fn new_entry(
         &self,
         suffix: &Dn,
@@ -66,8 +72,9 @@ impl Tree {
         csn: Csn,
     ) -> Result<Entry, OpFault>
         ensures accepted { OnOk result (add_code suffix.now self.now dn.now attrs.now ≡ None) }
-        ensures value { IfOk result (λ entry. entry ≡ record { uuid = uuid; csn = csn; dn = dn.now; attrs = attrs.now }) }
-        ensures refused { IfErr result (Tells (add_code suffix.now self.now dn.now attrs.now)) }
+        ensures value { IfOk result (λ entry.
+            entry ≡ record { uuid = uuid; csn = csn; dn = dn.now; attrs = attrs.now }) }
+        ensures refused { IfErr result (HasCode (add_code suffix.now self.now dn.now attrs.now)) }
     {
         check_add(
             *self.entries.allocator(),
@@ -91,20 +98,21 @@ impl Tree {
         requires few { length self.old < state.most_entries }
         requires light { state.total_weight self.old + weight_of entry.attrs ≤ state.most_weight }
         ensures effect { OnOk result (self.new ≡ state.put entry self.old) }
-        ensures touched { IfOk result (λ touches. touches ≡ touched self.old self.new) }
+        ensures touched { IfOk result (λ entry_changes. entry_changes ≡ touched self.old self.new) }
         ensures err { OnErr result (self.new ≡ self.old) }
     {
         let was = self.get(entry.uuid);
         let weight = weight_without(self.weight, was) + entry.attrs.weight();
-        let touches = change(*self.entries.allocator(), was, &entry)?;
+        let entry_changes = change(*self.entries.allocator(), was, &entry)?;
         put_entry(&mut self.entries, entry)?;
         self.weight = weight;
-        Ok(touches)
+        Ok(entry_changes)
     }
 
     /// What differs after the entry is put in its place.
     fn preview_put(&self, entry: &Entry) -> Result<Touched, NoMemory>
-        ensures { IfOk result (λ touches. touches ≡ touched self.now (state.put entry.now self.now)) }
+        ensures { IfOk result (λ entry_changes.
+            entry_changes ≡ touched self.now (state.put entry.now self.now)) }
     {
         change(*self.entries.allocator(), self.get(entry.uuid), entry)
     }
@@ -112,18 +120,19 @@ impl Tree {
 
 /// What an identity had and its entry, where these differ.
 fn change(alloc: Global, was: Option<&Entry>, now: &Entry) -> Result<Touched, NoMemory>
-    ensures { IfOk result (λ touches. touches ≡ filter is_change
-        (record { uuid = now.now.uuid; was = option_copied was.entry; now = Some now.now } ∷ [])) }
+    ensures { IfOk result (λ entry_changes. entry_changes ≡ filter is_change
+        (record { uuid = now.now.uuid; before = option_copied was.entry; after = Some now.now } ∷ [])) }
 {
-    let mut touches = Touched::new(alloc);
-    touches.push_change(was, now)?;
-    Ok(touches)
+    let mut entry_changes = Touched::new(alloc);
+    entry_changes.push_change(was, now)?;
+    Ok(entry_changes)
 }
 
 /// What is left of a weight without that of the entry, which is part of it.
 pub(crate) fn weight_without(total: u64, entry: Option<&Entry>) -> u64
     requires { unwrap_or (option_map (λ e. weight_of e.attrs) (option_copied entry)) 0 ≤ total }
-    ensures { result + unwrap_or (option_map (λ e. weight_of e.attrs) (option_copied entry.entry)) 0 ≡ total }
+    ensures { result + unwrap_or (option_map (λ e. weight_of e.attrs) (option_copied entry.entry)) 0
+        ≡ total }
 {
     match entry {
         None => total,

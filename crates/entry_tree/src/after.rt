@@ -18,7 +18,8 @@ pub(crate) fn entries_after<'a>(
     drops: &[u128],
 ) -> Result<Vec<&'a Entry>, NoMemory>
     requires { ascends entries.now ≡ true }
-    ensures { IfOk result (λ after. map (λ e. e.now) after.items ≡ committed entries.now puts.now drops.now) }
+    ensures { IfOk result (λ after.
+        map (λ e. e.now) after.items ≡ committed entries.now puts.now drops.now) }
 {
     let dropped = id_set(alloc, drops)?;
     let mut after = kept(alloc, entries, &dropped)?;
@@ -50,7 +51,9 @@ fn kept<'a>(
     entries: &'a [Entry],
     dropped: &BTreeSet<u128>,
 ) -> Result<Vec<&'a Entry>, NoMemory>
-    ensures { IfOk result (λ kept. map (λ e. e.now) kept.items ≡ filter (λ e. not (is_one_of dropped.now.keys e)) entries.now) }
+    ensures { IfOk result (λ kept.
+        map (λ e. e.now) kept.items
+        ≡ filter (λ e. not (is_one_of dropped.now.keys e)) entries.now) }
 {
     let mut kept = Vec::new(alloc);
     for entry in entries {
@@ -64,7 +67,9 @@ fn kept<'a>(
 /// Puts each of these entries in its place.
 fn put_each<'a>(entries: &mut Vec<&'a Entry>, puts: &'a [Entry]) -> Result<(), NoMemory>
     requires { ascends (map (λ e. e.now) entries.old.items) ≡ true }
-    ensures { OnOk result (map (λ e. e.now) entries.new.items ≡ fold (λ held entry. put entry held) (map (λ e. e.now) entries.old.items) puts.now) }
+    ensures { OnOk result
+        (map (λ e. e.now) entries.new.items
+        ≡ fold (λ held entry. put entry held) (map (λ e. e.now) entries.old.items) puts.now) }
 {
     for entry in puts {
         put_one(entries, entry)?;
@@ -75,7 +80,8 @@ fn put_each<'a>(entries: &mut Vec<&'a Entry>, puts: &'a [Entry]) -> Result<(), N
 /// Puts the entry in its place among entries in ascending order.
 fn put_one<'a>(entries: &mut Vec<&'a Entry>, entry: &'a Entry) -> Result<(), NoMemory>
     requires { ascends (map (λ e. e.now) entries.old.items) ≡ true }
-    ensures { OnOk result (map (λ e. e.now) entries.new.items ≡ put entry.now (map (λ e. e.now) entries.old.items)) }
+    ensures { OnOk result
+        (map (λ e. e.now) entries.new.items ≡ put entry.now (map (λ e. e.now) entries.old.items)) }
 {
     match entries.binary_search_by_key(&entry.uuid, |held| held.uuid) {
         Ok(place) => entries[place] = entry,
@@ -97,7 +103,8 @@ pub(crate) fn entry_of<'a>(entries: &[&'a Entry], uuid: u128) -> Option<&'a Entr
 
 /// The identities that a commit puts or drops, in ascending order.
 pub(crate) fn ids_of(alloc: Global, puts: &[Entry], drops: &[u128]) -> Result<Vec<u128>, NoMemory>
-    ensures { IfOk result (λ uuids. uuids.items ≡ joined (joined [] drops.now) (identities puts.now)) }
+    ensures { IfOk result (λ uuids.
+        uuids.items ≡ joined (joined [] drops.now) (identities puts.now)) }
 {
     let mut uuids = id_set(alloc, drops)?;
     for entry in puts {

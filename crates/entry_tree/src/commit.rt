@@ -6,7 +6,7 @@ ghost use Rattle.entry_tree.specs.declared.commit.CommitRefusal.TheVariants.{NoM
 ghost use Rattle.entry_writes.specs.Effects.{committed, is_one_of};
 ghost use Rattle.entry_tree.specs.Fitting.{is_light, may_be_held, Opposes};
 ghost use Rattle.entry_writes.specs.State as state;
-ghost use Rattle.entry_writes.specs.Touched.{is_change, touch_at, touched};
+ghost use Rattle.entry_writes.specs.Touched.{is_change, change_at, touched};
 
 use crate::add::put_reserved;
 use crate::after::{entries_after, entry_of, has, id_set, ids_of};
@@ -39,7 +39,8 @@ impl From<AllocError> for CommitRefusal {
 
 impl Tree {
     /// Whether the entries after a commit may be held: they are no more and no heavier than a
-    /// directory's may be, and no two of them have one name.
+    /// directory's may be, and no two of them have one name. Else it is `TooMany`, `TooHeavy` or
+    /// `SameName`, the first of these that is so, or `NoMemory`.
     pub fn check_commit(&self, puts: &[Entry], drops: &[u128]) -> Result<(), CommitRefusal>
         ensures ok { OnOk result (may_be_held (committed self.now puts.now drops.now) ≡ true) }
         ensures refused { IfErr result (Opposes (committed self.now puts.now drops.now)) }
@@ -55,23 +56,24 @@ impl Tree {
         requires light { list_all is_light puts.now ≡ true }
         requires held { may_be_held (committed self.old puts.now drops.now) ≡ true }
         ensures effect { OnOk result (self.new ≡ committed self.old puts.now drops.now) }
-        ensures touched { IfOk result (λ touches. touches ≡ touched self.old self.new) }
+        ensures touched { IfOk result (λ entry_changes. entry_changes ≡ touched self.old self.new) }
         ensures err { OnErr result (self.new ≡ self.old) }
     {
         let alloc = *self.entries.allocator();
-        let touches = self.preview_commit(puts, drops)?;
+        let entry_changes = self.preview_commit(puts, drops)?;
         let dropped = id_set(alloc, drops)?;
         let copied = copies(alloc, puts)?;
         self.entries.reserve(puts.len())?;
         remove_each(&mut self.entries, &dropped);
         put_each(&mut self.entries, copied);
         self.weight = total_weight(&self.entries);
-        Ok(touches)
+        Ok(entry_changes)
     }
 
     /// What a commit would change.
     pub(crate) fn preview_commit(&self, puts: &[Entry], drops: &[u128]) -> Result<Touched, NoMemory>
-        ensures { IfOk result (λ touches. touches ≡ touched self.now (committed self.now puts.now drops.now)) }
+        ensures { IfOk result (λ entry_changes.
+            entry_changes ≡ touched self.now (committed self.now puts.now drops.now)) }
     {
         let alloc = *self.entries.allocator();
         let after = entries_after(alloc, &self.entries, puts, drops)?;
@@ -82,14 +84,15 @@ impl Tree {
     /// Which of these identities have another entry after a write than now.
     fn differences(&self, after: &[&Entry], uuids: &[u128]) -> Result<Touched, NoMemory>
         requires { state.ascends (map (λ e. e.now) after.now) ≡ true }
-        ensures { IfOk result (λ touches.
-            touches ≡ filter is_change (map (touch_at self.now (map (λ e. e.now) after.now)) uuids.now)) }
+        ensures { IfOk result (λ entry_changes.
+            entry_changes
+            ≡ filter is_change (map (change_at self.now (map (λ e. e.now) after.now)) uuids.now)) }
     {
-        let mut touches = Touched::new(*self.entries.allocator());
+        let mut entry_changes = Touched::new(*self.entries.allocator());
         for uuid in uuids {
-            touches.push_difference(*uuid, self.get(*uuid), entry_of(after, *uuid))?;
+            entry_changes.push_difference(*uuid, self.get(*uuid), entry_of(after, *uuid))?;
         }
-        Ok(touches)
+        Ok(entry_changes)
     }
 }
 
@@ -105,7 +108,8 @@ fn copies(alloc: Global, entries: &[Entry]) -> Result<VecDeque<Entry>, NoMemory>
 
 /// Removes the entries of these identities.
 fn remove_each(entries: &mut Vec<Entry>, dropped: &BTreeSet<u128>)
-    ensures items { entries.new.items ≡ filter (λ e. not (is_one_of dropped.now.keys e)) entries.old.items }
+    ensures items { entries.new.items
+        ≡ filter (λ e. not (is_one_of dropped.now.keys e)) entries.old.items }
     ensures len { vec_len entries.new ≤ vec_len entries.old }
     ensures capacity { vec_capacity entries.new ≡ vec_capacity entries.old }
 {
@@ -117,7 +121,8 @@ fn remove_each(entries: &mut Vec<Entry>, dropped: &BTreeSet<u128>)
 fn put_each(entries: &mut Vec<Entry>, puts: VecDeque<Entry>)
     requires ascends { state.ascends entries.old.items ≡ true }
     requires room { vec_len entries.old + length puts.items ≤ vec_capacity entries.old }
-    ensures { entries.new.items ≡ fold (λ held entry. state.put entry held) entries.old.items puts.items }
+    ensures { entries.new.items
+        ≡ fold (λ held entry. state.put entry held) entries.old.items puts.items }
 {
     let mut rest = puts;
     while let Some(entry) = rest.pop_front() {

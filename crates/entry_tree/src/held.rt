@@ -12,8 +12,9 @@ use ldap_ber::NoMemory;
 use std::alloc::Global;
 use std::collections::BTreeMap;
 
-/// Whether a directory may have these entries: they are no more and no heavier than its limits allow,
-/// and no two of them have one name.
+/// Whether a directory may have these entries: they are no more and no heavier than its limits
+/// allow, and no two of them have one name. Else it is `TooMany`, `TooHeavy` or `SameName`, the
+/// first of these that is so, or `NoMemory`.
 pub fn check_held(alloc: Global, entries: &[&Entry]) -> Result<(), CommitRefusal>
     ensures ok { OnOk result (may_be_held (map (λ e. e.now) entries.now) ≡ true) }
     ensures refused { IfErr result (Opposes (map (λ e. e.now) entries.now)) }
@@ -55,7 +56,7 @@ fn same_named(alloc: Global, entries: &[&Entry]) -> Result<Option<(u128, u128)>,
 }
 
 /// The pair of an identity with a later one, where there is one, or else the first pair of those
-/// behind it.
+/// after it.
 fn first_pair(uuid: u128, later: Option<u128>, pair: Option<(u128, u128)>) -> Option<(u128, u128)>
     ensures { result ≡ option_or (option_map (λ later. (uuid, later)) later) pair }
 {

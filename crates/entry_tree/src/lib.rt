@@ -35,7 +35,7 @@ pub mod op {
 
 /// What a write changes, as `entry_writes` has it.
 pub mod touched {
-    pub use entry_writes::{Touch, Touched};
+    pub use entry_writes::{EntryChange, Touched};
 }
 
 pub use commit::CommitRefusal;
@@ -47,5 +47,5 @@ pub use held::check_held;
 pub use ldap_ber::NoMemory;
 pub use op::{Op, Write};
 pub use spec::{Scope, Spec};
-pub use touched::{Touch, Touched};
+pub use touched::{EntryChange, Touched};
 pub use tree::Tree;

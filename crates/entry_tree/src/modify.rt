@@ -4,7 +4,7 @@ ghost use Rattle.std.specs.List.{list_all};
 ghost use Rattle.schema_rules.specs.Attributes.{weight_of};
 ghost use Rattle.entry_writes.specs.Codes as codes;
 ghost use Rattle.entry_writes.specs.Effects as effects;
-ghost use Rattle.entry_writes.specs.Fault.{Tells};
+ghost use Rattle.entry_writes.specs.Fault.{HasCode};
 ghost use Rattle.entry_writes.specs.Sound.{is_sound_edit};
 ghost use Rattle.entry_writes.specs.State as state;
 ghost use Rattle.entry_writes.specs.Touched.{is_change, touched};
@@ -12,10 +12,9 @@ ghost use Rattle.entry_writes.specs.Touched.{is_change, touched};
 use crate::tree::Tree;
 use csn_cookie::Csn;
 use dn_names::Dn;
-use entry_writes::{
-    Edits, Entry, NO_SUCH_OBJECT, OpFault, Touch, Touched, edited_entry, is_one_entry,
-};
+use entry_writes::{Edits, Entry, EntryChange, OpFault, Touched, edited_entry, is_one_entry};
 use ldap_ber::NoMemory;
+use ldap_constants::NO_SUCH_OBJECT;
 use schema_rules::Attrs;
 use std::alloc::Global;
 
@@ -26,32 +25,36 @@ struct Modified {
     place: usize,
     entry: Entry,
     weight: u64,
-    touches: Touched,
+    entry_changes: Touched,
 }
 
 impl Tree {
-    /// Edits the entry of that name, which gets the stamp, or tells the first code that is against
+    /// Edits the entry of that name, which gets the CSN, or reports the first code that rejects
     /// it. The answer is what differs. A refusal leaves the entries.
     pub(crate) fn modify(&mut self, dn: &Dn, edits: &Edits, csn: Csn) -> Result<Touched, OpFault>
         requires { list_all is_sound_edit edits.now ≡ true }
-        ensures accepted { OnOk result (codes.modify_code self.old (state.entry_named self.old dn.now) edits.now ≡ None) }
-        ensures effect { OnOk result (self.new ≡ effects.modified self.old (state.entry_named self.old dn.now) edits.now csn) }
-        ensures touched { IfOk result (λ touches. touches ≡ touched self.old self.new) }
-        ensures refused { IfErr result (Tells (codes.modify_code self.old (state.entry_named self.old dn.now) edits.now)) }
+        ensures accepted { OnOk result
+            (codes.modify_code self.old (state.entry_named self.old dn.now) edits.now ≡ None) }
+        ensures effect { OnOk result
+            (self.new
+            ≡ effects.modified self.old (state.entry_named self.old dn.now) edits.now csn) }
+        ensures touched { IfOk result (λ entry_changes. entry_changes ≡ touched self.old self.new) }
+        ensures refused { IfErr result
+            (HasCode (codes.modify_code self.old (state.entry_named self.old dn.now) edits.now)) }
         ensures err { OnErr result (self.new ≡ self.old) }
     {
         let Modified {
             place,
             entry,
             weight,
-            touches,
+            entry_changes,
         } = self.modified(dn, edits, csn)?;
         self.weight = weight;
         self.entries[place] = entry;
-        Ok(touches)
+        Ok(entry_changes)
     }
 
-    /// What differs after these edits of the entry of that name, or the first code that is against
+    /// What differs after these edits of the entry of that name, or the first code that rejects
     /// them.
     pub(crate) fn preview_modify(
         &self,
@@ -60,26 +63,35 @@ impl Tree {
         csn: Csn,
     ) -> Result<Touched, OpFault>
         requires { list_all is_sound_edit edits.now ≡ true }
-        ensures accepted { OnOk result (codes.modify_code self.now (state.entry_named self.now dn.now) edits.now ≡ None) }
-        ensures touched { IfOk result (λ touches.
-            touches ≡ touched self.now (effects.modified self.now (state.entry_named self.now dn.now) edits.now csn)) }
-        ensures refused { IfErr result (Tells (codes.modify_code self.now (state.entry_named self.now dn.now) edits.now)) }
+        ensures accepted { OnOk result
+            (codes.modify_code self.now (state.entry_named self.now dn.now) edits.now ≡ None) }
+        ensures touched { IfOk result (λ entry_changes.
+            entry_changes
+            ≡ touched self.now
+            (effects.modified self.now (state.entry_named self.now dn.now) edits.now csn)) }
+        ensures refused { IfErr result
+            (HasCode (codes.modify_code self.now (state.entry_named self.now dn.now) edits.now)) }
     {
-        let Modified { touches, .. } = self.modified(dn, edits, csn)?;
-        Ok(touches)
+        let Modified { entry_changes, .. } = self.modified(dn, edits, csn)?;
+        Ok(entry_changes)
     }
 
-    /// The entry of that name after the edits, or the first code that is against them.
+    /// The entry of that name after the edits, or the first code that rejects them.
     fn modified(&self, dn: &Dn, edits: &Edits, csn: Csn) -> Result<Modified, OpFault>
         requires { list_all is_sound_edit edits.now ≡ true }
-        ensures accepted { OnOk result (codes.modify_code self.now (state.entry_named self.now dn.now) edits.now ≡ None) }
+        ensures accepted { OnOk result
+            (codes.modify_code self.now (state.entry_named self.now dn.now) edits.now ≡ None) }
         ensures place { IfOk result (λ modified. modified.place < length self.now) }
         ensures effect { IfOk result (λ modified. set self.now modified.place modified.entry
             ≡ effects.modified self.now (state.entry_named self.now dn.now) edits.now csn) }
-        ensures directory { IfOk result (λ modified. state.IsDirectory (set self.now modified.place modified.entry) modified.weight) }
+        ensures directory { IfOk result (λ modified.
+            state.IsDirectory (set self.now modified.place modified.entry) modified.weight) }
         ensures touched { IfOk result (λ modified.
-            modified.touches ≡ touched self.now (effects.modified self.now (state.entry_named self.now dn.now) edits.now csn)) }
-        ensures refused { IfErr result (Tells (codes.modify_code self.now (state.entry_named self.now dn.now) edits.now)) }
+            modified.entry_changes
+            ≡ touched self.now
+            (effects.modified self.now (state.entry_named self.now dn.now) edits.now csn)) }
+        ensures refused { IfErr result
+            (HasCode (codes.modify_code self.now (state.entry_named self.now dn.now) edits.now)) }
     {
         let Some(place) = place_of(&self.entries, dn) else {
             return Err(OpFault::Code(NO_SUCH_OBJECT));
@@ -88,13 +100,13 @@ impl Tree {
         let was = &self.entries[place];
         let others = weight_without(self.weight, &was.attrs);
         let entry = edited_entry(alloc, was, others, edits, csn)?;
-        let touches = difference(alloc, was, &entry)?;
+        let entry_changes = difference(alloc, was, &entry)?;
         let weight = others + entry.attrs.weight();
         Ok(Modified {
             place,
             entry,
             weight,
-            touches,
+            entry_changes,
         })
     }
 }
@@ -116,16 +128,18 @@ fn weight_without(total: u64, attrs: &Attrs) -> u64
 
 /// What differs where the one entry is in the place of the other.
 fn difference(alloc: Global, was: &Entry, now: &Entry) -> Result<Touched, NoMemory>
-    ensures { IfOk result (λ touches.
-        touches ≡ filter is_change (record { uuid = was.now.uuid; was = Some was.now; now = Some now.now } ∷ [])) }
+    ensures { IfOk result (λ entry_changes.
+        entry_changes
+        ≡ filter is_change
+        (record { uuid = was.now.uuid; before = Some was.now; after = Some now.now } ∷ [])) }
 {
-    let mut touches = Touched::new(alloc);
+    let mut entry_changes = Touched::new(alloc);
     if !is_one_entry(was, now) {
-        touches.push(Touch {
+        entry_changes.push(EntryChange {
             uuid: was.uuid,
-            was: Some(was.copy()?),
-            now: Some(now.copy()?),
+            before: Some(was.copy()?),
+            after: Some(now.copy()?),
         })?;
     }
-    Ok(touches)
+    Ok(entry_changes)
 }

@@ -4,7 +4,7 @@ ghost use Rattle.std.specs.Option.{option_or};
 ghost use Rattle.schema_rules.specs.Attributes.{entry_code, weight_of};
 ghost use Rattle.entry_writes.specs.Codes as codes;
 ghost use Rattle.entry_writes.specs.Effects as effects;
-ghost use Rattle.entry_writes.specs.Fault.{Tells};
+ghost use Rattle.entry_writes.specs.Fault.{HasCode};
 ghost use Rattle.entry_writes.specs.State as state;
 ghost use Rattle.entry_writes.specs.Touched.{touched};
 
@@ -13,9 +13,10 @@ use crate::tree::Tree;
 use csn_cookie::Csn;
 use dn_names::{Dn, Rdn};
 use entry_writes::{
-    ADMIN_LIMIT_EXCEEDED, Entry, Moved, NO_SUCH_OBJECT, OpFault, Renamed, Touched, check_target,
-    check_weight, moved_entries, name_above, name_below, own_pairs, with_new_rdn,
+    Entry, Moved, OpFault, Renamed, Touched, check_target, check_weight, moved_entries, name_above,
+    name_below, own_pairs, with_new_rdn,
 };
+use ldap_constants::{ADMIN_LIMIT_EXCEEDED, NO_SUCH_OBJECT};
 use schema_rules::check_entry;
 
 /// The entries after a Rename with what differs, and what they weigh.
@@ -26,8 +27,8 @@ struct Renaming {
 }
 
 impl Tree {
-    /// Gives the entry of that name another RDN, and another superior where one is told, or tells
-    /// the first code that is against it. All below it move with it, and each gets the stamp. The
+    /// Gives the entry of that name another RDN, and another superior where one is reported, or reports
+    /// the first code that rejects it. All below it move with it, and each gets the CSN. The
     /// answer is what differs. A refusal leaves the entries.
     pub(crate) fn rename(
         &mut self,
@@ -38,22 +39,33 @@ impl Tree {
         superior: &Option<Dn>,
         csn: Csn,
     ) -> Result<Touched, OpFault>
-        ensures accepted { OnOk result (codes.rename_code suffix.now self.old (state.entry_named self.old dn.now) rdn.now deletes superior.now ≡ None) }
-        ensures effect { OnOk result (self.new ≡ effects.renamed self.old (state.entry_named self.old dn.now) rdn.now deletes superior.now csn) }
-        ensures touched { IfOk result (λ touches. touches ≡ touched self.old self.new) }
-        ensures refused { IfErr result (Tells (codes.rename_code suffix.now self.old (state.entry_named self.old dn.now) rdn.now deletes superior.now)) }
+        ensures accepted { OnOk result
+            (codes.rename_code suffix.now self.old (state.entry_named self.old dn.now) rdn.now
+            deletes superior.now
+            ≡ None) }
+        ensures effect { OnOk result
+            (self.new
+            ≡ effects.renamed self.old (state.entry_named self.old dn.now) rdn.now deletes
+            superior.now csn) }
+        ensures touched { IfOk result (λ entry_changes. entry_changes ≡ touched self.old self.new) }
+        ensures refused { IfErr result
+            (HasCode (codes.rename_code suffix.now self.old (state.entry_named self.old dn.now)
+            rdn.now deletes superior.now)) }
         ensures err { OnErr result (self.new ≡ self.old) }
     {
         let Renaming {
-            moved: Moved { entries, touches },
+            moved: Moved {
+                entries,
+                entry_changes,
+            },
             weight,
         } = self.renaming(suffix, dn, rdn, deletes, superior, csn)?;
         self.entries = entries;
         self.weight = weight;
-        Ok(touches)
+        Ok(entry_changes)
     }
 
-    /// What differs after that rename, or the first code that is against it.
+    /// What differs after that rename, or the first code that rejects it.
     pub(crate) fn preview_rename(
         &self,
         suffix: &Dn,
@@ -63,17 +75,25 @@ impl Tree {
         superior: &Option<Dn>,
         csn: Csn,
     ) -> Result<Touched, OpFault>
-        ensures accepted { OnOk result (codes.rename_code suffix.now self.now (state.entry_named self.now dn.now) rdn.now deletes superior.now ≡ None) }
-        ensures touched { IfOk result (λ touches.
-            touches ≡ touched self.now (effects.renamed self.now (state.entry_named self.now dn.now) rdn.now deletes superior.now csn)) }
-        ensures refused { IfErr result (Tells (codes.rename_code suffix.now self.now (state.entry_named self.now dn.now) rdn.now deletes superior.now)) }
+        ensures accepted { OnOk result
+            (codes.rename_code suffix.now self.now (state.entry_named self.now dn.now) rdn.now
+            deletes superior.now
+            ≡ None) }
+        ensures touched { IfOk result (λ entry_changes.
+            entry_changes
+            ≡ touched self.now
+            (effects.renamed self.now (state.entry_named self.now dn.now) rdn.now deletes
+            superior.now csn)) }
+        ensures refused { IfErr result
+            (HasCode (codes.rename_code suffix.now self.now (state.entry_named self.now dn.now)
+            rdn.now deletes superior.now)) }
     {
         let Renaming { moved, .. } = self.renaming(suffix, dn, rdn, deletes, superior, csn)?;
-        Ok(moved.touches)
+        Ok(moved.entry_changes)
     }
 
     /// The entries after the one of that name has the RDN and the superior, or the first code that
-    /// is against them.
+    /// rejects them.
     fn renaming(
         &self,
         suffix: &Dn,
@@ -83,12 +103,21 @@ impl Tree {
         superior: &Option<Dn>,
         csn: Csn,
     ) -> Result<Renaming, OpFault>
-        ensures accepted { OnOk result (codes.rename_code suffix.now self.now (state.entry_named self.now dn.now) rdn.now deletes superior.now ≡ None) }
+        ensures accepted { OnOk result
+            (codes.rename_code suffix.now self.now (state.entry_named self.now dn.now) rdn.now
+            deletes superior.now
+            ≡ None) }
         ensures effect { IfOk result (λ renaming.
-            renaming.moved.entries.items ≡ effects.renamed self.now (state.entry_named self.now dn.now) rdn.now deletes superior.now csn) }
-        ensures directory { IfOk result (λ renaming. state.IsDirectory renaming.moved.entries.items renaming.weight) }
-        ensures touched { IfOk result (λ renaming. renaming.moved.touches ≡ touched self.now renaming.moved.entries.items) }
-        ensures refused { IfErr result (Tells (codes.rename_code suffix.now self.now (state.entry_named self.now dn.now) rdn.now deletes superior.now)) }
+            renaming.moved.entries.items
+            ≡ effects.renamed self.now (state.entry_named self.now dn.now) rdn.now deletes
+            superior.now csn) }
+        ensures directory { IfOk result (λ renaming.
+            state.IsDirectory renaming.moved.entries.items renaming.weight) }
+        ensures touched { IfOk result (λ renaming.
+            renaming.moved.entry_changes ≡ touched self.now renaming.moved.entries.items) }
+        ensures refused { IfErr result
+            (HasCode (codes.rename_code suffix.now self.now (state.entry_named self.now dn.now)
+            rdn.now deletes superior.now)) }
     {
         let entries = &self.entries;
         let Some(top) = self.find(dn) else {
@@ -111,15 +140,23 @@ impl Tree {
         superior: &Option<Dn>,
     ) -> Result<Renamed, OpFault>
         requires { state.entry_at self.now top.now.uuid ≡ Some top.now }
-        ensures name { IfOk result (λ renamed. renamed.name ≡ effects.new_name top.now rdn.now superior.now) }
-        ensures attrs { IfOk result (λ renamed. renamed.attrs ≡ effects.new_attributes top.now rdn.now deletes) }
-        ensures light { IfOk result (λ renamed. state.weight_with self.now top.now (weight_of renamed.attrs) ≤ state.most_weight) }
+        ensures name { IfOk result (λ renamed.
+            renamed.name ≡ effects.new_name top.now rdn.now superior.now) }
+        ensures attrs { IfOk result (λ renamed.
+            renamed.attrs ≡ effects.new_attributes top.now rdn.now deletes) }
+        ensures light { IfOk result (λ renamed.
+            state.weight_with self.now top.now (weight_of renamed.attrs) ≤ state.most_weight) }
         ensures accepted { OnOk result (
             let attrs = effects.new_attributes top.now rdn.now deletes in
-            option_or (codes.target_code suffix.now self.now top.now (effects.new_name top.now rdn.now superior.now) superior.now)
-            (option_or (entry_code attrs) (codes.weight_code (weight_of attrs) (state.weight_with self.now top.now (weight_of attrs)))) ≡ None) }
-        ensures refused { IfErr result (Tells (codes.moved_code suffix.now self.now top.now
-            (effects.new_name top.now rdn.now superior.now) (effects.new_attributes top.now rdn.now deletes) superior.now)) }
+            option_or (codes.target_code suffix.now self.now top.now
+            (effects.new_name top.now rdn.now superior.now) superior.now)
+            (option_or (entry_code attrs)
+            (codes.weight_code (weight_of attrs)
+            (state.weight_with self.now top.now (weight_of attrs))))
+            ≡ None) }
+        ensures refused { IfErr result (HasCode (codes.moved_code suffix.now self.now top.now
+            (effects.new_name top.now rdn.now superior.now)
+            (effects.new_attributes top.now rdn.now deletes) superior.now)) }
     {
         let alloc = *self.entries.allocator();
         let above = name_above(alloc, &top.dn, superior)?;

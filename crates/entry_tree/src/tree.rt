@@ -3,7 +3,7 @@ ghost use Rattle.std.specs.Prelude.{◌≡◌, ◌≤◌, true, None, [], length
 ghost use Rattle.std.specs.Option.{option_copied};
 ghost use Rattle.entry_writes.specs.Codes.{code_of};
 ghost use Rattle.entry_writes.specs.Effects.{effect};
-ghost use Rattle.entry_writes.specs.Fault.{Tells};
+ghost use Rattle.entry_writes.specs.Fault.{HasCode};
 ghost use Rattle.entry_tree.specs.Fitting.{fits};
 ghost use Rattle.entry_tree.specs.Selection.{search_of, select};
 ghost use Rattle.entry_writes.specs.Sound.{is_sound_op};
@@ -39,6 +39,7 @@ impl Model for Tree {
 }
 
 impl Tree {
+    /// Makes a tree without entries.
     pub fn new(alloc: Global) -> Tree
         ensures { result ≡ [] }
     {
@@ -89,17 +90,17 @@ impl Tree {
         self.entries.iter().find(|entry| entry.dn.same(dn))
     }
 
-    /// Applies a write to the directory with this suffix, or tells the first code that is against it.
-    /// An entry that is added gets the identity, and each entry that is added or changed the stamp;
-    /// what a commit puts keeps its own, and `check_commit` tells whether there is room for it. The
+    /// Applies a write to the directory with this suffix, or reports the first code that rejects it.
+    /// An entry that is added gets the identity, and each entry that is added or changed the CSN;
+    /// what a commit puts keeps its own, and `check_commit` reports whether there is room for it. The
     /// answer is what differs, with what was and what is. A refusal leaves the entries.
     pub fn apply(&mut self, op: &Op, suffix: &Dn, uuid: u128, csn: Csn) -> Result<Touched, OpFault>
         requires sound { is_sound_op op.now ≡ true }
         requires fits { fits self.old op.now ≡ true }
         ensures accepted { OnOk result (code_of suffix.now self.old op.now ≡ None) }
         ensures effect { OnOk result (self.new ≡ effect self.old op.now uuid csn) }
-        ensures touched { IfOk result (λ touches. touches ≡ touched self.old self.new) }
-        ensures refused { IfErr result (Tells (code_of suffix.now self.old op.now)) }
+        ensures touched { IfOk result (λ entry_changes. entry_changes ≡ touched self.old self.new) }
+        ensures refused { IfErr result (HasCode (code_of suffix.now self.old op.now)) }
         ensures err { OnErr result (self.new ≡ self.old) }
     {
         match op {
@@ -118,8 +119,9 @@ impl Tree {
         requires sound { is_sound_op op.now ≡ true }
         requires fits { fits self.now op.now ≡ true }
         ensures accepted { OnOk result (code_of suffix.now self.now op.now ≡ None) }
-        ensures touched { IfOk result (λ touches. touches ≡ touched self.now (effect self.now op.now uuid csn)) }
-        ensures refused { IfErr result (Tells (code_of suffix.now self.now op.now)) }
+        ensures touched { IfOk result (λ entry_changes.
+            entry_changes ≡ touched self.now (effect self.now op.now uuid csn)) }
+        ensures refused { IfErr result (HasCode (code_of suffix.now self.now op.now)) }
     {
         match op {
             Op::Add(dn, attrs) => self.preview_add(suffix, dn, attrs, uuid, csn),

@@ -58,6 +58,7 @@ AllPairs-with_change change attrs kind once i j d before within e =
     at : (k : ℕ) → k < length attrs → (get_or (map (change_of change kind) attrs) k d).kind ≡ (get_or attrs k d).kind
     at k low = ap (λ (a : Attribute). a.kind) (get_or-map (change_of change kind) attrs k d d low) ∙ kind_same change kind (get_or attrs k d)
 
+-- a list of attributes without some values is one
 pub IsAttributeList-without_values : (attrs : List Attribute) (kind : ℕ) (values : List (List ℕ)) → IsAttributeList attrs → IsAttributeList (without_values attrs kind values)
 IsAttributeList-without_values attrs kind values list =
     let left = with_change (unmatched kind (keys_of kind values)) attrs kind in
@@ -121,6 +122,7 @@ IsAttributeList-changed how.Add attrs kind values long list = IsAttributeList-wi
 IsAttributeList-changed how.Delete attrs kind values long list = IsAttributeList-deleted attrs kind values list
 IsAttributeList-changed how.Replace attrs kind values long list = IsAttributeList-replaced attrs kind values list
 
+-- a list of attributes after a sound edit is one
 pub IsAttributeList-after_edit : (attrs : List Attribute) (edit : Edit) → is_sound_edit edit ≡ true → IsAttributeList attrs → IsAttributeList (after_edit attrs edit)
 IsAttributeList-after_edit attrs edit sound list =
     let parts = and_parts (not (is_operational edit.kind)) _ sound in
@@ -134,5 +136,6 @@ IsAttributeList-after_edits attrs (edit ∷ edits) sound list =
 
 -- ---- a new RDN
 
+-- a list of attributes with one more value is one
 pub IsAttributeList-with_value : (attrs : List Attribute) (kind : ℕ) (value : List ℕ) → IsAttributeList attrs → IsAttributeList (with_values attrs kind (value ∷ []))
 IsAttributeList-with_value attrs kind value list = IsAttributeList-with_values attrs kind (value ∷ []) list (λ e. cc)

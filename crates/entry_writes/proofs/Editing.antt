@@ -3,9 +3,9 @@ use Rattle.std.proofs.Common.{◌≡◌, ℕ, ◌+◌, ◌<◌, List, [], ◌∷
 use Rattle.std.specs.Option.{option_or}
 use Rattle.std.proofs.lemmas.List.{take_more, take-append-drop}
 use Rattle.schema_rules.specs.declared.attributes.Attribute.{Attribute}
+use Rattle.schema_rules.proofs.Lists.{option_or-assoc}
 use Rattle.entry_writes.specs.declared.edit.Edit.{Edit}
 use Rattle.entry_writes.specs.Edits.{after_edit, after_edits, edit_code, edits_code}
-use Rattle.entry_writes.proofs.Firsts.{option_or-assoc}
 
 after_edits-push : (attrs : List Attribute) (xs : List Edit) (e : Edit) → after_edits attrs (xs ++ e ∷ []) ≡ after_edit (after_edits attrs xs) e
 after_edits-push attrs [] e = refl
@@ -31,12 +31,12 @@ edits_code_next attrs edits i e low at before =
     ap (edits_code attrs) (next edits i e low at) ∙ edits_code-append attrs (take i edits) (e ∷ [])
     ∙ ap (λ o. option_or o (option_or (edit_code (after_edits attrs (take i edits)) e) None)) before
 
--- nothing is against the next edit either
+-- nothing rejects the next edit either
 pub edits_code_none : (attrs : List Attribute) (edits : List Edit) (i : ℕ) (e : Edit) → i < length edits → e ≡ get_or edits i e → edits_code attrs (take i edits) ≡ None
     → edit_code (after_edits attrs (take i edits)) e ≡ None → edits_code attrs (take (i + 1) edits) ≡ None
 edits_code_none attrs edits i e low at before none = edits_code_next attrs edits i e low at before ∙ ap (λ o. option_or o None) none
 
--- something is against the next edit
+-- something rejects the next edit
 pub edits_code_some : (attrs : List Attribute) (edits : List Edit) (i : ℕ) (e : Edit) (n : ℕ) → i < length edits → e ≡ get_or edits i e → edits_code attrs (take i edits) ≡ None
     → edit_code (after_edits attrs (take i edits)) e ≡ Some n → edits_code attrs edits ≡ Some n
 edits_code_some attrs edits i e n low at before some =

@@ -1,20 +1,24 @@
 -- What differs where a write keeps, changes or removes each entry by itself.
-use Rattle.std.proofs.Common.{◌≡◌, ◌<◌, ℕ, zero, suc, Bool, true, false, ◌||◌, cond, nat_eq, nat_lt, List, [], ◌∷◌, length, map, get_or, Option, Some, None, ap, sym, ◌∙◌, refl, ◌⊎◌, inl, inr, arith}
+use Rattle.std.proofs.Common.{◌≡◌, ◌<◌, ℕ, zero, suc, Bool, true, false, ◌||◌, cond, nat_eq, nat_lt, List, [], ◌∷◌, map, get_or, Option, Some, None, ap, sym, ◌∙◌, refl, ◌⊎◌, inl, inr, arith}
 use Rattle.std.specs.Option.{option_and_then}
 use Rattle.std.specs.List.{All, filter, filter_map, cons_option, find, list_all, list_any}
 use Rattle.std.specs.Ordering.{nat_cmp, match_ordering}
 use Rattle.std.specs.declared.cmp.Ordering.TheVariants.{Less, Equal, Greater}
 use Rattle.std.specs.BTreeSet.{insert_key}
-use Rattle.std.proofs.lemmas.Bool.{false≢true, eqb-true, eq-eqb, ne_eqb, ltb-true, lt-ltb, le-ltb, and_parts, and_from, or_left, or_right, cases_order}
+use Rattle.std.proofs.lemmas.Bool.{false≢true, eqb-true, eq-eqb, ne_eqb, ltb-true, lt-ltb, le-ltb, and_parts, and_from, cases_order}
 use Rattle.std.proofs.lemmas.List.Sums.{AllPass-from_list_all, list_all-from_AllPass}
+use Rattle.std.proofs.lemmas.List.Folds.{list_any_at}
+use Rattle.std.proofs.lemmas.Simd.{map-map}
 use Rattle.entry_writes.specs.declared.entry.Entry.{Entry}
-use Rattle.entry_writes.specs.declared.touched.Touch.{Touch}
+use Rattle.entry_writes.specs.declared.touched.EntryChange.{EntryChange}
 use Rattle.entry_writes.specs.State.{ascends, entry_at, is_identified}
-use Rattle.entry_writes.specs.Touched.{identities, joined, touch_at, is_change, touched}
+use Rattle.entry_writes.specs.Touched.{identities, joined, change_at, is_change, touched}
 
+-- whether all entries are above an identity
 abbrev pub above : ℕ → List Entry → Bool
 above u es = list_all (λ later. nat_lt u later.uuid) es
 
+-- whether one of the entries has this identity
 abbrev pub holds : List Entry → ℕ → Bool
 holds es u = list_any (λ e. nat_eq e.uuid u) es
 
@@ -23,32 +27,26 @@ map_same f g [] h = refl
 map_same f g (x ∷ xs) h =
     ap (λ y. y ∷ map f xs) (h 0 x (omega arith)) ∙ ap (λ ys. g x ∷ ys) (map_same f g xs (λ k d low. h (suc k) d (omega arith)))
 
-map-map : {X Y Z : Type 0} (f : Y → Z) (g : X → Y) (xs : List X) → map f (map g xs) ≡ map (λ x. f (g x)) xs
-map-map f g [] = refl
-map-map f g (x ∷ xs) = ap (λ ys. f (g x) ∷ ys) (map-map f g xs)
-
-any_at : {X : Type 0} (p : X → Bool) (xs : List X) (k : ℕ) (d : X) → k < length xs → p (get_or xs k d) ≡ true → list_any p xs ≡ true
-any_at p [] k d low hit = absurd (omega arith)
-any_at p (x ∷ xs) zero d low hit = or_left (p x) (list_any p xs) hit
-any_at p (x ∷ xs) (suc k) d low hit = or_right (p x) (list_any p xs) (any_at p xs k d (omega arith) hit)
-
 -- ---- look-ups
 
 apart : (u v : ℕ) → nat_lt u v ≡ true → nat_eq v u ≡ false
 apart u v less = let below : u < v = ltb-true u v less in ne_eqb v u (λ e. omega arith)
 
+-- an identity below all entries has no entry
 pub none_at : (es : List Entry) (u : ℕ) → above u es ≡ true → entry_at es u ≡ None
 none_at [] u h = refl
 none_at (e ∷ es) u h =
     let p = and_parts (nat_lt u e.uuid) (above u es) h in
     ap (λ b. cond b (Some e) (entry_at es u)) (apart u e.uuid p.0) ∙ none_at es u p.1
 
+-- an identity below all entries is not held
 pub none_held : (es : List Entry) (u : ℕ) → above u es ≡ true → holds es u ≡ false
 none_held [] u h = refl
 none_held (e ∷ es) u h =
     let p = and_parts (nat_lt u e.uuid) (above u es) h in
     ap (λ b. b || holds es u) (apart u e.uuid p.0) ∙ none_held es u p.1
 
+-- entries above an identity are above each lower one
 pub above_lower : (es : List Entry) (a b : ℕ) → a < b → above b es ≡ true → above a es ≡ true
 above_lower [] a b less h = refl
 above_lower (e ∷ es) a b less h =
@@ -93,6 +91,7 @@ at_stepped step keeps (e ∷ es) u asc =
 
 -- ---- the identities of both
 
+-- inserting an identity that is there leaves the identities
 pub insert_same : (es : List Entry) (u : ℕ) → ascends es ≡ true → holds es u ≡ true → insert_key nat_cmp (identities es) u ≡ identities es
 insert_same [] u asc here = absurd (false≢true here)
 insert_same (e ∷ es) u asc here =
@@ -117,10 +116,11 @@ insert_same (e ∷ es) u asc here =
         let there : holds es u ≡ true = sym (ap (λ b. b || holds es u) other) ∙ here in
         at false false (le-ltb u e.uuid (omega arith)) (ne_eqb u e.uuid (λ same. omega arith)) ∙ ap (λ ids. e.uuid ∷ ids) (rest there)
 
+-- the identity of each entry is held
 pub each_held : (old : List Entry) → list_all (λ e. holds old e.uuid) old ≡ true
 each_held old =
     list_all-from_AllPass (λ (e : Entry). holds old e.uuid) old
-    (λ k d low. any_at (λ (x : Entry). nat_eq x.uuid (get_or old k d).uuid) old k d low (eq-eqb (get_or old k d).uuid (get_or old k d).uuid refl))
+    (λ k d low. list_any_at (λ (x : Entry). nat_eq x.uuid (get_or old k d).uuid) old k d low (eq-eqb (get_or old k d).uuid (get_or old k d).uuid refl))
 
 joined_stepped : (step : Entry → Option Entry) → Keeps step → (old es : List Entry) → ascends old ≡ true → list_all (λ e. holds old e.uuid) es ≡ true
     → joined (identities old) (identities (filter_map step es)) ≡ identities old
@@ -137,21 +137,23 @@ joined_stepped step keeps old (e ∷ es) asc held =
 
 -- ---- what differs
 
-abbrev pub stepped : (Entry → Option Entry) → Entry → Touch
-stepped step e = record { uuid = e.uuid; was = Some e; now = step e }
+-- the change of an entry by a step
+abbrev pub stepped : (Entry → Option Entry) → Entry → EntryChange
+stepped step e = record { uuid = e.uuid; before = Some e; after = step e }
 
+-- a step of each entry touches those that it changes
 pub touched_stepped : (step : Entry → Option Entry) → Keeps step → (old : List Entry) → ascends old ≡ true
     → touched old (filter_map step old) ≡ filter is_change (map (stepped step) old)
 touched_stepped step keeps old asc =
-    ap (λ ids. filter is_change (map (touch_at old (filter_map step old)) ids)) (joined_stepped step keeps old old asc (each_held old))
+    ap (λ ids. filter is_change (map (change_at old (filter_map step old)) ids)) (joined_stepped step keeps old old asc (each_held old))
     ∙ ap (filter is_change)
-    (map-map (touch_at old (filter_map step old)) (λ (e : Entry). e.uuid) old
-    ∙ map_same (λ e. touch_at old (filter_map step old) e.uuid) (stepped step) old (λ k d low. one (get_or old k d) (at_each old asc k d low)))
+    (map-map (change_at old (filter_map step old)) (λ (e : Entry). e.uuid) old
+    ∙ map_same (λ e. change_at old (filter_map step old) e.uuid) (stepped step) old (λ k d low. one (get_or old k d) (at_each old asc k d low)))
   where
-    one : (e : Entry) → entry_at old e.uuid ≡ Some e → touch_at old (filter_map step old) e.uuid ≡ stepped step e
+    one : (e : Entry) → entry_at old e.uuid ≡ Some e → change_at old (filter_map step old) e.uuid ≡ stepped step e
     one e there =
-        ap (λ w. let t : Touch = record { uuid = e.uuid; was = w; now = entry_at (filter_map step old) e.uuid } in t) there
-        ∙ ap (λ n. let t : Touch = record { uuid = e.uuid; was = Some e; now = n } in t) (at_stepped step keeps old e.uuid asc ∙ ap (option_and_then step) there)
+        ap (λ w. let t : EntryChange = record { uuid = e.uuid; before = w; after = entry_at (filter_map step old) e.uuid } in t) there
+        ∙ ap (λ n. let t : EntryChange = record { uuid = e.uuid; before = Some e; after = n } in t) (at_stepped step keeps old e.uuid asc ∙ ap (option_and_then step) there)
 
 -- ---- a write that changes entries and removes none
 
@@ -159,6 +161,7 @@ map_is_filter_map : (f : Entry → Entry) (es : List Entry) → map f es ≡ fil
 map_is_filter_map f [] = refl
 map_is_filter_map f (e ∷ es) = ap (λ xs. f e ∷ xs) (map_is_filter_map f es)
 
+-- a change of each entry touches those that it changes
 pub touched_mapped : (f : Entry → Entry) → ((e : Entry) → (f e).uuid ≡ e.uuid) → (old : List Entry) → ascends old ≡ true
     → touched old (map f old) ≡ filter is_change (map (stepped (λ e. Some (f e))) old)
 touched_mapped f keeps old asc =

@@ -1,7 +1,9 @@
--- The code of a write, which is the first that is against it (RFC 4511, sections 4.1.9 and 4.6 to 4.9).
+-- The code of a write, which is the first that rejects it (RFC 4511, sections
+-- 4.1.9 and 4.6 to 4.9).
 use Rattle.std.specs.Prelude.{ℕ, Bool, true, false, not, ◌&&◌, ◌||◌, nat_lt, nat_le, if◌then◌else◌, List, length, Option, Some, None, ◌+◌}
 use Rattle.std.specs.Option.{option_or}
 use Rattle.std.specs.List.{list_any, list_all}
+use Rattle.ldap_constants.specs.declared.result_codes.TheConstants.{ADMIN_LIMIT_EXCEEDED, NO_SUCH_OBJECT, UNWILLING_TO_PERFORM, NAMING_VIOLATION, NOT_ALLOWED_ON_NON_LEAF, NOT_ALLOWED_ON_RDN, ENTRY_ALREADY_EXISTS}
 use Rattle.schema_rules.specs.declared.attributes.Attribute.{Attribute}
 use Rattle.schema_rules.specs.Attributes.{entry_code, weight_of}
 use Rattle.dn_names.specs.Names.{TypeAndValue, same_name, is_at_or_below, moved_name}
@@ -18,54 +20,66 @@ use Rattle.entry_writes.specs.State.{has_name, has_parent, has_below, is_named, 
 abbrev pub has_own_pairs : List Attribute → List (List TypeAndValue) → Bool
 has_own_pairs attrs name = list_all (has_pair_value attrs) (own_pairs name)
 
--- adminLimitExceeded (11) where an entry would weigh too much, or all entries
+-- adminLimitExceeded where an entry would weigh too much, or all entries
 abbrev pub weight_code : ℕ → ℕ → Option ℕ
-weight_code weight total = if nat_lt most_entry_weight weight || nat_lt most_weight total then Some 11 else None
+weight_code weight total =
+    if nat_lt most_entry_weight weight || nat_lt most_weight total then Some ADMIN_LIMIT_EXCEEDED else None
 
 -- ---- Add (section 4.7)
 
 -- outside the suffix, or below it without an entry above
 abbrev pub has_no_place : List (List TypeAndValue) → List Entry → List (List TypeAndValue) → Bool
-has_no_place suffix entries name = not (is_at_or_below name suffix) || (not (same_name name suffix) && not (has_parent entries name))
+has_no_place suffix entries name =
+    not (is_at_or_below name suffix)
+    || (not (same_name name suffix) && not (has_parent entries name))
 
 abbrev pub room_code : List Entry → ℕ → Option ℕ
-room_code entries weight = if nat_le most_entries (length entries) then Some 11 else weight_code weight (total_weight entries + weight)
+room_code entries weight =
+    if nat_le most_entries (length entries) then Some ADMIN_LIMIT_EXCEEDED
+    else weight_code weight (total_weight entries + weight)
 
--- namingViolation (64)
+-- namingViolation
 abbrev pub naming_code : List (List TypeAndValue) → List Attribute → Option ℕ
-naming_code name attrs = if has_own_pairs attrs name then None else Some 64
+naming_code name attrs = if has_own_pairs attrs name then None else Some NAMING_VIOLATION
 
--- noSuchObject (32), then entryAlreadyExists (68)
+-- noSuchObject, then entryAlreadyExists
 abbrev pub place_code : List (List TypeAndValue) → List Entry → List (List TypeAndValue) → Option ℕ
 place_code suffix entries name =
-    if has_no_place suffix entries name then Some 32 else if has_name entries name then Some 68 else None
+    if has_no_place suffix entries name then Some NO_SUCH_OBJECT
+    else if has_name entries name then Some ENTRY_ALREADY_EXISTS else None
 
-abbrev pub add_code : List (List TypeAndValue) → List Entry → List (List TypeAndValue) → List Attribute → Option ℕ
+abbrev pub add_code :
+    List (List TypeAndValue) → List Entry → List (List TypeAndValue) → List Attribute → Option ℕ
 add_code suffix entries name attrs =
     option_or (place_code suffix entries name)
-    (option_or (entry_code attrs) (option_or (naming_code name attrs) (room_code entries (weight_of attrs))))
+    (option_or (entry_code attrs)
+    (option_or (naming_code name attrs) (room_code entries (weight_of attrs))))
 
 -- ---- Delete (section 4.8)
 
--- noSuchObject (32), then notAllowedOnNonLeaf (66)
+-- noSuchObject, then notAllowedOnNonLeaf
 abbrev pub delete_code : List Entry → List (List TypeAndValue) → Option ℕ
-delete_code entries name = if not (has_name entries name) then Some 32 else if has_below entries name then Some 66 else None
+delete_code entries name =
+    if not (has_name entries name) then Some NO_SUCH_OBJECT
+    else if has_below entries name then Some NOT_ALLOWED_ON_NON_LEAF else None
 
 -- ---- Modify (section 4.6)
 
--- notAllowedOnRDN (67)
+-- notAllowedOnRDN
 abbrev pub kept_code : List (List TypeAndValue) → List Attribute → Option ℕ
-kept_code name attrs = if has_own_pairs attrs name then None else Some 67
+kept_code name attrs = if has_own_pairs attrs name then None else Some NOT_ALLOWED_ON_RDN
 
 -- the code against an entry that has got these attributes
 abbrev pub edited_code : List Entry → Entry → List Attribute → Option ℕ
 edited_code entries e attrs =
     option_or (entry_code attrs)
-    (option_or (kept_code e.dn attrs) (weight_code (weight_of attrs) (weight_with entries e (weight_of attrs))))
+    (option_or (kept_code e.dn attrs)
+    (weight_code (weight_of attrs) (weight_with entries e (weight_of attrs))))
 
 abbrev pub modify_code : List Entry → Option Entry → List Edit → Option ℕ
-modify_code entries None edits = Some 32
-modify_code entries (Some e) edits = option_or (edits_code e.attrs edits) (edited_code entries e (after_edits e.attrs edits))
+modify_code entries None edits = Some NO_SUCH_OBJECT
+modify_code entries (Some e) edits =
+    option_or (edits_code e.attrs edits) (edited_code entries e (after_edits e.attrs edits))
 
 -- ---- Rename (section 4.9)
 
@@ -80,41 +94,53 @@ is_within e None = false
 is_within e (Some superior) = is_at_or_below superior e.dn
 
 abbrev pub is_taken_from : Entry → List Entry → List (List TypeAndValue) → Bool
-is_taken_from e entries name = list_any (λ other. is_named name other && not (is_identified e.uuid other)) entries
+is_taken_from e entries name =
+    list_any (λ other. is_named name other && not (is_identified e.uuid other)) entries
 
--- noSuchObject (32), unwillingToPerform (53), then entryAlreadyExists (68)
-abbrev pub target_code : List (List TypeAndValue) → List Entry → Entry → List (List TypeAndValue) → Option (List (List TypeAndValue)) → Option ℕ
+-- noSuchObject, unwillingToPerform, then entryAlreadyExists
+abbrev pub target_code :
+    List (List TypeAndValue) → List Entry → Entry → List (List TypeAndValue)
+    → Option (List (List TypeAndValue)) → Option ℕ
 target_code suffix entries e name superior =
-    if not (has_superior entries superior) then Some 32
-    else if same_name e.dn suffix || is_within e superior then Some 53
-    else if is_taken_from e entries name then Some 68
+    if not (has_superior entries superior) then Some NO_SUCH_OBJECT
+    else if same_name e.dn suffix || is_within e superior then Some UNWILLING_TO_PERFORM
+    else if is_taken_from e entries name then Some ENTRY_ALREADY_EXISTS
     else None
 
 -- a moved entry would have too long a name
 abbrev pub has_too_long : List Entry → Entry → List (List TypeAndValue) → Bool
 has_too_long entries e name =
-    list_any (λ other. is_at_or_below other.dn e.dn && nat_lt most_rdns (length (moved_name other.dn e.dn name))) entries
+    list_any
+    (λ other.
+    is_at_or_below other.dn e.dn && nat_lt most_rdns (length (moved_name other.dn e.dn name)))
+    entries
 
 abbrev pub length_code : List Entry → Entry → List (List TypeAndValue) → Option ℕ
-length_code entries e name = if has_too_long entries e name then Some 11 else None
+length_code entries e name = if has_too_long entries e name then Some ADMIN_LIMIT_EXCEEDED else None
 
 -- the code against an entry that gets this name and these attributes
-abbrev pub moved_code : List (List TypeAndValue) → List Entry → Entry → List (List TypeAndValue) → List Attribute → Option (List (List TypeAndValue)) → Option ℕ
+abbrev pub moved_code :
+    List (List TypeAndValue) → List Entry → Entry → List (List TypeAndValue) → List Attribute
+    → Option (List (List TypeAndValue)) → Option ℕ
 moved_code suffix entries e name attrs superior =
     option_or (target_code suffix entries e name superior)
     (option_or (entry_code attrs)
-    (option_or (weight_code (weight_of attrs) (weight_with entries e (weight_of attrs))) (length_code entries e name)))
+    (option_or (weight_code (weight_of attrs) (weight_with entries e (weight_of attrs)))
+    (length_code entries e name)))
 
-abbrev pub rename_code : List (List TypeAndValue) → List Entry → Option Entry → List TypeAndValue → Bool → Option (List (List TypeAndValue)) → Option ℕ
-rename_code suffix entries None rdn deletes superior = Some 32
+abbrev pub rename_code :
+    List (List TypeAndValue) → List Entry → Option Entry → List TypeAndValue → Bool
+    → Option (List (List TypeAndValue)) → Option ℕ
+rename_code suffix entries None rdn deletes superior = Some NO_SUCH_OBJECT
 rename_code suffix entries (Some e) rdn deletes superior =
     moved_code suffix entries e (new_name e rdn superior) (new_attributes e rdn deletes) superior
 
--- ---- the code of a write to the directory with this suffix, where one is against it; nothing is against a commit, which
--- its provider accepted write by write
+-- ---- the code of a write to the directory with this suffix, where one rejects it; nothing is
+-- against a commit, which its provider accepted write by write
 abbrev pub code_of : List (List TypeAndValue) → List Entry → Op → Option ℕ
 code_of suffix entries (Add name attrs) = add_code suffix entries name attrs
 code_of suffix entries (Delete name) = delete_code entries name
 code_of suffix entries (Modify name edits) = modify_code entries (entry_named entries name) edits
-code_of suffix entries (Rename name rdn deletes superior) = rename_code suffix entries (entry_named entries name) rdn deletes superior
+code_of suffix entries (Rename name rdn deletes superior) =
+    rename_code suffix entries (entry_named entries name) rdn deletes superior
 code_of suffix entries (Commit puts drops) = None

@@ -1,13 +1,13 @@
--- What the fault of a write tells.
+-- What the fault of a write reports.
 use Rattle.std.specs.Prelude.{◌≡◌, ℕ, List, [], ◌∷◌, Option, Some, None}
 use Rattle.std.specs.Option.{option_or}
 use Rattle.entry_writes.specs.declared.fault.OpFault.{OpFault}
 use Rattle.entry_writes.specs.declared.fault.OpFault.TheVariants.{Code, NoMemory}
 
--- the fault tells this code; want of memory tells nothing
-abbrev pub Tells : Option ℕ → OpFault → Type 0
-Tells code (Code number) = code ≡ Some number
-Tells code NoMemory = Unit {0}
+-- the fault reports this code; out of memory reports nothing
+abbrev pub HasCode : Option ℕ → OpFault → Type 0
+HasCode code (Code number) = code ≡ Some number
+HasCode code NoMemory = Unit {0}
 
 -- the first code against the items of a list
 abbrev pub first_code : {X : Type 0} → (X → Option ℕ) → List X → Option ℕ

@@ -16,11 +16,13 @@ may_be_empty how.Add = false
 may_be_empty how.Delete = true
 may_be_empty how.Replace = true
 
--- the values are of the type's syntax, and the type is not operational; an edit that adds has a value
+-- the values are of the type's syntax, and the type is not operational; an edit
+-- that adds has a value
 abbrev pub is_sound_edit : Edit → Bool
 is_sound_edit edit =
     not (is_operational edit.kind)
-    && (list_all (is_of_syntax edit.kind) edit.values && (may_be_empty edit.how || not (length edit.values == 0)))
+    && (list_all (is_of_syntax edit.kind) edit.values
+    && (may_be_empty edit.how || not (length edit.values == 0)))
 
 -- each value of the entry is of its type's syntax, and no type is operational
 abbrev pub is_sound_attribute : Attribute → Bool

@@ -21,7 +21,9 @@ entry_at entries uuid = find (is_identified uuid) entries
 
 -- the entries with this one in its place, where it replaces one of the same identity
 abbrev pub put : Entry → List Entry → List Entry
-put entry entries = filter (λ e. nat_lt e.uuid entry.uuid) entries ++ entry ∷ filter (λ e. nat_lt entry.uuid e.uuid) entries
+put entry entries =
+    filter (λ e. nat_lt e.uuid entry.uuid) entries
+    ++ entry ∷ filter (λ e. nat_lt entry.uuid e.uuid) entries
 
 -- ---- entries by name
 
@@ -54,7 +56,8 @@ total_weight entries = sum_by (λ e. weight_of e.attrs) entries
 
 -- the weight with other attributes of one of the entries
 abbrev pub weight_with : List Entry → Entry → ℕ → ℕ
-weight_with entries e weight = total_weight (filter (λ other. not (is_identified e.uuid other)) entries) + weight
+weight_with entries e weight =
+    total_weight (filter (λ other. not (is_identified e.uuid other)) entries) + weight
 
 -- the limits of a directory: the weight of an entry, the number of entries, and their weight
 abbrev pub most_entry_weight : ℕ
@@ -68,12 +71,16 @@ most_weight = 67108864
 
 -- more entries than a directory may have, or heavier ones
 abbrev pub is_crowded : List Entry → Bool
-is_crowded entries = nat_lt most_entries (length entries) || nat_lt most_weight (total_weight entries)
+is_crowded entries =
+    nat_lt most_entries (length entries) || nat_lt most_weight (total_weight entries)
 
 -- the first entry whose name a later one has, with the first such
 abbrev pub same_named : List Entry → Option (ℕ × ℕ)
 same_named [] = None
-same_named (entry ∷ entries) = option_or (option_map (λ (other : Entry). (entry.uuid, other.uuid)) (entry_named entries entry.dn)) (same_named entries)
+same_named (entry ∷ entries) =
+    option_or
+    (option_map (λ (other : Entry). (entry.uuid, other.uuid)) (entry_named entries entry.dn))
+    (same_named entries)
 
 -- what holds of the entries of a directory and of the weight that is kept beside them
 pub record IsDirectory (entries : List Entry) (weight : ℕ) : Type 0 where

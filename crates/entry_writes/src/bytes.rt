@@ -9,12 +9,12 @@ use csn_cookie::Csn;
 use dn_names::{Pair, Rdn};
 use schema_rules::Attribute;
 
-/// Whether the entries have the same identity and stamp, and the same bytes in name and attributes.
+/// Whether the entries have the same identity and CSN, and the same bytes in name and attributes.
 pub fn is_one_entry(one: &Entry, other: &Entry) -> bool
     ensures { result ≡ spec.is_one_entry one.now other.now }
 {
     one.uuid == other.uuid
-        && is_one_stamp(one.csn, other.csn)
+        && is_one_csn(one.csn, other.csn)
         && is_one_name(one.dn.rdns(), other.dn.rdns())
         && is_one_list(one.attrs.list(), other.attrs.list())
 }
@@ -30,8 +30,8 @@ pub(crate) fn is_one_found(one: Option<&Entry>, other: Option<&Entry>) -> bool
     }
 }
 
-fn is_one_stamp(one: Csn, other: Csn) -> bool
-    ensures { result ≡ spec.is_one_stamp one other }
+fn is_one_csn(one: Csn, other: Csn) -> bool
+    ensures { result ≡ spec.is_one_csn one other }
 {
     one.micros() == other.micros()
         && one.count() == other.count()
@@ -60,7 +60,8 @@ fn is_one_rdn(one: &[Pair], other: &[Pair]) -> bool
 }
 
 fn all_one_pairs(one: &[Pair], other: &[Pair]) -> bool
-    ensures { result ≡ list_all (λ items. spec.is_one_pair items.0 items.1) (zip one.now other.now) }
+    ensures { result
+        ≡ list_all (λ items. spec.is_one_pair items.0 items.1) (zip one.now other.now) }
 {
     one.iter().zip(other).all(|(a, b)| is_one_pair(a, b))
 }
@@ -78,7 +79,8 @@ fn is_one_list(one: &[Attribute], other: &[Attribute]) -> bool
 }
 
 fn all_one_attributes(one: &[Attribute], other: &[Attribute]) -> bool
-    ensures { result ≡ list_all (λ items. spec.is_one_attribute items.0 items.1) (zip one.now other.now) }
+    ensures { result
+        ≡ list_all (λ items. spec.is_one_attribute items.0 items.1) (zip one.now other.now) }
 {
     one.iter().zip(other).all(|(a, b)| is_one_attribute(a, b))
 }

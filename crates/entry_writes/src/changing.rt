@@ -4,16 +4,17 @@ ghost use Rattle.std.specs.List.{list_any, list_all};
 ghost use Rattle.dn_names.specs.Names.{same_pair, has_pair};
 ghost use Rattle.entry_writes.specs.Codes.{has_own_pairs};
 ghost use Rattle.entry_writes.specs.Edits as spec;
-ghost use Rattle.entry_writes.specs.Fault.{Tells};
+ghost use Rattle.entry_writes.specs.Fault.{HasCode};
 ghost use Rattle.entry_writes.specs.Sound.{is_sound_edit};
 ghost use Rattle.entry_writes.specs.State as state;
 
 use crate::edit::Edit;
-use crate::fault::{ATTRIBUTE_OR_VALUE_EXISTS, NO_SUCH_ATTRIBUTE, OpFault};
+use crate::fault::OpFault;
 use dn_names::{Dn, Pair, Rdn};
 use ldap_ber::{NoMemory, Octets, OctetsList};
+use ldap_constants::{ATTRIBUTE_OR_VALUE_EXISTS, NO_SUCH_ATTRIBUTE};
 use schema_rules::{
-    Attribute, AttributeType, Attrs, How, add_values, has_twins, keys_of, known_key,
+    Attribute, AttributeType, Attrs, How, add_values, has_duplicates, keys_of, known_key,
 };
 use std::alloc::Global;
 use std::slice::from_ref;
@@ -120,15 +121,16 @@ fn unmatched(
     Ok(left)
 }
 
-/// Whether nothing is against the edit: 20 where two of its values have one key or it adds a value
-/// that is there, and 16 where it deletes a value or a type that is not there.
+/// Whether nothing rejects the edit: attributeOrValueExists where two of its values have one key
+/// or it adds a value that is there, and noSuchAttribute where it deletes a value or a type that is
+/// not there.
 fn check_edit(alloc: Global, attributes: &[Attribute], edit: &Edit) -> Result<(), OpFault>
     ensures ok { OnOk result (spec.edit_code attributes.now edit.now ≡ None) }
-    ensures fault { IfErr result (Tells (spec.edit_code attributes.now edit.now)) }
+    ensures fault { IfErr result (HasCode (spec.edit_code attributes.now edit.now)) }
 {
     let kind = edit.kind;
     let values = edit.values.list();
-    if has_twins(&keys_of(alloc, kind, values)?) {
+    if has_duplicates(&keys_of(alloc, kind, values)?) {
         return Err(OpFault::Code(ATTRIBUTE_OR_VALUE_EXISTS));
     }
     let keys = keys_there(alloc, attributes, kind)?;
@@ -172,7 +174,8 @@ fn left_of(
     kind: AttributeType,
     keys: &[Octets],
 ) -> Result<Attribute, NoMemory>
-    ensures { IfOk result (λ left. left ≡ spec.change_of (spec.unmatched kind keys.now) kind attribute.now) }
+    ensures { IfOk result (λ left.
+        left ≡ spec.change_of (spec.unmatched kind keys.now) kind attribute.now) }
 {
     if attribute.kind == kind {
         let values = unmatched(alloc, kind, keys, attribute.values.list())?;
@@ -191,7 +194,8 @@ fn without_values(
     kind: AttributeType,
     values: &[Octets],
 ) -> Result<Vec<Attribute>, NoMemory>
-    ensures { IfOk result (λ left. left.items ≡ spec.without_values attributes.now kind values.now) }
+    ensures { IfOk result (λ left.
+        left.items ≡ spec.without_values attributes.now kind values.now) }
 {
     let keys = keys_of(alloc, kind, values)?;
     let mut left = Vec::new(alloc);
@@ -211,7 +215,8 @@ fn with_other_values(
     kind: AttributeType,
     values: &OctetsList,
 ) -> Result<Vec<Attribute>, NoMemory>
-    ensures { IfOk result (λ items. items.items ≡ spec.with_change (λ held. values.now) attributes.now kind) }
+    ensures { IfOk result (λ items.
+        items.items ≡ spec.with_change (λ held. values.now) attributes.now kind) }
 {
     let mut items = Vec::new(alloc);
     for attribute in attributes {
@@ -306,7 +311,7 @@ pub(crate) fn edited(alloc: Global, attrs: &Attrs, edits: &[Edit]) -> Result<Att
     requires { list_all is_sound_edit edits.now ≡ true }
     ensures value { IfOk result (λ after. after ≡ spec.after_edits attrs.now edits.now) }
     ensures ok { OnOk result (spec.edits_code attrs.now edits.now ≡ None) }
-    ensures fault { IfErr result (Tells (spec.edits_code attrs.now edits.now)) }
+    ensures fault { IfErr result (HasCode (spec.edits_code attrs.now edits.now)) }
 {
     let mut after = attrs.copy()?;
     for edit in edits {
@@ -387,7 +392,8 @@ fn without_pairs_gone(
     old: &[Pair],
     new: &[Pair],
 ) -> Result<Attrs, NoMemory>
-    ensures { IfOk result (λ after. after ≡ fold spec.without_pair attrs (spec.pairs_gone old.now new.now)) }
+    ensures { IfOk result (λ after.
+        after ≡ fold spec.without_pair attrs (spec.pairs_gone old.now new.now)) }
 {
     let mut after = attrs;
     for pair in old {

@@ -1,16 +1,17 @@
 //! The codes against a write (RFC 4511, sections 4.6 to 4.9).
 ghost use Rattle.std.specs.Prelude.{◌≡◌, ◌+◌, ◌≤◌, None, IfErr, OnOk};
 ghost use Rattle.entry_writes.specs.Codes as spec;
-ghost use Rattle.entry_writes.specs.Fault.{Tells};
+ghost use Rattle.entry_writes.specs.Fault.{HasCode};
 ghost use Rattle.entry_writes.specs.State as state;
 
 use crate::changing::has_own_pairs;
 use crate::entry::Entry;
-use crate::fault::{
-    ADMIN_LIMIT_EXCEEDED, ENTRY_ALREADY_EXISTS, NAMING_VIOLATION, NO_SUCH_OBJECT,
-    NOT_ALLOWED_ON_NON_LEAF, NOT_ALLOWED_ON_RDN, OpFault,
-};
+use crate::fault::OpFault;
 use dn_names::Dn;
+use ldap_constants::{
+    ADMIN_LIMIT_EXCEEDED, ENTRY_ALREADY_EXISTS, NAMING_VIOLATION, NO_SUCH_OBJECT,
+    NOT_ALLOWED_ON_NON_LEAF, NOT_ALLOWED_ON_RDN,
+};
 use schema_rules::{Attrs, check_entry};
 use std::alloc::Global;
 
@@ -49,11 +50,12 @@ fn has_no_place(entries: &[Entry], suffix: &Dn, dn: &Dn) -> bool
     !dn.is_at_or_below(suffix) || (!dn.same(suffix) && !has_parent(entries, dn))
 }
 
-/// Refuses an entry that would weigh too much, or with which the entries would.
+/// Refuses an entry of this weight, beside others that weigh so much, in bytes, with
+/// adminLimitExceeded (11): where it weighs more than 65,536, or all of them more than 67,108,864.
 pub fn check_weight(weight: u64, others: u64) -> Result<(), OpFault>
     requires { others ≤ state.most_weight }
     ensures ok { OnOk result (spec.weight_code weight (others + weight) ≡ None) }
-    ensures fault { IfErr result (Tells (spec.weight_code weight (others + weight))) }
+    ensures fault { IfErr result (HasCode (spec.weight_code weight (others + weight))) }
 {
     if weight > MOST_ENTRY_WEIGHT || others + weight > MOST_WEIGHT {
         return Err(OpFault::Code(ADMIN_LIMIT_EXCEEDED));
@@ -64,7 +66,7 @@ pub fn check_weight(weight: u64, others: u64) -> Result<(), OpFault>
 /// Refuses the name of a new entry.
 fn check_place(entries: &[Entry], suffix: &Dn, dn: &Dn) -> Result<(), OpFault>
     ensures ok { OnOk result (spec.place_code suffix.now entries.now dn.now ≡ None) }
-    ensures fault { IfErr result (Tells (spec.place_code suffix.now entries.now dn.now)) }
+    ensures fault { IfErr result (HasCode (spec.place_code suffix.now entries.now dn.now)) }
 {
     if has_no_place(entries, suffix, dn) {
         return Err(OpFault::Code(NO_SUCH_OBJECT));
@@ -78,7 +80,7 @@ fn check_place(entries: &[Entry], suffix: &Dn, dn: &Dn) -> Result<(), OpFault>
 /// Refuses attributes without the values of the name's own RDN.
 fn check_naming(alloc: Global, dn: &Dn, attrs: &Attrs) -> Result<(), OpFault>
     ensures ok { OnOk result (spec.naming_code dn.now attrs.now ≡ None) }
-    ensures fault { IfErr result (Tells (spec.naming_code dn.now attrs.now)) }
+    ensures fault { IfErr result (HasCode (spec.naming_code dn.now attrs.now)) }
 {
     if !has_own_pairs(alloc, attrs.list(), dn)? {
         return Err(OpFault::Code(NAMING_VIOLATION));
@@ -91,7 +93,7 @@ fn check_room(entries: &[Entry], total: u64, weight: u64) -> Result<(), OpFault>
     requires total { total ≡ state.total_weight entries.now }
     requires light { total ≤ state.most_weight }
     ensures ok { OnOk result (spec.room_code entries.now weight ≡ None) }
-    ensures fault { IfErr result (Tells (spec.room_code entries.now weight)) }
+    ensures fault { IfErr result (HasCode (spec.room_code entries.now weight)) }
 {
     if entries.len() >= MOST_ENTRIES {
         return Err(OpFault::Code(ADMIN_LIMIT_EXCEEDED));
@@ -99,7 +101,10 @@ fn check_room(entries: &[Entry], total: u64, weight: u64) -> Result<(), OpFault>
     check_weight(weight, total)
 }
 
-/// Refuses an Add.
+/// Refuses an Add (RFC 4511, section 4.7) to the directory with this suffix, whose entries weigh
+/// `total` bytes, with the first code against it: noSuchObject (32), entryAlreadyExists (68),
+/// constraintViolation (19), objectClassViolation (65), namingViolation (64) or adminLimitExceeded
+/// (11); or it is `NoMemory`.
 pub fn check_add(
     alloc: Global,
     entries: &[Entry],
@@ -111,7 +116,7 @@ pub fn check_add(
     requires total { total ≡ state.total_weight entries.now }
     requires light { total ≤ state.most_weight }
     ensures ok { OnOk result (spec.add_code suffix.now entries.now dn.now attrs.now ≡ None) }
-    ensures fault { IfErr result (Tells (spec.add_code suffix.now entries.now dn.now attrs.now)) }
+    ensures fault { IfErr result (HasCode (spec.add_code suffix.now entries.now dn.now attrs.now)) }
 {
     check_place(entries, suffix, dn)?;
     check_entry(alloc, attrs)?;
@@ -119,10 +124,11 @@ pub fn check_add(
     check_room(entries, total, attrs.weight())
 }
 
-/// Refuses a Delete.
+/// Refuses a Delete (RFC 4511, section 4.8) with noSuchObject (32) where no entry has the name,
+/// else with notAllowedOnNonLeaf (66) where there are entries below it.
 pub fn check_delete(entries: &[Entry], dn: &Dn) -> Result<(), OpFault>
     ensures ok { OnOk result (spec.delete_code entries.now dn.now ≡ None) }
-    ensures fault { IfErr result (Tells (spec.delete_code entries.now dn.now)) }
+    ensures fault { IfErr result (HasCode (spec.delete_code entries.now dn.now)) }
 {
     if !has_name(entries, dn) {
         return Err(OpFault::Code(NO_SUCH_OBJECT));
@@ -136,7 +142,7 @@ pub fn check_delete(entries: &[Entry], dn: &Dn) -> Result<(), OpFault>
 /// Refuses attributes of the entry that have lost values of its RDN.
 pub(crate) fn check_kept(alloc: Global, dn: &Dn, attrs: &Attrs) -> Result<(), OpFault>
     ensures ok { OnOk result (spec.kept_code dn.now attrs.now ≡ None) }
-    ensures fault { IfErr result (Tells (spec.kept_code dn.now attrs.now)) }
+    ensures fault { IfErr result (HasCode (spec.kept_code dn.now attrs.now)) }
 {
     if !has_own_pairs(alloc, attrs.list(), dn)? {
         return Err(OpFault::Code(NOT_ALLOWED_ON_RDN));

@@ -30,6 +30,7 @@ impl Model for Edits {
 }
 
 impl Edits {
+    /// Makes a list without edits.
     pub fn new(alloc: Global) -> Edits
         ensures { result ≡ [] }
     {
@@ -47,6 +48,7 @@ impl Edits {
         Ok(())
     }
 
+    /// Lends the edits, in the order in which they are made.
     pub fn list(&self) -> &[Edit]
         ensures { result.now ≡ self.now }
     {

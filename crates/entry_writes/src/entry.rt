@@ -8,7 +8,7 @@ use schema_rules::Attrs;
 use std::alloc::Global;
 use std::marker::Model;
 
-/// An entry: its identity, the stamp of the write that last changed it, its name and its attributes.
+/// An entry: its identity, the CSN of the write that last changed it, its name and its attributes.
 #[derive(Drop)]
 pub struct Entry {
     pub uuid: u128,
@@ -18,6 +18,8 @@ pub struct Entry {
 }
 
 impl Entry {
+    /// Makes the same entry a second time, with its identity and its CSN. It is `NoMemory` where
+    /// memory runs out.
     pub fn copy(&self) -> Result<Entry, NoMemory>
         ensures { IfOk result (λ entry. entry ≡ self.now) }
     {
@@ -48,6 +50,7 @@ impl Model for EntryList {
 }
 
 impl EntryList {
+    /// Makes a list without entries.
     pub fn new(alloc: Global) -> EntryList
         ensures { result ≡ [] }
     {
@@ -65,6 +68,7 @@ impl EntryList {
         Ok(())
     }
 
+    /// Lends the entries, in their order.
     pub fn list(&self) -> &[Entry]
         ensures { result.now ≡ self.now }
     {

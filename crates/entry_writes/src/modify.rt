@@ -6,7 +6,7 @@ ghost use Rattle.schema_rules.specs.Attributes.{entry_code, weight_of};
 ghost use Rattle.entry_writes.specs.Codes as codes;
 ghost use Rattle.entry_writes.specs.Edits.{after_edits, edits_code};
 ghost use Rattle.entry_writes.specs.Effects as effects;
-ghost use Rattle.entry_writes.specs.Fault.{Tells};
+ghost use Rattle.entry_writes.specs.Fault.{HasCode};
 ghost use Rattle.entry_writes.specs.Sound.{is_sound_edit};
 ghost use Rattle.entry_writes.specs.State as state;
 
@@ -20,7 +20,11 @@ use dn_names::Dn;
 use schema_rules::{Attrs, check_entry};
 use std::alloc::Global;
 
-/// The entry after the edits, with the stamp, beside others that weigh so much.
+/// The entry after the edits of a Modify (RFC 4511, section 4.6), with the CSN, beside others
+/// that weigh n bytes. Else it reports the first code against them: attributeOrValueExists (20)
+/// or noSuchAttribute (16) of the edits in order; then of the attributes after them
+/// constraintViolation (19), objectClassViolation (65), notAllowedOnRDN (67) and adminLimitExceeded
+/// (11).
 pub fn edited_entry(
     alloc: Global,
     entry: &Entry,
@@ -36,13 +40,15 @@ pub fn edited_entry(
         let attrs = after_edits entry.now.attrs edits.now in
         option_or (edits_code entry.now.attrs edits.now)
         (option_or (entry_code attrs)
-        (option_or (codes.kept_code entry.now.dn attrs) (codes.weight_code (weight_of attrs) (others + weight_of attrs)))) ≡ None) }
+        (option_or (codes.kept_code entry.now.dn attrs)
+        (codes.weight_code (weight_of attrs) (others + weight_of attrs)))) ≡ None) }
     ensures refused { IfErr result (
         let attrs = after_edits entry.now.attrs edits.now in
-        Tells
+        HasCode
         (option_or (edits_code entry.now.attrs edits.now)
         (option_or (entry_code attrs)
-        (option_or (codes.kept_code entry.now.dn attrs) (codes.weight_code (weight_of attrs) (others + weight_of attrs)))))) }
+        (option_or (codes.kept_code entry.now.dn attrs)
+        (codes.weight_code (weight_of attrs) (others + weight_of attrs)))))) }
 {
     let attrs = edited(alloc, &entry.attrs, edits.list())?;
     check_edited(alloc, &entry.dn, &attrs, others)?;
@@ -62,7 +68,7 @@ fn check_edited(alloc: Global, dn: &Dn, attrs: &Attrs, others: u64) -> Result<()
         option_or (entry_code attrs.now)
         (option_or (codes.kept_code dn.now attrs.now)
         (codes.weight_code (weight_of attrs.now) (others + weight_of attrs.now))) ≡ None) }
-    ensures refused { IfErr result (Tells (
+    ensures refused { IfErr result (HasCode (
         option_or (entry_code attrs.now)
         (option_or (codes.kept_code dn.now attrs.now)
         (codes.weight_code (weight_of attrs.now) (others + weight_of attrs.now))))) }

@@ -15,7 +15,7 @@ pub enum Op {
     Delete(Dn),
     /// Edits the attributes of the entry of that name (RFC 4511, section 4.6).
     Modify(Dn, Edits),
-    /// Gives the entry of that name another RDN, and another superior where one is told; all below
+    /// Gives the entry of that name another RDN, and another superior where one is reported; all below
     /// it move with it. The values of the old RDN go where this is asked for (RFC 4511, section 4.9).
     Rename(Dn, Rdn, bool, Option<Dn>),
     /// Puts entries, each in the place of one of its identity, and drops the identities that it does
@@ -24,7 +24,7 @@ pub enum Op {
     Commit(EntryList, IdList),
 }
 
-/// A write that was accepted, with its stamp.
+/// A write that was accepted, with its CSN.
 #[derive(Drop)]
 pub struct Write {
     pub csn: Csn,

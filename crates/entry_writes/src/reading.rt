@@ -2,32 +2,33 @@
 ghost use Rattle.std.specs.Prelude.{◌≡◌, true, false, None, Some, Ok, IfOk, IfErr, OnOk};
 ghost use Rattle.std.specs.List.{list_all};
 ghost use Rattle.std.specs.Result.{result_err};
-ghost use Rattle.entry_writes.specs.Fault.{Tells};
+ghost use Rattle.entry_writes.specs.Fault.{HasCode};
 ghost use Rattle.entry_writes.specs.Reading as spec;
 ghost use Rattle.entry_writes.specs.Sound as sound;
 ghost use Rattle.entry_writes.specs.Sound.{is_sound_op, is_sound_edit, is_commit};
 
 use crate::edit::{Edit, Edits};
-use crate::fault::{
-    CONSTRAINT_VIOLATION, INVALID_ATTRIBUTE_SYNTAX, INVALID_DN_SYNTAX, OpFault,
-    UNDEFINED_ATTRIBUTE_TYPE,
-};
+use crate::fault::OpFault;
 use crate::op::Op;
 use dn_names::{Dn, NameFault, Rdn};
 use ldap_ber::Octets;
+use ldap_constants::{
+    CONSTRAINT_VIOLATION, INVALID_ATTRIBUTE_SYNTAX, INVALID_DN_SYNTAX, UNDEFINED_ATTRIBUTE_TYPE,
+};
 use schema_rules::{AttributeType, Attrs, Change, EditList, How, RawEdit, are_of_syntax};
 use std::alloc::Global;
 
-/// Reads a write. The first code is told: 34 where a name is refused; then of each attribute or edit
-/// in order 17 where its name names no type, 19 where the type is operational, and 21 where a value
-/// is not of the type's syntax, and also where what is added has no value; after all of these 20
-/// where two values of a type in an Add have one key.
+/// Reads a write. The first code is reported: invalidDNSyntax where a name is refused; then of each
+/// attribute or edit in order undefinedAttributeType where its name names no type,
+/// constraintViolation where the type is operational, and invalidAttributeSyntax where a value is
+/// not of the type's syntax, and also where what is added has no value; after all of these
+/// attributeOrValueExists where two values of a type in an Add have one key.
 #[tactic(auto, unfolding(crate::specs::Reading::read_change))]
 pub fn read_op(alloc: Global, change: &Change) -> Result<Op, OpFault>
     ensures ok { IfOk result (λ op. spec.read_change change.now ≡ Ok op) }
     ensures sound { IfOk result (λ op. is_sound_op op ≡ true) }
     ensures asked { IfOk result (λ op. is_commit op ≡ false) }
-    ensures fault { IfErr result (Tells (result_err (spec.read_change change.now))) }
+    ensures fault { IfErr result (HasCode (result_err (spec.read_change change.now))) }
 {
     match change {
         Change::Add(name, raws) => {
@@ -55,7 +56,7 @@ pub fn read_op(alloc: Global, change: &Change) -> Result<Op, OpFault>
 
 fn read_name(alloc: Global, text: &Octets) -> Result<Dn, OpFault>
     ensures ok { IfOk result (λ dn. spec.read_name text.now ≡ Ok dn) }
-    ensures fault { IfErr result (Tells (result_err (spec.read_name text.now))) }
+    ensures fault { IfErr result (HasCode (result_err (spec.read_name text.now))) }
 {
     match Dn::parse(alloc, text.as_slice()) {
         Ok(dn) => Ok(dn),
@@ -68,7 +69,7 @@ fn read_name(alloc: Global, text: &Octets) -> Result<Dn, OpFault>
 
 fn read_rdn(alloc: Global, text: &Octets) -> Result<Rdn, OpFault>
     ensures ok { IfOk result (λ rdn. spec.read_rdn text.now ≡ Ok rdn) }
-    ensures fault { IfErr result (Tells (result_err (spec.read_rdn text.now))) }
+    ensures fault { IfErr result (HasCode (result_err (spec.read_rdn text.now))) }
 {
     match Rdn::parse(alloc, text.as_slice()) {
         Ok(rdn) => Ok(rdn),
@@ -81,7 +82,7 @@ fn read_rdn(alloc: Global, text: &Octets) -> Result<Rdn, OpFault>
 
 fn read_superior(alloc: Global, text: &Option<Octets>) -> Result<Option<Dn>, OpFault>
     ensures ok { IfOk result (λ dn. spec.read_superior text.now ≡ Ok dn) }
-    ensures fault { IfErr result (Tells (result_err (spec.read_superior text.now))) }
+    ensures fault { IfErr result (HasCode (result_err (spec.read_superior text.now))) }
 {
     match text {
         None => Ok(None),
@@ -92,7 +93,7 @@ fn read_superior(alloc: Global, text: &Option<Octets>) -> Result<Option<Dn>, OpF
 fn read_edits(alloc: Global, raws: &EditList) -> Result<Edits, OpFault>
     ensures ok { IfOk result (λ edits. spec.read_edits raws.now ≡ Ok edits) }
     ensures sound { IfOk result (λ edits. list_all is_sound_edit edits ≡ true) }
-    ensures fault { IfErr result (Tells (result_err (spec.read_edits raws.now))) }
+    ensures fault { IfErr result (HasCode (result_err (spec.read_edits raws.now))) }
 {
     let mut edits = Edits::new(alloc);
     for raw in raws.list() {
@@ -102,12 +103,12 @@ fn read_edits(alloc: Global, raws: &EditList) -> Result<Edits, OpFault>
     Ok(edits)
 }
 
-/// The edit with the type that is named, where nothing is against it.
+/// The edit with the type that is named, where nothing rejects it.
 fn read_edit(alloc: Global, raw: &RawEdit) -> Result<Edit, OpFault>
     ensures typed { IfOk result (λ edit. spec.typed raw.now ≡ Some edit) }
     ensures sound { IfOk result (λ edit. is_sound_edit edit ≡ true) }
     ensures ok { OnOk result (spec.raw_code raw.now ≡ None) }
-    ensures fault { IfErr result (Tells (spec.raw_code raw.now)) }
+    ensures fault { IfErr result (HasCode (spec.raw_code raw.now)) }
 {
     let Some(kind) = AttributeType::find(raw.attribute.name.as_slice()) else {
         return Err(OpFault::Code(UNDEFINED_ATTRIBUTE_TYPE));

@@ -4,14 +4,15 @@ ghost use Rattle.dn_names.specs.Names.{is_at_or_below, moved_name};
 ghost use Rattle.dn_names.specs.Sound.{most_rdns};
 ghost use Rattle.entry_writes.specs.Codes as codes;
 ghost use Rattle.entry_writes.specs.Effects as effects;
-ghost use Rattle.entry_writes.specs.Fault.{Tells};
+ghost use Rattle.entry_writes.specs.Fault.{HasCode};
 ghost use Rattle.entry_writes.specs.Touched.{is_change};
 
 use crate::entry::Entry;
-use crate::fault::{ADMIN_LIMIT_EXCEEDED, OpFault};
+use crate::fault::OpFault;
 use crate::touched::Touched;
 use csn_cookie::Csn;
 use dn_names::{Dn, NameFault};
+use ldap_constants::ADMIN_LIMIT_EXCEEDED;
 use schema_rules::Attrs;
 use std::alloc::Global;
 
@@ -26,7 +27,7 @@ pub struct Renamed {
 #[derive(Drop)]
 pub struct Moved {
     pub entries: Vec<Entry>,
-    pub touches: Touched,
+    pub entry_changes: Touched,
 }
 
 /// The entries after the one is renamed, or the code of a name that would be too long.
@@ -37,19 +38,28 @@ pub fn moved_entries(
     renamed: &Renamed,
     csn: Csn,
 ) -> Result<Moved, OpFault>
-    ensures entries { IfOk result (λ moved. moved.entries.items ≡ map (effects.moved top.now renamed.now.name renamed.now.attrs csn) entries.now) }
-    ensures touches { IfOk result (λ moved. moved.touches ≡ filter is_change
-        (map (λ e. record { uuid = e.uuid; was = Some e; now = Some (effects.moved top.now renamed.now.name renamed.now.attrs csn e) }) entries.now)) }
+    ensures entries { IfOk result (λ moved.
+        moved.entries.items
+        ≡ map (effects.moved top.now renamed.now.name renamed.now.attrs csn) entries.now) }
+    ensures entry_changes { IfOk result (λ moved. moved.entry_changes ≡ filter is_change
+        (map
+        (λ e.
+        record {
+          uuid = e.uuid;
+          before = Some e;
+          after = Some (effects.moved top.now renamed.now.name renamed.now.attrs csn e);
+        }) entries.now)) }
     ensures accepted { OnOk result (codes.length_code entries.now top.now renamed.now.name ≡ None) }
-    ensures refused { IfErr result (Tells (codes.length_code entries.now top.now renamed.now.name)) }
+    ensures refused { IfErr result
+        (HasCode (codes.length_code entries.now top.now renamed.now.name)) }
 {
     let mut moved = Moved {
         entries: Vec::new(alloc),
-        touches: Touched::new(alloc),
+        entry_changes: Touched::new(alloc),
     };
     for entry in entries {
         let now = moved_entry(entry, top, renamed, csn)?;
-        moved.touches.push_change(Some(entry), &now)?;
+        moved.entry_changes.push_change(Some(entry), &now)?;
         moved.entries.push(now)?;
     }
     Ok(moved)
@@ -57,11 +67,17 @@ pub fn moved_entries(
 
 /// An entry after the one is renamed, or the code of a name that would be too long.
 fn moved_entry(entry: &Entry, top: &Entry, renamed: &Renamed, csn: Csn) -> Result<Entry, OpFault>
-    ensures value { IfOk result (λ moved. moved ≡ effects.moved top.now renamed.now.name renamed.now.attrs csn entry.now) }
+    ensures value { IfOk result (λ moved.
+        moved ≡ effects.moved top.now renamed.now.name renamed.now.attrs csn entry.now) }
     ensures short { OnOk result (
-        (is_at_or_below entry.now.dn top.now.dn && nat_lt most_rdns (length (moved_name entry.now.dn top.now.dn renamed.now.name))) ≡ false) }
-    ensures refused { IfErr result (Tells (
-        if is_at_or_below entry.now.dn top.now.dn && nat_lt most_rdns (length (moved_name entry.now.dn top.now.dn renamed.now.name)) then Some 11 else None)) }
+        (is_at_or_below entry.now.dn top.now.dn
+        && nat_lt most_rdns (length (moved_name entry.now.dn top.now.dn renamed.now.name)))
+        ≡ false) }
+    ensures refused { IfErr result (HasCode (
+        if is_at_or_below entry.now.dn top.now.dn
+        && nat_lt most_rdns (length (moved_name entry.now.dn top.now.dn renamed.now.name))
+        then Some ADMIN_LIMIT_EXCEEDED
+        else None)) }
 {
     if !entry.dn.is_at_or_below(&top.dn) {
         return Ok(entry.copy()?);
@@ -85,8 +101,11 @@ fn moved_entry(entry: &Entry, top: &Entry, renamed: &Renamed, csn: Csn) -> Resul
 fn moved_dn(dn: &Dn, from: &Dn, to: &Dn) -> Result<Dn, OpFault>
     requires { is_at_or_below dn.now from.now ≡ true }
     ensures value { IfOk result (λ moved. moved ≡ moved_name dn.now from.now to.now) }
-    ensures short { OnOk result (nat_lt most_rdns (length (moved_name dn.now from.now to.now)) ≡ false) }
-    ensures refused { IfErr result (Tells (if nat_lt most_rdns (length (moved_name dn.now from.now to.now)) then Some 11 else None)) }
+    ensures short { OnOk result
+        (nat_lt most_rdns (length (moved_name dn.now from.now to.now)) ≡ false) }
+    ensures refused { IfErr result
+        (HasCode (if nat_lt most_rdns (length (moved_name dn.now from.now to.now)) then Some ADMIN_LIMIT_EXCEEDED
+        else None)) }
 {
     match dn.moved(from, to) {
         Ok(moved) => Ok(moved),

@@ -4,14 +4,15 @@ ghost use Rattle.std.specs.Result.{result_ok};
 ghost use Rattle.dn_names.specs.Names.{same_name, parent_of};
 ghost use Rattle.dn_names.specs.Reading.{limited};
 ghost use Rattle.entry_writes.specs.Codes as spec;
-ghost use Rattle.entry_writes.specs.Fault.{Tells};
+ghost use Rattle.entry_writes.specs.Fault.{HasCode};
 ghost use Rattle.entry_writes.specs.State as state;
 
 use crate::checks::has_name;
 use crate::entry::Entry;
-use crate::fault::{ENTRY_ALREADY_EXISTS, NO_SUCH_OBJECT, OpFault, UNWILLING_TO_PERFORM};
+use crate::fault::OpFault;
 use dn_names::{Dn, NameFault, Rdn};
 use ldap_ber::NoMemory;
+use ldap_constants::{ENTRY_ALREADY_EXISTS, NO_SUCH_OBJECT, UNWILLING_TO_PERFORM};
 use std::alloc::{AllocError, Global};
 
 /// The name right above the new one: the new superior, or the old parent.
@@ -41,7 +42,10 @@ pub fn name_below(above: &Dn, rdn: &Rdn) -> Result<Option<Dn>, NoMemory>
     }
 }
 
-/// Refuses the new name of an entry, which is `name` where that is not too long.
+/// Refuses the new name of an entry (RFC 4511, section 4.9), which is `name` where that is not too
+/// long: with noSuchObject (32) where no entry has the name of the new superior, else with
+/// unwillingToPerform (53) where the entry is that of the suffix or the superior is at or below it,
+/// else with entryAlreadyExists (68) where another entry has the new name.
 pub fn check_target(
     entries: &[Entry],
     suffix: &Dn,
@@ -52,8 +56,12 @@ pub fn check_target(
     superior: &Option<Dn>,
 ) -> Result<(), OpFault>
     requires { name.now ≡ result_ok (limited (rdn.now ∷ above.now)) }
-    ensures ok { OnOk result (spec.target_code suffix.now entries.now top.now (rdn.now ∷ above.now) superior.now ≡ None) }
-    ensures fault { IfErr result (Tells (spec.target_code suffix.now entries.now top.now (rdn.now ∷ above.now) superior.now)) }
+    ensures ok { OnOk result
+        (spec.target_code suffix.now entries.now top.now (rdn.now ∷ above.now) superior.now
+        ≡ None) }
+    ensures fault { IfErr result
+        (HasCode
+        (spec.target_code suffix.now entries.now top.now (rdn.now ∷ above.now) superior.now)) }
 {
     if !has_superior(entries, superior) {
         return Err(OpFault::Code(NO_SUCH_OBJECT));

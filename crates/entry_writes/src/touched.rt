@@ -10,23 +10,23 @@ use std::marker::Model;
 
 /// An identity whose entry a write changes: what it had, and what it has.
 #[derive(Drop)]
-pub struct Touch {
+pub struct EntryChange {
     pub uuid: u128,
-    pub was: Option<Entry>,
-    pub now: Option<Entry>,
+    pub before: Option<Entry>,
+    pub after: Option<Entry>,
 }
 
 /// What a write changes, in ascending order of identity.
 #[derive(Drop)]
 pub struct Touched {
-    items: Vec<Touch>,
+    items: Vec<EntryChange>,
 }
 
 impl Model for Touched {
     ghost use Rattle.std.specs.Prelude.{List};
-    ghost use Rattle.entry_writes.specs.declared.touched.Touch.{Touch};
+    ghost use Rattle.entry_writes.specs.declared.touched.EntryChange.{EntryChange};
 
-    ghost Value = { List Touch };
+    ghost Value = { List EntryChange };
 
     ghost view = { λ t. t.items.items };
 }
@@ -35,6 +35,7 @@ impl Touched {
     ghost use Rattle.std.specs.Prelude.{filter, Some};
     ghost use Rattle.entry_writes.specs.Touched.{is_change};
 
+    /// Makes a list without changes.
     pub fn new(alloc: Global) -> Touched
         ensures { result ≡ [] }
     {
@@ -44,7 +45,7 @@ impl Touched {
     }
 
     /// Puts the change at the end.
-    pub fn push(&mut self, item: Touch) -> Result<(), NoMemory>
+    pub fn push(&mut self, item: EntryChange) -> Result<(), NoMemory>
         ensures ok { OnOk result (self.new ≡ self.old ++ item ∷ []) }
         ensures err { OnErr result (self.new ≡ self.old) }
     {
@@ -54,24 +55,26 @@ impl Touched {
 
     /// Puts what an identity had and its entry at the end, where these differ.
     pub fn push_change(&mut self, was: Option<&Entry>, now: &Entry) -> Result<(), NoMemory>
-        ensures { OnOk result (self.new ≡ self.old ++ filter is_change
-            (record { uuid = now.now.uuid; was = option_copied was.entry; now = Some now.now } ∷ [])) }
+        ensures ok { OnOk result (self.new ≡ self.old ++ filter is_change
+            (record { uuid = now.now.uuid; before = option_copied was.entry; after = Some now.now }
+            ∷ [])) }
+        ensures err { OnErr result (self.new ≡ self.old) }
     {
         let uuid = now.uuid;
         match was {
-            None => self.push(Touch {
+            None => self.push(EntryChange {
                 uuid,
-                was: None,
-                now: Some(now.copy()?),
+                before: None,
+                after: Some(now.copy()?),
             }),
             Some(was) => {
                 if is_one_entry(was, now) {
                     return Ok(());
                 }
-                self.push(Touch {
+                self.push(EntryChange {
                     uuid,
-                    was: Some(was.copy()?),
-                    now: Some(now.copy()?),
+                    before: Some(was.copy()?),
+                    after: Some(now.copy()?),
                 })
             }
         }
@@ -84,20 +87,23 @@ impl Touched {
         was: Option<&Entry>,
         now: Option<&Entry>,
     ) -> Result<(), NoMemory>
-        ensures { OnOk result (self.new ≡ self.old ++ filter is_change
-            (record { uuid = uuid; was = option_copied was.entry; now = option_copied now.entry } ∷ [])) }
+        ensures ok { OnOk result (self.new ≡ self.old ++ filter is_change
+            (record { uuid = uuid; before = option_copied was.entry; after = option_copied now.entry }
+            ∷ [])) }
+        ensures err { OnErr result (self.new ≡ self.old) }
     {
         if is_one_found(was, now) {
             return Ok(());
         }
-        self.push(Touch {
+        self.push(EntryChange {
             uuid,
-            was: copy_of(was)?,
-            now: copy_of(now)?,
+            before: copy_of(was)?,
+            after: copy_of(now)?,
         })
     }
 
-    pub fn list(&self) -> &[Touch]
+    /// Lends the changes, in their order.
+    pub fn list(&self) -> &[EntryChange]
         ensures { result.now ≡ self.now }
     {
         self.items.as_slice()

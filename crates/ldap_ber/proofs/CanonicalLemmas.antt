@@ -15,9 +15,11 @@ use Rattle.ldap_ber.proofs.ElementLemmas.{element_spells, body_size}
 pub record Spelled {X : Type 0} (R : Form X) (write : X → List ℕ) (Sound : X → Type 0) (After : List ℕ → Type 0) : Type 0 where
   pub spells : (x : X) (rest : List ℕ) → length (write x) < 2 ^ 32 → Sound x → After rest → R (write x ++ rest) x rest
 
+-- no condition on what follows
 abbrev pub Anything : List ℕ → Type 0
 Anything rest = Unit {0}
 
+-- no condition on the value
 abbrev pub Always : {X : Type 0} → X → Type 0
 Always x = Unit {0}
 
@@ -25,9 +27,20 @@ Always x = Unit {0}
 abbrev pub Lacks : ℕ → List ℕ → Type 0
 Lacks tag rest = tag_at rest ≡ Some tag → ⊥
 
+-- no element comes next at the end
+pub none_next : (tag : ℕ) → Lacks tag []
+none_next tag e = cc
+
+-- any octets that may be left out are sound
+pub option_sound : (option : Option (List ℕ)) → IfSome option (Always {X = List ℕ})
+option_sound None = tt
+option_sound (Some octets) = tt
+
+-- the canonical octet string is a spelling
 pub octets_spelled : (tag : ℕ) → tag % 32 ≢ 31 → Spelled (OctetString tag) (element tag) (Always {X = List ℕ}) Anything
 octets_spelled tag low = record { spells = λ x rest small sound after. element_spells tag x rest low (omega (arith, body_size tag x)) }
 
+-- two canonical spellings one after another are a spelling of both
 pub both_spelled : {X Y : Type 0} (R : Form X) (S : Form Y) (c : X → List ℕ) (d : Y → List ℕ) (F : X → Type 0) (G : Y → Type 0) (A B : List ℕ → Type 0)
     → Spelled R c F A → Spelled S d G B → ((y : Y) (rest : List ℕ) → G y → B rest → A (d y ++ rest))
     → Spelled (Both R S) (λ p. c p.0 ++ d p.1) (λ p. F p.0 × G p.1) B
@@ -44,10 +57,12 @@ optional_goes : {X : Type 0} (tag : ℕ) (R : Form X) (c : X → List ℕ) (F : 
 optional_goes tag R c F p begins None rest small sound after = (refl, after)
 optional_goes tag R c F p begins (Some x) rest small sound after = (begins x rest, p.spells x rest small sound tt)
 
+-- the canonical spelling of an optional component is a spelling
 pub optional_spelled : {X : Type 0} (tag : ℕ) (R : Form X) (c : X → List ℕ) (F : X → Type 0) → Spelled R c F Anything → ((x : X) (rest : List ℕ) → tag_at (c x ++ rest) ≡ Some tag)
     → Spelled (Optional tag R) (option_octets c) (λ o. IfSome o F) (Lacks tag)
 optional_spelled tag R c F p begins = record { spells = optional_goes tag R c F p begins }
 
+-- the canonical spelling of a SEQUENCE is a spelling
 pub sequence_spelled : {X : Type 0} (tag : ℕ) (R : Form X) (c : X → List ℕ) (F : X → Type 0) (A : List ℕ → Type 0) → tag % 32 ≢ 31 → Spelled R c F A → A []
     → Spelled (Sequence tag R) (λ x. element tag (c x)) F Anything
 sequence_spelled tag R c F A low p ends = record {
@@ -62,6 +77,7 @@ many_spelled R c F p (x ∷ xs) small sound =
     let size = simp (flat_map-cons, length-append) at small in
     rw (flat_map-cons c x xs) (flat_map c xs, p.spells x (flat_map c xs) (omega (arith, size)) sound.0 tt, many_spelled R c F p xs (omega (arith, size)) sound.1)
 
+-- the canonical spelling of a list is a spelling
 pub list_spelled : {X : Type 0} (tag : ℕ) (R : Form X) (c : X → List ℕ) (F : X → Type 0) → tag % 32 ≢ 31 → Spelled R c F Anything
     → Spelled (ListOf tag R) (λ xs. element tag (flat_map c xs)) (AllByRecursion F) Anything
 list_spelled tag R c F low p = record {
@@ -70,6 +86,7 @@ list_spelled tag R c F low p = record {
       (flat_map c xs, element_spells tag (flat_map c xs) rest low less, many_spelled R c F p xs less sound);
 }
 
+-- the canonical spelling within a tag is a spelling
 pub tagged_spelled : {X : Type 0} (tag : ℕ) (R : Form X) (c : X → List ℕ) (F : X → Type 0) (A : List ℕ → Type 0) → tag % 32 ≢ 31 → Spelled R c F A → A []
     → Spelled (Tagged tag R) (λ x. element tag (c x)) F Anything
 tagged_spelled tag R c F A low p ends = record {
@@ -85,6 +102,7 @@ meaning_spelled P R c F A of G back p = record {
   spells = λ y rest small sound after. let k = back y sound in (of y, p.spells (of y) rest small k.1 after, k.0);
 }
 
+-- the canonical spelling of the parts of a value is a spelling of the value
 pub made_spelled : {X Y : Type 0} (parts : Y → X) (R : Form X) (c : X → List ℕ) (F : X → Type 0) (A : List ℕ → Type 0) → Spelled R c F A → Spelled (MadeOf parts R) (λ y. c (parts y)) (λ y. F (parts y)) A
 made_spelled parts R c F A p = record { spells = λ y rest small sound after. p.spells (parts y) rest small sound after }
 
@@ -99,9 +117,11 @@ boolean_goes tag low b rest small =
     let o = boolean_back b in
     (o.0, subst (λ (y : List ℕ). Begins (element tag (boolean_octets b) ++ rest) tag y rest) o.1 (element_spells tag (boolean_octets b) rest low small), o.2)
 
+-- the canonical truth value is a spelling
 pub boolean_spelled : (tag : ℕ) → tag % 32 ≢ 31 → Spelled (Boolean tag) (λ b. element tag (boolean_octets b)) (Always {X = Bool}) Anything
 boolean_spelled tag low = record { spells = λ b rest small sound after. boolean_goes tag low b rest (omega (arith, body_size tag (boolean_octets b), small)) }
 
+-- an element begins with its tag
 pub begins_with : (tag : ℕ) (body rest : List ℕ) → tag_at (element tag body ++ rest) ≡ Some tag
 unfolding element
 begins_with tag body rest = refl
@@ -112,6 +132,7 @@ flag_goes tag low false false rest after = inr (refl, refl, after)
 flag_goes tag low true false rest after = inl (begins_with tag (0 ∷ []) rest, boolean_goes tag low false rest (omega arith))
 flag_goes tag low false true rest after = inl (begins_with tag (255 ∷ []) rest, boolean_goes tag low true rest (omega arith))
 
+-- the canonical truth value with a default is a spelling
 pub flag_spelled : (tag : ℕ) → tag % 32 ≢ 31 → (usual : Bool) → Spelled (Default tag usual (Boolean tag)) (flag_octets tag usual) (Always {X = Bool}) (Lacks tag)
 flag_spelled tag low usual = record { spells = λ b rest small sound after. flag_goes tag low usual b rest after }
 

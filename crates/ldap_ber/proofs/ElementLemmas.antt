@@ -9,6 +9,7 @@ use Rattle.ldap_ber.specs.Canonical.{length_octets, element}
 use Rattle.ldap_ber.proofs.LengthLemmas.{seam, length_found, length_only, length_spells, length-length_octets}
 use Rattle.ldap_ber.proofs.Steps.{bind_ok, guard_ok, ok_triple}
 
+-- what is read as an element begins the bytes
 pub parts_found : (bytes : List ℕ) (tag : ℕ) (body rest : List ℕ) → parts_at bytes ≡ Ok (tag, body, rest) → Begins bytes tag body rest
 parts_found [] tag body rest e = absurd cc
 parts_found (t ∷ more) tag body rest e =
@@ -27,6 +28,7 @@ parts_found (t ∷ more) tag body rest e =
       parts = ap (λ (x : List ℕ). t ∷ x) (l.2 ∙ ap (λ (x : List ℕ). l.0 ++ x) cut) ∙ ap (λ (x : ℕ). x ∷ (l.0 ++ (body ++ rest))) p.0;
     }
 
+-- an element that begins the bytes is read as it is
 pub parts_only : (bytes : List ℕ) (tag : ℕ) (body rest : List ℕ) → Begins bytes tag body rest → parts_at bytes ≡ Ok (tag, body, rest)
 parts_only bytes tag body rest h =
     let l : length_at (h.octets ++ (body ++ rest)) ≡ Ok (length body, body ++ rest) = length_only h.octets (length body) (body ++ rest) h.counted in
@@ -36,6 +38,7 @@ parts_only bytes tag body rest h =
 
 -- ---- the canonical spelling
 
+-- the canonical element is one that begins the bytes
 pub element_spells : (tag : ℕ) (body rest : List ℕ) → tag % 32 ≢ 31 → length body < 2 ^ 32 → Begins (element tag body ++ rest) tag body rest
 unfolding element
 element_spells tag body rest low small = record {
@@ -47,16 +50,19 @@ element_spells tag body rest low small = record {
 
 -- ---- how much longer than its body an element is
 
+-- an element has at most six octets more than its body
 pub element_size : (tag : ℕ) (body : List ℕ) → length (element tag body) ≤ length body + 6
 unfolding element
 element_size tag body = omega (arith, length-append (length_octets (length body)) body, length-length_octets (length body))
 
+-- an element has no fewer octets than its body
 pub body_size : (tag : ℕ) (body : List ℕ) → length body ≤ length (element tag body)
 unfolding element
 body_size tag body = omega (arith, length-append (length_octets (length body)) body)
 
 -- ---- no spelling begins another
 
+-- an element begins the bytes whatever follows them
 pub Begins-more : (bytes : List ℕ) (tag : ℕ) (body rest after : List ℕ) → Begins bytes tag body rest → Begins (bytes ++ after) tag body (rest ++ after)
 Begins-more bytes tag body rest after h = record {
   octets = h.octets;
@@ -65,9 +71,10 @@ Begins-more bytes tag body rest after h = record {
   parts = ap (λ (x : List ℕ). x ++ after) h.parts ∙ ap (λ (x : List ℕ). tag ∷ x) (append_assoc h.octets (body ++ rest) after ∙ ap (λ (x : List ℕ). h.octets ++ x) (append_assoc body rest after));
 }
 
--- two readings of the front are one
+-- two readings of the prefix are one
 pub one_element : (bytes : List ℕ) (s t : ℕ) (a b x y : List ℕ) → Begins bytes s a x → Begins bytes t b y → (s ≡ t) × (a ≡ b) × (x ≡ y)
 one_element bytes s t a b x y h k = ok_triple s a x t b y (sym (parts_only bytes s a x h) ∙ parts_only bytes t b y k)
 
+-- no element begins another one
 pub no_prefix : (a b : List ℕ) (s t : ℕ) (x y : List ℕ) → Begins a s x [] → Begins (a ++ b) t y [] → b ≡ []
 no_prefix a b s t x y h k = (one_element (a ++ b) s t x y b [] (Begins-more a s x [] b h) k).2

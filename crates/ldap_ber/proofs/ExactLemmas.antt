@@ -1,13 +1,13 @@
 -- A reading gives exactly what a form says. One lemma for each way to make a component.
 use Rattle.std.proofs.Common.{◌≡◌, ◌≢◌, ℕ, zero, suc, ◌-◌, ◌<◌, ◌≤◌, Bool, true, false, cond, ltb, eqb, not, ◌||◌, List, [], ◌∷◌, length, Option, Some, None, Result, Ok, Err, refl, sym, ap, subst, ◌∙◌, arith, inl, inr}
-use Rattle.std.proofs.lemmas.Bool.{ltb-false, le-ltb, eqb-true, eqb-false, ne_eqb}
+use Rattle.std.proofs.lemmas.Bool.{ltb-false, le-ltb, eqb-true, eqb-false, ne_eqb, or_parts}
 use Rattle.std.proofs.Common.{eq-eqb}
 use Rattle.ldap_ber.specs.declared.fault.BerFault.{BerFault}
 use Rattle.ldap_ber.specs.Element.{Begins, integer_of}
 use Rattle.ldap_ber.specs.Reader.{◌>>=◌, Element, fault, placed, element_at, expect_at, tag_at, has_tag, end_at, integer_in, boolean_of, boolean_in}
 use Rattle.ldap_ber.specs.Form.{Form, OctetString, Integer, Boolean, Optional, Default, Both, Meaning, MadeOf, Many, AnyElement, AreElements, Tagged, Sequence, ListOf}
-use Rattle.ldap_ber.specs.Reading.{Reading, told, octets_at, integer_at, boolean_at, optional_at, default_at, both_at, meaning_at, made_at, many_in, many_at, any_at, skip_at, tagged_at, sequence_at, list_at, whole_at}
-use Rattle.ldap_ber.proofs.Steps.{bind_ok, chosen, guard_ok, guard_on, ok_is, ok_pair, neither}
+use Rattle.ldap_ber.specs.Reading.{Reading, reworded, octets_at, integer_at, boolean_at, optional_at, default_at, both_at, meaning_at, made_at, many_in, many_at, any_at, skip_at, tagged_at, sequence_at, list_at, whole_at}
+use Rattle.ldap_ber.proofs.Steps.{bind_ok, chosen, guard_ok, guard_on, ok_is, ok_pair}
 use Rattle.ldap_ber.proofs.ElementLemmas.{parts_only}
 use Rattle.ldap_ber.proofs.ManyLemmas.{Advances, many_next, many_none}
 use Rattle.ldap_ber.proofs.SkipLemmas.{element_found, Begins-shorter}
@@ -21,14 +21,14 @@ pub record Exact {X E : Type 0} (R : Form X) (f : Reading E X) : Type 0 where
 abbrev pub Shortens : {X : Type 0} → Form X → Type 0
 Shortens {X} R = (bytes : List ℕ) (x : X) (rest : List ℕ) → R bytes x rest → length rest < length bytes
 
-pub told_ok : {X E : Type 0} (tell : BerFault → E) (r : Result X BerFault) (x : X) → told tell r ≡ Ok x → r ≡ Ok x
-told_ok tell (Ok y) x h = ap (λ z. Ok z) (ok_is y x h)
-told_ok tell (Err f) x h = absurd cc
+pub reworded_ok : {X E : Type 0} (reword : BerFault → E) (r : Result X BerFault) (x : X) → reworded reword r ≡ Ok x → r ≡ Ok x
+reworded_ok reword (Ok y) x h = ap (λ z. Ok z) (ok_is y x h)
+reworded_ok reword (Err f) x h = absurd cc
 
--- the same, with faults told as the caller tells them
-pub told_exact : {X E : Type 0} (tell : BerFault → E) (R : Form X) (f : Reading BerFault X) → Exact R f → Exact R (λ stop bytes. told tell (f stop bytes))
-told_exact tell R f p = record {
-  found = λ stop bytes x rest h. p.found stop bytes x rest (told_ok tell (f stop bytes) (x, rest) h);
+-- the same, with faults reported as the caller reports them
+pub reworded_exact : {X E : Type 0} (reword : BerFault → E) (R : Form X) (f : Reading BerFault X) → Exact R f → Exact R (λ stop bytes. reworded reword (f stop bytes))
+reworded_exact reword R f p = record {
+  found = λ stop bytes x rest h. p.found stop bytes x rest (reworded_ok reword (f stop bytes) (x, rest) h);
   only = λ stop bytes x rest h. rw (p.only stop bytes x rest h) refl;
 }
 
@@ -55,6 +55,7 @@ pub expect_only : (tag stop : ℕ) (bytes body rest : List ℕ) → Begins bytes
 unfolding expect_at
 expect_only tag stop bytes body rest h = rw (element_only stop bytes tag body rest h, eq-eqb tag tag refl) refl
 
+-- an octet string is read exactly where it is spelled
 pub octets_exact : (tag : ℕ) → Exact (OctetString tag) (octets_at tag)
 octets_exact tag = record {
   found = λ stop bytes x rest h.
@@ -69,6 +70,7 @@ boolean_one at [] b h = absurd cc
 boolean_one at (o ∷ []) b h = (o, refl, sym (ok_is (not (eqb o 0)) b h))
 boolean_one at (o ∷ p ∷ more) b h = absurd cc
 
+-- a truth value is read exactly where it is spelled
 pub boolean_exact : (tag : ℕ) → Exact (Boolean tag) (boolean_at tag)
 boolean_exact tag = record {
   found = λ stop bytes x rest h.
@@ -80,6 +82,7 @@ boolean_exact tag = record {
   only = λ stop bytes x rest h. rw (expect_only tag stop bytes (h.0 ∷ []) rest h.1, h.2) refl;
 }
 
+-- an integer is read exactly where it is spelled
 pub integer_exact : (tag : ℕ) → Exact (Integer tag) (integer_at tag)
 unfolding integer_in
 integer_exact tag = record {
@@ -88,7 +91,7 @@ integer_exact tag = record {
       let d = bind_ok (integer_in b.0.0) (λ y. Ok (y, b.0.1)) (x, rest) b.2 in
       let p = ok_pair d.0 b.0.1 x rest d.2 in
       let g = guard_ok ((eqb (length b.0.0.body) 0) || (ltb 8 (length b.0.0.body))) _ _ _ d.1 in
-      let o = neither _ _ g.0 in
+      let o = or_parts _ _ g.0 in
       let some : length b.0.0.body ≢ 0 = eqb-false _ _ o.0 in
       let few : length b.0.0.body ≤ 8 = ltb-false _ _ o.1 in
       (b.0.0.body, subst (λ (y : List ℕ). Begins bytes tag b.0.0.body y) p.1 (expect_found tag stop bytes b.0.0 b.0.1 b.1), omega arith, few, sym p.0 ∙ sym (ok_is (integer_of b.0.0.body) d.0 g.1));
@@ -97,6 +100,7 @@ integer_exact tag = record {
 
 -- ---- components
 
+-- two components are read exactly where they are spelled one after another
 pub both_exact : {X Y E : Type 0} (R : Form X) (S : Form Y) (f : Reading E X) (g : Reading E Y) → Exact R f → Exact S g → Exact (Both R S) (both_at f g)
 both_exact {X} {Y} R S f g p q = record {
   found = λ stop bytes x rest h.
@@ -110,22 +114,27 @@ both_exact {X} {Y} R S f g p q = record {
   only = λ stop bytes x rest h. rw (p.only stop bytes x.0 h.0 h.1, q.only stop h.0 x.1 rest h.2) refl;
 }
 
-tag_is : (tag : ℕ) (bytes : List ℕ) → has_tag tag bytes ≡ true → tag_at bytes ≡ Some tag
+-- the test of a tag reported it, or it is another
+pub tag_is : (tag : ℕ) (bytes : List ℕ) → has_tag tag bytes ≡ true → tag_at bytes ≡ Some tag
 tag_is tag [] h = absurd cc
 tag_is tag (b ∷ bytes) h = ap (λ (n : ℕ). Some n) (eqb-true b tag h)
 
-tag_is_not : (tag : ℕ) (bytes : List ℕ) → has_tag tag bytes ≡ false → tag_at bytes ≡ Some tag → ⊥
+-- a tag that is not seen is not next
+pub tag_is_not : (tag : ℕ) (bytes : List ℕ) → has_tag tag bytes ≡ false → tag_at bytes ≡ Some tag → ⊥
 tag_is_not tag [] h e = cc
 tag_is_not tag (b ∷ bytes) h e = eqb-false b tag h cc
 
+-- a tag that is next is seen
 pub tag_there : (tag : ℕ) (bytes : List ℕ) → tag_at bytes ≡ Some tag → has_tag tag bytes ≡ true
 tag_there tag [] e = absurd cc
 tag_there tag (b ∷ bytes) e = eq-eqb b tag cc
 
+-- a tag that is not next is not seen
 pub tag_not_there : (tag : ℕ) (bytes : List ℕ) → (tag_at bytes ≡ Some tag → ⊥) → has_tag tag bytes ≡ false
 tag_not_there tag [] h = refl
 tag_not_there tag (b ∷ bytes) h = ne_eqb b tag (λ e. h (ap (λ (n : ℕ). Some n) e))
 
+-- a component with a default is read exactly where it is spelled or left out
 pub default_exact : {X E : Type 0} (tag : ℕ) (usual : X) (R : Form X) (f : Reading E X) → Exact R f → Exact (Default tag usual R) (default_at tag usual f)
 default_exact tag usual R f p = record {
   found = λ stop bytes x rest h. elim (chosen (has_tag tag bytes) _ _ _ h) [
@@ -162,9 +171,11 @@ optional_only : {X E : Type 0} (tag : ℕ) (R : Form X) (f : Reading E X) → Ex
 optional_only tag R f p stop bytes None rest h = rw (tag_not_there tag bytes h.1, h.0) refl
 optional_only tag R f p stop bytes (Some x) rest h = rw (tag_there tag bytes h.0, p.only stop bytes x rest h.1) refl
 
+-- an optional component is read exactly where it is spelled or left out
 pub optional_exact : {X E : Type 0} (tag : ℕ) (R : Form X) (f : Reading E X) → Exact R f → Exact (Optional tag R) (optional_at tag f)
 optional_exact tag R f p = record { found = optional_found tag R f p; only = optional_only tag R f p }
 
+-- a value is read exactly where what means it is spelled
 pub meaning_exact : {X Y E : Type 0} (P : X → Y → Type 0) (g : ℕ → X → Result Y E) (R : Form X) (f : Reading E X) → ((at : ℕ) (x : X) (y : Y) → g at x ≡ Ok y → P x y) → ((at : ℕ) (x : X) (y : Y) → P x y → g at x ≡ Ok y) → Exact R f → Exact (Meaning P R) (meaning_at g f)
 meaning_exact {X} {Y} P g R f to from p = record {
   found = λ stop bytes y rest h.
@@ -182,6 +193,7 @@ made_ok {X} make f stop bytes y rest h =
     let e = ok_pair (make b.0.0) b.0.1 y rest b.2 in
     (b.0.0, b.1 ∙ ap (λ (r : List ℕ). Ok (b.0.0, r)) e.1, e.0)
 
+-- a value of some parts is read exactly where these are spelled
 pub made_exact : {X Y E : Type 0} (parts : Y → X) (make : X → Y) (R : Form X) (f : Reading E X) → ((x : X) → parts (make x) ≡ x) → ((y : Y) → make (parts y) ≡ y) → Exact R f → Exact (MadeOf parts R) (made_at make f)
 made_exact {X} {Y} parts make R f there back p = record {
   found = λ stop bytes y rest h.
@@ -192,6 +204,7 @@ made_exact {X} {Y} parts make R f there back p = record {
 
 -- ---- any number of a component
 
+-- a reading of a form that has at least one octet leaves fewer bytes
 pub advances : {X E : Type 0} (R : Form X) (f : Reading E X) → Exact R f → Shortens R → Advances f
 advances R f p short stop bytes x rest h = short bytes x rest (p.found stop bytes x rest h)
 
@@ -242,47 +255,50 @@ end_found : (stop : ℕ) (bytes : List ℕ) (u : Unit {0}) → end_at stop bytes
 end_found stop [] u h = refl
 end_found stop (b ∷ bytes) u h = absurd cc
 
-pub tagged_exact : {X E : Type 0} (tell : BerFault → E) (tag : ℕ) (R : Form X) (f : Reading E X) → Exact R f → Exact (Tagged tag R) (tagged_at tell tag f)
-tagged_exact {X} {E} tell tag R f p = record {
+-- a component within a tag is read exactly where it is spelled
+pub tagged_exact : {X E : Type 0} (reword : BerFault → E) (tag : ℕ) (R : Form X) (f : Reading E X) → Exact R f → Exact (Tagged tag R) (tagged_at reword tag f)
+tagged_exact {X} {E} reword tag R f p = record {
   found = λ stop bytes x rest h.
-      let a = bind_ok (told tell (expect_at tag stop bytes)) (λ e. f e.0.stop e.0.body >>= λ x. told tell (end_at e.0.stop x.1) >>= λ u. Ok (x.0, e.1)) (x, rest) h in
-      let b = bind_ok (f a.0.0.stop a.0.0.body) (λ x. told tell (end_at a.0.0.stop x.1) >>= λ u. Ok (x.0, a.0.1)) (x, rest) a.2 in
-      let c = bind_ok (told tell (end_at a.0.0.stop b.0.1)) (λ u. Ok (b.0.0, a.0.1)) (x, rest) b.2 in
+      let a = bind_ok (reworded reword (expect_at tag stop bytes)) (λ e. f e.0.stop e.0.body >>= λ x. reworded reword (end_at e.0.stop x.1) >>= λ u. Ok (x.0, e.1)) (x, rest) h in
+      let b = bind_ok (f a.0.0.stop a.0.0.body) (λ x. reworded reword (end_at a.0.0.stop x.1) >>= λ u. Ok (x.0, a.0.1)) (x, rest) a.2 in
+      let c = bind_ok (reworded reword (end_at a.0.0.stop b.0.1)) (λ u. Ok (b.0.0, a.0.1)) (x, rest) b.2 in
       let e = ok_pair b.0.0 a.0.1 x rest c.2 in
-      let none = end_found a.0.0.stop b.0.1 c.0 (told_ok tell (end_at a.0.0.stop b.0.1) c.0 c.1) in (
+      let none = end_found a.0.0.stop b.0.1 c.0 (reworded_ok reword (end_at a.0.0.stop b.0.1) c.0 c.1) in (
         a.0.0.body,
-        subst (λ (y : List ℕ). Begins bytes tag a.0.0.body y) e.1 (expect_found tag stop bytes a.0.0 a.0.1 (told_ok tell (expect_at tag stop bytes) a.0 a.1)),
+        subst (λ (y : List ℕ). Begins bytes tag a.0.0.body y) e.1 (expect_found tag stop bytes a.0.0 a.0.1 (reworded_ok reword (expect_at tag stop bytes) a.0 a.1)),
         subst (λ (y : X). R a.0.0.body y []) e.0 (subst (λ (y : List ℕ). R a.0.0.body b.0.0 y) none (p.found a.0.0.stop a.0.0.body b.0.0 b.0.1 b.1)),
       );
   only = λ stop bytes x rest h.
       rw (expect_only tag stop bytes h.0 rest h.1, p.only (stop - length rest) h.0 x [] h.2) refl;
 }
 
-pub sequence_exact : {X E : Type 0} (tell : BerFault → E) (tag : ℕ) (R : Form X) (f : Reading E X) → Exact R f → Exact (Sequence tag R) (sequence_at tell tag f)
-sequence_exact {X} {E} tell tag R f p = record {
+-- a SEQUENCE is read exactly where it is spelled
+pub sequence_exact : {X E : Type 0} (reword : BerFault → E) (tag : ℕ) (R : Form X) (f : Reading E X) → Exact R f → Exact (Sequence tag R) (sequence_at reword tag f)
+sequence_exact {X} {E} reword tag R f p = record {
   found = λ stop bytes x rest h.
-      let a = bind_ok (told tell (expect_at tag stop bytes)) (λ e. f e.0.stop e.0.body >>= λ x. told tell (skip_at e.0.stop x.1) >>= λ u. Ok (x.0, e.1)) (x, rest) h in
-      let b = bind_ok (f a.0.0.stop a.0.0.body) (λ x. told tell (skip_at a.0.0.stop x.1) >>= λ u. Ok (x.0, a.0.1)) (x, rest) a.2 in
-      let c = bind_ok (told tell (skip_at a.0.0.stop b.0.1)) (λ u. Ok (b.0.0, a.0.1)) (x, rest) b.2 in
+      let a = bind_ok (reworded reword (expect_at tag stop bytes)) (λ e. f e.0.stop e.0.body >>= λ x. reworded reword (skip_at e.0.stop x.1) >>= λ u. Ok (x.0, e.1)) (x, rest) h in
+      let b = bind_ok (f a.0.0.stop a.0.0.body) (λ x. reworded reword (skip_at a.0.0.stop x.1) >>= λ u. Ok (x.0, a.0.1)) (x, rest) a.2 in
+      let c = bind_ok (reworded reword (skip_at a.0.0.stop b.0.1)) (λ u. Ok (b.0.0, a.0.1)) (x, rest) b.2 in
       let e = ok_pair b.0.0 a.0.1 x rest c.2 in (
         a.0.0.body,
         b.0.1,
-        subst (λ (y : List ℕ). Begins bytes tag a.0.0.body y) e.1 (expect_found tag stop bytes a.0.0 a.0.1 (told_ok tell (expect_at tag stop bytes) a.0 a.1)),
+        subst (λ (y : List ℕ). Begins bytes tag a.0.0.body y) e.1 (expect_found tag stop bytes a.0.0 a.0.1 (reworded_ok reword (expect_at tag stop bytes) a.0 a.1)),
         subst (λ (y : X). R a.0.0.body y b.0.1) e.0 (p.found a.0.0.stop a.0.0.body b.0.0 b.0.1 b.1),
-        skip_found a.0.0.stop b.0.1 c.0 (told_ok tell (skip_at a.0.0.stop b.0.1) c.0 c.1),
+        skip_found a.0.0.stop b.0.1 c.0 (reworded_ok reword (skip_at a.0.0.stop b.0.1) c.0 c.1),
       );
   only = λ stop bytes x rest h.
       rw (expect_only tag stop bytes h.0 rest h.2, p.only (stop - length rest) h.0 x h.1 h.3, skip_only (stop - length rest) h.1 h.4) refl;
 }
 
-pub list_exact : {X E : Type 0} (tell : BerFault → E) (tag : ℕ) (R : Form X) (f : Reading E X) → Exact R f → Shortens R → Exact (ListOf tag R) (list_at tell tag f)
-list_exact {X} {E} tell tag R f p short = record {
+-- a list is read exactly where it is spelled
+pub list_exact : {X E : Type 0} (reword : BerFault → E) (tag : ℕ) (R : Form X) (f : Reading E X) → Exact R f → Shortens R → Exact (ListOf tag R) (list_at reword tag f)
+list_exact {X} {E} reword tag R f p short = record {
   found = λ stop bytes x rest h.
-      let a = bind_ok (told tell (expect_at tag stop bytes)) (λ e. many_at f e.0.stop e.0.body >>= λ xs. Ok (xs, e.1)) (x, rest) h in
+      let a = bind_ok (reworded reword (expect_at tag stop bytes)) (λ e. many_at f e.0.stop e.0.body >>= λ xs. Ok (xs, e.1)) (x, rest) h in
       let b = bind_ok (many_at f a.0.0.stop a.0.0.body) (λ xs. Ok (xs, a.0.1)) (x, rest) a.2 in
       let e = ok_pair b.0 a.0.1 x rest b.2 in (
         a.0.0.body,
-        subst (λ (y : List ℕ). Begins bytes tag a.0.0.body y) e.1 (expect_found tag stop bytes a.0.0 a.0.1 (told_ok tell (expect_at tag stop bytes) a.0 a.1)),
+        subst (λ (y : List ℕ). Begins bytes tag a.0.0.body y) e.1 (expect_found tag stop bytes a.0.0 a.0.1 (reworded_ok reword (expect_at tag stop bytes) a.0 a.1)),
         subst (λ (y : List X). Many R a.0.0.body y) e.0 (many_found R f p short a.0.0.stop a.0.0.body b.0 b.1),
       );
   only = λ stop bytes x rest h.
@@ -291,12 +307,14 @@ list_exact {X} {E} tell tag R f p short = record {
 
 -- ---- all of the bytes
 
-pub whole_found : {X E : Type 0} (tell : BerFault → E) (R : Form X) (f : Reading E X) → Exact R f → (bytes : List ℕ) (x : X) → whole_at tell f bytes ≡ Ok x → R bytes x []
-whole_found {X} tell R f p bytes x h =
-    let a = bind_ok (f (length bytes) bytes) (λ x. told tell (end_at (length bytes) x.1) >>= λ u. Ok x.0) x h in
-    let b = bind_ok (told tell (end_at (length bytes) a.0.1)) (λ u. Ok a.0.0) x a.2 in
-    let e = end_found (length bytes) a.0.1 b.0 (told_ok tell (end_at (length bytes) a.0.1) b.0 b.1) in
+-- a value that is read of all bytes is spelled by them
+pub whole_found : {X E : Type 0} (reword : BerFault → E) (R : Form X) (f : Reading E X) → Exact R f → (bytes : List ℕ) (x : X) → whole_at reword f bytes ≡ Ok x → R bytes x []
+whole_found {X} reword R f p bytes x h =
+    let a = bind_ok (f (length bytes) bytes) (λ x. reworded reword (end_at (length bytes) x.1) >>= λ u. Ok x.0) x h in
+    let b = bind_ok (reworded reword (end_at (length bytes) a.0.1)) (λ u. Ok a.0.0) x a.2 in
+    let e = end_found (length bytes) a.0.1 b.0 (reworded_ok reword (end_at (length bytes) a.0.1) b.0 b.1) in
     subst (λ (y : X). R bytes y []) (ok_is a.0.0 x b.2) (subst (λ (y : List ℕ). R bytes a.0.0 y) e (p.found (length bytes) bytes a.0.0 a.0.1 a.1))
 
-pub whole_only : {X E : Type 0} (tell : BerFault → E) (R : Form X) (f : Reading E X) → Exact R f → (bytes : List ℕ) (x : X) → R bytes x [] → whole_at tell f bytes ≡ Ok x
-whole_only tell R f p bytes x h = rw (p.only (length bytes) bytes x [] h) refl
+-- a value that all bytes spell is read
+pub whole_only : {X E : Type 0} (reword : BerFault → E) (R : Form X) (f : Reading E X) → Exact R f → (bytes : List ℕ) (x : X) → R bytes x [] → whole_at reword f bytes ≡ Ok x
+whole_only reword R f p bytes x h = rw (p.only (length bytes) bytes x [] h) refl

@@ -6,11 +6,10 @@ use Rattle.std.proofs.lemmas.Int.{to_z-of_z}
 use Rattle.std.proofs.Common.{FitsSigned}
 use Rattle.std.proofs.Math.Facts.{Fits-of_z}
 use Rattle.std.proofs.lemmas.Bool.Decides.{nat_tests}
-use Rattle.std.proofs.lemmas.Bool.{cases_lt, le-ltb, lt-ltb}
+use Rattle.std.proofs.lemmas.Bool.{cases_lt, le-ltb, lt-ltb, cases_Bool}
 use Rattle.ldap_ber.specs.Element.{extended, integer_of}
 use Rattle.ldap_ber.specs.Form.{Integer}
 use Rattle.ldap_ber.specs.Canonical.{element, is_needless, shortest, IsShortest, integer_octets}
-use Rattle.ldap_ber.proofs.Steps.{bool_cases}
 use Rattle.ldap_ber.proofs.ElementLemmas.{element_spells}
 use Rattle.ldap_ber.proofs.CanonicalLemmas.{Spelled, Anything}
 
@@ -33,7 +32,7 @@ pub extended_shortest : (word : List ℕ) → length word ≤ 8 → extended (sh
 extended_shortest [] le = refl
 extended_shortest (a ∷ []) le = refl
 extended_shortest (a ∷ b ∷ octets) le =
-    elim (bool_cases (is_needless a b)) [
+    elim (cases_Bool (is_needless a b)) [
       | inl t ↦
           let n = needless_is a b t in
           let k : 8 - length (b ∷ octets) ≡ suc (8 - length (a ∷ b ∷ octets)) = omega arith in
@@ -46,11 +45,12 @@ shortest_size [] = (omega arith, λ h. h)
 shortest_size (a ∷ []) = (omega arith, λ h. h)
 shortest_size (a ∷ b ∷ octets) =
     let i = shortest_size (b ∷ octets) in
-    elim (bool_cases (is_needless a b)) [
+    elim (cases_Bool (is_needless a b)) [
       | inl t ↦ rw t (omega arith, λ h. i.1 (omega arith))
       | inr f ↦ rw f (omega arith, λ h. h)
     ]
 
+-- the canonical octets of an integer are read as it
 pub integer_back : (z : ℤ) → FitsSigned w64 z → integer_of (integer_octets z) ≡ z
 unfolding integer_octets
 integer_back z fits =
@@ -58,6 +58,7 @@ integer_back z fits =
     ∙ ap (cast_signed w64) (from_be_bytes-to_be_bytes_8 (cast_unsigned w64 z) (omega (arith, Fits-of_z {w = w64} {z = z} fits)))
     ∙ to_z-of_z w64 z fits
 
+-- the canonical integer is a spelling
 pub integer_spelled : (tag : ℕ) → tag % 32 ≢ 31 → Spelled (Integer tag) (λ z. element tag (integer_octets z)) (FitsSigned w64) Anything
 unfolding integer_octets
 integer_spelled tag low = record {
@@ -70,11 +71,12 @@ shortest_is : (word : List ℕ) → 0 < length word → IsShortest (shortest wor
 shortest_is [] some = absurd (omega arith)
 shortest_is (a ∷ []) some = tt
 shortest_is (a ∷ b ∷ octets) some =
-    elim (bool_cases (is_needless a b)) [
+    elim (cases_Bool (is_needless a b)) [
       | inl t ↦ rw t (shortest_is (b ∷ octets) (omega arith))
       | inr f ↦ rw f f
     ]
 
+-- no spelling of an integer has fewer octets than the canonical one
 pub integer_shortest : (z : ℤ) → IsShortest (integer_octets z)
 unfolding integer_octets
 integer_shortest z = shortest_is (to_be_bytes w64 (cast_unsigned w64 z)) (omega arith)

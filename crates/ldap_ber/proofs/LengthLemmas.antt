@@ -3,12 +3,13 @@ use Rattle.std.proofs.Common.{◌≡◌, ◌≢◌, ℕ, suc, ◌-◌, ◌/◌, 
 use Rattle.std.proofs.lemmas.Bool.{cases_lt, ltb-false, ltb-true, le-ltb, lt-ltb, eqb-false, ne_eqb}
 use Rattle.std.proofs.Math.Seq.{take-append_seam, drop-append_seam}
 use Rattle.std.proofs.lemmas.List.{take-append-drop, length-append, length-take}
-use Rattle.ldap_ber.specs.Element.{number_behind, IsLength}
+use Rattle.ldap_ber.specs.Element.{number_after, IsLength}
 use Rattle.ldap_ber.specs.Reader.{length_at}
 use Rattle.ldap_ber.specs.Canonical.{length_octets}
 use Rattle.ldap_ber.proofs.Steps.{chosen, guard_ok, ok_pair}
 use Rattle.std.specs.Prelude.{All}
 
+-- what is read as a length is one at the start of the bytes
 pub length_found : (bytes : List ℕ) (n : ℕ) (rest : List ℕ) → length_at bytes ≡ Ok (n, rest) → (octets : List ℕ) × IsLength octets n × (bytes ≡ octets ++ rest)
 length_found [] n rest e = absurd cc
 length_found (b ∷ more) n rest e =
@@ -20,7 +21,7 @@ length_found (b ∷ more) n rest e =
           let g1 = guard_ok (eqb b 128) _ _ _ s.1 in
           let g2 = guard_ok (ltb 132 b) _ _ _ g1.1 in
           let g3 = guard_ok (ltb (length more) (b - 128)) _ _ _ g2.1 in
-          let p = ok_pair (number_behind 0 (take (b - 128) more)) (drop (b - 128) more) n rest g3.1 in
+          let p = ok_pair (number_after 0 (take (b - 128) more)) (drop (b - 128) more) n rest g3.1 in
           let low : 128 ≤ b = ltb-false _ _ s.0 in
           let high : b ≤ 132 = ltb-false _ _ g2.0 in
           let long : b - 128 ≤ length more = ltb-false _ _ g3.0 in
@@ -28,10 +29,11 @@ length_found (b ∷ more) n rest e =
           (b ∷ take (b - 128) more, inr (omega arith, high, omega (arith, length-take (b - 128) more), sym p.0), ap (λ (t : List ℕ). b ∷ t) (sym (take-append-drop (b - 128) more) ∙ ap (λ (t : List ℕ). take (b - 128) more ++ t) p.1))
     ]
 
--- a front that is as long as a number says
+-- a prefix that is as long as a number says
 pub seam : (k : ℕ) (xs ys : List ℕ) → length xs ≡ k → (take k (xs ++ ys) ≡ xs) × (drop k (xs ++ ys) ≡ ys)
 seam k xs ys e = (rw (← e) (take-append_seam xs ys), rw (← e) (drop-append_seam xs ys))
 
+-- a length at the start of the bytes is read as it is
 pub length_only : (octets : List ℕ) (n : ℕ) (rest : List ℕ) → IsLength octets n → length_at (octets ++ rest) ≡ Ok (n, rest)
 length_only [] n rest h = absurd h
 length_only (b ∷ octets) n rest h =
@@ -66,6 +68,7 @@ by_size P n one two three four five =
       ]
     ]
 
+-- the canonical octets of a length are one
 pub length_spells : (n : ℕ) → n < 2 ^ 32 → IsLength (length_octets n) n
 length_spells n small =
     by_size (λ octets. IsLength octets n) n
@@ -75,11 +78,12 @@ length_spells n small =
     (λ s t. inr (omega arith, omega arith, refl, omega arith))
     (λ s. inr (omega arith, omega arith, refl, omega arith))
 
+-- a length has at most five octets
 pub length-length_octets : (n : ℕ) → length (length_octets n) ≤ 5
 length-length_octets n =
     by_size (λ octets. length octets ≤ 5) n (λ s. omega arith) (λ s t. omega arith) (λ s t. omega arith) (λ s t. omega arith) (λ s. omega arith)
 
--- so many octets for so small a number
+-- n octets for so small a number
 size_under : (n : ℕ) → (n < 128 → length (length_octets n) ≤ 1) × (n < 256 → length (length_octets n) ≤ 2) × (n < 65536 → length (length_octets n) ≤ 3) × (n < 16777216 → length (length_octets n) ≤ 4)
 size_under n =
     by_size (λ octets. (n < 128 → length octets ≤ 1) × (n < 256 → length octets ≤ 2) × (n < 65536 → length octets ≤ 3) × (n < 16777216 → length octets ≤ 4)) n
@@ -89,27 +93,28 @@ size_under n =
     (λ s t. (λ h. omega arith, λ h. omega arith, λ h. omega arith, λ h. omega arith))
     (λ s. (λ h. omega arith, λ h. omega arith, λ h. omega arith, λ h. omega arith))
 
--- the octets behind the first
-behind_shortest : (octets : List ℕ) → All (λ o. o < 256) octets → 0 < length octets → length octets ≤ 4 → length (length_octets (number_behind 0 octets)) ≤ suc (length octets)
-behind_shortest [] small some few = absurd (omega arith)
-behind_shortest (x ∷ []) small some few =
+-- the octets after the first
+after_shortest : (octets : List ℕ) → All (λ o. o < 256) octets → 0 < length octets → length octets ≤ 4 → length (length_octets (number_after 0 octets)) ≤ suc (length octets)
+after_shortest [] small some few = absurd (omega arith)
+after_shortest (x ∷ []) small some few =
     let a : x < 256 = small 0 0 (omega arith) in
-    omega (arith, (size_under (number_behind 0 (x ∷ []))).1 (omega arith))
-behind_shortest (x ∷ y ∷ []) small some few =
+    omega (arith, (size_under (number_after 0 (x ∷ []))).1 (omega arith))
+after_shortest (x ∷ y ∷ []) small some few =
     let a : x < 256 = small 0 0 (omega arith) in
     let b : y < 256 = small 1 0 (omega arith) in
-    omega (arith, (size_under (number_behind 0 (x ∷ y ∷ []))).2 (omega arith))
-behind_shortest (x ∷ y ∷ z ∷ []) small some few =
+    omega (arith, (size_under (number_after 0 (x ∷ y ∷ []))).2 (omega arith))
+after_shortest (x ∷ y ∷ z ∷ []) small some few =
     let a : x < 256 = small 0 0 (omega arith) in
     let b : y < 256 = small 1 0 (omega arith) in
     let c : z < 256 = small 2 0 (omega arith) in
-    omega (arith, (size_under (number_behind 0 (x ∷ y ∷ z ∷ []))).3 (omega arith))
-behind_shortest (x ∷ y ∷ z ∷ w ∷ more) small some few = omega (arith, length-length_octets (number_behind 0 (x ∷ y ∷ z ∷ w ∷ more)))
+    omega (arith, (size_under (number_after 0 (x ∷ y ∷ z ∷ []))).3 (omega arith))
+after_shortest (x ∷ y ∷ z ∷ w ∷ more) small some few = omega (arith, length-length_octets (number_after 0 (x ∷ y ∷ z ∷ w ∷ more)))
 
+-- no length has fewer octets than the canonical one
 pub length_shortest : (octets : List ℕ) (n : ℕ) → All (λ o. o < 256) octets → IsLength octets n → length (length_octets n) ≤ length octets
 length_shortest [] n small h = absurd h
 length_shortest (b ∷ octets) n small h =
     elim h [
       | inl s ↦ omega (arith, (size_under n).0 (omega (arith, s.0, s.2)))
-      | inr s ↦ rw s.3 (behind_shortest octets (λ k d lt. small (suc k) d (omega arith)) (omega (arith, s.0, s.2)) (omega (arith, s.1, s.2)))
+      | inr s ↦ rw s.3 (after_shortest octets (λ k d lt. small (suc k) d (omega arith)) (omega (arith, s.0, s.2)) (omega (arith, s.1, s.2)))
     ]

@@ -27,28 +27,32 @@ many_next f adv stop b bytes =
     let less : length x.1 < length (b ∷ bytes) = adv stop (b ∷ bytes) x.0 x.1 e in
     ap (λ r. r >>= λ xs. Ok (x.0 ∷ xs)) (many_enough f adv (length bytes) (length x.1) stop x.1 (omega arith) (omega arith)))
 
+-- no bytes are read as an empty list
 pub many_none : {X E : Type 0} (f : Reading E X) (stop : ℕ) → many_at f stop [] ≡ Ok []
 unfolding many_at
 many_none f stop = refl
 
 -- what was read before, and what is still read
-abbrev pub with_front : {X E : Type 0} → List X → Result (List X) E → Result (List X) E
-with_front front read = read >>= λ xs. Ok (front ++ xs)
+abbrev pub with_prefix : {X E : Type 0} → List X → Result (List X) E → Result (List X) E
+with_prefix prefix read = read >>= λ xs. Ok (prefix ++ xs)
 
-regroup : {X E : Type 0} (front : List X) (x : X) (read : Result (List X) E) → with_front (front ++ x ∷ []) read ≡ with_front front (read >>= λ xs. Ok (x ∷ xs))
-regroup front x (Ok xs) = ap (λ ys. Ok ys) (simp append_assoc)
-regroup front x (Err f) = refl
+regroup : {X E : Type 0} (prefix : List X) (x : X) (read : Result (List X) E) → with_prefix (prefix ++ x ∷ []) read ≡ with_prefix prefix (read >>= λ xs. Ok (x ∷ xs))
+regroup prefix x (Ok xs) = ap (λ ys. Ok ys) (simp append_assoc)
+regroup prefix x (Err f) = refl
 
-pub many_goes_on : {X E : Type 0} (f : Reading E X) → Advances f → (front : List X) (stop : ℕ) (bytes : List ℕ) (x : X) (rest : List ℕ) → 0 < length bytes → f stop bytes ≡ Ok (x, rest)
-    → with_front (front ++ x ∷ []) (many_at f stop rest) ≡ with_front front (many_at f stop bytes)
-many_goes_on f adv front stop [] x rest some h = absurd (omega arith)
-many_goes_on f adv front stop (b ∷ bytes) x rest some h = regroup front x (many_at f stop rest) ∙ rw (many_next f adv stop b bytes, h) refl
+-- an item that is read is the next of the list
+pub many_goes_on : {X E : Type 0} (f : Reading E X) → Advances f → (prefix : List X) (stop : ℕ) (bytes : List ℕ) (x : X) (rest : List ℕ) → 0 < length bytes → f stop bytes ≡ Ok (x, rest)
+    → with_prefix (prefix ++ x ∷ []) (many_at f stop rest) ≡ with_prefix prefix (many_at f stop bytes)
+many_goes_on f adv prefix stop [] x rest some h = absurd (omega arith)
+many_goes_on f adv prefix stop (b ∷ bytes) x rest some h = regroup prefix x (many_at f stop rest) ∙ rw (many_next f adv stop b bytes, h) refl
 
-pub many_fails : {X E : Type 0} (f : Reading E X) → Advances f → (front : List X) (stop : ℕ) (bytes : List ℕ) (e : E) → 0 < length bytes → f stop bytes ≡ Err e
-    → with_front front (many_at f stop bytes) ≡ Err e
-many_fails f adv front stop [] e some h = absurd (omega arith)
-many_fails f adv front stop (b ∷ bytes) e some h = rw (many_next f adv stop b bytes, h) refl
+-- an item that is refused is the fault of the list
+pub many_fails : {X E : Type 0} (f : Reading E X) → Advances f → (prefix : List X) (stop : ℕ) (bytes : List ℕ) (e : E) → 0 < length bytes → f stop bytes ≡ Err e
+    → with_prefix prefix (many_at f stop bytes) ≡ Err e
+many_fails f adv prefix stop [] e some h = absurd (omega arith)
+many_fails f adv prefix stop (b ∷ bytes) e some h = rw (many_next f adv stop b bytes, h) refl
 
-pub many_ended : {X E : Type 0} (f : Reading E X) (front : List X) (stop : ℕ) (bytes : List ℕ) → length bytes ≡ 0 → with_front front (many_at f stop bytes) ≡ Ok front
-many_ended f front stop [] none = rw (many_none f stop) (ap (λ ys. Ok ys) (append-nil front))
-many_ended f front stop (b ∷ bytes) none = absurd (omega arith)
+-- the list is read where no byte is left
+pub many_ended : {X E : Type 0} (f : Reading E X) (prefix : List X) (stop : ℕ) (bytes : List ℕ) → length bytes ≡ 0 → with_prefix prefix (many_at f stop bytes) ≡ Ok prefix
+many_ended f prefix stop [] none = rw (many_none f stop) (ap (λ ys. Ok ys) (append-nil prefix))
+many_ended f prefix stop (b ∷ bytes) none = absurd (omega arith)

@@ -18,10 +18,12 @@ placed_ok stop bytes (Ok x) e rest h =
     )
 placed_ok stop bytes (Err f) e rest h = absurd cc
 
+-- what is read as an element begins the bytes
 pub element_found : (stop : ℕ) (bytes : List ℕ) (e : Element) (rest : List ℕ) → element_at stop bytes ≡ Ok (e, rest) → Begins bytes e.tag e.body rest
 unfolding element_at
 element_found stop bytes e rest h = parts_found bytes e.tag e.body rest (placed_ok stop bytes (parts_at bytes) e rest h).0
 
+-- an element leaves fewer bytes
 pub Begins-shorter : (bytes : List ℕ) (tag : ℕ) (body rest : List ℕ) → Begins bytes tag body rest → length rest < length bytes
 Begins-shorter bytes tag body rest h = omega (arith, ap (λ (x : List ℕ). length x) h.parts, length-append h.octets (body ++ rest), length-append body rest)
 
@@ -37,16 +39,19 @@ forget : {X Y E : Type 0} (r : Result (List X) E) (x : X) (y : Y) → ((r >>= λ
 forget (Ok xs) x y = refl
 forget (Err f) x y = refl
 
+-- passing over elements goes on after the first
 pub skip_next : (stop : ℕ) (bytes : List ℕ) (e : Element) (rest : List ℕ) → element_at stop bytes ≡ Ok (e, rest) → skip_at stop bytes ≡ skip_at stop rest
 unfolding skip_at element_at
 skip_next stop [] e rest h = absurd cc
 skip_next stop (b ∷ bytes) e rest h = rw (many_next any_at any_advances stop b bytes, h) (forget (many_at any_at stop rest) (e.tag, e.body) tt)
 
+-- an element that is refused is the fault of passing over
 pub skip_fault : (stop : ℕ) (bytes : List ℕ) (f : BerFault) → element_at stop bytes ≡ Err f → bytes ≢ [] → skip_at stop bytes ≡ Err f
 unfolding skip_at
 skip_fault stop [] f h not = absurd (not refl)
 skip_fault stop (b ∷ bytes) f h not = rw (many_next any_at any_advances stop b bytes, h) refl
 
+-- where no byte is left all is passed over
 pub skip_none : (stop : ℕ) (bytes : List ℕ) → length bytes ≡ 0 → skip_at stop bytes ≡ Ok tt
 unfolding skip_at
 skip_none stop [] e = rw (many_none any_at stop) refl

@@ -1,8 +1,9 @@
--- The canonical spelling (RFC 4511, section 5.1): shortest lengths, shortest integers, TRUE as FF, no usual values.
+-- The canonical spelling (RFC 4511, section 5.1): shortest lengths, shortest integers, TRUE as FF,
+-- no usual values.
 use Rattle.std.specs.Prelude.{◌≡◌, ℕ, ◌/◌, ◌%◌, List, [], ◌∷◌, ◌++◌, length, Bool, true, false, ◌&&◌, ◌||◌, not, nat_lt, ◌==◌, if◌then◌else◌, ℤ, Option, Some, None}
 use Rattle.std.specs.Int.{w64, to_be_bytes, cast_unsigned}
 
--- the shortest length of at most four octets behind the first (X.690, 10.1)
+-- the shortest length of at most four octets after the first (X.690, 10.1)
 abbrev pub length_octets : ℕ → List ℕ
 length_octets count =
     if nat_lt count 128 then count ∷ [] else
@@ -16,13 +17,15 @@ element tag body = tag ∷ (length_octets (length body) ++ body)
 
 -- the octet in front says no more than the sign of the next one
 abbrev pub is_needless : ℕ → ℕ → Bool
-is_needless first second = ((first == 0) && nat_lt second 128) || ((first == 255) && not (nat_lt second 128))
+is_needless first second =
+    ((first == 0) && nat_lt second 128) || ((first == 255) && not (nat_lt second 128))
 
 -- an integer's octets without the needless ones in front
 abbrev pub shortest : List ℕ → List ℕ
 shortest [] = []
 shortest (octet ∷ []) = octet ∷ []
-shortest (first ∷ second ∷ octets) = if is_needless first second then shortest (second ∷ octets) else first ∷ second ∷ octets
+shortest (first ∷ second ∷ octets) =
+    if is_needless first second then shortest (second ∷ octets) else first ∷ second ∷ octets
 
 -- the first nine bits of an integer's octets are not all the same (X.690, 8.3.2)
 abbrev pub IsShortest : List ℕ → Type 0

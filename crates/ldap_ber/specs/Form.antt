@@ -1,5 +1,5 @@
--- Components of messages, and how bytes may spell them. A form says that the bytes begin with a spelling of a value, and
--- what follows it.
+-- Components of messages, and how bytes may spell them. A form says that the bytes begin with a
+-- spelling of a value, and what follows it.
 use Rattle.std.specs.Prelude.{◌≡◌, ℕ, ◌<◌, ◌≤◌, List, [], ◌∷◌, length, Bool, not, ◌==◌, Option, Some, None, ℤ, ◌⊎◌}
 use Rattle.ldap_ber.specs.Element.{integer_of, Begins}
 use Rattle.ldap_ber.specs.Reader.{tag_at}
@@ -13,11 +13,14 @@ OctetString tag bytes octets rest = Begins bytes tag octets rest
 
 -- one to eight octets, no matter whether fewer would do
 abbrev pub Integer : ℕ → Form ℤ
-Integer tag bytes value rest = (body : List ℕ) × Begins bytes tag body rest × (0 < length body) × (length body ≤ 8) × (value ≡ integer_of body)
+Integer tag bytes value rest =
+    (body : List ℕ) × Begins bytes tag body rest × (0 < length body) × (length body ≤ 8)
+    × (value ≡ integer_of body)
 
 -- one octet, of which all but 0 mean true (X.690, 8.2.2)
 abbrev pub Boolean : ℕ → Form Bool
-Boolean tag bytes value rest = (octet : ℕ) × Begins bytes tag (octet ∷ []) rest × (value ≡ not (octet == 0))
+Boolean tag bytes value rest =
+    (octet : ℕ) × Begins bytes tag (octet ∷ []) rest × (value ≡ not (octet == 0))
 
 -- a component, or nothing where the next element does not have its tag (X.690, 8.9.3)
 abbrev pub Optional : {X : Type 0} → ℕ → Form X → Form (Option X)
@@ -26,9 +29,11 @@ Optional tag R bytes None rest = (rest ≡ bytes) × (tag_at bytes ≡ Some tag 
 
 -- a component, or nothing, which stands for the usual value (X.690, 8.9.3)
 abbrev pub Default : {X : Type 0} → ℕ → X → Form X → Form X
-Default tag usual R bytes x rest = ((tag_at bytes ≡ Some tag) × R bytes x rest) ⊎ ((x ≡ usual) × (rest ≡ bytes) × (tag_at bytes ≡ Some tag → ⊥))
+Default tag usual R bytes x rest =
+    ((tag_at bytes ≡ Some tag) × R bytes x rest)
+    ⊎ ((x ≡ usual) × (rest ≡ bytes) × (tag_at bytes ≡ Some tag → ⊥))
 
--- one component, and the other behind it
+-- one component, and the other after it
 abbrev pub Both : {X Y : Type 0} → Form X → Form Y → Form (X × Y)
 Both R S bytes x rest = (between : List ℕ) × R bytes x.0 between × S between x.1 rest
 
@@ -56,9 +61,11 @@ AreElements bytes = (es : List (ℕ × List ℕ)) × Many AnyElement bytes es
 abbrev pub Tagged : {X : Type 0} → ℕ → Form X → Form X
 Tagged tag R bytes x rest = (body : List ℕ) × Begins bytes tag body rest × R body x []
 
--- an element whose body is a component and unknown elements behind it (RFC 4511, section 4)
+-- an element whose body is a component and unknown elements after it (RFC 4511, section 4)
 abbrev pub Sequence : {X : Type 0} → ℕ → Form X → Form X
-Sequence tag R bytes x rest = (body : List ℕ) × (unknown : List ℕ) × Begins bytes tag body rest × R body x unknown × AreElements unknown
+Sequence tag R bytes x rest =
+    (body : List ℕ) × (unknown : List ℕ) × Begins bytes tag body rest × R body x unknown
+    × AreElements unknown
 
 -- an element whose body is any number of a component (X.690, 8.10, 8.12)
 abbrev pub ListOf : {X : Type 0} → ℕ → Form X → Form (List X)

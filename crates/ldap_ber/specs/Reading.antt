@@ -1,28 +1,33 @@
--- Components of messages, and how they are read: one reading for each form, as a function with the first fault.
+-- Components of messages, and how they are read: one reading for each form, as a function
+-- with the first fault.
 use Rattle.std.specs.Prelude.{ℕ, zero, suc, ◌-◌, List, [], ◌∷◌, length, Bool, if◌then◌else◌, Option, Some, None, Result, Ok, Err, ℤ}
 use Rattle.ldap_ber.specs.declared.fault.BerFault.{BerFault}
 use Rattle.ldap_ber.specs.Reader.{◌>>=◌, element_at, expect_at, has_tag, end_at, integer_in, boolean_in}
 
--- from the place behind the bytes and the bytes: a value and the bytes that are left, or the first fault
+-- from the place after the bytes and the bytes: a value and the bytes that are
+-- left, or the first fault
 abbrev pub Reading : Type 0 → Type 0 → Type 0
 Reading E X = ℕ → List ℕ → Result (X × List ℕ) E
 
--- the same, where a fault of an element is told in the words of the caller
-abbrev pub told : {X E : Type 0} → (BerFault → E) → Result X BerFault → Result X E
-told tell (Ok x) = Ok x
-told tell (Err fault) = Err (tell fault)
+-- the same, where a fault of an element is reported in the words of the caller
+abbrev pub reworded : {X E : Type 0} → (BerFault → E) → Result X BerFault → Result X E
+reworded reword (Ok x) = Ok x
+reworded reword (Err fault) = Err (reword fault)
 
 abbrev pub octets_at : ℕ → Reading BerFault (List ℕ)
 octets_at tag stop bytes = expect_at tag stop bytes >>= λ e. Ok (e.0.body, e.1)
 
 abbrev pub integer_at : ℕ → Reading BerFault ℤ
-integer_at tag stop bytes = expect_at tag stop bytes >>= λ e. integer_in e.0 >>= λ value. Ok (value, e.1)
+integer_at tag stop bytes =
+    expect_at tag stop bytes >>= λ e. integer_in e.0 >>= λ value. Ok (value, e.1)
 
 abbrev pub boolean_at : ℕ → Reading BerFault Bool
-boolean_at tag stop bytes = expect_at tag stop bytes >>= λ e. boolean_in e.0 >>= λ value. Ok (value, e.1)
+boolean_at tag stop bytes =
+    expect_at tag stop bytes >>= λ e. boolean_in e.0 >>= λ value. Ok (value, e.1)
 
 abbrev pub optional_at : {X E : Type 0} → ℕ → Reading E X → Reading E (Option X)
-optional_at tag f stop bytes = if has_tag tag bytes then (f stop bytes >>= λ x. Ok (Some x.0, x.1)) else Ok (None, bytes)
+optional_at tag f stop bytes =
+    if has_tag tag bytes then (f stop bytes >>= λ x. Ok (Some x.0, x.1)) else Ok (None, bytes)
 
 abbrev pub default_at : {X E : Type 0} → ℕ → X → Reading E X → Reading E X
 default_at tag usual f stop bytes = if has_tag tag bytes then f stop bytes else Ok (usual, bytes)
@@ -38,11 +43,12 @@ meaning_at g f stop bytes = f stop bytes >>= λ x. g (stop - length bytes) x.0 >
 abbrev pub made_at : {X Y E : Type 0} → (X → Y) → Reading E X → Reading E Y
 made_at make f stop bytes = f stop bytes >>= λ x. Ok (make x.0, x.1)
 
--- any number of a component, as long as bytes are left and at most so many
+-- any number of a component, as long as bytes are left and at most n
 abbrev pub many_in : {X E : Type 0} → Reading E X → ℕ → ℕ → List ℕ → Result (List X) E
 many_in f most stop [] = Ok []
 many_in f zero stop (b ∷ bytes) = Ok []
-many_in f (suc most) stop (b ∷ bytes) = f stop (b ∷ bytes) >>= λ x. many_in f most stop x.1 >>= λ xs. Ok (x.0 ∷ xs)
+many_in f (suc most) stop (b ∷ bytes) =
+    f stop (b ∷ bytes) >>= λ x. many_in f most stop x.1 >>= λ xs. Ok (x.0 ∷ xs)
 
 -- any number of a component that takes an octet at least
 unfoldable pub many_at : {X E : Type 0} → Reading E X → ℕ → List ℕ → Result (List X) E
@@ -56,16 +62,24 @@ unfoldable pub skip_at : ℕ → List ℕ → Result (Unit {0}) BerFault
 skip_at stop bytes = many_at any_at stop bytes >>= λ es. Ok tt
 
 abbrev pub tagged_at : {X E : Type 0} → (BerFault → E) → ℕ → Reading E X → Reading E X
-tagged_at tell tag f stop bytes =
-    told tell (expect_at tag stop bytes) >>= λ e. f e.0.stop e.0.body >>= λ x. told tell (end_at e.0.stop x.1) >>= λ u. Ok (x.0, e.1)
+tagged_at reword tag f stop bytes =
+    reworded reword (expect_at tag stop bytes) >>= λ e.
+    f e.0.stop e.0.body >>= λ x.
+    reworded reword (end_at e.0.stop x.1) >>= λ u.
+    Ok (x.0, e.1)
 
 abbrev pub sequence_at : {X E : Type 0} → (BerFault → E) → ℕ → Reading E X → Reading E X
-sequence_at tell tag f stop bytes =
-    told tell (expect_at tag stop bytes) >>= λ e. f e.0.stop e.0.body >>= λ x. told tell (skip_at e.0.stop x.1) >>= λ u. Ok (x.0, e.1)
+sequence_at reword tag f stop bytes =
+    reworded reword (expect_at tag stop bytes) >>= λ e.
+    f e.0.stop e.0.body >>= λ x.
+    reworded reword (skip_at e.0.stop x.1) >>= λ u.
+    Ok (x.0, e.1)
 
 abbrev pub list_at : {X E : Type 0} → (BerFault → E) → ℕ → Reading E X → Reading E (List X)
-list_at tell tag f stop bytes = told tell (expect_at tag stop bytes) >>= λ e. many_at f e.0.stop e.0.body >>= λ xs. Ok (xs, e.1)
+list_at reword tag f stop bytes =
+    reworded reword (expect_at tag stop bytes) >>= λ e. many_at f e.0.stop e.0.body >>= λ xs. Ok (xs, e.1)
 
 -- the component that all of the bytes are
 abbrev pub whole_at : {X E : Type 0} → (BerFault → E) → Reading E X → List ℕ → Result X E
-whole_at tell f bytes = f (length bytes) bytes >>= λ x. told tell (end_at (length bytes) x.1) >>= λ u. Ok x.0
+whole_at reword f bytes =
+    f (length bytes) bytes >>= λ x. reworded reword (end_at (length bytes) x.1) >>= λ u. Ok x.0

@@ -17,12 +17,14 @@ abbrev pub after_bytes : Written → List ℕ → Written
 after_bytes w bytes = record { opened = w.opened; bytes = w.bytes ++ bytes }
 
 abbrev pub after_begin : Written → ℕ → Written
-after_begin w tag = record { opened = record { tag = tag; before = w.bytes } ∷ w.opened; bytes = [] }
+after_begin w tag =
+    record { opened = record { tag = tag; before = w.bytes } ∷ w.opened; bytes = [] }
 
 -- the innermost element is ended with this body
 abbrev pub end_with : List Opened → List ℕ → Written
 end_with [] body = record { opened = []; bytes = body }
-end_with (innermost ∷ others) body = record { opened = others; bytes = innermost.before ++ element innermost.tag body }
+end_with (innermost ∷ others) body =
+    record { opened = others; bytes = innermost.before ++ element innermost.tag body }
 
 abbrev pub after_end : Written → Written
 after_end w = end_with w.opened w.bytes

@@ -7,16 +7,16 @@ pub enum BerKind {
     Short,
     /// Its length is indefinite (X.690, section 8.1.3.6).
     Indefinite,
-    /// Its length has more than four octets behind the first.
+    /// Its length has more than four octets after the first.
     LongLength,
-    /// It has another tag, or the tag number 31, behind which more octets of a tag would follow
+    /// It has another tag, or the tag number 31, after which more octets of a tag would follow
     /// (X.690, section 8.1.2.4).
     WrongTag,
     /// The body of an integer has no octet or more than eight.
     BadInteger,
     /// The body of a truth value has not one octet.
     BadBoolean,
-    /// Bytes are left behind the last element.
+    /// Bytes are left after the last element.
     Trailing,
 }
 

@@ -29,11 +29,11 @@ pub fn canonical_spellings()
     ensures shortest { (value : ℤ) → IsShortest (integer_octets value) }
 {}
 
-/// A proper front of a spelling is refused as short, and so no spelling is one of another's.
+/// A proper prefix of a spelling is refused as short, and so no spelling is one of another's.
 pub fn no_spelling_begins_another()
-    ensures cut { (stop tag : ℕ) (front more body : List ℕ)
-        → Begins (front ++ more) tag body [] → more ≢ []
-        → element_at stop front ≡ Err (fault Short stop front) }
-    ensures one { (front more : List ℕ) (tag other : ℕ) (body another : List ℕ)
-        → Begins front tag body [] → Begins (front ++ more) other another [] → more ≡ [] }
+    ensures cut { (stop tag : ℕ) (prefix more body : List ℕ)
+        → Begins (prefix ++ more) tag body [] → more ≢ []
+        → element_at stop prefix ≡ Err (fault Short stop prefix) }
+    ensures one { (prefix more : List ℕ) (tag other : ℕ) (body another : List ℕ)
+        → Begins prefix tag body [] → Begins (prefix ++ more) other another [] → more ≡ [] }
 {}

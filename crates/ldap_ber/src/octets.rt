@@ -7,7 +7,7 @@ ghost use Rattle.ldap_ber.specs.Octets.{lists_eq};
 use std::alloc::{AllocError, Global};
 use std::marker::Model;
 
-/// Want of memory, as an error by itself.
+/// Out of memory, as an error by itself.
 pub type NoMemory = AllocError;
 
 /// An octet string that owns its bytes.
@@ -34,12 +34,14 @@ impl Octets {
         })
     }
 
+    /// Lends the bytes of the string.
     pub fn as_slice(&self) -> &[u8]
         ensures { result.now ≡ self.now }
     {
         self.bytes.as_slice()
     }
 
+    /// Makes the same string a second time. It is `NoMemory` where memory runs out.
     pub fn copy(&self) -> Result<Octets, NoMemory>
         ensures { IfOk result (λ octets. octets ≡ self.now) }
     {
@@ -89,6 +91,7 @@ impl Model for OctetsList {
 }
 
 impl OctetsList {
+    /// Makes a list without strings.
     pub fn new(alloc: Global) -> OctetsList
         ensures { result ≡ [] }
     {
@@ -114,12 +117,14 @@ impl OctetsList {
         self.items.append(&mut more.items)
     }
 
+    /// Lends the strings, in their order.
     pub fn list(&self) -> &[Octets]
         ensures { result.now ≡ self.now }
     {
         self.items.as_slice()
     }
 
+    /// Makes the same strings a second time. It is `NoMemory` where memory runs out.
     pub fn copy(&self) -> Result<OctetsList, NoMemory>
         ensures { IfOk result (λ list. list ≡ self.now) }
     {

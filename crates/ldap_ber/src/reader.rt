@@ -1,7 +1,7 @@
 //! Reading elements one at a time.
 
 ghost use Rattle.std.specs.Prelude.{◌≡◌, ◌-◌, ◌==◌, ◌≤◌, ◌<◌, [], length, IfOk, OnErr, OnOk};
-ghost use Rattle.ldap_ber.specs.Element.{number_behind, filler, extended};
+ghost use Rattle.ldap_ber.specs.Element.{number_after, filler, extended};
 ghost use Rattle.ldap_ber.specs.Reader.{Answers, length_at, parts_at, element_at, expect_at, tag_at, has_tag, end_at, integer_in, boolean_in};
 ghost use Rattle.ldap_ber.specs.Reading.{octets_at, integer_at, boolean_at, default_at, skip_at};
 ghost use Rattle.ldap_ber.specs.Tlv.{element_of};
@@ -15,12 +15,12 @@ pub struct Tlv<'a> {
     pub tag: u8,
     /// The place of its first octet.
     pub at: usize,
-    /// The place behind its body.
+    /// The place after its body.
     pub stop: usize,
     pub body: &'a [u8],
 }
 
-/// A reader of elements: the bytes that are left, and the place behind them in the outermost
+/// A reader of elements: the bytes that are left, and the place after them in the outermost
 /// input. After a refusal it is as before.
 #[derive(Drop)]
 pub struct Reader<'a> {
@@ -74,6 +74,7 @@ impl<'a> Reader<'a> {
         self.stop.saturating_sub(self.left.len())
     }
 
+    /// Reports whether no byte is left.
     pub fn is_empty(&self) -> bool
         ensures { result ≡ (length self.now.left == 0) }
     {
@@ -100,7 +101,9 @@ impl<'a> Reader<'a> {
         }
     }
 
-    /// The next element, whatever its tag.
+    /// The next element, whatever its tag. Its length is definite, in one to five octets (X.690,
+    /// section 8.1.3). Else it is `Short`, `WrongTag`, `Indefinite` or `LongLength`, with the place
+    /// of the element, and the reader is as before.
     #[tactic(auto, unfolding(crate::specs::Reader::element_at))]
     pub fn next(&mut self) -> Result<Tlv<'a>, BerFault>
         ensures exact { Answers (λ t. (element_of t, self.new.left)) result
@@ -147,7 +150,8 @@ impl<'a> Reader<'a> {
         Ok(tlv)
     }
 
-    /// The body of the next element, which has to have this tag.
+    /// The body of the next element, which has to have this tag. Else it is a fault of `next`, or
+    /// `WrongTag`, and the reader is as before.
     pub fn octets(&mut self, tag: u8) -> Result<&'a [u8], BerFault>
         ensures exact { Answers (λ octets. (octets.now, self.new.left)) result
             (octets_at tag self.old.stop self.old.left) }
@@ -159,7 +163,8 @@ impl<'a> Reader<'a> {
         Ok(tlv.body)
     }
 
-    /// The integer in the next element, which has to have this tag.
+    /// The integer in the next element, which has to have this tag. Else it is a fault of `next`,
+    /// `WrongTag` or `BadInteger`, and the reader is as before.
     pub fn integer(&mut self, tag: u8) -> Result<i64, BerFault>
         ensures exact { Answers (λ value. (value, self.new.left)) result
             (integer_at tag self.old.stop self.old.left) }
@@ -177,7 +182,8 @@ impl<'a> Reader<'a> {
         }
     }
 
-    /// The truth value in the next element, which has to have this tag.
+    /// The truth value in the next element, which has to have this tag. Else it is a fault of
+    /// `next`, `WrongTag` or `BadBoolean`, and the reader is as before.
     pub fn boolean(&mut self, tag: u8) -> Result<bool, BerFault>
         ensures exact { Answers (λ value. (value, self.new.left)) result
             (boolean_at tag self.old.stop self.old.left) }
@@ -195,7 +201,8 @@ impl<'a> Reader<'a> {
         }
     }
 
-    /// The truth value in the next element where that has this tag, and the usual one otherwise.
+    /// The truth value in the next element where that has this tag, and the usual one otherwise. An
+    /// element with this tag that is none is refused as by `boolean`.
     pub fn boolean_or(&mut self, tag: u8, usual: bool) -> Result<bool, BerFault>
         ensures exact { Answers (λ value. (value, self.new.left)) result
             (default_at tag usual (boolean_at tag) self.old.stop self.old.left) }
@@ -208,7 +215,8 @@ impl<'a> Reader<'a> {
         Ok(usual)
     }
 
-    /// Passes over all elements that are left, as unknown ones.
+    /// Passes over all elements that are left, as unknown ones. The first that is none is refused
+    /// with a fault of `next`, and the reader is as before.
     #[tactic(auto, using(crate::proofs::SkipLemmas::skip_next, crate::proofs::SkipLemmas::skip_fault, crate::proofs::SkipLemmas::skip_none))]
     pub fn skip(&mut self) -> Result<(), BerFault>
         ensures exact { result ≡ skip_at self.old.stop self.old.left }
@@ -239,7 +247,8 @@ impl<'a> Reader<'a> {
 }
 
 /// The integer in an element, of the tags INTEGER and ENUMERATED or implicit ones: two's
-/// complement, the highest octet first (X.690, section 8.3).
+/// complement, the highest octet first (X.690, section 8.3). It is `BadInteger` where the body has
+/// no octet or more than eight.
 #[tactic(auto, unfolding(crate::specs::Reader::integer_in))]
 pub fn integer(tlv: &Tlv) -> Result<i64, BerFault>
     ensures { result ≡ integer_in (element_of tlv.now) }
@@ -253,7 +262,8 @@ pub fn integer(tlv: &Tlv) -> Result<i64, BerFault>
     Ok(i64::from_be_bytes(extended(tlv.body)))
 }
 
-/// The truth value in an element: any octet but 0 is true (X.690, section 8.2).
+/// The truth value in an element: any octet but 0 is true (X.690, section 8.2). It is `BadBoolean`
+/// where the body has not one octet.
 pub fn boolean(tlv: &Tlv) -> Result<bool, BerFault>
     ensures { result ≡ boolean_in (element_of tlv.now) }
 {
@@ -318,7 +328,7 @@ fn length_of(bytes: &[u8]) -> Result<(usize, &[u8]), BerKind>
 /// The number of up to four octets, the highest first.
 fn number_of(octets: &[u8]) -> usize
     requires { length octets.now ≤ 4 }
-    ensures { result ≡ number_behind 0 octets.now }
+    ensures { result ≡ number_after 0 octets.now }
 {
     match octets {
         [a] => *a as usize,

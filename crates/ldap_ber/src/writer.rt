@@ -46,6 +46,7 @@ impl Model for Writer {
 }
 
 impl Writer {
+    /// Makes a writer that has written nothing.
     pub fn new(alloc: Global) -> Writer
         ensures { result ≡ record { opened = []; bytes = [] } }
     {
@@ -56,7 +57,8 @@ impl Writer {
         }
     }
 
-    /// Writes an element with this body.
+    /// Writes an element with this tag and body. It is `NoMemory` where memory runs out or a length
+    /// has no place in four octets, and the writer is as before.
     pub fn octets(&mut self, tag: u8, bytes: &[u8]) -> Result<(), NoMemory>
         ensures ok { OnOk result (self.new ≡ after_bytes self.old (element tag bytes.now)) }
         ensures small { OnOk result (IsSmall (element tag bytes.now)) }
@@ -65,7 +67,8 @@ impl Writer {
         put(&mut self.bytes, tag, bytes)
     }
 
-    /// Writes an integer.
+    /// Writes an integer with this tag, in the fewest octets (X.690, section 8.3). It is `NoMemory`
+    /// where memory runs out, and the writer is as before.
     #[tactic(auto, unfolding(crate::specs::Canonical::integer_octets))]
     pub fn integer(&mut self, tag: u8, value: i64) -> Result<(), NoMemory>
         ensures ok { OnOk result
@@ -75,7 +78,8 @@ impl Writer {
         put(&mut self.bytes, tag, shortest(&value.to_be_bytes()))
     }
 
-    /// Writes a truth value.
+    /// Writes a truth value with this tag (X.690, section 8.2). It is `NoMemory` where memory runs
+    /// out, and the writer is as before.
     pub fn boolean(&mut self, tag: u8, value: bool) -> Result<(), NoMemory>
         ensures ok { OnOk result
             (self.new ≡ after_bytes self.old (element tag (boolean_octets value))) }
@@ -96,7 +100,8 @@ impl Writer {
         self.boolean(tag, value)
     }
 
-    /// Opens an element. What is written up to its `end` is its body.
+    /// Opens an element with this tag. What is written up to its `end` is its body. It is
+    /// `NoMemory` where memory runs out, and the writer is as before.
     pub fn begin(&mut self, tag: u8) -> Result<(), NoMemory>
         ensures ok { OnOk result (self.new ≡ after_begin self.old tag) }
         ensures err { OnErr result (self.new ≡ self.old) }
@@ -107,7 +112,8 @@ impl Writer {
         Ok(())
     }
 
-    /// Ends the innermost open element.
+    /// Ends the innermost open element. It is `NoMemory` where memory runs out or a length has no
+    /// place in four octets, and the writer is as before.
     pub fn end(&mut self) -> Result<(), NoMemory>
         requires { self.old.opened ≢ [] }
         ensures ok { OnOk result (self.new ≡ after_end self.old) }

@@ -1,5 +1,6 @@
 -- Lemmas over plain variables.
-pub mod Behind
+pub mod Alike
+pub mod After
 pub mod Keys
 pub mod Lists
 pub mod Many

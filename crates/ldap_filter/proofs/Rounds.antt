@@ -1,4 +1,5 @@
 -- A filter that was written is read again.
+use Rattle.std.proofs.Math.Bool.{and-false}
 use Rattle.std.proofs.Common.{◌≡◌, ◌≢◌, ℕ, zero, suc, ◌+◌, ◌-◌, ◌≤◌, Bool, true, false, not, ◌&&◌, ◌==◌, if◌then◌else◌, List, [], ◌∷◌, ◌++◌, length, take, drop, take_while, Option, Some, None, Result, Ok, refl, sym, ap, ◌∙◌, arith, append-nil, length-append}
 use Rattle.std.proofs.lemmas.Bool.{and_parts, false≢true, ne_eqb, not-true}
 use Rattle.std.proofs.lemmas.List.{take_at, drop_at, get_or_push, length_push}
@@ -7,9 +8,10 @@ use Rattle.ldap_filter.specs.declared.fault.FilterFault.{FilterFault}
 use Rattle.ldap_filter.specs.Grammar.{is_type_byte, all_type_bytes, is_type, begins_with}
 use Rattle.ldap_filter.specs.Pieces.{has_piece}
 use Rattle.ldap_filter.specs.Reading.{◌>>=◌, Reading, refused, past, many_in, many_at, value_goes_on, starred_at, stars_at, type_at, compared_at, made, filled, asserted, equal_at, item_of, item_at, filters_at, component_at, enclosed_at, filter_in}
-use Rattle.ldap_filter.specs.Tree.{Tree, Trees, all_of, any_of, negated, equal, substrings, at_least, at_most, present, approx, extensible, no_trees, more_trees, trees, depth, deepest}
+use Rattle.ldap_filter.specs.FilterTree.{FilterTree, Trees, all_of, any_of, negated, equal, substrings, at_least, at_most, present, approx, extensible, no_trees, more_trees, trees, depth, deepest}
 use Rattle.ldap_filter.specs.Writing.{is_filled, is_absent_or_filled, are_filled, has_substrings_text, has_text, have_texts, are_bytes, is_absent_or_bytes, are_sound_pieces, is_sound, are_sound, value_text, end_text, middle_text, enclosed, substrings_text, text_of, texts_of}
 use Rattle.ldap_filter.proofs.Values.{joined, many_stops, many_one, value_read}
+use Rattle.ldap_ber.proofs.Lists.{list_all-push}
 
 -- ---- types
 
@@ -34,7 +36,7 @@ type_read name stop c more typed other =
     ap (λ (n : List ℕ). if length n == 0 then refused stop bytes else Ok (n, drop (length n) bytes)) (taken name c more parts.1 other)
     ∙ rw some (ap (λ (r : List ℕ). Ok (name, r)) (drop_at name (c ∷ more) (length name) refl))
 
-item_read : (name : List ℕ) (stop c : ℕ) (more : List ℕ) (r : Result (Tree × List ℕ) FilterFault) → is_type name ≡ true → is_type_byte c ≡ false
+item_read : (name : List ℕ) (stop c : ℕ) (more : List ℕ) (r : Result (FilterTree × List ℕ) FilterFault) → is_type name ≡ true → is_type_byte c ≡ false
     → item_of name stop (c ∷ more) ≡ r → item_at stop (name ++ c ∷ more) ≡ r
 unfolding item_at
 item_read name stop c more r typed other read =
@@ -44,7 +46,7 @@ type_other : (c k : ℕ) → is_type_byte c ≡ true → is_type_byte k ≡ fals
 type_other c k typed other = ne_eqb c k (λ e. false≢true (sym other ∙ ap is_type_byte (sym e) ∙ typed))
 
 -- what begins with a type is an item
-component_read : (f : Reading Tree) (name : List ℕ) (stop : ℕ) (more : List ℕ) (r : Result (Tree × List ℕ) FilterFault) → is_type name ≡ true
+component_read : (f : Reading FilterTree) (name : List ℕ) (stop : ℕ) (more : List ℕ) (r : Result (FilterTree × List ℕ) FilterFault) → is_type name ≡ true
     → item_at stop (name ++ more) ≡ r → component_at f stop (name ++ more) ≡ r
 component_read f [] stop more r typed read = absurd (false≢true typed)
 component_read f (c ∷ cs) stop more r typed read =
@@ -54,26 +56,26 @@ component_read f (c ∷ cs) stop more r typed read =
 
 -- ---- enclosed
 
-enclosed_read : (f : Reading Tree) (stop : ℕ) (inner rest : List ℕ) (t : Tree) → component_at f stop (inner ++ 41 ∷ rest) ≡ Ok (t, 41 ∷ rest)
+enclosed_read : (f : Reading FilterTree) (stop : ℕ) (inner rest : List ℕ) (t : FilterTree) → component_at f stop (inner ++ 41 ∷ rest) ≡ Ok (t, 41 ∷ rest)
     → enclosed_at f stop (enclosed inner ++ rest) ≡ Ok (t, rest)
 enclosed_read f stop inner rest t read =
-    ap (λ (r : Result (Tree × List ℕ) FilterFault). r >>= λ u. past 41 stop u.1 >>= λ left. Ok (u.0, left))
+    ap (λ (r : Result (FilterTree × List ℕ) FilterFault). r >>= λ u. past 41 stop u.1 >>= λ left. Ok (u.0, left))
     (ap (component_at f stop) (joined inner (41 ∷ []) rest) ∙ read)
 
-level_read : (levels stop : ℕ) (inner rest : List ℕ) (t : Tree) → component_at (filter_in levels) stop (inner ++ 41 ∷ rest) ≡ Ok (t, 41 ∷ rest)
+level_read : (levels stop : ℕ) (inner rest : List ℕ) (t : FilterTree) → component_at (filter_in levels) stop (inner ++ 41 ∷ rest) ≡ Ok (t, 41 ∷ rest)
     → filter_in (suc levels) stop (enclosed inner ++ rest) ≡ Ok (t, rest)
 unfolding filter_in
 level_read levels stop inner rest t read = enclosed_read (filter_in levels) stop inner rest t read
 
--- an item of a type, a sign and what stands behind it
-signed_read : (levels stop : ℕ) (name : List ℕ) (c : ℕ) (tail rest : List ℕ) (t : Tree) → is_type name ≡ true → is_type_byte c ≡ false
+-- an item of a type, a sign and what stands after it
+signed_read : (levels stop : ℕ) (name : List ℕ) (c : ℕ) (tail rest : List ℕ) (t : FilterTree) → is_type name ≡ true → is_type_byte c ≡ false
     → item_of name stop (c ∷ (tail ++ 41 ∷ rest)) ≡ Ok (t, 41 ∷ rest) → filter_in (suc levels) stop (enclosed (name ++ c ∷ tail) ++ rest) ≡ Ok (t, rest)
 signed_read levels stop name c tail rest t typed other read =
     level_read levels stop (name ++ c ∷ tail) rest t
     (ap (component_at (filter_in levels) stop) (joined name (c ∷ tail) (41 ∷ rest))
     ∙ component_read (filter_in levels) name stop (c ∷ (tail ++ 41 ∷ rest)) (Ok (t, 41 ∷ rest)) typed (item_read name stop c (tail ++ 41 ∷ rest) (Ok (t, 41 ∷ rest)) typed other read))
 
--- ---- values behind stars
+-- ---- values after stars
 
 abbrev starred_text : List ℕ → List ℕ
 starred_text piece = 42 ∷ value_text piece
@@ -92,10 +94,10 @@ stars_in [] most stop rest bytes room ends last = many_stops (begins_with 42) st
 stars_in (p ∷ ps) zero stop rest bytes room ends last = absurd (omega arith)
 stars_in (p ∷ ps) (suc most) stop rest bytes room ends last =
     let parts = and_parts (are_bytes p) (list_all are_bytes ps) bytes in
-    let behind = flat_map starred_text ps ++ rest in
+    let beyond = flat_map starred_text ps ++ rest in
     ap (λ (t : List ℕ). many_in (begins_with 42) starred_at (suc most) stop (42 ∷ t)) (joined (value_text p) (flat_map starred_text ps) rest)
-    ∙ many_one (begins_with 42) starred_at most stop (42 ∷ (value_text p ++ behind)) p behind ps rest refl
-    (starred_read p stop behind parts.0 (stars_stop ps rest ends)) (stars_in ps most stop rest parts.1 (omega arith) ends last)
+    ∙ many_one (begins_with 42) starred_at most stop (42 ∷ (value_text p ++ beyond)) p beyond ps rest refl
+    (starred_read p stop beyond parts.0 (stars_stop ps rest ends)) (stars_in ps most stop rest parts.1 (omega arith) ends last)
 
 stars_length : (ps : List (List ℕ)) → length ps ≤ length (flat_map starred_text ps)
 stars_length [] = omega arith
@@ -109,11 +111,11 @@ stars_read ps stop rest bytes ends last =
 
 -- ---- items
 
-equal_read : (name first : List ℕ) (behind : List (List ℕ)) (stop : ℕ) (rest : List ℕ) → are_bytes first ≡ true → list_all are_bytes behind ≡ true
-    → equal_at name stop (value_text first ++ (flat_map starred_text behind ++ 41 ∷ rest)) ≡ Ok (asserted name first behind, 41 ∷ rest)
+equal_read : (name first : List ℕ) (beyond : List (List ℕ)) (stop : ℕ) (rest : List ℕ) → are_bytes first ≡ true → list_all are_bytes beyond ≡ true
+    → equal_at name stop (value_text first ++ (flat_map starred_text beyond ++ 41 ∷ rest)) ≡ Ok (asserted name first beyond, 41 ∷ rest)
 unfolding equal_at
-equal_read name first behind stop rest bytes all =
-    rw (value_read first stop (flat_map starred_text behind ++ 41 ∷ rest) bytes (stars_stop behind (41 ∷ rest) refl), stars_read behind stop (41 ∷ rest) all refl refl) refl
+equal_read name first beyond stop rest bytes all =
+    rw (value_read first stop (flat_map starred_text beyond ++ 41 ∷ rest) bytes (stars_stop beyond (41 ∷ rest) refl), stars_read beyond stop (41 ∷ rest) all refl refl) refl
 
 compared_read : (value : List ℕ) (stop : ℕ) (rest : List ℕ) → are_bytes value ≡ true → compared_at stop (61 ∷ (value_text value ++ 41 ∷ rest)) ≡ Ok (value, 41 ∷ rest)
 unfolding compared_at
@@ -138,28 +140,20 @@ end_filled : (piece : Option (List ℕ)) → is_absent_or_filled piece ≡ true 
 end_filled None some = refl
 end_filled (Some piece) some = rw (not-true (length piece == 0) some) refl
 
--- the stars of a text stand before their pieces as well as behind them
+-- the stars of a text stand before their pieces as well as after them
 shifted : (middle : List (List ℕ)) (last : List ℕ) → 42 ∷ (flat_map middle_text middle ++ value_text last) ≡ flat_map starred_text (middle ++ last ∷ [])
 shifted [] last = sym (append-nil (starred_text last))
 shifted (m ∷ ms) last =
-    let behind = flat_map middle_text ms ++ value_text last in
-    let left : (middle_text m ++ flat_map middle_text ms) ++ value_text last ≡ value_text m ++ (42 ∷ behind) =
-    joined (middle_text m) (flat_map middle_text ms) (value_text last) ∙ joined (value_text m) (42 ∷ []) behind in
+    let beyond = flat_map middle_text ms ++ value_text last in
+    let left : (middle_text m ++ flat_map middle_text ms) ++ value_text last ≡ value_text m ++ (42 ∷ beyond) =
+    joined (middle_text m) (flat_map middle_text ms) (value_text last) ∙ joined (value_text m) (42 ∷ []) beyond in
     ap (λ (t : List ℕ). 42 ∷ t) (left ∙ ap (λ (t : List ℕ). value_text m ++ t) (shifted ms last))
-
-all_push : (ps : List (List ℕ)) (p : List ℕ) → list_all are_bytes ps ≡ true → are_bytes p ≡ true → list_all are_bytes (ps ++ p ∷ []) ≡ true
-all_push [] p all bytes = rw bytes refl
-all_push (q ∷ ps) p all bytes = let parts = and_parts (are_bytes q) (list_all are_bytes ps) all in rw parts.0 (all_push ps p parts.1 bytes)
-
-and_false : (a : Bool) → (a && false) ≡ false
-and_false true = refl
-and_false false = refl
 
 piece_there : (initial : Option (List ℕ)) (middle : List (List ℕ)) (last : Option (List ℕ)) → has_piece initial middle last ≡ true
     → is_absent_or_filled initial ≡ true → is_absent_or_filled last ≡ true
     → (length middle == 0 && (length (or_empty initial) == 0 && length (or_empty last) == 0)) ≡ false
-piece_there (Some i) middle last there first end = rw (not-true (length i == 0) first) (and_false (length middle == 0))
-piece_there None middle (Some l) there first end = rw (not-true (length l == 0) end) (and_false (length middle == 0))
+piece_there (Some i) middle last there first end = rw (not-true (length i == 0) first) (and-false (length middle == 0))
+piece_there None middle (Some l) there first end = rw (not-true (length l == 0) end) (and-false (length middle == 0))
 piece_there None [] None there first end = absurd (false≢true there)
 piece_there None (m ∷ ms) None there first end = let some : length (m ∷ ms) ≢ 0 = omega arith in rw (ne_eqb (length (m ∷ ms)) 0 some) refl
 
@@ -193,19 +187,19 @@ pieces_read levels stop name initial middle last rest text sound =
     let others = and_parts (list_all are_bytes middle) (is_absent_or_bytes last) bytes.1 in
     let i = or_empty initial in
     let ps = middle ++ or_empty last ∷ [] in
-    let behind : 42 ∷ (flat_map middle_text middle ++ end_text last) ≡ flat_map starred_text ps =
+    let beyond : 42 ∷ (flat_map middle_text middle ++ end_text last) ≡ flat_map starred_text ps =
     ap (λ (t : List ℕ). 42 ∷ (flat_map middle_text middle ++ t)) (end_is last) ∙ shifted middle (or_empty last) in
     let tail : end_text initial ++ (42 ∷ (flat_map middle_text middle ++ end_text last)) ≡ value_text i ++ flat_map starred_text ps =
-    ap (λ (t : List ℕ). t ++ (42 ∷ (flat_map middle_text middle ++ end_text last))) (end_is initial) ∙ ap (λ (t : List ℕ). value_text i ++ t) behind in
+    ap (λ (t : List ℕ). t ++ (42 ∷ (flat_map middle_text middle ++ end_text last))) (end_is initial) ∙ ap (λ (t : List ℕ). value_text i ++ t) beyond in
     ap (λ (t : List ℕ). filter_in (suc levels) stop (enclosed (name ++ 61 ∷ t) ++ rest)) tail
     ∙ signed_read levels stop name 61 (value_text i ++ flat_map starred_text ps) rest (substrings name initial middle last) typed.0 refl
     (ap (equal_at name stop) (joined (value_text i) (flat_map starred_text ps) (41 ∷ rest))
-    ∙ equal_read name i ps stop rest (end_bytes initial bytes.0) (all_push middle (or_empty last) others.0 (end_bytes last others.1))
-    ∙ ap (λ (t : Tree). Ok (t, 41 ∷ rest)) (asserted_is name initial middle last there.0 first.0 end.1))
+    ∙ equal_read name i ps stop rest (end_bytes initial bytes.0) (list_all-push are_bytes middle (or_empty last) others.0 (end_bytes last others.1))
+    ∙ ap (λ (t : FilterTree). Ok (t, 41 ∷ rest)) (asserted_is name initial middle last there.0 first.0 end.1))
 
 -- ---- filters
 
-abbrev pub listed : Trees → List Tree
+abbrev pub listed : Trees → List FilterTree
 listed no_trees = []
 listed (more_trees t ts) = t ∷ listed ts
 
@@ -213,7 +207,7 @@ trees_listed : (ts : Trees) → trees (listed ts) ≡ ts
 trees_listed no_trees = refl
 trees_listed (more_trees t ts) = ap (λ (us : Trees). more_trees t us) (trees_listed ts)
 
-text_begins : (t : Tree) (rest : List ℕ) → has_text t ≡ true → begins_with 40 (text_of t ++ rest) ≡ true
+text_begins : (t : FilterTree) (rest : List ℕ) → has_text t ≡ true → begins_with 40 (text_of t ++ rest) ≡ true
 text_begins (all_of ts) rest text = refl
 text_begins (any_of ts) rest text = refl
 text_begins (negated t) rest text = refl
@@ -236,7 +230,7 @@ texts_length (more_trees t ts) text =
     let some = begins_some (text_of t ++ []) (text_begins t [] parts.0) in
     omega (arith, some, texts_length ts parts.1, length-append (text_of t) (texts_of ts), length-append (text_of t) [])
 
-depth_some : (t : Tree) → 1 ≤ depth t
+depth_some : (t : FilterTree) → 1 ≤ depth t
 depth_some (all_of ts) = omega arith
 depth_some (any_of ts) = omega arith
 depth_some (negated t) = omega arith
@@ -261,7 +255,7 @@ unfolding filters_at many_at
 group_read ts levels stop rest text each = each (length (texts_of ts ++ rest)) (omega (arith, texts_length ts text, length-append (texts_of ts) rest))
 
 mutual
-  pub filter_read : (t : Tree) (levels stop : ℕ) (rest : List ℕ) → has_text t ≡ true → is_sound t ≡ true → depth t ≤ levels
+  pub filter_read : (t : FilterTree) (levels stop : ℕ) (rest : List ℕ) → has_text t ≡ true → is_sound t ≡ true → depth t ≤ levels
       → filter_in levels stop (text_of t ++ rest) ≡ Ok (t, rest)
   filter_read t zero stop rest text sound within = absurd (omega (arith, depth_some t))
   filter_read (all_of ts) (suc levels) stop rest text sound within =
@@ -292,7 +286,7 @@ mutual
   filters_in (more_trees t ts) levels (suc most) stop rest text sound within room last =
       let texts = and_parts (has_text t) (have_texts ts) text in
       let sounds = and_parts (is_sound t) (are_sound ts) sound in
-      let behind = texts_of ts ++ rest in
+      let beyond = texts_of ts ++ rest in
       ap (λ (b : List ℕ). many_in (begins_with 40) (filter_in levels) (suc most) stop b) (joined (text_of t) (texts_of ts) rest)
-      ∙ many_one (begins_with 40) (filter_in levels) most stop (text_of t ++ behind) t behind (listed ts) rest (text_begins t behind texts.0)
-      (filter_read t levels stop behind texts.0 sounds.0 (omega arith)) (filters_in ts levels most stop rest texts.1 sounds.1 (omega arith) (omega arith) last)
+      ∙ many_one (begins_with 40) (filter_in levels) most stop (text_of t ++ beyond) t beyond (listed ts) rest (text_begins t beyond texts.0)
+      (filter_read t levels stop beyond texts.0 sounds.0 (omega arith)) (filters_in ts levels most stop rest texts.1 sounds.1 (omega arith) (omega arith) last)

@@ -11,7 +11,7 @@ use Rattle.ldap_filter.specs.declared.fault.FilterFault.{FilterFault}
 use Rattle.ldap_filter.specs.Grammar.{is_type_byte, all_type_bytes, is_type}
 use Rattle.ldap_filter.specs.Pieces.{has_piece}
 use Rattle.ldap_filter.specs.Reading.{◌>>=◌, refused, filter_in, whole_at, read_filter}
-use Rattle.ldap_filter.specs.Tree.{Tree, Trees, all_of, any_of, negated, equal, substrings, at_least, at_most, present, approx, extensible, no_trees, more_trees, depth}
+use Rattle.ldap_filter.specs.FilterTree.{FilterTree, Trees, all_of, any_of, negated, equal, substrings, at_least, at_most, present, approx, extensible, no_trees, more_trees, depth}
 use Rattle.ldap_filter.specs.Writing.{are_filled, has_text, have_texts, are_bytes, is_absent_or_bytes, is_sound, are_sound, value_text, end_text, middle_text, enclosed, text_of, texts_of}
 use Rattle.ldap_filter.proofs.Rounds.{filter_read}
 use Rattle.ldap_filter.proofs.Utf8.{utf8_cons, value_utf8}
@@ -71,7 +71,7 @@ two_utf8 : (c : ℕ) (value : List ℕ) → c < 128 → are_bytes value ≡ true
 two_utf8 c value small bytes = utf8_cons c _ small (utf8_cons 61 _ (omega arith) (value_utf8 value bytes))
 
 mutual
-  text_utf8 : (t : Tree) → has_text t ≡ true → is_sound t ≡ true → IsUtf8 (text_of t)
+  text_utf8 : (t : FilterTree) → has_text t ≡ true → is_sound t ≡ true → IsUtf8 (text_of t)
   text_utf8 (all_of ts) text sound = enclosed_utf8 (38 ∷ texts_of ts) (utf8_cons 38 (texts_of ts) (omega arith) (texts_utf8 ts text sound))
   text_utf8 (any_of ts) text sound = enclosed_utf8 (124 ∷ texts_of ts) (utf8_cons 124 (texts_of ts) (omega arith) (texts_utf8 ts text sound))
   text_utf8 (negated t) text sound = enclosed_utf8 (33 ∷ text_of t) (utf8_cons 33 (text_of t) (omega arith) (text_utf8 t text sound))
@@ -95,15 +95,15 @@ mutual
 
 -- ---- reading
 
-whole_read : (t : Tree) → has_text t ≡ true → is_sound t ≡ true → depth t ≤ 32 → whole_at (text_of t) ≡ Ok t
+whole_read : (t : FilterTree) → has_text t ≡ true → is_sound t ≡ true → depth t ≤ 32 → whole_at (text_of t) ≡ Ok t
 unfolding whole_at
 whole_read t text sound within =
     let stop = length (text_of t) in
-    ap (λ (r : Result (Tree × List ℕ) FilterFault). r >>= λ u. if length u.1 == 0 then Ok u.0 else refused stop u.1)
+    ap (λ (r : Result (FilterTree × List ℕ) FilterFault). r >>= λ u. if length u.1 == 0 then Ok u.0 else refused stop u.1)
     (ap (filter_in 32 stop) (sym (append-nil (text_of t))) ∙ filter_read t 32 stop [] text sound within)
 
 -- what was written of a filter of at most 32 levels is read as the filter
-pub written_read : (t : Tree) → has_text t ≡ true → is_sound t ≡ true → depth t ≤ 32 → read_filter (text_of t) ≡ Ok t
+pub written_read : (t : FilterTree) → has_text t ≡ true → is_sound t ≡ true → depth t ≤ 32 → read_filter (text_of t) ≡ Ok t
 unfolding read_filter
 written_read t text sound within =
     let all : utf8_valid_len (text_of t) ≡ length (text_of t) = utf8_valid_len-IsUtf8 (text_of t) (text_utf8 t text sound) in

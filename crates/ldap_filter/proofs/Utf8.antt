@@ -1,12 +1,13 @@
 -- UTF-8 text: how far bytes are it, and that what is written of a value is.
 use Rattle.std.proofs.Common.{◌≡◌, ◌≢◌, ℕ, zero, suc, ◌+◌, ◌-◌, ◌/◌, ◌%◌, ◌<◌, ◌≤◌, Bool, true, false, ◌==◌, if◌then◌else◌, nat_lt, List, [], ◌∷◌, ◌++◌, length, take, drop, get_or, refl, sym, ap, subst, ◌∙◌, arith, inl, inr, append-nil, length-append}
 use Rattle.std.proofs.lemmas.Bool.{and_parts, ne_eqb, ltb-true, cases_lt}
-use Rattle.std.proofs.lemmas.List.{get_or-append_right, take_at, drop_at, length_push}
+use Rattle.std.proofs.lemmas.List.{take_at, drop_at, length_push}
 use Rattle.std.proofs.lemmas.Str.{utf8_valid_len-IsUtf8, utf8_valid_len_le, IsUtf8-nil, IsUtf8-append, IsUtf8-from_ascii, IsUtf8-from_is_utf8, IsUtf8-take, IsUtf8-drop, IsCharBoundary-before_ascii, IsCharBoundary-after_ascii}
+use Rattle.std.proofs.Math.Seq.{get_or-append_seam}
 use Rattle.std.specs.Str.{IsUtf8, is_utf8}
 use Rattle.std.specs.Str.Lossy.{utf8_valid_len, valid_len_up_to}
 use Rattle.ldap_filter.specs.Grammar.{is_special}
-use Rattle.ldap_filter.specs.Writing.{hex_digit, escape, text_byte, value_text_behind, value_text, are_bytes}
+use Rattle.ldap_filter.specs.Writing.{hex_digit, escape, text_byte, value_text_after, value_text, are_bytes}
 use Rattle.ldap_filter.proofs.Values.{joined}
 
 -- all bytes of a text are
@@ -16,20 +17,20 @@ whole_text bytes text = sym (utf8_valid_len-IsUtf8 bytes text)
 pub text_within : (bytes : List ℕ) → utf8_valid_len bytes ≤ length bytes
 text_within bytes = utf8_valid_len_le bytes
 
--- ---- the front that is text
+-- ---- the prefix that is text
 
-front_by : (bytes : List ℕ) (n : ℕ) (test : Bool) → is_utf8 (take (suc n) bytes) ≡ test → IsUtf8 (take (valid_len_up_to bytes n) bytes)
+prefix_by : (bytes : List ℕ) (n : ℕ) (test : Bool) → is_utf8 (take (suc n) bytes) ≡ test → IsUtf8 (take (valid_len_up_to bytes n) bytes)
     → IsUtf8 (take (if test then suc n else valid_len_up_to bytes n) bytes)
-front_by bytes n true is shorter = IsUtf8-from_is_utf8 (take (suc n) bytes) is
-front_by bytes n false is shorter = shorter
+prefix_by bytes n true is shorter = IsUtf8-from_is_utf8 (take (suc n) bytes) is
+prefix_by bytes n false is shorter = shorter
 
-front_up_to : (bytes : List ℕ) (n : ℕ) → IsUtf8 (take (valid_len_up_to bytes n) bytes)
-front_up_to bytes zero = IsUtf8-nil
-front_up_to bytes (suc n) = front_by bytes n (is_utf8 (take (suc n) bytes)) refl (front_up_to bytes n)
+prefix_up_to : (bytes : List ℕ) (n : ℕ) → IsUtf8 (take (valid_len_up_to bytes n) bytes)
+prefix_up_to bytes zero = IsUtf8-nil
+prefix_up_to bytes (suc n) = prefix_by bytes n (is_utf8 (take (suc n) bytes)) refl (prefix_up_to bytes n)
 
-valid_front : (bytes : List ℕ) → IsUtf8 (take (utf8_valid_len bytes) bytes)
+valid_prefix : (bytes : List ℕ) → IsUtf8 (take (utf8_valid_len bytes) bytes)
 unfolding utf8_valid_len
-valid_front bytes = front_up_to bytes (length bytes)
+valid_prefix bytes = prefix_up_to bytes (length bytes)
 
 -- ---- bytes of ASCII
 
@@ -68,62 +69,57 @@ special_small b special =
 
 -- ---- values
 
-nothing_more : (front : List ℕ) → IsUtf8 (front ++ []) → IsUtf8 front
-nothing_more front text = subst (λ (t : List ℕ). IsUtf8 t) (append-nil front) text
-
-byte_at : (front : List ℕ) (b : ℕ) (rest : List ℕ) → get_or (front ++ b ∷ rest) (length front) 0 ≡ b
-byte_at front b rest =
-    let none : length front - length front ≡ 0 = omega arith in
-    get_or-append_right front (b ∷ rest) (length front) (length front) 0 refl (omega arith) ∙ ap (λ (k : ℕ). get_or (b ∷ rest) k 0) none
+nothing_more : (prefix : List ℕ) → IsUtf8 (prefix ++ []) → IsUtf8 prefix
+nothing_more prefix text = subst (λ (t : List ℕ). IsUtf8 t) (append-nil prefix) text
 
 -- text may be cut at a byte of ASCII
-cut : (front : List ℕ) (b : ℕ) (rest : List ℕ) → b < 128 → IsUtf8 (front ++ b ∷ rest) → IsUtf8 front × IsUtf8 rest
-cut front b rest small text =
-    let at = byte_at front b rest in
-    let low : get_or (front ++ b ∷ rest) (length front) 0 < 128 = omega (arith, at) in
-    let within : length front < length (front ++ b ∷ rest) = omega (arith, length-append front (b ∷ rest)) in
-    let before = IsUtf8-take (front ++ b ∷ rest) (length front) text (IsCharBoundary-before_ascii (front ++ b ∷ rest) (length front) within low) in
-    let behind = IsUtf8-drop (front ++ b ∷ rest) (length front + 1) text (IsCharBoundary-after_ascii (front ++ b ∷ rest) (length front) text within low) in
-    let left : take (length front) (front ++ b ∷ rest) ≡ front = take_at front (b ∷ rest) (length front) refl in
-    let right : drop (length front + 1) (front ++ b ∷ rest) ≡ rest =
-    ap (λ (t : List ℕ). drop (length front + 1) t) (sym (joined front (b ∷ []) rest)) ∙ drop_at (front ++ b ∷ []) rest (length front + 1) (length_push front b) in
-    (subst (λ (t : List ℕ). IsUtf8 t) left before, subst (λ (t : List ℕ). IsUtf8 t) right behind)
+cut : (prefix : List ℕ) (b : ℕ) (rest : List ℕ) → b < 128 → IsUtf8 (prefix ++ b ∷ rest) → IsUtf8 prefix × IsUtf8 rest
+cut prefix b rest small text =
+    let at = get_or-append_seam prefix b rest 0 in
+    let low : get_or (prefix ++ b ∷ rest) (length prefix) 0 < 128 = omega (arith, at) in
+    let within : length prefix < length (prefix ++ b ∷ rest) = omega (arith, length-append prefix (b ∷ rest)) in
+    let before = IsUtf8-take (prefix ++ b ∷ rest) (length prefix) text (IsCharBoundary-before_ascii (prefix ++ b ∷ rest) (length prefix) within low) in
+    let beyond = IsUtf8-drop (prefix ++ b ∷ rest) (length prefix + 1) text (IsCharBoundary-after_ascii (prefix ++ b ∷ rest) (length prefix) text within low) in
+    let left : take (length prefix) (prefix ++ b ∷ rest) ≡ prefix = take_at prefix (b ∷ rest) (length prefix) refl in
+    let right : drop (length prefix + 1) (prefix ++ b ∷ rest) ≡ rest =
+    ap (λ (t : List ℕ). drop (length prefix + 1) t) (sym (joined prefix (b ∷ []) rest)) ∙ drop_at (prefix ++ b ∷ []) rest (length prefix + 1) (length_push prefix b) in
+    (subst (λ (t : List ℕ). IsUtf8 t) left before, subst (λ (t : List ℕ). IsUtf8 t) right beyond)
 
--- what is written of a byte of text, and behind it
-text_by : (front : List ℕ) (b : ℕ) (old new : List ℕ) (special : Bool) → is_special b ≡ special → b < 256 → IsUtf8 (front ++ b ∷ old)
-    → ((before : List ℕ) → IsUtf8 (before ++ old) → IsUtf8 (before ++ new)) → IsUtf8 (front ++ ((if special then escape b else b ∷ []) ++ new))
-text_by front b old new true test small text more =
-    let parts = cut front b old (special_small b test) text in
-    IsUtf8-append front (escape b ++ new) parts.0 (utf8_escape b new small (more [] parts.1))
-text_by front b old new false test small text more =
-    let whole = subst (λ (t : List ℕ). IsUtf8 t) (sym (joined front (b ∷ []) old)) text in
-    subst (λ (t : List ℕ). IsUtf8 t) (joined front (b ∷ []) new) (more (front ++ b ∷ []) whole)
+-- what is written of a byte of text, and after it
+text_by : (prefix : List ℕ) (b : ℕ) (old new : List ℕ) (special : Bool) → is_special b ≡ special → b < 256 → IsUtf8 (prefix ++ b ∷ old)
+    → ((before : List ℕ) → IsUtf8 (before ++ old) → IsUtf8 (before ++ new)) → IsUtf8 (prefix ++ ((if special then escape b else b ∷ []) ++ new))
+text_by prefix b old new true test small text more =
+    let parts = cut prefix b old (special_small b test) text in
+    IsUtf8-append prefix (escape b ++ new) parts.0 (utf8_escape b new small (more [] parts.1))
+text_by prefix b old new false test small text more =
+    let whole = subst (λ (t : List ℕ). IsUtf8 t) (sym (joined prefix (b ∷ []) old)) text in
+    subst (λ (t : List ℕ). IsUtf8 t) (joined prefix (b ∷ []) new) (more (prefix ++ b ∷ []) whole)
 
-known_text : (front : List ℕ) (bytes : List ℕ) (known : ℕ) → IsUtf8 (front ++ take known bytes)
-    → IsUtf8 (front ++ take (if known == 0 then utf8_valid_len bytes else known) bytes)
-known_text front bytes zero text = IsUtf8-append front (take (utf8_valid_len bytes) bytes) (nothing_more front text) (valid_front bytes)
-known_text front bytes (suc known) text = let some : suc known ≢ 0 = omega arith in rw (ne_eqb (suc known) 0 some) text
+known_text : (prefix : List ℕ) (bytes : List ℕ) (known : ℕ) → IsUtf8 (prefix ++ take known bytes)
+    → IsUtf8 (prefix ++ take (if known == 0 then utf8_valid_len bytes else known) bytes)
+known_text prefix bytes zero text = IsUtf8-append prefix (take (utf8_valid_len bytes) bytes) (nothing_more prefix text) (valid_prefix bytes)
+known_text prefix bytes (suc known) text = let some : suc known ≢ 0 = omega arith in rw (ne_eqb (suc known) 0 some) text
 
--- the value behind its first byte, by how many bytes are known to be text
-behind_by : (n : ℕ) (front : List ℕ) (b : ℕ) (bs : List ℕ) → b < 256 → IsUtf8 (front ++ take n (b ∷ bs))
-    → ((k : ℕ) (before : List ℕ) → IsUtf8 (before ++ take k bs) → IsUtf8 (before ++ value_text_behind k bs))
-    → IsUtf8 (front ++ (if n == 0 then escape b ++ value_text_behind 0 bs else text_byte b ++ value_text_behind (n - 1) bs))
-behind_by zero front b bs small text more =
-    IsUtf8-append front (escape b ++ value_text_behind 0 bs) (nothing_more front text) (utf8_escape b (value_text_behind 0 bs) small (more 0 [] IsUtf8-nil))
-behind_by (suc n) front b bs small text more =
+-- the value after its first byte, by how many bytes are known to be text
+after_by : (n : ℕ) (prefix : List ℕ) (b : ℕ) (bs : List ℕ) → b < 256 → IsUtf8 (prefix ++ take n (b ∷ bs))
+    → ((k : ℕ) (before : List ℕ) → IsUtf8 (before ++ take k bs) → IsUtf8 (before ++ value_text_after k bs))
+    → IsUtf8 (prefix ++ (if n == 0 then escape b ++ value_text_after 0 bs else text_byte b ++ value_text_after (n - 1) bs))
+after_by zero prefix b bs small text more =
+    IsUtf8-append prefix (escape b ++ value_text_after 0 bs) (nothing_more prefix text) (utf8_escape b (value_text_after 0 bs) small (more 0 [] IsUtf8-nil))
+after_by (suc n) prefix b bs small text more =
     let some : suc n ≢ 0 = omega arith in
     let less : suc n - 1 ≡ n = omega arith in
-    rw (ne_eqb (suc n) 0 some, less) (text_by front b (take n bs) (value_text_behind n bs) (is_special b) refl small text (more n))
+    rw (ne_eqb (suc n) 0 some, less) (text_by prefix b (take n bs) (value_text_after n bs) (is_special b) refl small text (more n))
 
-value_behind : (bytes : List ℕ) → are_bytes bytes ≡ true → (known : ℕ) (front : List ℕ) → IsUtf8 (front ++ take known bytes) → IsUtf8 (front ++ value_text_behind known bytes)
-value_behind [] small zero front text = text
-value_behind [] small (suc known) front text = text
-value_behind (b ∷ bs) small known front text =
+value_after : (bytes : List ℕ) → are_bytes bytes ≡ true → (known : ℕ) (prefix : List ℕ) → IsUtf8 (prefix ++ take known bytes) → IsUtf8 (prefix ++ value_text_after known bytes)
+value_after [] small zero prefix text = text
+value_after [] small (suc known) prefix text = text
+value_after (b ∷ bs) small known prefix text =
     let parts = and_parts (nat_lt b 256) (are_bytes bs) small in
-    behind_by (if known == 0 then utf8_valid_len (b ∷ bs) else known) front b bs (ltb-true b 256 parts.0) (known_text front (b ∷ bs) known text)
-    (λ k before t. value_behind bs parts.1 k before t)
+    after_by (if known == 0 then utf8_valid_len (b ∷ bs) else known) prefix b bs (ltb-true b 256 parts.0) (known_text prefix (b ∷ bs) known text)
+    (λ k before t. value_after bs parts.1 k before t)
 
 -- what is written of a value is text
 pub value_utf8 : (value : List ℕ) → are_bytes value ≡ true → IsUtf8 (value_text value)
 unfolding value_text
-value_utf8 value bytes = value_behind value bytes 0 [] IsUtf8-nil
+value_utf8 value bytes = value_after value bytes 0 [] IsUtf8-nil

@@ -4,7 +4,7 @@ use Rattle.std.proofs.lemmas.Bool.{and_parts, or_parts, ltb-true}
 use Rattle.std.specs.Str.Lossy.{utf8_valid_len}
 use Rattle.ldap_filter.specs.Grammar.{is_special, hex_value}
 use Rattle.ldap_filter.specs.Reading.{Reading, many_in, many_at, value_goes_on, value_byte_at, hex_at, escaped_at, value_at}
-use Rattle.ldap_filter.specs.Writing.{hex_digit, escape, text_byte, value_text_behind, value_text, are_bytes}
+use Rattle.ldap_filter.specs.Writing.{hex_digit, escape, text_byte, value_text_after, value_text, are_bytes}
 
 pub joined : (a b c : List ℕ) → (a ++ b) ++ c ≡ a ++ (b ++ c)
 joined a b c = simp append_assoc
@@ -75,14 +75,14 @@ text_unit_by b false test small = inr (test, refl)
 
 -- the first byte of a value is written as a unit
 abbrev Written : ℕ → List ℕ → List ℕ → Type 0
-Written b bs text = (unit : List ℕ) × (known : ℕ) × IsUnit unit b × (text ≡ unit ++ value_text_behind known bs)
+Written b bs text = (unit : List ℕ) × (known : ℕ) × IsUnit unit b × (text ≡ unit ++ value_text_after known bs)
 
 first_by : (n b : ℕ) (bs : List ℕ) (test : Bool) → b < 256
-    → Written b bs (if test then escape b ++ value_text_behind 0 bs else text_byte b ++ value_text_behind (n - 1) bs)
+    → Written b bs (if test then escape b ++ value_text_after 0 bs else text_byte b ++ value_text_after (n - 1) bs)
 first_by n b bs true small = (escape b, 0, inl (small, refl), refl)
 first_by n b bs false small = (text_byte b, n - 1, text_unit_by b (is_special b) refl small, refl)
 
-pub first_unit : (known b : ℕ) (bs : List ℕ) → b < 256 → Written b bs (value_text_behind known (b ∷ bs))
+pub first_unit : (known b : ℕ) (bs : List ℕ) → b < 256 → Written b bs (value_text_after known (b ∷ bs))
 first_unit known b bs small =
     let n = if known == 0 then utf8_valid_len (b ∷ bs) else known in first_by n b bs (n == 0) small
 
@@ -96,31 +96,31 @@ pub many_one : {X : Type 0} (begins : List ℕ → Bool) (f : Reading X) (most s
     → many_in begins f (suc most) stop bytes ≡ Ok (x ∷ xs, rest)
 many_one begins f most stop bytes x more xs rest goes gives others = rw (goes, gives, others) refl
 
-read_behind : (v : List ℕ) (known most stop : ℕ) (rest : List ℕ) → are_bytes v ≡ true → length v ≤ most → value_goes_on rest ≡ false
-    → many_in value_goes_on value_byte_at most stop (value_text_behind known v ++ rest) ≡ Ok (v, rest)
-read_behind [] known most stop rest bytes room ends = many_stops value_goes_on value_byte_at most stop rest ends
-read_behind (b ∷ bs) known zero stop rest bytes room ends = absurd (omega arith)
-read_behind (b ∷ bs) known (suc most) stop rest bytes room ends =
+read_after : (v : List ℕ) (known most stop : ℕ) (rest : List ℕ) → are_bytes v ≡ true → length v ≤ most → value_goes_on rest ≡ false
+    → many_in value_goes_on value_byte_at most stop (value_text_after known v ++ rest) ≡ Ok (v, rest)
+read_after [] known most stop rest bytes room ends = many_stops value_goes_on value_byte_at most stop rest ends
+read_after (b ∷ bs) known zero stop rest bytes room ends = absurd (omega arith)
+read_after (b ∷ bs) known (suc most) stop rest bytes room ends =
     let parts = and_parts (nat_lt b 256) (are_bytes bs) bytes in
     let w = first_unit known b bs (ltb-true b 256 parts.0) in
-    let behind = value_text_behind w.1 bs ++ rest in
-    let text : value_text_behind known (b ∷ bs) ++ rest ≡ w.0 ++ behind = ap (λ (t : List ℕ). t ++ rest) w.3 ∙ joined w.0 (value_text_behind w.1 bs) rest in
+    let beyond = value_text_after w.1 bs ++ rest in
+    let text : value_text_after known (b ∷ bs) ++ rest ≡ w.0 ++ beyond = ap (λ (t : List ℕ). t ++ rest) w.3 ∙ joined w.0 (value_text_after w.1 bs) rest in
     ap (λ (t : List ℕ). many_in value_goes_on value_byte_at (suc most) stop t) text
-    ∙ many_one value_goes_on value_byte_at most stop (w.0 ++ behind) b behind bs rest (unit_goes w.0 b behind w.2) (unit_reads stop w.0 b behind w.2)
-    (read_behind bs w.1 most stop rest parts.1 (omega arith) ends)
+    ∙ many_one value_goes_on value_byte_at most stop (w.0 ++ beyond) b beyond bs rest (unit_goes w.0 b beyond w.2) (unit_reads stop w.0 b beyond w.2)
+    (read_after bs w.1 most stop rest parts.1 (omega arith) ends)
 
-behind_length : (v : List ℕ) (known : ℕ) → are_bytes v ≡ true → length v ≤ length (value_text_behind known v)
-behind_length [] known bytes = omega arith
-behind_length (b ∷ bs) known bytes =
+after_length : (v : List ℕ) (known : ℕ) → are_bytes v ≡ true → length v ≤ length (value_text_after known v)
+after_length [] known bytes = omega arith
+after_length (b ∷ bs) known bytes =
     let parts = and_parts (nat_lt b 256) (are_bytes bs) bytes in
     let w = first_unit known b bs (ltb-true b 256 parts.0) in
-    let less = behind_length bs w.1 parts.1 in
+    let less = after_length bs w.1 parts.1 in
     let one = unit_length w.0 b w.2 in
-    omega (arith, ap (λ (t : List ℕ). length t) w.3, length-append w.0 (value_text_behind w.1 bs))
+    omega (arith, ap (λ (t : List ℕ). length t) w.3, length-append w.0 (value_text_after w.1 bs))
 
 -- what was written of a value is read as the value
 pub value_read : (v : List ℕ) (stop : ℕ) (rest : List ℕ) → are_bytes v ≡ true → value_goes_on rest ≡ false → value_at stop (value_text v ++ rest) ≡ Ok (v, rest)
 unfolding value_at many_at value_text
 value_read v stop rest bytes ends =
-    let room = behind_length v 0 bytes in
-    read_behind v 0 (length (value_text_behind 0 v ++ rest)) stop rest bytes (omega (arith, length-append (value_text_behind 0 v) rest)) ends
+    let room = after_length v 0 bytes in
+    read_after v 0 (length (value_text_after 0 v ++ rest)) stop rest bytes (omega (arith, length-append (value_text_after 0 v) rest)) ends

@@ -1,9 +1,9 @@
--- What the faults of a filter tell.
+-- What the faults of a filter report.
 use Rattle.std.specs.Prelude.{◌≡◌, Bool, false, Result, Ok, Err}
 use Rattle.ldap_filter.specs.declared.fault.FilterFault.{FilterFault}
 use Rattle.ldap_filter.specs.declared.fault.FilterFault.TheVariants.{BadFilter, TooDeep, NoMemory, NoText}
 
--- the fault is that of the reading; want of memory may come in place of any answer
+-- the fault is that of the reading; out of memory may come in place of any answer
 abbrev pub Fails : {X : Type 0} → Result X FilterFault → FilterFault → Type 0
 Fails read (BadFilter place) = read ≡ Err (BadFilter place)
 Fails read TooDeep = read ≡ Err TooDeep

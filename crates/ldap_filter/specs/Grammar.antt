@@ -23,7 +23,9 @@ is_special c = c == 0 || (c == 40 || (c == 41 || (c == 42 || c == 92)))
 -- HEX
 abbrev pub hex_value : ℕ → Option ℕ
 hex_value c =
-    if is_in_range 48 57 c then Some (c - 48) else if is_in_range 97 102 c then Some (c - 87) else if is_in_range 65 70 c then Some (c - 55) else None
+    if is_in_range 48 57 c then Some (c - 48)
+    else if is_in_range 97 102 c then Some (c - 87)
+    else if is_in_range 65 70 c then Some (c - 55) else None
 
 -- the bytes begin with this one
 abbrev pub begins_with : ℕ → List ℕ → Bool

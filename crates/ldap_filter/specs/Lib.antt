@@ -6,6 +6,6 @@ pub mod Pieces
 pub mod Place
 pub mod Reading
 pub mod Same
-pub mod Tree
+pub mod FilterTree
 pub mod Truth
 pub mod Writing

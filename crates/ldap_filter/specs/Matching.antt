@@ -11,18 +11,20 @@ use Rattle.schema_rules.specs.Schema.{type_named, type_rule, is_operational}
 use Rattle.schema_rules.specs.declared.types.Rule.{Rule}
 use Rattle.schema_rules.specs.declared.types.Rule.TheVariants.{Class, Folded, FoldedAscii, ExactAscii, Whole, Flag, Time, Operational}
 use Rattle.ldap_filter.specs.declared.matching.Rank.{Rank}
-use Rattle.ldap_filter.specs.declared.matching.Rank.TheVariants.{Number, Moment}
+use Rattle.ldap_filter.specs.declared.matching.Rank.TheVariants.{Number, Instant}
 use Rattle.ldap_filter.specs.declared.matching.PieceKeys.{PieceKeys}
 use Rattle.ldap_filter.specs.declared.matching.Test.{Test}
 use Rattle.ldap_filter.specs.declared.matching.Test.TheVariants.{Equal, AtLeast, AtMost, Substrings}
 
 -- a type that clients give: one of the schema's, but none that the directory keeps itself
 abbrev pub asked_type : List ℕ → Option ℕ
-asked_type name = option_and_then (λ kind. if is_operational kind then None else Some kind) (type_named name)
+asked_type name =
+    option_and_then (λ kind. if is_operational kind then None else Some kind) (type_named name)
 
 -- ---- order
 
--- the rank of a value by its key: numbers by number, times by text; values of other types have no order
+-- the rank of a value by its key: numbers by number, times by text; values of
+-- other types have no order
 abbrev pub rank_by : Rule → List ℕ → Option Rank
 rank_by Class key = None
 rank_by Folded key = None
@@ -30,14 +32,14 @@ rank_by FoldedAscii key = None
 rank_by ExactAscii key = None
 rank_by Whole key = Some (Number (integer_of key))
 rank_by Flag key = None
-rank_by Time key = Some (Moment key)
+rank_by Time key = Some (Instant key)
 rank_by Operational key = None
 
 abbrev pub is_at_most : Rank → Rank → Bool
 is_at_most (Number low) (Number high) = int_le low high
-is_at_most (Number low) (Moment high) = false
-is_at_most (Moment low) (Number high) = false
-is_at_most (Moment low) (Moment high) = is_le (slice_cmp nat_cmp low high)
+is_at_most (Number low) (Instant high) = false
+is_at_most (Instant low) (Number high) = false
+is_at_most (Instant low) (Instant high) = is_le (slice_cmp nat_cmp low high)
 
 -- the key of a number is the text of an integer of 64 bits
 abbrev pub IsKey : Rule → List ℕ → Type 0
@@ -49,8 +51,10 @@ IsKey rule key = rule ≡ Whole → (is_integer key && has_64_bits (integer_of k
 abbrev pub piece_key_by : Rule → List ℕ → Bool → Bool → Option (List ℕ)
 piece_key_by Class piece first last = None
 piece_key_by Folded piece first last = text_key piece true first last
-piece_key_by FoldedAscii piece first last = if is_ascii piece then text_key piece true first last else None
-piece_key_by ExactAscii piece first last = if is_ascii piece then text_key piece false first last else None
+piece_key_by FoldedAscii piece first last =
+    if is_ascii piece then text_key piece true first last else None
+piece_key_by ExactAscii piece first last =
+    if is_ascii piece then text_key piece false first last else None
 piece_key_by Whole piece first last = None
 piece_key_by Flag piece first last = None
 piece_key_by Time piece first last = None
@@ -59,7 +63,8 @@ piece_key_by Operational piece first last = None
 -- a piece that is absent stays so
 abbrev pub end_key : Rule → Option (List ℕ) → Bool → Bool → Option (Option (List ℕ))
 end_key rule None first last = Some None
-end_key rule (Some piece) first last = option_map (λ key. Some key) (piece_key_by rule piece first last)
+end_key rule (Some piece) first last =
+    option_map (λ key. Some key) (piece_key_by rule piece first last)
 
 abbrev pub middle_key : Rule → List ℕ → Option (List ℕ)
 middle_key rule piece = piece_key_by rule piece false false
@@ -67,56 +72,71 @@ middle_key rule piece = piece_key_by rule piece false false
 -- the keys of all pieces, where each has one
 abbrev pub middle_keys : Rule → List (List ℕ) → Option (List (List ℕ))
 middle_keys rule pieces =
-    if list_all (λ piece. is_some (middle_key rule piece)) pieces then Some (filter_map (middle_key rule) pieces) else None
+    if list_all (λ piece. is_some (middle_key rule piece)) pieces
+    then Some (filter_map (middle_key rule) pieces)
+    else None
 
-abbrev pub keys_of_pieces : Rule → Option (List ℕ) → List (List ℕ) → Option (List ℕ) → Option PieceKeys
+abbrev pub keys_of_pieces :
+    Rule → Option (List ℕ) → List (List ℕ) → Option (List ℕ) → Option PieceKeys
 keys_of_pieces rule initial middle last =
-    option_and_then (λ i. option_and_then (λ m. option_map (λ l. record { initial = i; middle = m; last = l })
-    (end_key rule last false true)) (middle_keys rule middle)) (end_key rule initial true false)
+    option_and_then
+    (λ i.
+    option_and_then
+    (λ m.
+    option_map (λ l. record { initial = i; middle = m; last = l })
+    (end_key rule last false true))
+    (middle_keys rule middle))
+    (end_key rule initial true false)
 
--- what stands behind a piece at the front
-abbrev pub behind_front : List ℕ → List ℕ → Option (List ℕ)
-behind_front piece text = if starts_with nat_eq text piece then Some (drop (length piece) text) else None
+-- what stands after a piece at the start
+abbrev pub after_prefix : List ℕ → List ℕ → Option (List ℕ)
+after_prefix piece text =
+    if starts_with nat_eq text piece then Some (drop (length piece) text) else None
 
-abbrev pub behind_initial : Option (List ℕ) → List ℕ → Option (List ℕ)
-behind_initial None text = Some text
-behind_initial (Some piece) text = behind_front piece text
+abbrev pub after_initial : Option (List ℕ) → List ℕ → Option (List ℕ)
+after_initial None text = Some text
+after_initial (Some piece) text = after_prefix piece text
 
--- what stands behind the first place of a piece
-abbrev pub behind_first : List ℕ → List ℕ → Option (List ℕ)
-behind_first piece [] = behind_front piece []
-behind_first piece (c ∷ cs) =
-    if starts_with nat_eq (c ∷ cs) piece then Some (drop (length piece) (c ∷ cs)) else behind_first piece cs
+-- what stands after the first place of a piece
+abbrev pub after_first : List ℕ → List ℕ → Option (List ℕ)
+after_first piece [] = after_prefix piece []
+after_first piece (c ∷ cs) =
+    if starts_with nat_eq (c ∷ cs) piece then Some (drop (length piece) (c ∷ cs))
+    else after_first piece cs
 
--- and behind each of these pieces in turn
-abbrev pub behind_all : List (List ℕ) → List ℕ → Option (List ℕ)
-behind_all [] text = Some text
-behind_all (piece ∷ pieces) text = option_and_then (behind_all pieces) (behind_first piece text)
+-- and after each of these pieces in turn
+abbrev pub after_all : List (List ℕ) → List ℕ → Option (List ℕ)
+after_all [] text = Some text
+after_all (piece ∷ pieces) text = option_and_then (after_all pieces) (after_first piece text)
 
 abbrev pub has_last : Option (List ℕ) → List ℕ → Bool
 has_last None text = true
 has_last (Some piece) text = ends_with nat_eq text piece
 
--- the initial piece is a prefix, each middle piece stands at its first place behind those before it, and
--- the last piece ends what is left
+-- the initial piece is a prefix, each middle piece stands at its first place after those before
+-- it, and the last piece ends what is left
 abbrev pub has_pieces : PieceKeys → List ℕ → Bool
 has_pieces pieces text =
-    option_map_or (has_last pieces.last) (option_and_then (behind_all pieces.middle) (behind_initial pieces.initial text)) false
+    option_map_or (has_last pieces.last)
+    (option_and_then (after_all pieces.middle) (after_initial pieces.initial text)) false
 
 -- ---- tests
 
 -- what the key of a value has to pass
 abbrev pub passes : Rule → Test → List ℕ → Bool
 passes rule (Equal asked) key = bytes_eq asked key
-passes rule (AtLeast least) key = option_map_or (λ rank. is_at_most least rank) (rank_by rule key) false
-passes rule (AtMost most) key = option_map_or (λ rank. is_at_most rank most) (rank_by rule key) false
+passes rule (AtLeast least) key =
+    option_map_or (λ rank. is_at_most least rank) (rank_by rule key) false
+passes rule (AtMost most) key =
+    option_map_or (λ rank. is_at_most rank most) (rank_by rule key) false
 passes rule (Substrings pieces) key = has_pieces pieces key
 
 -- a value that is not of its type's syntax passes no test
 abbrev pub matches : ℕ → Test → List ℕ → Bool
 matches kind test value = option_map_or (passes (type_rule kind) test) (key_of kind value) false
 
--- the tests of the items, and none where the value is not of the syntax, or the type has no such test
+-- the tests of the items, and none where the value is not of the syntax, or the
+-- type has no such test
 abbrev pub equal_test : ℕ → List ℕ → Option Test
 equal_test kind value = option_map (λ key. Equal key) (key_of kind value)
 

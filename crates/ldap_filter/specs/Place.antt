@@ -1,7 +1,7 @@
 -- A place in a text.
 use Rattle.std.specs.Prelude.{ℕ, List}
 
--- the place behind the text, and the bytes that are left before it
+-- the place after the text, and the bytes that are left before it
 pub record Place : Type 0 where
   pub stop : ℕ
   pub left : List ℕ

@@ -6,7 +6,7 @@ use Rattle.ldap_filter.specs.declared.truth.Truth.{Truth}
 use Rattle.ldap_filter.specs.declared.truth.Truth.TheVariants.{True, False, Undefined}
 use Rattle.ldap_filter.specs.declared.matching.Test.{Test}
 use Rattle.ldap_filter.specs.Matching.{asked_type, equal_test, at_least_test, at_most_test, substrings_test, matches}
-use Rattle.ldap_filter.specs.Tree.{Tree, Trees, all_of, any_of, negated, equal, substrings, at_least, at_most, present, approx, extensible, no_trees, more_trees}
+use Rattle.ldap_filter.specs.FilterTree.{FilterTree, Trees, all_of, any_of, negated, equal, substrings, at_least, at_most, present, approx, extensible, no_trees, more_trees}
 
 abbrev pub is_false : Truth → Bool
 is_false True = false
@@ -23,14 +23,19 @@ is_true True = true
 is_true False = false
 is_true Undefined = false
 
--- section 4.5.1.7: one False part makes an `and` False; without such, one Undefined part makes it Undefined; without
--- both it is True
+-- section 4.5.1.7: one False part makes an `and` False; without such, one Undefined part makes it
+-- Undefined; without both it is True
 abbrev pub conjunction : List Truth → Truth
-conjunction parts = if list_any is_false parts then False else if list_any is_undefined parts then Undefined else True
+conjunction parts =
+    if list_any is_false parts then False
+    else if list_any is_undefined parts then Undefined else True
 
--- one True part makes an `or` True; without such, one Undefined part makes it Undefined; without both it is False
+-- one True part makes an `or` True; without such, one Undefined part makes it Undefined; without
+-- both it is False
 abbrev pub disjunction : List Truth → Truth
-disjunction parts = if list_any is_true parts then True else if list_any is_undefined parts then Undefined else False
+disjunction parts =
+    if list_any is_true parts then True
+    else if list_any is_undefined parts then Undefined else False
 
 -- a `not` exchanges True and False
 abbrev pub opposite : Truth → Truth
@@ -48,7 +53,8 @@ has_type attributes kind = list_any (λ a. a.kind == kind) attributes
 
 -- some value of the type passes the test
 abbrev pub has_match : List Attribute → ℕ → Test → Bool
-has_match attributes kind test = list_any (λ a. (a.kind == kind) && list_any (matches kind test) a.values) attributes
+has_match attributes kind test =
+    list_any (λ a. (a.kind == kind) && list_any (matches kind test) a.values) attributes
 
 -- with no test an item is Undefined
 abbrev pub tried : List Attribute → ℕ → Option Test → Truth
@@ -65,17 +71,21 @@ presence attributes None = Undefined
 presence attributes (Some kind) = decided (has_type attributes kind)
 
 abbrev mutual
-  pub truth_on : List Attribute → Tree → Truth
+  pub truth_on : List Attribute → FilterTree → Truth
   truth_on attributes (all_of ts) = conjunction (truths_on attributes ts)
   truth_on attributes (any_of ts) = disjunction (truths_on attributes ts)
   truth_on attributes (negated t) = opposite (truth_on attributes t)
-  truth_on attributes (equal name value) = item_truth attributes (asked_type name) (λ kind. equal_test kind value)
+  truth_on attributes (equal name value) =
+      item_truth attributes (asked_type name) (λ kind. equal_test kind value)
   truth_on attributes (substrings name initial middle last) =
       item_truth attributes (asked_type name) (λ kind. substrings_test kind initial middle last)
-  truth_on attributes (at_least name value) = item_truth attributes (asked_type name) (λ kind. at_least_test kind value)
-  truth_on attributes (at_most name value) = item_truth attributes (asked_type name) (λ kind. at_most_test kind value)
+  truth_on attributes (at_least name value) =
+      item_truth attributes (asked_type name) (λ kind. at_least_test kind value)
+  truth_on attributes (at_most name value) =
+      item_truth attributes (asked_type name) (λ kind. at_most_test kind value)
   truth_on attributes (present name) = presence attributes (asked_type name)
-  truth_on attributes (approx name value) = item_truth attributes (asked_type name) (λ kind. equal_test kind value)
+  truth_on attributes (approx name value) =
+      item_truth attributes (asked_type name) (λ kind. equal_test kind value)
   truth_on attributes (extensible body) = Undefined
 
   pub truths_on : List Attribute → Trees → List Truth

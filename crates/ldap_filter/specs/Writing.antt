@@ -4,7 +4,7 @@ use Rattle.std.specs.List.{list_all, flat_map}
 use Rattle.std.specs.Str.Lossy.{utf8_valid_len}
 use Rattle.ldap_filter.specs.Grammar.{is_type, is_special}
 use Rattle.ldap_filter.specs.Pieces.{has_piece}
-use Rattle.ldap_filter.specs.Tree.{Tree, Trees, all_of, any_of, negated, equal, substrings, at_least, at_most, present, approx, extensible, no_trees, more_trees}
+use Rattle.ldap_filter.specs.FilterTree.{FilterTree, Trees, all_of, any_of, negated, equal, substrings, at_least, at_most, present, approx, extensible, no_trees, more_trees}
 
 -- ---- what has a text
 
@@ -17,14 +17,15 @@ is_absent_or_filled None = true
 is_absent_or_filled (Some piece) = is_filled piece
 
 abbrev pub are_filled : Option (List ℕ) → List (List ℕ) → Option (List ℕ) → Bool
-are_filled initial middle last = is_absent_or_filled initial && (list_all is_filled middle && is_absent_or_filled last)
+are_filled initial middle last =
+    is_absent_or_filled initial && (list_all is_filled middle && is_absent_or_filled last)
 
 abbrev pub has_substrings_text : List ℕ → Option (List ℕ) → List (List ℕ) → Option (List ℕ) → Bool
 has_substrings_text name initial middle last = is_type name && are_filled initial middle last
 
 -- all types are of the form of a type, no piece is empty, and nothing is extensible
 abbrev mutual
-  pub has_text : Tree → Bool
+  pub has_text : FilterTree → Bool
   has_text (all_of ts) = have_texts ts
   has_text (any_of ts) = have_texts ts
   has_text (negated t) = has_text t
@@ -51,11 +52,12 @@ is_absent_or_bytes (Some piece) = are_bytes piece
 
 abbrev pub are_sound_pieces : Option (List ℕ) → List (List ℕ) → Option (List ℕ) → Bool
 are_sound_pieces initial middle last =
-    has_piece initial middle last && (is_absent_or_bytes initial && (list_all are_bytes middle && is_absent_or_bytes last))
+    has_piece initial middle last
+    && (is_absent_or_bytes initial && (list_all are_bytes middle && is_absent_or_bytes last))
 
 -- values are bytes, and no substring filter is without a piece: so is each filter that is held
 abbrev mutual
-  pub is_sound : Tree → Bool
+  pub is_sound : FilterTree → Bool
   is_sound (all_of ts) = are_sound ts
   is_sound (any_of ts) = are_sound ts
   is_sound (negated t) = is_sound t
@@ -84,16 +86,17 @@ escape byte = 92 ∷ (hex_digit (byte / 16) ∷ (hex_digit (byte % 16) ∷ []))
 abbrev pub text_byte : ℕ → List ℕ
 text_byte byte = if is_special byte then escape byte else byte ∷ []
 
--- a value, of which so many bytes at the front are known to be UTF-8 text; where none is known, those of the
--- longest front that is; a byte that is not part of UTF-8 text is escaped
-abbrev pub value_text_behind : ℕ → List ℕ → List ℕ
-value_text_behind known [] = []
-value_text_behind known (byte ∷ bytes) =
+-- a value, of which n bytes at the start are known to be UTF-8 text; where none is known,
+-- those of the longest prefix that is; a byte that is not part of UTF-8 text is escaped
+abbrev pub value_text_after : ℕ → List ℕ → List ℕ
+value_text_after known [] = []
+value_text_after known (byte ∷ bytes) =
     let text = if known == 0 then utf8_valid_len (byte ∷ bytes) else known in
-    if text == 0 then escape byte ++ value_text_behind 0 bytes else text_byte byte ++ value_text_behind (text - 1) bytes
+    if text == 0 then escape byte ++ value_text_after 0 bytes
+    else text_byte byte ++ value_text_after (text - 1) bytes
 
 unfoldable pub value_text : List ℕ → List ℕ
-value_text value = value_text_behind 0 value
+value_text value = value_text_after 0 value
 
 abbrev pub end_text : Option (List ℕ) → List ℕ
 end_text None = []
@@ -116,13 +119,14 @@ item_text name sign value = enclosed (name ++ (sign ++ value_text value))
 -- attr EQUALS [initial] any [final]
 abbrev pub substrings_text : List ℕ → Option (List ℕ) → List (List ℕ) → Option (List ℕ) → List ℕ
 substrings_text name initial middle last =
-    enclosed (name ++ (61 ∷ (end_text initial ++ (42 ∷ (flat_map middle_text middle ++ end_text last)))))
+    enclosed
+    (name ++ (61 ∷ (end_text initial ++ (42 ∷ (flat_map middle_text middle ++ end_text last)))))
 
 abbrev pub presence_text : List ℕ → List ℕ
 presence_text name = enclosed (name ++ codes "=*")
 
 abbrev mutual
-  pub text_of : Tree → List ℕ
+  pub text_of : FilterTree → List ℕ
   text_of (all_of ts) = enclosed (38 ∷ texts_of ts)
   text_of (any_of ts) = enclosed (124 ∷ texts_of ts)
   text_of (negated t) = enclosed (33 ∷ text_of t)

@@ -77,7 +77,8 @@ impl<'a> Cursor<'a> {
 
     /// Goes past the byte, which has to be the next one.
     pub(crate) fn pass(&mut self, byte: u8) -> Result<(), FilterFault>
-        ensures read { Gives (λ _. self.new.left) result (spec.past byte self.old.stop self.old.left) }
+        ensures read { Gives (λ _. self.new.left) result
+            (spec.past byte self.old.stop self.old.left) }
         ensures stop { self.new.stop ≡ self.old.stop }
         ensures shorter { OnOk result (length self.new.left < length self.old.left) }
     {
@@ -91,7 +92,8 @@ impl<'a> Cursor<'a> {
     /// The bytes of a type that are next, maybe none.
     pub(crate) fn type_bytes(&mut self) -> &'a [u8]
         ensures bytes { result.now ≡ take_while grammar.is_type_byte self.old.left }
-        ensures left { self.new.left ≡ drop (length (take_while grammar.is_type_byte self.old.left)) self.old.left }
+        ensures left { self.new.left
+            ≡ drop (length (take_while grammar.is_type_byte self.old.left)) self.old.left }
         ensures shorter { length self.new.left ≤ length self.old.left }
         ensures stop { self.new.stop ≡ self.old.stop }
     {
@@ -113,7 +115,8 @@ impl<'a> Cursor<'a> {
 
     /// The next byte of a value.
     pub(crate) fn value_byte(&mut self) -> Result<u8, FilterFault>
-        ensures read { Gives (λ byte. (byte, self.new.left)) result (spec.value_byte_at self.old.stop self.old.left) }
+        ensures read { Gives (λ byte. (byte, self.new.left)) result
+            (spec.value_byte_at self.old.stop self.old.left) }
         ensures stop { self.new.stop ≡ self.old.stop }
         ensures shorter { OnOk result (length self.new.left < length self.old.left) }
     {
@@ -134,7 +137,8 @@ impl<'a> Cursor<'a> {
     /// The byte that two hexadecimal digits write.
     #[tactic(auto, unfolding(crate::specs::Reading::escaped_at))]
     fn escaped(&mut self) -> Result<u8, FilterFault>
-        ensures read { Gives (λ byte. (byte, self.new.left)) result (spec.escaped_at self.old.stop self.old.left) }
+        ensures read { Gives (λ byte. (byte, self.new.left)) result
+            (spec.escaped_at self.old.stop self.old.left) }
         ensures stop { self.new.stop ≡ self.old.stop }
         ensures shorter { OnOk result (length self.new.left < length self.old.left) }
     {
@@ -144,7 +148,8 @@ impl<'a> Cursor<'a> {
     }
 
     fn hex_digit(&mut self) -> Result<u8, FilterFault>
-        ensures read { Gives (λ digit. (digit, self.new.left)) result (spec.hex_at self.old.stop self.old.left) }
+        ensures read { Gives (λ digit. (digit, self.new.left)) result
+            (spec.hex_at self.old.stop self.old.left) }
         ensures small { IfOk result (λ digit. digit < 16) }
         ensures stop { self.new.stop ≡ self.old.stop }
         ensures shorter { OnOk result (length self.new.left < length self.old.left) }

@@ -27,9 +27,9 @@ pub enum Filter {
 pub struct Pieces {
     /// What the value begins with.
     pub initial: Option<Octets>,
-    /// What the value holds behind that, in order.
+    /// What the value holds after that, in order.
     pub middle: OctetsList,
-    /// What the value ends with, behind all others.
+    /// What the value ends with, after all others.
     pub last: Option<Octets>,
     ghost some: { has_piece initial middle last ≡ true },
 }
@@ -42,8 +42,9 @@ pub struct FilterList {
 }
 
 impl FilterList {
-    ghost use Rattle.ldap_filter.specs.Tree.{parts_of};
+    ghost use Rattle.ldap_filter.specs.FilterTree.{parts_of};
 
+    /// Makes a list without filters.
     pub fn new(alloc: Global) -> FilterList
         ensures { parts_of result ≡ [] }
     {
@@ -61,6 +62,7 @@ impl FilterList {
         Ok(())
     }
 
+    /// Lends the filters, in their order.
     pub fn list(&self) -> &[Filter]
         ensures { result.now ≡ parts_of self.now }
     {

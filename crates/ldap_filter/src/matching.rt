@@ -20,7 +20,7 @@ use text_keys::{KeyFault, piece_key};
 #[derive(Drop)]
 pub(crate) enum Rank {
     Number(i64),
-    Moment(Octets),
+    Instant(Octets),
 }
 
 /// The keys of the pieces of a substring filter.
@@ -93,7 +93,8 @@ pub(crate) fn substrings_test(
     pieces: &Pieces,
 ) -> Result<Option<Test>, NoMemory>
     ensures { IfOk result
-        (λ test. test ≡ spec.substrings_test kind pieces.now.initial pieces.now.middle pieces.now.last) }
+        (λ test.
+        test ≡ spec.substrings_test kind pieces.now.initial pieces.now.middle pieces.now.last) }
 {
     match keys_of_pieces(alloc, kind.rule(), pieces)? {
         None => Ok(None),
@@ -202,7 +203,7 @@ fn rank_by(rule: Rule, key: Octets) -> Option<Rank>
 {
     match rule {
         Rule::Whole => Some(Rank::Number(number_of(key.as_slice()))),
-        Rule::Time => Some(Rank::Moment(key)),
+        Rule::Time => Some(Rank::Instant(key)),
         Rule::Class | Rule::Folded | Rule::FoldedAscii => None,
         Rule::ExactAscii | Rule::Flag | Rule::Operational => None,
     }
@@ -228,11 +229,11 @@ fn is_at_most(low: &Rank, high: &Rank) -> bool
     match low {
         Rank::Number(least) => match high {
             Rank::Number(most) => least <= most,
-            Rank::Moment(_) => false,
+            Rank::Instant(_) => false,
         },
-        Rank::Moment(earliest) => match high {
+        Rank::Instant(earliest) => match high {
             Rank::Number(_) => false,
-            Rank::Moment(latest) => earliest.as_slice().cmp(latest.as_slice()).is_le(),
+            Rank::Instant(latest) => earliest.as_slice().cmp(latest.as_slice()).is_le(),
         },
     }
 }
@@ -241,7 +242,8 @@ fn is_at_most(low: &Rank, high: &Rank) -> bool
 
 fn keys_of_pieces(alloc: Global, rule: Rule, pieces: &Pieces) -> Result<Option<PieceKeys>, NoMemory>
     ensures { IfOk result
-        (λ keys. keys ≡ spec.keys_of_pieces rule pieces.now.initial pieces.now.middle pieces.now.last) }
+        (λ keys.
+        keys ≡ spec.keys_of_pieces rule pieces.now.initial pieces.now.middle pieces.now.last) }
 {
     let Some(initial) = end_key(alloc, rule, &pieces.initial, true, false)? else {
         return Ok(None);
@@ -337,28 +339,28 @@ impl PieceKeys {
     fn stand_in(&self, text: &[u8]) -> bool
         ensures { result ≡ spec.has_pieces self.now text.now }
     {
-        let Some(text) = behind_initial(&self.initial, text) else {
+        let Some(text) = after_initial(&self.initial, text) else {
             return false;
         };
-        let Some(text) = behind_all(self.middle.list(), text) else {
+        let Some(text) = after_all(self.middle.list(), text) else {
             return false;
         };
         has_last(&self.last, text)
     }
 }
 
-fn behind_initial<'a>(piece: &Option<Octets>, text: &'a [u8]) -> Option<&'a [u8]>
-    ensures { option_copied result ≡ spec.behind_initial piece.now text.now }
+fn after_initial<'a>(piece: &Option<Octets>, text: &'a [u8]) -> Option<&'a [u8]>
+    ensures { option_copied result ≡ spec.after_initial piece.now text.now }
 {
     match piece {
         None => Some(text),
-        Some(piece) => behind_front(piece.as_slice(), text),
+        Some(piece) => after_prefix(piece.as_slice(), text),
     }
 }
 
-/// What stands behind the piece, where the text begins with it.
-fn behind_front<'a>(piece: &[u8], text: &'a [u8]) -> Option<&'a [u8]>
-    ensures { option_copied result ≡ spec.behind_front piece.now text.now }
+/// What stands after the piece, where the text begins with it.
+fn after_prefix<'a>(piece: &[u8], text: &'a [u8]) -> Option<&'a [u8]>
+    ensures { option_copied result ≡ spec.after_prefix piece.now text.now }
 {
     if text.starts_with(piece) {
         Some(text.split_at(piece.len()).1)
@@ -367,10 +369,10 @@ fn behind_front<'a>(piece: &[u8], text: &'a [u8]) -> Option<&'a [u8]>
     }
 }
 
-/// What stands behind the first place of the piece.
-#[tactic(auto, using(crate::proofs::Behind::behind_first_here))]
-fn behind_first<'a>(piece: &[u8], text: &'a [u8]) -> Option<&'a [u8]>
-    ensures { option_copied result ≡ spec.behind_first piece.now text.now }
+/// What stands after the first place of the piece.
+#[tactic(auto, using(crate::proofs::After::after_first_here))]
+fn after_first<'a>(piece: &[u8], text: &'a [u8]) -> Option<&'a [u8]>
+    ensures { option_copied result ≡ spec.after_first piece.now text.now }
 {
     let mut rest = text;
     loop {
@@ -384,12 +386,12 @@ fn behind_first<'a>(piece: &[u8], text: &'a [u8]) -> Option<&'a [u8]>
     }
 }
 
-fn behind_all<'a>(pieces: &[Octets], text: &'a [u8]) -> Option<&'a [u8]>
-    ensures { option_copied result ≡ spec.behind_all pieces.now text.now }
+fn after_all<'a>(pieces: &[Octets], text: &'a [u8]) -> Option<&'a [u8]>
+    ensures { option_copied result ≡ spec.after_all pieces.now text.now }
 {
     let mut rest = text;
     for piece in pieces {
-        match behind_first(piece.as_slice(), rest) {
+        match after_first(piece.as_slice(), rest) {
             None => return None,
             Some(later) => rest = later,
         }

@@ -2,7 +2,7 @@
 ghost use Rattle.std.specs.Prelude.{◌≡◌, ◌<◌, ◌≤◌, ◌-◌, length, map, take, Ok, IfOk, IfErr, OnOk};
 ghost use Rattle.ldap_filter.specs.Fault.{Fails, Gives};
 ghost use Rattle.ldap_filter.specs.Reading as spec;
-ghost use Rattle.ldap_filter.specs.Tree.{tree_of, trees, parts_of};
+ghost use Rattle.ldap_filter.specs.FilterTree.{tree_of, trees, parts_of};
 
 use crate::cursor::Cursor;
 use crate::fault::FilterFault;
@@ -35,7 +35,7 @@ impl Filter {
     }
 }
 
-/// A filter and nothing behind it.
+/// A filter and nothing after it.
 #[tactic(auto, unfolding(crate::specs::Reading::whole_at))]
 fn whole(alloc: Global, text: &[u8]) -> Result<Filter, FilterFault>
     ensures { Gives tree_of result (spec.whole_at text.now) }
@@ -49,7 +49,7 @@ fn whole(alloc: Global, text: &[u8]) -> Result<Filter, FilterFault>
     }
 }
 
-/// A filter in at most so many levels.
+/// A filter in at most n levels.
 #[cycle(filters)]
 fn filter_in(alloc: Global, cursor: &mut Cursor, levels: usize) -> Result<Filter, FilterFault>
     ensures read { Gives (λ filter. (tree_of filter, cursor.new.left)) result
@@ -139,7 +139,8 @@ fn item(alloc: Global, cursor: &mut Cursor) -> Result<Filter, FilterFault>
 }
 
 fn type_name(alloc: Global, cursor: &mut Cursor) -> Result<Octets, FilterFault>
-    ensures read { Gives (λ name. (name, cursor.new.left)) result (spec.type_at cursor.old.stop cursor.old.left) }
+    ensures read { Gives (λ name. (name, cursor.new.left)) result
+        (spec.type_at cursor.old.stop cursor.old.left) }
     ensures stop { cursor.new.stop ≡ cursor.old.stop }
     ensures shorter { OnOk result (length cursor.new.left ≤ length cursor.old.left) }
 {
@@ -150,7 +151,7 @@ fn type_name(alloc: Global, cursor: &mut Cursor) -> Result<Octets, FilterFault>
     Ok(Octets::from_slice(alloc, name)?)
 }
 
-/// What stands behind the type of an item.
+/// What stands after the type of an item.
 fn item_of(alloc: Global, cursor: &mut Cursor, name: Octets) -> Result<Filter, FilterFault>
     ensures read { Gives (λ filter. (tree_of filter, cursor.new.left)) result
         (spec.item_of name cursor.old.stop cursor.old.left) }
@@ -172,10 +173,11 @@ fn item_of(alloc: Global, cursor: &mut Cursor, name: Octets) -> Result<Filter, F
     Err(cursor.fault())
 }
 
-/// The value behind a sign of two characters, of which the second is `=`.
+/// The value after a sign of two characters, of which the second is `=`.
 #[tactic(auto, unfolding(crate::specs::Reading::compared_at))]
 fn compared(alloc: Global, cursor: &mut Cursor) -> Result<Octets, FilterFault>
-    ensures read { Gives (λ value. (value, cursor.new.left)) result (spec.compared_at cursor.old.stop cursor.old.left) }
+    ensures read { Gives (λ value. (value, cursor.new.left)) result
+        (spec.compared_at cursor.old.stop cursor.old.left) }
     ensures stop { cursor.new.stop ≡ cursor.old.stop }
     ensures shorter { OnOk result (length cursor.new.left ≤ length cursor.old.left) }
 {
@@ -192,22 +194,22 @@ fn equality(alloc: Global, cursor: &mut Cursor, name: Octets) -> Result<Filter, 
     ensures shorter { OnOk result (length cursor.new.left ≤ length cursor.old.left) }
 {
     let first = value(alloc, cursor)?;
-    let behind = starred_values(alloc, cursor)?;
-    Ok(asserted(alloc, name, first, behind)?)
+    let beyond = starred_values(alloc, cursor)?;
+    Ok(asserted(alloc, name, first, beyond)?)
 }
 
 fn asserted(
     alloc: Global,
     name: Octets,
     first: Octets,
-    mut behind: Vec<Octets>,
+    mut beyond: Vec<Octets>,
 ) -> Result<Filter, NoMemory>
-    ensures { IfOk result (λ filter. tree_of filter ≡ spec.asserted name first behind.items) }
+    ensures { IfOk result (λ filter. tree_of filter ≡ spec.asserted name first beyond.items) }
 {
-    match behind.pop() {
+    match beyond.pop() {
         None => Ok(Filter::Equal(name, first)),
         Some(last) => {
-            let middle = list_of(alloc, behind)?;
+            let middle = list_of(alloc, beyond)?;
             Ok(pieced(name, first, middle, last))
         }
     }
@@ -251,7 +253,7 @@ fn list_of(alloc: Global, items: Vec<Octets>) -> Result<OctetsList, NoMemory>
     Ok(list)
 }
 
-/// Values, each behind its `*`.
+/// Values, each after its `*`.
 #[tactic(auto, unfolding(crate::specs::Reading::stars_at, crate::specs::Reading::many_at))]
 fn starred_values(alloc: Global, cursor: &mut Cursor) -> Result<Vec<Octets>, FilterFault>
     ensures read { Gives (λ values. (values.items, cursor.new.left)) result
@@ -268,7 +270,8 @@ fn starred_values(alloc: Global, cursor: &mut Cursor) -> Result<Vec<Octets>, Fil
 
 #[tactic(auto, unfolding(crate::specs::Reading::starred_at))]
 fn starred(alloc: Global, cursor: &mut Cursor) -> Result<Octets, FilterFault>
-    ensures read { Gives (λ value. (value, cursor.new.left)) result (spec.starred_at cursor.old.stop cursor.old.left) }
+    ensures read { Gives (λ value. (value, cursor.new.left)) result
+        (spec.starred_at cursor.old.stop cursor.old.left) }
     ensures stop { cursor.new.stop ≡ cursor.old.stop }
     ensures shorter { OnOk result (length cursor.new.left < length cursor.old.left) }
 {
@@ -279,7 +282,8 @@ fn starred(alloc: Global, cursor: &mut Cursor) -> Result<Octets, FilterFault>
 /// assertionvalue = *(normal / escaped).
 #[tactic(auto, unfolding(crate::specs::Reading::value_at, crate::specs::Reading::many_at))]
 fn value(alloc: Global, cursor: &mut Cursor) -> Result<Octets, FilterFault>
-    ensures read { Gives (λ value. (value, cursor.new.left)) result (spec.value_at cursor.old.stop cursor.old.left) }
+    ensures read { Gives (λ value. (value, cursor.new.left)) result
+        (spec.value_at cursor.old.stop cursor.old.left) }
     ensures stop { cursor.new.stop ≡ cursor.old.stop }
     ensures shorter { OnOk result (length cursor.new.left ≤ length cursor.old.left) }
 {

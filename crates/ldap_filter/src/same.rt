@@ -2,12 +2,14 @@
 ghost use Rattle.std.specs.Prelude.{◌≡◌, map, IfOk, bytes_eq};
 ghost use Rattle.std.specs.Option.{option_eq};
 ghost use Rattle.ldap_filter.specs.Same.{same_name, same_tree, same_trees, same_item};
-ghost use Rattle.ldap_filter.specs.Tree.{tree_of, trees, parts_of};
+ghost use Rattle.ldap_filter.specs.FilterTree.{tree_of, trees, parts_of};
 
 use crate::filter::{Filter, FilterList, Pieces};
 use ldap_ber::{NoMemory, Octets};
 
 impl Filter {
+    /// Makes the same filter a second time: its structure, its names of types and its values, byte
+    /// for byte. It is `NoMemory` where memory runs out.
     #[cycle(copies)]
     pub fn copy(&self) -> Result<Filter, NoMemory>
         ensures { IfOk result (λ filter. tree_of filter ≡ tree_of self.now) }
@@ -74,7 +76,8 @@ impl Filter {
 impl FilterList {
     #[cycle(copies)]
     fn copy(&self) -> Result<FilterList, NoMemory>
-        ensures { IfOk result (λ list. map tree_of (parts_of list) ≡ map tree_of (parts_of self.now)) }
+        ensures { IfOk result (λ list.
+            map tree_of (parts_of list) ≡ map tree_of (parts_of self.now)) }
     {
         let mut items = Vec::new(*self.items.allocator());
         for item in &self.items {
@@ -86,7 +89,8 @@ impl FilterList {
     #[cycle(comparisons)]
     fn same(&self, other: &FilterList) -> bool
         ensures { result
-            ≡ same_trees (trees (map tree_of (parts_of self.now))) (trees (map tree_of (parts_of other.now))) }
+            ≡ same_trees (trees (map tree_of (parts_of self.now)))
+            (trees (map tree_of (parts_of other.now))) }
     {
         let mut others = other.list();
         for item in self.list() {

@@ -1,7 +1,7 @@
 //! The truth of a filter on a list of attributes (RFC 4511, section 4.5.1.7).
 ghost use Rattle.std.specs.Prelude.{◌≡◌, map, IfOk};
 ghost use Rattle.ldap_filter.specs.Matching as matching;
-ghost use Rattle.ldap_filter.specs.Tree.{tree_of, trees, parts_of};
+ghost use Rattle.ldap_filter.specs.FilterTree.{tree_of, trees, parts_of};
 ghost use Rattle.ldap_filter.specs.Truth as spec;
 
 use crate::filter::{Filter, FilterList, Pieces};
@@ -64,7 +64,10 @@ impl FilterList {
     #[cycle(truths)]
     fn conjunction_on(&self, alloc: Global, attrs: &Attrs) -> Result<Truth, NoMemory>
         ensures { IfOk result
-            (λ truth. truth ≡ spec.conjunction (spec.truths_on attrs.now (trees (map tree_of (parts_of self.now))))) }
+            (λ truth.
+            truth
+            ≡ spec.conjunction
+            (spec.truths_on attrs.now (trees (map tree_of (parts_of self.now))))) }
     {
         let mut all = Truth::True;
         for part in self.list() {
@@ -80,7 +83,10 @@ impl FilterList {
     #[cycle(truths)]
     fn disjunction_on(&self, alloc: Global, attrs: &Attrs) -> Result<Truth, NoMemory>
         ensures { IfOk result
-            (λ truth. truth ≡ spec.disjunction (spec.truths_on attrs.now (trees (map tree_of (parts_of self.now))))) }
+            (λ truth.
+            truth
+            ≡ spec.disjunction
+            (spec.truths_on attrs.now (trees (map tree_of (parts_of self.now))))) }
     {
         let mut any = Truth::False;
         for part in self.list() {
@@ -101,7 +107,8 @@ fn equality_on(
     value: &Octets,
 ) -> Result<Truth, NoMemory>
     ensures { IfOk result (λ truth. truth
-        ≡ spec.item_truth attributes.now (matching.asked_type name.now) (λ kind. matching.equal_test kind value.now)) }
+        ≡ spec.item_truth attributes.now (matching.asked_type name.now) (λ kind.
+        matching.equal_test kind value.now)) }
 {
     let Some(kind) = asked_type(name.as_slice()) else {
         return Ok(Truth::Undefined);
@@ -117,7 +124,8 @@ fn at_least_on(
     value: &Octets,
 ) -> Result<Truth, NoMemory>
     ensures { IfOk result (λ truth. truth
-        ≡ spec.item_truth attributes.now (matching.asked_type name.now) (λ kind. matching.at_least_test kind value.now)) }
+        ≡ spec.item_truth attributes.now (matching.asked_type name.now) (λ kind.
+        matching.at_least_test kind value.now)) }
 {
     let Some(kind) = asked_type(name.as_slice()) else {
         return Ok(Truth::Undefined);
@@ -133,7 +141,8 @@ fn at_most_on(
     value: &Octets,
 ) -> Result<Truth, NoMemory>
     ensures { IfOk result (λ truth. truth
-        ≡ spec.item_truth attributes.now (matching.asked_type name.now) (λ kind. matching.at_most_test kind value.now)) }
+        ≡ spec.item_truth attributes.now (matching.asked_type name.now) (λ kind.
+        matching.at_most_test kind value.now)) }
 {
     let Some(kind) = asked_type(name.as_slice()) else {
         return Ok(Truth::Undefined);
@@ -150,7 +159,8 @@ fn substrings_on(
 ) -> Result<Truth, NoMemory>
     ensures { IfOk result (λ truth. truth
         ≡ spec.item_truth attributes.now (matching.asked_type name.now)
-        (λ kind. matching.substrings_test kind pieces.now.initial pieces.now.middle pieces.now.last)) }
+        (λ kind.
+        matching.substrings_test kind pieces.now.initial pieces.now.middle pieces.now.last)) }
 {
     let Some(kind) = asked_type(name.as_slice()) else {
         return Ok(Truth::Undefined);

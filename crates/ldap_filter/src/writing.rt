@@ -4,7 +4,7 @@ ghost use Rattle.std.specs.List.{flat_map, list_all};
 ghost use Rattle.ldap_filter.specs.Fault.{Lacks};
 ghost use Rattle.ldap_filter.specs.Grammar as grammar;
 ghost use Rattle.ldap_filter.specs.Reading.{read_filter};
-ghost use Rattle.ldap_filter.specs.Tree.{tree_of, trees, parts_of, depth};
+ghost use Rattle.ldap_filter.specs.FilterTree.{tree_of, trees, parts_of, depth};
 ghost use Rattle.ldap_filter.specs.Writing as spec;
 
 use crate::fault::FilterFault;
@@ -31,7 +31,8 @@ impl Filter {
 
     #[cycle(writing)]
     fn put(&self, text: &mut Vec<u8>) -> Result<(), FilterFault>
-        ensures text { OnOk result (text.new.items ≡ text.old.items ++ spec.text_of (tree_of self.now)) }
+        ensures text { OnOk result
+            (text.new.items ≡ text.old.items ++ spec.text_of (tree_of self.now)) }
         ensures ok { OnOk result (spec.has_text (tree_of self.now) ≡ true) }
         ensures sound { OnOk result (spec.is_sound (tree_of self.now) ≡ true) }
         ensures fault { IfErr result (Lacks (spec.has_text (tree_of self.now))) }
@@ -57,14 +58,18 @@ impl Filter {
 }
 
 impl FilterList {
-    /// The list behind the sign of its filter.
+    /// The list after the sign of its filter.
     #[cycle(writing)]
     fn put(&self, text: &mut Vec<u8>, sign: u8) -> Result<(), FilterFault>
         ensures text { OnOk result (text.new.items
-            ≡ text.old.items ++ spec.enclosed (sign ∷ spec.texts_of (trees (map tree_of (parts_of self.now))))) }
-        ensures ok { OnOk result (spec.have_texts (trees (map tree_of (parts_of self.now))) ≡ true) }
-        ensures sound { OnOk result (spec.are_sound (trees (map tree_of (parts_of self.now))) ≡ true) }
-        ensures fault { IfErr result (Lacks (spec.have_texts (trees (map tree_of (parts_of self.now))))) }
+            ≡ text.old.items
+            ++ spec.enclosed (sign ∷ spec.texts_of (trees (map tree_of (parts_of self.now))))) }
+        ensures ok { OnOk result
+            (spec.have_texts (trees (map tree_of (parts_of self.now))) ≡ true) }
+        ensures sound { OnOk result
+            (spec.are_sound (trees (map tree_of (parts_of self.now))) ≡ true) }
+        ensures fault { IfErr result
+            (Lacks (spec.have_texts (trees (map tree_of (parts_of self.now))))) }
     {
         text.push(b'(')?;
         text.push(sign)?;
@@ -77,9 +82,12 @@ impl FilterList {
     fn put_each(&self, text: &mut Vec<u8>) -> Result<(), FilterFault>
         ensures text { OnOk result (text.new.items
             ≡ text.old.items ++ spec.texts_of (trees (map tree_of (parts_of self.now)))) }
-        ensures ok { OnOk result (spec.have_texts (trees (map tree_of (parts_of self.now))) ≡ true) }
-        ensures sound { OnOk result (spec.are_sound (trees (map tree_of (parts_of self.now))) ≡ true) }
-        ensures fault { IfErr result (Lacks (spec.have_texts (trees (map tree_of (parts_of self.now))))) }
+        ensures ok { OnOk result
+            (spec.have_texts (trees (map tree_of (parts_of self.now))) ≡ true) }
+        ensures sound { OnOk result
+            (spec.are_sound (trees (map tree_of (parts_of self.now))) ≡ true) }
+        ensures fault { IfErr result
+            (Lacks (spec.have_texts (trees (map tree_of (parts_of self.now))))) }
     {
         for part in self.list() {
             part.put(text)?;
@@ -117,7 +125,7 @@ fn put_presence(text: &mut Vec<u8>, name: &Octets) -> Result<(), FilterFault>
     Ok(())
 }
 
-/// The type of an item behind its parenthesis.
+/// The type of an item after its parenthesis.
 fn put_type(text: &mut Vec<u8>, name: &Octets) -> Result<(), FilterFault>
     ensures text { OnOk result (text.new.items ≡ text.old.items ++ 40 ∷ name.now) }
     ensures ok { OnOk result (grammar.is_type name.now ≡ true) }
@@ -133,13 +141,16 @@ fn put_type(text: &mut Vec<u8>, name: &Octets) -> Result<(), FilterFault>
 
 fn put_substrings(text: &mut Vec<u8>, name: &Octets, pieces: &Pieces) -> Result<(), FilterFault>
     ensures text { OnOk result (text.new.items
-        ≡ text.old.items ++ spec.substrings_text name.now pieces.now.initial pieces.now.middle pieces.now.last) }
+        ≡ text.old.items
+        ++ spec.substrings_text name.now pieces.now.initial pieces.now.middle pieces.now.last) }
     ensures ok { OnOk result
-        (spec.has_substrings_text name.now pieces.now.initial pieces.now.middle pieces.now.last ≡ true) }
+        (spec.has_substrings_text name.now pieces.now.initial pieces.now.middle pieces.now.last
+        ≡ true) }
     ensures sound { OnOk result
         (spec.are_sound_pieces pieces.now.initial pieces.now.middle pieces.now.last ≡ true) }
     ensures fault { IfErr result
-        (Lacks (spec.has_substrings_text name.now pieces.now.initial pieces.now.middle pieces.now.last)) }
+        (Lacks
+        (spec.has_substrings_text name.now pieces.now.initial pieces.now.middle pieces.now.last)) }
 {
     put_type(text, name)?;
     if !are_filled(pieces) {
@@ -195,7 +206,8 @@ fn put_end(text: &mut Vec<u8>, piece: &Option<Octets>) -> Result<(), NoMemory>
 }
 
 fn put_middle(text: &mut Vec<u8>, pieces: &[Octets]) -> Result<(), NoMemory>
-    ensures text { OnOk result (text.new.items ≡ text.old.items ++ flat_map spec.middle_text pieces.now) }
+    ensures text { OnOk result
+        (text.new.items ≡ text.old.items ++ flat_map spec.middle_text pieces.now) }
     ensures sound { OnOk result (list_all spec.are_bytes pieces.now ≡ true) }
 {
     for piece in pieces {

@@ -4,7 +4,7 @@ use Rattle.std.specs.Prelude.{IfOk, IfSome}
 use Rattle.std.proofs.lemmas.Bool.{lt-ltb, le-ltb, ne_eqb, ltb-false}
 use Rattle.std.proofs.lemmas.List.{append-nil, length-take, get_or-take}
 use Rattle.std.proofs.Math.Seq.{take-append_seam}
-use Rattle.ldap_ber.specs.Element.{Begins, IsLength, number_behind}
+use Rattle.ldap_ber.specs.Element.{Begins, IsLength, number_after}
 use Rattle.ldap_ber.specs.Reading.{whole_at}
 use Rattle.ldap_ber.proofs.Steps.{chosen}
 use Rattle.ldap_ber.proofs.LengthLemmas.{seam}
@@ -15,7 +15,7 @@ use Rattle.ldap_messages.specs.declared.frame.Frame.TheVariants.{Partial, Refuse
 use Rattle.ldap_messages.specs.declared.fault.MessageFault.{MessageFault}
 use Rattle.ldap_messages.specs.declared.message.Message.{Message}
 use Rattle.ldap_messages.specs.Whole.{Whole, whole_of, MessageForm, message_at}
-use Rattle.ldap_messages.specs.Frame.{framed, frame_at, Read, message, held, in_frame, read_of, Tells, Spells}
+use Rattle.ldap_messages.specs.Frame.{framed, frame_at, Read, message, held, in_frame, read_of, HasMeaning, Spells}
 use Rattle.ldap_messages.proofs.MessageLemmas.{message_exact}
 
 framed_held : (header count so_far : ℕ) → count ≤ 4194304 → header + count ≤ so_far → framed header count so_far ≡ Held (header + count)
@@ -37,16 +37,16 @@ frame_only (b ∷ ds) body after h small = elim h [
       let low : 128 ≤ b = omega arith in
       let there : (b - 126) + length body ≤ length (ds ++ (body ++ after)) + 2 = omega (arith, length-append ds (body ++ after), length-append body after, s.2) in
       let counted : b - 128 ≤ length (ds ++ (body ++ after)) = omega (arith, length-append ds (body ++ after), s.2) in
-      let f : framed (b - 126) (number_behind 0 ds) (length (ds ++ (body ++ after)) + 2) ≡ Held ((b - 126) + number_behind 0 ds) =
-      framed_held (b - 126) (number_behind 0 ds) (length (ds ++ (body ++ after)) + 2) (omega (arith, s.3)) (omega (arith, s.3, there)) in
-      let same : (b - 126) + number_behind 0 ds ≡ 1 + length (b ∷ ds) + length body = omega (arith, s.2, s.3) in
+      let f : framed (b - 126) (number_after 0 ds) (length (ds ++ (body ++ after)) + 2) ≡ Held ((b - 126) + number_after 0 ds) =
+      framed_held (b - 126) (number_after 0 ds) (length (ds ++ (body ++ after)) + 2) (omega (arith, s.3)) (omega (arith, s.3, there)) in
+      let same : (b - 126) + number_after 0 ds ≡ 1 + length (b ∷ ds) + length body = omega (arith, s.2, s.3) in
       rw (le-ltb b 128 low, ne_eqb b 128 (omega arith), le-ltb 132 b s.1, le-ltb (length (ds ++ (body ++ after))) (b - 128) counted, p.0, f) (ap (λ (n : ℕ). Held n) same)
 ]
 
-pub frame_there : (front after body : List ℕ) → Begins front 48 body [] → length body ≤ 4194304 → frame_at (front ++ after) ≡ Held (length front)
-frame_there front after body h small =
-    let parts : front ++ after ≡ 48 ∷ (h.octets ++ (body ++ after)) = ap (λ (x : List ℕ). x ++ after) (h.parts ∙ ap (λ (x : List ℕ). 48 ∷ (h.octets ++ x)) (append-nil body)) ∙ ap (λ (x : List ℕ). 48 ∷ x) (append_assoc h.octets body after) in
-    let size : length front ≡ 1 + length h.octets + length body = omega (arith, ap (λ (x : List ℕ). length x) h.parts, length-append h.octets (body ++ []), length-append body []) in
+pub frame_there : (prefix after body : List ℕ) → Begins prefix 48 body [] → length body ≤ 4194304 → frame_at (prefix ++ after) ≡ Held (length prefix)
+frame_there prefix after body h small =
+    let parts : prefix ++ after ≡ 48 ∷ (h.octets ++ (body ++ after)) = ap (λ (x : List ℕ). x ++ after) (h.parts ∙ ap (λ (x : List ℕ). 48 ∷ (h.octets ++ x)) (append-nil body)) ∙ ap (λ (x : List ℕ). 48 ∷ x) (append_assoc h.octets body after) in
+    let size : length prefix ≡ 1 + length h.octets + length body = omega (arith, ap (λ (x : List ℕ). length x) h.parts, length-append h.octets (body ++ []), length-append body []) in
     rw (parts, size) (frame_only h.octets body after h.counted small)
 
 framed_is : (header count so_far k : ℕ) → framed header count so_far ≡ Held k → (header + count ≡ k) × (count ≤ 4194304)
@@ -72,7 +72,7 @@ header_is tag b octets k h = elim (chosen (not (eqb tag 48)) _ _ _ h) [
       | inl u ↦ absurd cc
       | inr u ↦ elim (chosen (ltb (length octets) (b - 128)) _ _ _ u.1) [
         | inl v ↦ absurd cc
-        | inr v ↦ let f = framed_is (b - 126) (number_behind 0 (take (b - 128) octets)) (length octets + 2) k v.1 in rw t.0 (omega (arith, f.0, f.1))
+        | inr v ↦ let f = framed_is (b - 126) (number_after 0 (take (b - 128) octets)) (length octets + 2) k v.1 in rw t.0 (omega (arith, f.0, f.1))
       ]
     ]
   ]
@@ -88,7 +88,7 @@ frame_within (c ∷ ds) body more k h size b is le = elim h [
       omega (arith, s.2, long, size, length-append ds (body ++ []), length-append body [])
 ]
 
-second : (k tag b : ℕ) (octets front rest : List ℕ) → take k (tag ∷ b ∷ octets) ≡ 48 ∷ (front ++ rest) → 0 < length front → 1 < k → b ≡ get_or front 0 0
+second : (k tag b : ℕ) (octets prefix rest : List ℕ) → take k (tag ∷ b ∷ octets) ≡ 48 ∷ (prefix ++ rest) → 0 < length prefix → 1 < k → b ≡ get_or prefix 0 0
 second k tag b octets [] rest e some big = absurd (omega arith)
 second k tag b octets (c ∷ ds) rest e some big = sym (get_or-take k (tag ∷ b ∷ octets) 1 0 big) ∙ ap (λ (x : List ℕ). get_or x 1 0) e
 
@@ -124,18 +124,18 @@ read_found bytes m k h =
     let r = read_is bytes m k (frame_at bytes) refl h in
     (whole_found place_of MessageForm message_at message_exact (take k bytes) m r.1, within_limit bytes k r.0)
 
-pub read_only : (front after : List ℕ) (m : Whole) → Spells front m → read_of (front ++ after) ≡ message m (length front)
+pub read_only : (prefix after : List ℕ) (m : Whole) → Spells prefix m → read_of (prefix ++ after) ≡ message m (length prefix)
 unfolding MessageForm read_of
-read_only front after m h =
-    let w = whole_only place_of MessageForm message_at message_exact front m h.0 in
+read_only prefix after m h =
+    let w = whole_only place_of MessageForm message_at message_exact prefix m h.0 in
     let b = h.0 in
-    let body : Begins front 48 b.0 [] = b.2 in
-    rw (frame_there front after b.0 body (h.1 b.0 body), take-append_seam front after, w) refl
+    let body : Begins prefix 48 b.0 [] = b.2 in
+    rw (frame_there prefix after b.0 body (h.1 b.0 body), take-append_seam prefix after, w) refl
 
-pub tells_found : (bytes : List ℕ) (r : Result (Option (Message × ℕ)) MessageFault) → Tells r (read_of bytes) → IfOk r (λ o. IfSome o (λ x. Spells (take x.1 bytes) (whole_of x.0)))
-tells_found bytes (Ok None) h = tt
-tells_found bytes (Ok (Some x)) h = read_found bytes (whole_of x.0) x.1 h
-tells_found bytes (Err e) h = tt
+pub found_meaning : (bytes : List ℕ) (r : Result (Option (Message × ℕ)) MessageFault) → HasMeaning r (read_of bytes) → IfOk r (λ o. IfSome o (λ x. Spells (take x.1 bytes) (whole_of x.0)))
+found_meaning bytes (Ok None) h = tt
+found_meaning bytes (Ok (Some x)) h = read_found bytes (whole_of x.0) x.1 h
+found_meaning bytes (Err e) h = tt
 
-pub tells_only : (result : Result (Option (Message × ℕ)) MessageFault) (bytes : List ℕ) (whole : Whole) (front after : List ℕ) → Tells result (read_of bytes) → bytes ≡ front ++ after → Spells front whole → Tells result (message whole (length front))
-tells_only result bytes whole front after t e h = subst (λ (r : Read). Tells result r) (ap read_of e ∙ read_only front after whole h) t
+pub only_meaning : (result : Result (Option (Message × ℕ)) MessageFault) (bytes : List ℕ) (whole : Whole) (prefix after : List ℕ) → HasMeaning result (read_of bytes) → bytes ≡ prefix ++ after → Spells prefix whole → HasMeaning result (message whole (length prefix))
+only_meaning result bytes whole prefix after t e h = subst (λ (r : Read). HasMeaning result r) (ap read_of e ∙ read_only prefix after whole h) t

@@ -2,7 +2,7 @@
 use Rattle.std.proofs.Common.{ℕ, zero, suc, ◌≤◌, List, [], Option, Some, None, Result, Ok, Err, arith}
 use Rattle.std.specs.Prelude.{IfOk, IfSome}
 use Rattle.ldap_ber.specs.Form.{Many}
-use Rattle.ldap_filter.specs.Tree.{Tree, Trees, all_of, any_of, negated, equal, substrings, at_least, at_most, present, approx, extensible, no_trees, more_trees, depth, deepest}
+use Rattle.ldap_filter.specs.FilterTree.{FilterTree, Trees, all_of, any_of, negated, equal, substrings, at_least, at_most, present, approx, extensible, no_trees, more_trees, depth, deepest}
 use Rattle.ldap_parts.specs.Components.{IsWithin, RangeForm}
 use Rattle.ldap_parts.specs.Filters.{listed, FilterIn}
 use Rattle.ldap_messages.specs.declared.fault.MessageFault.{MessageFault}
@@ -10,18 +10,18 @@ use Rattle.ldap_messages.specs.declared.message.Message.{Message}
 use Rattle.ldap_messages.specs.Search.{Reach, ReachForm}
 use Rattle.ldap_messages.specs.Operation.{Operation, bind, unbind, search, modify, add, delete, rename, compare, abandon, extended, bind_response, entry, search_done, reference, modify_response, add_response, delete_response, rename_response, compare_response, extended_response, intermediate, OperationForm, IsOfGrammar}
 use Rattle.ldap_messages.specs.Whole.{Whole, whole_of, MessageForm, HasSpelling}
-use Rattle.ldap_messages.specs.Frame.{Tells, read_of}
+use Rattle.ldap_messages.specs.Frame.{HasMeaning, read_of}
 use Rattle.ldap_messages.proofs.OutcomeLemmas.{outcome_is, response_is}
 use Rattle.ldap_messages.proofs.FrameLemmas.{read_found}
 
-each_depth : (d : ℕ) → ((bytes : List ℕ) (t : Tree) (rest : List ℕ) → FilterIn d bytes t rest → depth t ≤ d) → (bytes : List ℕ) (ts : Trees) → Many (FilterIn d) bytes (listed ts) → deepest ts ≤ d
+each_depth : (d : ℕ) → ((bytes : List ℕ) (t : FilterTree) (rest : List ℕ) → FilterIn d bytes t rest → depth t ≤ d) → (bytes : List ℕ) (ts : Trees) → Many (FilterIn d) bytes (listed ts) → deepest ts ≤ d
 each_depth d p bytes no_trees h = omega arith
 each_depth d p bytes (more_trees t ts) h =
     let one : depth t ≤ d = p bytes t h.0 h.1 in
     let others : deepest ts ≤ d = each_depth d p h.0 ts h.2 in
     omega arith
 
-filter_depth : (levels : ℕ) (bytes : List ℕ) (t : Tree) (rest : List ℕ) → FilterIn levels bytes t rest → depth t ≤ levels
+filter_depth : (levels : ℕ) (bytes : List ℕ) (t : FilterTree) (rest : List ℕ) → FilterIn levels bytes t rest → depth t ≤ levels
 unfolding FilterIn
 filter_depth zero bytes t rest h = absurd h
 filter_depth (suc d) bytes (all_of ts) rest h = let e : deepest ts ≤ d = each_depth d (filter_depth d) h.0 ts h.2 in omega arith
@@ -40,9 +40,9 @@ range_bounds least most tag bytes value rest h = let w : IsWithin least most h.0
 
 reach_is : (reach : Reach) (bytes rest : List ℕ) → ReachForm bytes reach rest → (reach.1.1.0 ≤ 3) × (reach.1.1.1.0 ≤ 2147483647) × (reach.1.1.1.1.0 ≤ 2147483647)
 reach_is reach bytes rest h =
-    let behind = h.2.2 in
-    let deref = range_bounds 0 3 10 _ reach.1.1.0 _ behind.1 in
-    let limits = behind.2 in
+    let beyond = h.2.2 in
+    let deref = range_bounds 0 3 10 _ reach.1.1.0 _ beyond.1 in
+    let limits = beyond.2 in
     let size = range_bounds 0 2147483647 2 _ reach.1.1.1.0 _ limits.1 in
     let time = range_bounds 0 2147483647 2 _ reach.1.1.1.1.0 _ limits.2.1 in
     (deref.1, size.1, time.1)
@@ -76,10 +76,10 @@ message_is : (bytes rest : List ℕ) (whole : Whole) → MessageForm bytes whole
 unfolding MessageForm
 message_is bytes rest whole h =
     let id = range_bounds 0 2147483647 2 h.0 whole.0 _ h.3.1 in
-    let behind = h.3.2 in
-    (id.1, operation_is whole.1.0 _ _ behind.1)
+    let beyond = h.3.2 in
+    (id.1, operation_is whole.1.0 _ _ beyond.1)
 
-pub tells_grammar : (result : Result (Option (Message × ℕ)) MessageFault) (bytes : List ℕ) → Tells result (read_of bytes) → IfOk result (λ o. IfSome o (λ x. HasSpelling (whole_of x.0)))
-tells_grammar (Ok None) bytes h = tt
-tells_grammar (Ok (Some x)) bytes h = message_is _ [] (whole_of x.0) (read_found bytes (whole_of x.0) x.1 h).0
-tells_grammar (Err e) bytes h = tt
+pub grammar_meaning : (result : Result (Option (Message × ℕ)) MessageFault) (bytes : List ℕ) → HasMeaning result (read_of bytes) → IfOk result (λ o. IfSome o (λ x. HasSpelling (whole_of x.0)))
+grammar_meaning (Ok None) bytes h = tt
+grammar_meaning (Ok (Some x)) bytes h = message_is _ [] (whole_of x.0) (read_found bytes (whole_of x.0) x.1 h).0
+grammar_meaning (Err e) bytes h = tt

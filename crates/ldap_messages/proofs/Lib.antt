@@ -1,3 +1,4 @@
+pub mod SizeLemmas
 pub mod UriLemmas
 pub mod OutcomeLemmas
 pub mod ModifyLemmas
@@ -6,5 +7,5 @@ pub mod OperationSpellings
 pub mod MessageLemmas
 pub mod MessageSpellings
 pub mod FrameLemmas
-pub mod FrontLemmas
+pub mod PrefixLemmas
 pub mod GrammarLemmas

@@ -5,11 +5,11 @@ use Rattle.ldap_ber.specs.Element.{Begins}
 use Rattle.ldap_ber.specs.Form.{Both}
 use Rattle.ldap_ber.specs.Canonical.{element}
 use Rattle.ldap_ber.specs.Writer.{IsSmall}
-use Rattle.ldap_ber.proofs.CanonicalLemmas.{Spelled, Anything, Always, Lacks, both_spelled, sequence_spelled, whole_spelled, if_written_soundly}
+use Rattle.ldap_ber.proofs.CanonicalLemmas.{Spelled, Anything, Always, Lacks, both_spelled, sequence_spelled, whole_spelled, if_written_soundly, none_next}
 use Rattle.ldap_parts.specs.declared.control.Control.{Control}
 use Rattle.ldap_parts.specs.Components.{RangeForm, number_octets}
 use Rattle.ldap_parts.specs.Controls.{ControlsForm, controls_octets}
-use Rattle.ldap_parts.proofs.ComponentLemmas.{range_spelled, none_next}
+use Rattle.ldap_parts.proofs.ComponentLemmas.{range_spelled}
 use Rattle.ldap_parts.proofs.ControlLemmas.{controls_spelled}
 use Rattle.ldap_messages.specs.Operation.{Operation, OperationForm, operation_octets, IsHeld}
 use Rattle.ldap_messages.specs.Whole.{Whole, MessageForm, message_octets, HasSpelling}

@@ -8,7 +8,7 @@ use Rattle.ldap_ber.specs.Reading.{many_at, both_at, sequence_at}
 use Rattle.ldap_ber.specs.Canonical.{element, integer_octets}
 use Rattle.ldap_ber.proofs.Steps.{chosen, ok_is}
 use Rattle.ldap_ber.proofs.SkipLemmas.{Begins-shorter}
-use Rattle.ldap_ber.proofs.ManyLemmas.{Advances, with_front, many_goes_on, many_fails, many_ended}
+use Rattle.ldap_ber.proofs.ManyLemmas.{Advances, with_prefix, many_goes_on, many_fails, many_ended}
 use Rattle.ldap_ber.proofs.ExactLemmas.{Exact, Shortens, both_exact, meaning_exact, made_exact, sequence_exact, list_exact, advances}
 use Rattle.ldap_ber.proofs.CanonicalLemmas.{Spelled, Anything, Always, octets_spelled, both_spelled, meaning_spelled, made_spelled, sequence_spelled, list_spelled}
 use Rattle.ldap_ber.proofs.IntegerLemmas.{integer_spelled}
@@ -61,15 +61,15 @@ modify_exact = sequence_exact place_of 102 _ _ (both_exact _ _ _ _ (string_exact
 edit_advances : Advances edit_at
 edit_advances = advances EditForm edit_at edit_exact edit_shortens
 
-pub edits_go_on : (front : List RawEdit) (stop : ℕ) (bytes : List ℕ) (x : RawEdit) (rest : List ℕ) → 0 < length bytes → edit_at stop bytes ≡ Ok (x, rest)
-    → with_front (front ++ x ∷ []) (many_at edit_at stop rest) ≡ with_front front (many_at edit_at stop bytes)
-edits_go_on front stop bytes x rest some h = many_goes_on edit_at edit_advances front stop bytes x rest some h
+pub edits_go_on : (prefix : List RawEdit) (stop : ℕ) (bytes : List ℕ) (x : RawEdit) (rest : List ℕ) → 0 < length bytes → edit_at stop bytes ≡ Ok (x, rest)
+    → with_prefix (prefix ++ x ∷ []) (many_at edit_at stop rest) ≡ with_prefix prefix (many_at edit_at stop bytes)
+edits_go_on prefix stop bytes x rest some h = many_goes_on edit_at edit_advances prefix stop bytes x rest some h
 
-pub edits_fail : (front : List RawEdit) (stop : ℕ) (bytes : List ℕ) (e : ℕ) → 0 < length bytes → edit_at stop bytes ≡ Err e → with_front front (many_at edit_at stop bytes) ≡ Err e
-edits_fail front stop bytes e some h = many_fails edit_at edit_advances front stop bytes e some h
+pub edits_fail : (prefix : List RawEdit) (stop : ℕ) (bytes : List ℕ) (e : ℕ) → 0 < length bytes → edit_at stop bytes ≡ Err e → with_prefix prefix (many_at edit_at stop bytes) ≡ Err e
+edits_fail prefix stop bytes e some h = many_fails edit_at edit_advances prefix stop bytes e some h
 
-pub edits_end : (front : List RawEdit) (stop : ℕ) (bytes : List ℕ) → length bytes ≡ 0 → with_front front (many_at edit_at stop bytes) ≡ Ok front
-edits_end front stop bytes none = many_ended edit_at front stop bytes none
+pub edits_end : (prefix : List RawEdit) (stop : ℕ) (bytes : List ℕ) → length bytes ≡ 0 → with_prefix prefix (many_at edit_at stop bytes) ≡ Ok prefix
+edits_end prefix stop bytes none = many_ended edit_at prefix stop bytes none
 
 -- ---- written
 

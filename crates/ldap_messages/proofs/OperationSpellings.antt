@@ -2,13 +2,13 @@
 use Rattle.std.proofs.Common.{◌≡◌, ◌≢◌, ℕ, ◌<◌, ◌≤◌, ◌%◌, ◌^◌, true, List, [], ◌++◌, length, Option, refl, append_assoc, arith}
 use Rattle.ldap_ber.specs.Form.{Form, OctetString, Both, Sequence}
 use Rattle.ldap_ber.specs.Canonical.{element}
-use Rattle.ldap_ber.proofs.CanonicalLemmas.{Spelled, Anything, Always, Lacks, octets_spelled, boolean_spelled, both_spelled, sequence_spelled}
+use Rattle.ldap_ber.proofs.CanonicalLemmas.{Spelled, Anything, Always, Lacks, octets_spelled, boolean_spelled, both_spelled, sequence_spelled, none_next}
 use Rattle.ldap_ber.proofs.IntegerLemmas.{integer_spelled}
 use Rattle.ldap_ber.proofs.ElementLemmas.{element_spells}
-use Rattle.ldap_filter.specs.Tree.{Tree, depth}
+use Rattle.ldap_filter.specs.FilterTree.{FilterTree, depth}
 use Rattle.ldap_parts.specs.Components.{OptionForm, string_octets}
 use Rattle.ldap_parts.specs.Filters.{have_piece}
-use Rattle.ldap_parts.proofs.ComponentLemmas.{range_spelled, option_spelled, none_next, option_lacks}
+use Rattle.ldap_parts.proofs.ComponentLemmas.{range_spelled, option_spelled, option_lacks}
 use Rattle.ldap_parts.proofs.StringLemmas.{strings_spelled}
 use Rattle.ldap_parts.proofs.AttributeLemmas.{attributes_spelled}
 use Rattle.ldap_parts.proofs.FilterSpellings.{assertion_spelled, filter_spelled}
@@ -29,7 +29,7 @@ use Rattle.ldap_messages.proofs.UriLemmas.{uris_spelled}
 use Rattle.ldap_messages.proofs.OutcomeLemmas.{IsOutcome, outcome_spelled, response_spelled}
 use Rattle.ldap_messages.proofs.ModifyLemmas.{modify_spelled}
 
--- one component, and the other behind it, whatever that is
+-- one component, and the other after it, whatever that is
 and_then : {X Y : Type 0} {R : Form X} {S : Form Y} {c : X → List ℕ} {d : Y → List ℕ} {F : X → Type 0} {G : Y → Type 0} {B : List ℕ → Type 0} → Spelled R c F Anything → Spelled S d G B
     → Spelled (Both R S) (λ p. c p.0 ++ d p.1) (λ p. F p.0 × G p.1) B
 and_then {X} {Y} {R} {S} {c} {d} {F} {G} {B} p q = both_spelled R S c d F G Anything B p q (λ y rest sound after. tt)
@@ -73,7 +73,7 @@ unbind_goes rest = ([], element_spells 66 [] rest (omega arith) (omega arith), r
 abbrev IsBetween : ℕ → ℕ → ℕ → Type 0
 IsBetween least most number = (least ≤ number) × (number ≤ most)
 
-abbrev FitsFilter : Tree → Type 0
+abbrev FitsFilter : FilterTree → Type 0
 FitsFilter filter = (depth filter ≤ 32) × (have_piece filter ≡ true)
 
 abbrev IsReach : Reach → Type 0

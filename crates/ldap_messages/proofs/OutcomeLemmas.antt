@@ -6,11 +6,11 @@ use Rattle.ldap_ber.specs.Form.{OctetString, Integer, Optional, Both}
 use Rattle.ldap_ber.specs.Reading.{both_at}
 use Rattle.ldap_ber.specs.Canonical.{element, integer_octets}
 use Rattle.ldap_ber.proofs.ExactLemmas.{Exact, both_exact, optional_exact, made_exact, sequence_exact}
-use Rattle.ldap_ber.proofs.CanonicalLemmas.{Spelled, Anything, Always, Lacks, octets_spelled, optional_spelled, both_spelled, made_spelled, sequence_spelled, begins_with}
+use Rattle.ldap_ber.proofs.CanonicalLemmas.{Spelled, Anything, Always, Lacks, octets_spelled, optional_spelled, both_spelled, made_spelled, sequence_spelled, begins_with, none_next}
 use Rattle.ldap_ber.proofs.IntegerLemmas.{integer_spelled}
 use Rattle.ldap_parts.specs.Gives.{place_of}
 use Rattle.ldap_parts.specs.Components.{string_at, number_at}
-use Rattle.ldap_parts.proofs.ComponentLemmas.{string_exact, number_exact, none_next}
+use Rattle.ldap_parts.proofs.ComponentLemmas.{string_exact, number_exact}
 use Rattle.ldap_messages.specs.declared.outcome.LdapResult.{LdapResult}
 use Rattle.ldap_messages.specs.Uris.{HaveOne, UrisForm, uris_at, uris_octets}
 use Rattle.ldap_messages.specs.Outcome.{RefersOn, Parts, outcome_parts, outcome_with, OutcomeForm, ResponseForm, referral_at, outcome_at, response_at, referral_octets, outcome_octets, response_octets}

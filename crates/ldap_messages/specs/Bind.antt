@@ -28,17 +28,21 @@ authentication_at stop bytes =
     made_at Sasl (string_at 163) stop bytes
 
 unfoldable pub bind_at : Reading ℕ (ℕ × (List ℕ × Authentication))
-bind_at stop bytes = sequence_at place_of 96 (both_at (range_at 1 127 2) (both_at (string_at 4) authentication_at)) stop bytes
+bind_at stop bytes =
+    sequence_at place_of 96
+    (both_at (range_at 1 127 2) (both_at (string_at 4) authentication_at)) stop bytes
 
 unfoldable pub bind_response_at : Reading ℕ (LdapResult × Option (List ℕ))
-bind_response_at stop bytes = sequence_at place_of 97 (both_at outcome_at (option_at 135)) stop bytes
+bind_response_at stop bytes =
+    sequence_at place_of 97 (both_at outcome_at (option_at 135)) stop bytes
 
 abbrev pub authentication_octets : Authentication → List ℕ
 authentication_octets (Simple password) = element 128 password
 authentication_octets (Sasl body) = element 163 body
 
 abbrev pub bind_octets : ℕ × (List ℕ × Authentication) → List ℕ
-bind_octets parts = element 96 (number_octets 2 parts.0 ++ (element 4 parts.1.0 ++ authentication_octets parts.1.1))
+bind_octets parts =
+    element 96 (number_octets 2 parts.0 ++ (element 4 parts.1.0 ++ authentication_octets parts.1.1))
 
 abbrev pub bind_response_octets : LdapResult × Option (List ℕ) → List ℕ
 bind_response_octets parts = element 97 (outcome_octets parts.0 ++ string_octets 135 parts.1)

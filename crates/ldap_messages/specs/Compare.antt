@@ -11,7 +11,8 @@ abbrev pub CompareForm : Form (List ℕ × (List ℕ × List ℕ))
 CompareForm = Sequence 110 (Both (OctetString 4) (AssertionForm 48))
 
 unfoldable pub compare_at : Reading ℕ (List ℕ × (List ℕ × List ℕ))
-compare_at stop bytes = sequence_at place_of 110 (both_at (string_at 4) (assertion_at 48)) stop bytes
+compare_at stop bytes =
+    sequence_at place_of 110 (both_at (string_at 4) (assertion_at 48)) stop bytes
 
 abbrev pub compare_octets : List ℕ × (List ℕ × List ℕ) → List ℕ
 compare_octets parts = element 110 (element 4 parts.0 ++ assertion_octets 48 parts.1)

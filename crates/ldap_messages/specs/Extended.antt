@@ -15,13 +15,18 @@ abbrev pub ExtendedResponseForm : Form (LdapResult × (Option (List ℕ) × Opti
 ExtendedResponseForm = Sequence 120 (Both OutcomeForm (Both (OptionForm 138) (OptionForm 139)))
 
 unfoldable pub extended_at : Reading ℕ (List ℕ × Option (List ℕ))
-extended_at stop bytes = sequence_at place_of 119 (both_at (string_at 128) (option_at 129)) stop bytes
+extended_at stop bytes =
+    sequence_at place_of 119 (both_at (string_at 128) (option_at 129)) stop bytes
 
 unfoldable pub extended_response_at : Reading ℕ (LdapResult × (Option (List ℕ) × Option (List ℕ)))
-extended_response_at stop bytes = sequence_at place_of 120 (both_at outcome_at (both_at (option_at 138) (option_at 139))) stop bytes
+extended_response_at stop bytes =
+    sequence_at place_of 120
+    (both_at outcome_at (both_at (option_at 138) (option_at 139))) stop bytes
 
 abbrev pub extended_octets : List ℕ × Option (List ℕ) → List ℕ
 extended_octets parts = element 119 (element 128 parts.0 ++ string_octets 129 parts.1)
 
 abbrev pub extended_response_octets : LdapResult × (Option (List ℕ) × Option (List ℕ)) → List ℕ
-extended_response_octets parts = element 120 (outcome_octets parts.0 ++ (string_octets 138 parts.1.0 ++ string_octets 139 parts.1.1))
+extended_response_octets parts =
+    element 120
+    (outcome_octets parts.0 ++ (string_octets 138 parts.1.0 ++ string_octets 139 parts.1.1))

@@ -1,6 +1,6 @@
 -- The frame that the first bytes announce, and the message in it (RFC 4511, section 5.2).
 use Rattle.std.specs.Prelude.{◌≡◌, ℕ, ◌+◌, ◌-◌, ◌≤◌, List, [], ◌∷◌, length, take, not, ◌||◌, nat_lt, ◌==◌, if◌then◌else◌, Option, Some, None, Result, Ok, Err}
-use Rattle.ldap_ber.specs.Element.{number_behind, Begins}
+use Rattle.ldap_ber.specs.Element.{number_after, Begins}
 use Rattle.ldap_ber.specs.Reading.{whole_at}
 use Rattle.ldap_parts.specs.Gives.{place_of}
 use Rattle.ldap_messages.specs.declared.frame.Frame.{Frame}
@@ -12,7 +12,9 @@ use Rattle.ldap_messages.specs.Whole.{Whole, whole_of, MessageForm, message_at}
 
 -- a header, a body of this length, and the bytes so far
 abbrev pub framed : ℕ → ℕ → ℕ → Frame
-framed header count so_far = if nat_lt 4194304 count then Long else (if nat_lt so_far (header + count) then Partial else Held (header + count))
+framed header count so_far =
+    if nat_lt 4194304 count then Long
+    else (if nat_lt so_far (header + count) then Partial else Held (header + count))
 
 abbrev pub frame_at : List ℕ → Frame
 frame_at [] = Partial
@@ -22,9 +24,10 @@ frame_at (tag ∷ first ∷ octets) =
     if nat_lt first 128 then framed 2 first (length octets + 2) else
     if (first == 128) || nat_lt 132 first then Refused 1 else
     if nat_lt (length octets) (first - 128) then Partial else
-    framed (first - 126) (number_behind 0 (take (first - 128) octets)) (length octets + 2)
+    framed (first - 126) (number_after 0 (take (first - 128) octets)) (length octets + 2)
 
--- what the bytes so far are: the begin of a message, one that is refused, or a message and its length
+-- what the bytes so far are: the begin of a message, one that is refused, or a
+-- message and its length
 pub data Read : Type 0 where
   partial : Read
   refused : ℕ → Read
@@ -45,13 +48,14 @@ unfoldable pub read_of : List ℕ → Read
 read_of bytes = in_frame bytes (frame_at bytes)
 
 -- what `read` answered, beside what the bytes are
-abbrev pub Tells : Result (Option (Message × ℕ)) MessageFault → Read → Type 0
-Tells (Ok None) read = read ≡ partial
-Tells (Ok (Some found)) read = read ≡ message (whole_of found.0) found.1
-Tells (Err (BadMessage place)) read = read ≡ refused place
-Tells (Err TooLong) read = read ≡ long
-Tells (Err NoMemory) read = Unit {0}
+abbrev pub HasMeaning : Result (Option (Message × ℕ)) MessageFault → Read → Type 0
+HasMeaning (Ok None) read = read ≡ partial
+HasMeaning (Ok (Some found)) read = read ≡ message (whole_of found.0) found.1
+HasMeaning (Err (BadMessage place)) read = read ≡ refused place
+HasMeaning (Err TooLong) read = read ≡ long
+HasMeaning (Err NoMemory) read = Unit {0}
 
 -- the bytes spell a message, whose announced length is within the limit
 abbrev pub Spells : List ℕ → Whole → Type 0
-Spells bytes whole = MessageForm bytes whole [] × ((body : List ℕ) → Begins bytes 48 body [] → length body ≤ 4194304)
+Spells bytes whole =
+    MessageForm bytes whole [] × ((body : List ℕ) → Begins bytes 48 body [] → length body ≤ 4194304)

@@ -10,7 +10,8 @@ abbrev pub IntermediateForm : Form (Option (List ℕ) × Option (List ℕ))
 IntermediateForm = Sequence 121 (Both (OptionForm 128) (OptionForm 129))
 
 unfoldable pub intermediate_at : Reading ℕ (Option (List ℕ) × Option (List ℕ))
-intermediate_at stop bytes = sequence_at place_of 121 (both_at (option_at 128) (option_at 129)) stop bytes
+intermediate_at stop bytes =
+    sequence_at place_of 121 (both_at (option_at 128) (option_at 129)) stop bytes
 
 abbrev pub intermediate_octets : Option (List ℕ) × Option (List ℕ) → List ℕ
 intermediate_octets parts = element 121 (string_octets 128 parts.0 ++ string_octets 129 parts.1)

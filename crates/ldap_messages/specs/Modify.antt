@@ -48,7 +48,8 @@ abbrev pub how_at : Reading ℕ How
 how_at = meaning_at how_of (number_at 10)
 
 unfoldable pub edit_at : Reading ℕ RawEdit
-edit_at stop bytes = made_at edit_with (sequence_at place_of 48 (both_at how_at attribute_at)) stop bytes
+edit_at stop bytes =
+    made_at edit_with (sequence_at place_of 48 (both_at how_at attribute_at)) stop bytes
 
 abbrev pub edits_at : Reading ℕ (List RawEdit)
 edits_at = list_at place_of 48 edit_at
@@ -57,7 +58,9 @@ unfoldable pub modify_at : Reading ℕ (List ℕ × List RawEdit)
 modify_at stop bytes = sequence_at place_of 102 (both_at (string_at 4) edits_at) stop bytes
 
 unfoldable pub edit_octets : RawEdit → List ℕ
-edit_octets edit = element 48 (element 10 (integer_octets (how_number edit.how)) ++ attribute_octets edit.attribute)
+edit_octets edit =
+    element 48
+    (element 10 (integer_octets (how_number edit.how)) ++ attribute_octets edit.attribute)
 
 abbrev pub edits_octets : List RawEdit → List ℕ
 edits_octets edits = element 48 (flat_map edit_octets edits)

@@ -11,10 +11,17 @@ abbrev pub Rename : Type 0
 Rename = List ℕ × (List ℕ × (Bool × Option (List ℕ)))
 
 abbrev pub RenameForm : Form Rename
-RenameForm = Sequence 108 (Both (OctetString 4) (Both (OctetString 4) (Both (Boolean 1) (OptionForm 128))))
+RenameForm =
+    Sequence 108 (Both (OctetString 4) (Both (OctetString 4) (Both (Boolean 1) (OptionForm 128))))
 
 unfoldable pub rename_at : Reading ℕ Rename
-rename_at stop bytes = sequence_at place_of 108 (both_at (string_at 4) (both_at (string_at 4) (both_at truth_at (option_at 128)))) stop bytes
+rename_at stop bytes =
+    sequence_at place_of 108
+    (both_at (string_at 4) (both_at (string_at 4) (both_at truth_at (option_at 128)))) stop bytes
 
 abbrev pub rename_octets : Rename → List ℕ
-rename_octets parts = element 108 (element 4 parts.0 ++ (element 4 parts.1.0 ++ (element 1 (boolean_octets parts.1.1.0) ++ string_octets 128 parts.1.1.1)))
+rename_octets parts =
+    element 108
+    (element 4 parts.0
+    ++ (element 4 parts.1.0
+    ++ (element 1 (boolean_octets parts.1.1.0) ++ string_octets 128 parts.1.1.1)))

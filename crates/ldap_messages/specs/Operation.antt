@@ -8,7 +8,7 @@ use Rattle.schema_rules.specs.declared.raw.RawAttribute.{RawAttribute}
 use Rattle.schema_rules.specs.declared.raw.RawEdit.{RawEdit}
 use Rattle.schema_rules.specs.declared.raw.Change.{Change}
 use Rattle.schema_rules.specs.declared.raw.Change.TheVariants.{Add, Delete, Modify, Rename as RenameChange}
-use Rattle.ldap_filter.specs.Tree.{tree_of, depth}
+use Rattle.ldap_filter.specs.FilterTree.{tree_of, depth}
 use Rattle.ldap_parts.specs.Filters.{have_piece}
 use Rattle.ldap_messages.specs.declared.bind.Authentication.{Authentication}
 use Rattle.ldap_messages.specs.declared.outcome.LdapResult.{LdapResult}
@@ -63,7 +63,10 @@ operation_of (BindRequest version name authentication) = bind (version, (name, a
 operation_of (BindResponse result sasl) = bind_response (result, sasl)
 operation_of UnbindRequest = unbind tt
 operation_of (SearchRequest base scope deref size_limit time_limit types_only filter attributes) =
-    search ((base, (scope_number scope, (deref, (size_limit, (time_limit, types_only))))), (tree_of filter, attributes))
+    search (
+      (base, (scope_number scope, (deref, (size_limit, (time_limit, types_only))))),
+      (tree_of filter, attributes),
+    )
 operation_of (SearchResultEntry name attributes) = entry (name, attributes)
 operation_of (SearchResultDone result) = search_done result
 operation_of (Write change) = change_of change
@@ -106,7 +109,7 @@ OperationForm bytes (intermediate parts) rest = IntermediateForm bytes parts res
 
 -- ---- how they are read
 
--- The first octet tells the operation. Each reading tries a few and hands on to the next.
+-- The first octet reports the operation. Each reading tries a few and hands on to the next.
 
 -- of the responses, what is left
 unfoldable pub other_response_at : Reading ℕ Operation
@@ -188,12 +191,13 @@ operation_octets (compare_response parts) = response_octets 111 parts
 operation_octets (extended_response parts) = extended_response_octets parts
 operation_octets (intermediate parts) = intermediate_octets parts
 
--- the operation is one of the grammar: its numbers are in their bounds, its references and its referral have a URI, and
--- its filter is not too deep
+-- the operation is one of the grammar: its numbers are in their bounds, its references and its
+-- referral have a URI, and its filter is not too deep
 abbrev pub IsOfGrammar : Operation → Type 0
 IsOfGrammar (bind parts) = (1 ≤ parts.0) × (parts.0 ≤ 127)
 IsOfGrammar (search parts) =
-    (parts.0.1.1.0 ≤ 3) × (parts.0.1.1.1.0 ≤ 2147483647) × (parts.0.1.1.1.1.0 ≤ 2147483647) × (depth parts.1.0 ≤ 32)
+    (parts.0.1.1.0 ≤ 3) × (parts.0.1.1.1.0 ≤ 2147483647) × (parts.0.1.1.1.1.0 ≤ 2147483647)
+    × (depth parts.1.0 ≤ 32)
 IsOfGrammar (reference uris) = HaveOne uris
 IsOfGrammar (bind_response parts) = RefersOn parts.0
 IsOfGrammar (search_done outcome) = RefersOn outcome
@@ -205,8 +209,8 @@ IsOfGrammar (compare_response outcome) = RefersOn outcome
 IsOfGrammar (extended_response parts) = RefersOn parts.0
 IsOfGrammar _ = Unit {0}
 
--- what an operation has by the types that hold it: the scope is one of three, each substring filter has a piece, and
--- numbers have 64 bits
+-- what an operation has by the types that hold it: the scope is one of three, each substring filter
+-- has a piece, and numbers have 64 bits
 abbrev pub IsHeld : Operation → Type 0
 IsHeld (search parts) = (parts.0.1.0 ≤ 2) × (have_piece parts.1.0 ≡ true)
 IsHeld (abandon id) = FitsSigned w64 id

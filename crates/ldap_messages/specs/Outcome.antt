@@ -12,14 +12,18 @@ abbrev pub Parts : Type 0
 Parts = ℤ × (List ℕ × (List ℕ × Option (List (List ℕ))))
 
 abbrev pub outcome_parts : LdapResult → Parts
-outcome_parts outcome = (outcome.code, (outcome.matched, (outcome.message, outcome.referral)))
+outcome_parts outcome = (outcome.code, (outcome.matched_dn, (outcome.diagnostic_message, outcome.referral)))
 
 abbrev pub outcome_with : Parts → LdapResult
-outcome_with parts = record { code = parts.0; matched = parts.1.0; message = parts.1.1.0; referral = parts.1.1.1 }
+outcome_with parts =
+    record { code = parts.0; matched_dn = parts.1.0; diagnostic_message = parts.1.1.0; referral = parts.1.1.1 }
 
 -- the components of an LDAPResult
 abbrev pub OutcomeForm : Form LdapResult
-OutcomeForm = MadeOf outcome_parts (Both (Integer 10) (Both (OctetString 4) (Both (OctetString 4) (Optional 163 (UrisForm 163)))))
+OutcomeForm =
+    MadeOf outcome_parts
+    (Both (Integer 10)
+    (Both (OctetString 4) (Both (OctetString 4) (Optional 163 (UrisForm 163)))))
 
 -- a referral has a URI
 abbrev pub RefersOn : LdapResult → Type 0
@@ -32,7 +36,10 @@ abbrev pub referral_at : Reading ℕ (Option (List (List ℕ)))
 referral_at = optional_at 163 (uris_at 163)
 
 unfoldable pub outcome_at : Reading ℕ LdapResult
-outcome_at stop bytes = made_at outcome_with (both_at (number_at 10) (both_at (string_at 4) (both_at (string_at 4) referral_at))) stop bytes
+outcome_at stop bytes =
+    made_at outcome_with
+    (both_at (number_at 10) (both_at (string_at 4) (both_at (string_at 4) referral_at)))
+    stop bytes
 
 unfoldable pub response_at : ℕ → Reading ℕ LdapResult
 response_at tag stop bytes = sequence_at place_of tag outcome_at stop bytes
@@ -41,7 +48,10 @@ abbrev pub referral_octets : Option (List (List ℕ)) → List ℕ
 referral_octets = option_octets (uris_octets 163)
 
 abbrev pub outcome_octets : LdapResult → List ℕ
-outcome_octets outcome = element 10 (integer_octets outcome.code) ++ (element 4 outcome.matched ++ (element 4 outcome.message ++ referral_octets outcome.referral))
+outcome_octets outcome =
+    element 10 (integer_octets outcome.code)
+    ++ (element 4 outcome.matched_dn
+    ++ (element 4 outcome.diagnostic_message ++ referral_octets outcome.referral))
 
 abbrev pub response_octets : ℕ → LdapResult → List ℕ
 response_octets tag outcome = element tag (outcome_octets outcome)

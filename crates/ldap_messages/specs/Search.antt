@@ -4,7 +4,7 @@ use Rattle.ldap_ber.specs.Form.{Form, OctetString, Boolean, Both, Sequence}
 use Rattle.ldap_ber.specs.Reading.{Reading, both_at, sequence_at}
 use Rattle.ldap_ber.specs.Canonical.{element, boolean_octets}
 use Rattle.schema_rules.specs.declared.raw.RawAttribute.{RawAttribute}
-use Rattle.ldap_filter.specs.Tree.{Tree}
+use Rattle.ldap_filter.specs.FilterTree.{FilterTree}
 use Rattle.ldap_parts.specs.Gives.{place_of}
 use Rattle.ldap_parts.specs.Components.{RangeForm, StringsForm, string_at, truth_at, range_at, strings_at, number_octets, strings_octets}
 use Rattle.ldap_parts.specs.Attributes.{AttributesForm, attributes_at, attributes_octets}
@@ -18,17 +18,21 @@ scope_number Base = 0
 scope_number One = 1
 scope_number Sub = 2
 
--- how far a search reaches: the base, the scope's number, how aliases are followed, the limits, and whether types alone
--- are asked for
+-- how far a search reaches: the base, the scope's number, how aliases are followed, the limits, and
+-- whether types alone are asked for
 abbrev pub Reach : Type 0
 Reach = List ℕ × (ℕ × (ℕ × (ℕ × (ℕ × Bool))))
 
 -- the reach, the filter and the attributes
 abbrev pub Search : Type 0
-Search = Reach × (Tree × List (List ℕ))
+Search = Reach × (FilterTree × List (List ℕ))
 
 abbrev pub ReachForm : Form Reach
-ReachForm = Both (OctetString 4) (Both (RangeForm 0 2 10) (Both (RangeForm 0 3 10) (Both (RangeForm 0 2147483647 2) (Both (RangeForm 0 2147483647 2) (Boolean 1)))))
+ReachForm =
+    Both (OctetString 4)
+    (Both (RangeForm 0 2 10)
+    (Both (RangeForm 0 3 10)
+    (Both (RangeForm 0 2147483647 2) (Both (RangeForm 0 2147483647 2) (Boolean 1)))))
 
 abbrev pub SearchForm : Form Search
 SearchForm = Sequence 99 (Both ReachForm (Both (FilterIn 32) (StringsForm 48)))
@@ -43,10 +47,16 @@ abbrev pub scope_at : Reading ℕ ℕ
 scope_at = range_at 0 2 10
 
 unfoldable pub reach_at : Reading ℕ Reach
-reach_at stop bytes = both_at (string_at 4) (both_at scope_at (both_at (range_at 0 3 10) (both_at (range_at 0 2147483647 2) (both_at (range_at 0 2147483647 2) truth_at)))) stop bytes
+reach_at stop bytes =
+    both_at (string_at 4)
+    (both_at scope_at
+    (both_at (range_at 0 3 10)
+    (both_at (range_at 0 2147483647 2) (both_at (range_at 0 2147483647 2) truth_at)))) stop
+    bytes
 
 unfoldable pub search_at : Reading ℕ Search
-search_at stop bytes = sequence_at place_of 99 (both_at reach_at (both_at (filter_in 32) (strings_at 48))) stop bytes
+search_at stop bytes =
+    sequence_at place_of 99 (both_at reach_at (both_at (filter_in 32) (strings_at 48))) stop bytes
 
 unfoldable pub entry_at : Reading ℕ (List ℕ × List RawAttribute)
 entry_at stop bytes = sequence_at place_of 100 (both_at (string_at 4) attributes_at) stop bytes
@@ -56,11 +66,16 @@ reference_at = uris_at 115
 
 unfoldable pub reach_octets : Reach → List ℕ
 reach_octets reach =
-    element 4 reach.0 ++ (number_octets 10 reach.1.0 ++ (number_octets 10 reach.1.1.0 ++ (number_octets 2 reach.1.1.1.0 ++ (number_octets 2 reach.1.1.1.1.0
+    element 4 reach.0
+    ++ (number_octets 10 reach.1.0
+    ++ (number_octets 10 reach.1.1.0
+    ++ (number_octets 2 reach.1.1.1.0
+    ++ (number_octets 2 reach.1.1.1.1.0
     ++ element 1 (boolean_octets reach.1.1.1.1.1)))))
 
 abbrev pub search_octets : Search → List ℕ
-search_octets parts = element 99 (reach_octets parts.0 ++ (filter_octets parts.1.0 ++ strings_octets 48 parts.1.1))
+search_octets parts =
+    element 99 (reach_octets parts.0 ++ (filter_octets parts.1.0 ++ strings_octets 48 parts.1.1))
 
 abbrev pub entry_octets : List ℕ × List RawAttribute → List ℕ
 entry_octets parts = element 100 (element 4 parts.0 ++ attributes_octets parts.1)

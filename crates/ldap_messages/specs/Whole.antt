@@ -21,10 +21,14 @@ unfoldable pub MessageForm : Form Whole
 MessageForm = Sequence 48 (Both (RangeForm 0 2147483647 2) (Both OperationForm ControlsForm))
 
 unfoldable pub message_at : Reading ℕ Whole
-message_at stop bytes = sequence_at place_of 48 (both_at (range_at 0 2147483647 2) (both_at operation_at controls_at)) stop bytes
+message_at stop bytes =
+    sequence_at place_of 48
+    (both_at (range_at 0 2147483647 2) (both_at operation_at controls_at)) stop bytes
 
 unfoldable pub message_octets : Whole → List ℕ
-message_octets whole = element 48 (number_octets 2 whole.0 ++ (operation_octets whole.1.0 ++ controls_octets whole.1.1))
+message_octets whole =
+    element 48
+    (number_octets 2 whole.0 ++ (operation_octets whole.1.0 ++ controls_octets whole.1.1))
 
 -- the message has a spelling, where it is not too long for four length octets
 abbrev pub HasSpelling : Whole → Type 0

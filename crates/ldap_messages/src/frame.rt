@@ -1,8 +1,8 @@
 //! The frame of a message, which its first bytes announce: the tag of a SEQUENCE, and a definite
-//! length in at most four octets behind its first (RFC 4511, section 5.1).
+//! length in at most four octets after its first (RFC 4511, section 5.1).
 
 ghost use Rattle.std.specs.Prelude.{◌≡◌, ◌≤◌, ◌<◌, ◌^◌, length, IfOk};
-ghost use Rattle.ldap_ber.specs.Element.{number_behind};
+ghost use Rattle.ldap_ber.specs.Element.{number_after};
 ghost use Rattle.ldap_messages.specs.Frame.{framed, frame_at};
 
 /// The most octets of a message's body.
@@ -17,11 +17,11 @@ pub(crate) enum Frame {
     Refused(usize),
     /// A body that is too long.
     Long,
-    /// A whole frame of so many octets.
+    /// A whole frame of n octets.
     Held(usize),
 }
 
-/// The frame at the front of the bytes.
+/// The frame at the start of the bytes.
 pub(crate) fn frame_of(bytes: &[u8]) -> Frame
     ensures { result ≡ frame_at bytes.now }
 {
@@ -53,7 +53,7 @@ pub(crate) fn frame_of(bytes: &[u8]) -> Frame
     }
 }
 
-/// The frame with a header and a body of these lengths, of which so many octets came.
+/// The frame with a header and a body of these lengths, of which n octets came.
 fn framed(header: usize, count: usize, so_far: usize) -> Frame
     requires { header ≤ 6 }
     ensures { result ≡ framed header count so_far }
@@ -70,7 +70,7 @@ fn framed(header: usize, count: usize, so_far: usize) -> Frame
 /// The number of up to four octets, the highest first.
 fn number_of(octets: &[u8]) -> usize
     requires { length octets.now ≤ 4 }
-    ensures { result ≡ number_behind 0 octets.now }
+    ensures { result ≡ number_after 0 octets.now }
 {
     match octets {
         [a] => *a as usize,

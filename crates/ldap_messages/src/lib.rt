@@ -1,6 +1,6 @@
 //! Messages of LDAP as bytes, both ways (RFC 4511; the operations of sections 4.2 to 4.13).
 //!
-//! A message is read at the front of the bytes of a stream, in any spelling of its elements, and
+//! A message is read at the start of the bytes of a stream, in any spelling of its elements, and
 //! written in its one canonical spelling.
 #![tactic(auto)]
 

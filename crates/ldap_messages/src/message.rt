@@ -13,7 +13,7 @@ ghost use Rattle.ldap_ber.specs.Writer.{IsSmall};
 ghost use Rattle.ldap_parts.specs.Gives.{Gives, place_of};
 ghost use Rattle.ldap_messages.specs.Operation.{operation_of, IsHeld};
 ghost use Rattle.ldap_messages.specs.Whole.{Whole, whole_of, MessageForm, message_at, message_octets, HasSpelling};
-ghost use Rattle.ldap_messages.specs.Frame.{message, read_of, Tells, Spells};
+ghost use Rattle.ldap_messages.specs.Frame.{message, read_of, HasMeaning, Spells};
 
 use crate::fault::MessageFault;
 use crate::frame::{Frame, frame_of};
@@ -31,17 +31,19 @@ pub struct Message {
 }
 
 impl Message {
-    /// Reads the message at the front of a stream, and the length of its frame. None where the
-    /// bytes so far begin a frame of at most 4,194,304 octets and more of it have to come.
-    #[tactic(auto, using(crate::proofs::FrameLemmas::tells_found, crate::proofs::FrameLemmas::tells_only, crate::proofs::GrammarLemmas::tells_grammar))]
+    /// Reads the message at the start of a stream, and the length of its frame. None where the
+    /// bytes so far begin a frame of at most 4,194,304 octets and more of it have to come. It is
+    /// `TooLong` where more octets are announced, `BadMessage` with the first refused place where
+    /// the frame is outside the grammar (RFC 4511, appendix B), or `NoMemory`.
+    #[tactic(auto, using(crate::proofs::FrameLemmas::found_meaning, crate::proofs::FrameLemmas::only_meaning, crate::proofs::GrammarLemmas::grammar_meaning))]
     pub fn read(alloc: Global, bytes: &[u8]) -> Result<Option<(Message, usize)>, MessageFault>
-        ensures exact { Tells result (read_of bytes.now) }
+        ensures exact { HasMeaning result (read_of bytes.now) }
         ensures within { IfOk result (λ o. IfSome o (λ x. x.1 ≤ length bytes.now)) }
         ensures found { IfOk result
             (λ o. IfSome o (λ x. Spells (take x.1 bytes.now) (whole_of x.0))) }
         ensures has_spelling { IfOk result (λ o. IfSome o (λ x. HasSpelling (whole_of x.0))) }
-        ensures only { (whole : Whole) (front after : List ℕ) → bytes.now ≡ front ++ after
-            → Spells front whole → Tells result (message whole (length front)) }
+        ensures only { (whole : Whole) (prefix after : List ℕ) → bytes.now ≡ prefix ++ after
+            → Spells prefix whole → HasMeaning result (message whole (length prefix)) }
     {
         read_message(alloc, bytes)
     }
@@ -76,7 +78,7 @@ impl Message {
 
 #[tactic(auto, unfolding(crate::specs::Frame::read_of))]
 fn read_message(alloc: Global, bytes: &[u8]) -> Result<Option<(Message, usize)>, MessageFault>
-    ensures exact { Tells result (read_of bytes.now) }
+    ensures exact { HasMeaning result (read_of bytes.now) }
     ensures within { IfOk result (λ o. IfSome o (λ x. x.1 ≤ length bytes.now)) }
 {
     match frame_of(bytes) {
@@ -84,8 +86,8 @@ fn read_message(alloc: Global, bytes: &[u8]) -> Result<Option<(Message, usize)>,
         Frame::Refused(place) => Err(MessageFault::BadMessage(place)),
         Frame::Long => Err(MessageFault::TooLong),
         Frame::Held(count) => {
-            let (front, _) = bytes.split_at(count);
-            match message_in(alloc, front) {
+            let (prefix, _) = bytes.split_at(count);
+            match message_in(alloc, prefix) {
                 Ok(message) => Ok(Some((message, count))),
                 Err(PartFault::Refused(place)) => Err(MessageFault::BadMessage(place)),
                 Err(PartFault::NoMemory) => Err(MessageFault::NoMemory),

@@ -40,7 +40,7 @@ pub(crate) fn rename_of(alloc: Global, reader: &mut Reader) -> Result<Protocol, 
     Ok(Protocol::Write(Change::Rename(name, rdn, goes, superior)))
 }
 
-/// Writes a ModifyDNRequest; `goes` tells whether the values of the old first part go.
+/// Writes a ModifyDNRequest; `goes` reports whether the values of the old first part go.
 pub(crate) fn put_rename(
     writer: &mut Writer,
     name: &Octets,

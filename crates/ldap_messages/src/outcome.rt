@@ -24,8 +24,8 @@ use std::alloc::Global;
 pub struct LdapResult {
     pub code: i64,
     /// The name of the last entry that was found on the way to the one that was asked for.
-    pub matched: Octets,
-    pub message: Octets,
+    pub matched_dn: Octets,
+    pub diagnostic_message: Octets,
     /// Where to ask further: one URI at least.
     pub referral: Option<OctetsList>,
 }
@@ -56,13 +56,13 @@ pub(crate) fn outcome_of(alloc: Global, reader: &mut Reader) -> Result<LdapResul
     ensures stop { reader.new.stop ≡ reader.old.stop }
 {
     let code = number_of(reader, 0x0A)?;
-    let matched = string_of(alloc, reader, 0x04)?;
-    let message = string_of(alloc, reader, 0x04)?;
+    let matched_dn = string_of(alloc, reader, 0x04)?;
+    let diagnostic_message = string_of(alloc, reader, 0x04)?;
     let referral = referral_of(alloc, reader)?;
     Ok(LdapResult {
         code,
-        matched,
-        message,
+        matched_dn,
+        diagnostic_message,
         referral,
     })
 }
@@ -100,8 +100,8 @@ pub(crate) fn put_outcome(writer: &mut Writer, outcome: &LdapResult) -> Result<(
     ensures code { FitsSigned w64 outcome.now.code }
 {
     writer.integer(0x0A, outcome.code)?;
-    writer.octets(0x04, outcome.matched.as_slice())?;
-    writer.octets(0x04, outcome.message.as_slice())?;
+    writer.octets(0x04, outcome.matched_dn.as_slice())?;
+    writer.octets(0x04, outcome.diagnostic_message.as_slice())?;
     put_referral(writer, &outcome.referral)
 }
 

@@ -34,7 +34,7 @@
 ghost use Rattle.std.specs.Prelude.{◌≡◌, ◌≤◌, true, OnOk};
 ghost use Rattle.ldap_ber.specs.Reading.{made_at};
 ghost use Rattle.ldap_ber.specs.Writer.{after_bytes};
-ghost use Rattle.ldap_filter.specs.Tree.{tree_of};
+ghost use Rattle.ldap_filter.specs.FilterTree.{tree_of};
 ghost use Rattle.ldap_parts.specs.Gives.{Gives};
 ghost use Rattle.ldap_parts.specs.Filters.{have_piece};
 ghost use Rattle.ldap_messages.specs.Search.{scope_number, scope_at, reach_at, search_at, entry_at, reference_at, reach_octets, search_octets, entry_octets};

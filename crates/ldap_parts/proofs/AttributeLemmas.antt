@@ -4,7 +4,7 @@ use Rattle.std.specs.List.{AllByRecursion}
 use Rattle.ldap_ber.specs.Form.{OctetString, Both, MadeOf, Sequence}
 use Rattle.ldap_ber.specs.Reading.{many_at, both_at, sequence_at}
 use Rattle.ldap_ber.specs.Canonical.{element}
-use Rattle.ldap_ber.proofs.ManyLemmas.{Advances, with_front, many_goes_on, many_fails, many_ended}
+use Rattle.ldap_ber.proofs.ManyLemmas.{Advances, with_prefix, many_goes_on, many_fails, many_ended}
 use Rattle.ldap_ber.proofs.SkipLemmas.{Begins-shorter}
 use Rattle.ldap_ber.proofs.ExactLemmas.{Exact, Shortens, both_exact, sequence_exact, made_exact, list_exact, advances}
 use Rattle.ldap_ber.proofs.CanonicalLemmas.{Spelled, Anything, Always, octets_spelled, both_spelled, sequence_spelled, list_spelled, made_spelled}
@@ -31,15 +31,15 @@ attributes_exact = list_exact place_of 48 AttributeForm attribute_at attribute_e
 attribute_advances : Advances attribute_at
 attribute_advances = advances AttributeForm attribute_at attribute_exact attribute_shortens
 
-pub attributes_go_on : (front : List RawAttribute) (stop : ℕ) (bytes : List ℕ) (x : RawAttribute) (rest : List ℕ) → 0 < length bytes → attribute_at stop bytes ≡ Ok (x, rest)
-    → with_front (front ++ x ∷ []) (many_at attribute_at stop rest) ≡ with_front front (many_at attribute_at stop bytes)
-attributes_go_on front stop bytes x rest some h = many_goes_on attribute_at attribute_advances front stop bytes x rest some h
+pub attributes_go_on : (prefix : List RawAttribute) (stop : ℕ) (bytes : List ℕ) (x : RawAttribute) (rest : List ℕ) → 0 < length bytes → attribute_at stop bytes ≡ Ok (x, rest)
+    → with_prefix (prefix ++ x ∷ []) (many_at attribute_at stop rest) ≡ with_prefix prefix (many_at attribute_at stop bytes)
+attributes_go_on prefix stop bytes x rest some h = many_goes_on attribute_at attribute_advances prefix stop bytes x rest some h
 
-pub attributes_fail : (front : List RawAttribute) (stop : ℕ) (bytes : List ℕ) (e : ℕ) → 0 < length bytes → attribute_at stop bytes ≡ Err e → with_front front (many_at attribute_at stop bytes) ≡ Err e
-attributes_fail front stop bytes e some h = many_fails attribute_at attribute_advances front stop bytes e some h
+pub attributes_fail : (prefix : List RawAttribute) (stop : ℕ) (bytes : List ℕ) (e : ℕ) → 0 < length bytes → attribute_at stop bytes ≡ Err e → with_prefix prefix (many_at attribute_at stop bytes) ≡ Err e
+attributes_fail prefix stop bytes e some h = many_fails attribute_at attribute_advances prefix stop bytes e some h
 
-pub attributes_end : (front : List RawAttribute) (stop : ℕ) (bytes : List ℕ) → length bytes ≡ 0 → with_front front (many_at attribute_at stop bytes) ≡ Ok front
-attributes_end front stop bytes none = many_ended attribute_at front stop bytes none
+pub attributes_end : (prefix : List RawAttribute) (stop : ℕ) (bytes : List ℕ) → length bytes ≡ 0 → with_prefix prefix (many_at attribute_at stop bytes) ≡ Ok prefix
+attributes_end prefix stop bytes none = many_ended attribute_at prefix stop bytes none
 
 -- ---- written
 

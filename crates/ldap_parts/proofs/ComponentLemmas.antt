@@ -1,15 +1,14 @@
 -- Octet strings, numbers and truth values: their reading is exact, and their canonical spelling is a spelling.
-use Rattle.std.proofs.Common.{◌≡◌, ◌≢◌, ℕ, ◌<◌, ◌≤◌, ◌%◌, ◌^◌, Bool, true, false, leb, ◌&&◌, List, [], ◌++◌, Option, Some, None, Result, Ok, ℤ, pos, negsuc, refl, ap, arith, FitsSigned}
-use Rattle.std.specs.Prelude.{IfSome}
+use Rattle.std.proofs.Common.{◌≡◌, ◌≢◌, ℕ, ◌<◌, ◌≤◌, ◌%◌, ◌^◌, true, false, leb, ◌&&◌, List, ◌++◌, Option, Some, None, Ok, ℤ, pos, negsuc, refl, ap, arith, FitsSigned}
 use Rattle.std.specs.Int.{w64}
 use Rattle.std.proofs.lemmas.Bool.Decides.{nat_tests}
-use Rattle.ldap_ber.specs.Form.{OctetString, Integer, Boolean, Default}
+use Rattle.ldap_ber.specs.Form.{OctetString, Integer, Boolean}
 use Rattle.ldap_ber.specs.Reading.{octets_at, integer_at, boolean_at, default_at}
 use Rattle.ldap_ber.specs.Canonical.{element, integer_octets}
 use Rattle.ldap_ber.proofs.Steps.{guard_on, ok_is}
 use Rattle.ldap_ber.proofs.SkipLemmas.{Begins-shorter}
-use Rattle.ldap_ber.proofs.ExactLemmas.{Exact, Shortens, told_exact, octets_exact, integer_exact, boolean_exact, optional_exact, default_exact, meaning_exact}
-use Rattle.ldap_ber.proofs.CanonicalLemmas.{Spelled, Anything, Always, Lacks, octets_spelled, optional_spelled, meaning_spelled, begins_with}
+use Rattle.ldap_ber.proofs.ExactLemmas.{Exact, Shortens, reworded_exact, octets_exact, integer_exact, boolean_exact, optional_exact, default_exact, meaning_exact}
+use Rattle.ldap_ber.proofs.CanonicalLemmas.{Spelled, Anything, Always, Lacks, octets_spelled, optional_spelled, meaning_spelled, begins_with, option_sound}
 use Rattle.ldap_ber.proofs.IntegerLemmas.{integer_spelled}
 use Rattle.ldap_parts.specs.Gives.{place_of}
 use Rattle.ldap_parts.specs.Components.{IsWithin, RangeForm, FlagForm, OptionForm, string_at, number_at, truth_at, flag_at, within, range_at, option_at, number_octets, string_octets}
@@ -17,19 +16,19 @@ use Rattle.ldap_parts.specs.Components.{IsWithin, RangeForm, FlagForm, OptionFor
 -- ---- read
 
 pub string_exact : (tag : ℕ) → Exact (OctetString tag) (string_at tag)
-string_exact tag = told_exact place_of (OctetString tag) (octets_at tag) (octets_exact tag)
+string_exact tag = reworded_exact place_of (OctetString tag) (octets_at tag) (octets_exact tag)
 
 pub string_shortens : (tag : ℕ) → Shortens (OctetString tag)
 string_shortens tag bytes x rest h = Begins-shorter bytes tag x rest h
 
 pub number_exact : (tag : ℕ) → Exact (Integer tag) (number_at tag)
-number_exact tag = told_exact place_of (Integer tag) (integer_at tag) (integer_exact tag)
+number_exact tag = reworded_exact place_of (Integer tag) (integer_at tag) (integer_exact tag)
 
 pub truth_exact : Exact (Boolean 1) truth_at
-truth_exact = told_exact place_of (Boolean 1) (boolean_at 1) (boolean_exact 1)
+truth_exact = reworded_exact place_of (Boolean 1) (boolean_at 1) (boolean_exact 1)
 
 pub flag_exact : Exact FlagForm flag_at
-flag_exact = told_exact place_of FlagForm (default_at 1 false (boolean_at 1)) (default_exact 1 false (Boolean 1) (boolean_at 1) (boolean_exact 1))
+flag_exact = reworded_exact place_of FlagForm (default_at 1 false (boolean_at 1)) (default_exact 1 false (Boolean 1) (boolean_at 1) (boolean_exact 1))
 
 within_found : (least most place : ℕ) (number : ℤ) (value : ℕ) → within least most place number ≡ Ok value → IsWithin least most number value
 within_found least most place (pos k) value h =
@@ -58,18 +57,11 @@ range_spelled least most tag low few =
     meaning_spelled (IsWithin least most) (Integer tag) (λ number. element tag (integer_octets number)) (FitsSigned w64) Anything (λ value. pos value) (λ value. (least ≤ value) × (value ≤ most))
     (λ value fits. ((refl, fits.0, fits.1), omega arith)) (integer_spelled tag low)
 
-option_sound : (option : Option (List ℕ)) → IfSome option (Always {X = List ℕ})
-option_sound None = tt
-option_sound (Some octets) = tt
-
 pub option_spelled : (tag : ℕ) → tag % 32 ≢ 31 → Spelled (OptionForm tag) (string_octets tag) (Always {X = Option (List ℕ)}) (Lacks tag)
 option_spelled tag low = record {
   spells = λ option rest small sound after.
       (optional_spelled tag (OctetString tag) (element tag) (Always {X = List ℕ}) (octets_spelled tag low) (λ octets more. begins_with tag octets more)).spells option rest small (option_sound option) after;
 }
-
-pub none_next : (tag : ℕ) → Lacks tag []
-none_next tag e = cc
 
 -- an element of another tag comes next
 pub other_next : (tag other : ℕ) (body rest : List ℕ) → other ≢ tag → Lacks tag (element other body ++ rest)

@@ -4,15 +4,15 @@ use Rattle.std.specs.List.{flat_map, AllByRecursion}
 use Rattle.ldap_ber.specs.Form.{OctetString, Both, MadeOf, Sequence, ListOf}
 use Rattle.ldap_ber.specs.Reading.{many_at, both_at, sequence_at, list_at}
 use Rattle.ldap_ber.specs.Canonical.{element, flag_octets}
-use Rattle.ldap_ber.proofs.ManyLemmas.{Advances, with_front, many_goes_on, many_fails, many_ended}
+use Rattle.ldap_ber.proofs.ManyLemmas.{Advances, with_prefix, many_goes_on, many_fails, many_ended}
 use Rattle.ldap_ber.proofs.SkipLemmas.{Begins-shorter}
 use Rattle.ldap_ber.proofs.ExactLemmas.{Exact, Shortens, both_exact, sequence_exact, made_exact, list_exact, default_exact, advances}
-use Rattle.ldap_ber.proofs.CanonicalLemmas.{Spelled, Anything, Always, Lacks, octets_spelled, both_spelled, flag_spelled, sequence_spelled, list_spelled, made_spelled, begins_with}
+use Rattle.ldap_ber.proofs.CanonicalLemmas.{Spelled, Anything, Always, Lacks, octets_spelled, both_spelled, flag_spelled, sequence_spelled, list_spelled, made_spelled, begins_with, none_next}
 use Rattle.ldap_parts.specs.declared.control.Control.{Control}
 use Rattle.ldap_parts.specs.Gives.{place_of}
 use Rattle.ldap_parts.specs.Components.{FlagForm, OptionForm, string_at, flag_at, option_at, string_octets}
 use Rattle.ldap_parts.specs.Controls.{control_parts, control_with, ControlForm, ControlsForm, control_at, controls_at, control_octets, controls_octets}
-use Rattle.ldap_parts.proofs.ComponentLemmas.{string_exact, flag_exact, option_exact, option_spelled, none_next, option_lacks}
+use Rattle.ldap_parts.proofs.ComponentLemmas.{string_exact, flag_exact, option_exact, option_spelled, option_lacks}
 use Rattle.ldap_parts.proofs.StringLemmas.{all_sound}
 
 -- ---- read
@@ -31,15 +31,15 @@ controls_exact = default_exact 160 [] (ListOf 160 ControlForm) (list_at place_of
 control_advances : Advances control_at
 control_advances = advances ControlForm control_at control_exact control_shortens
 
-pub controls_go_on : (front : List Control) (stop : ℕ) (bytes : List ℕ) (x : Control) (rest : List ℕ) → 0 < length bytes → control_at stop bytes ≡ Ok (x, rest)
-    → with_front (front ++ x ∷ []) (many_at control_at stop rest) ≡ with_front front (many_at control_at stop bytes)
-controls_go_on front stop bytes x rest some h = many_goes_on control_at control_advances front stop bytes x rest some h
+pub controls_go_on : (prefix : List Control) (stop : ℕ) (bytes : List ℕ) (x : Control) (rest : List ℕ) → 0 < length bytes → control_at stop bytes ≡ Ok (x, rest)
+    → with_prefix (prefix ++ x ∷ []) (many_at control_at stop rest) ≡ with_prefix prefix (many_at control_at stop bytes)
+controls_go_on prefix stop bytes x rest some h = many_goes_on control_at control_advances prefix stop bytes x rest some h
 
-pub controls_fail : (front : List Control) (stop : ℕ) (bytes : List ℕ) (e : ℕ) → 0 < length bytes → control_at stop bytes ≡ Err e → with_front front (many_at control_at stop bytes) ≡ Err e
-controls_fail front stop bytes e some h = many_fails control_at control_advances front stop bytes e some h
+pub controls_fail : (prefix : List Control) (stop : ℕ) (bytes : List ℕ) (e : ℕ) → 0 < length bytes → control_at stop bytes ≡ Err e → with_prefix prefix (many_at control_at stop bytes) ≡ Err e
+controls_fail prefix stop bytes e some h = many_fails control_at control_advances prefix stop bytes e some h
 
-pub controls_end : (front : List Control) (stop : ℕ) (bytes : List ℕ) → length bytes ≡ 0 → with_front front (many_at control_at stop bytes) ≡ Ok front
-controls_end front stop bytes none = many_ended control_at front stop bytes none
+pub controls_end : (prefix : List Control) (stop : ℕ) (bytes : List ℕ) → length bytes ≡ 0 → with_prefix prefix (many_at control_at stop bytes) ≡ Ok prefix
+controls_end prefix stop bytes none = many_ended control_at prefix stop bytes none
 
 -- ---- written
 

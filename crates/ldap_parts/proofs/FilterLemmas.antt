@@ -8,38 +8,38 @@ use Rattle.ldap_ber.specs.Form.{Form, OctetString, Both, Tagged, ListOf}
 use Rattle.ldap_ber.specs.Reading.{Reading, both_at, many_at, made_at, tagged_at, list_at}
 use Rattle.ldap_ber.proofs.Steps.{chosen, guard_on, ok_is}
 use Rattle.ldap_ber.proofs.SkipLemmas.{Begins-shorter}
-use Rattle.ldap_ber.proofs.ManyLemmas.{Advances, with_front, many_goes_on, many_fails, many_ended}
+use Rattle.ldap_ber.proofs.ManyLemmas.{Advances, with_prefix, many_goes_on, many_fails, many_ended}
 use Rattle.ldap_ber.proofs.ExactLemmas.{Exact, Shortens, made_ok, both_exact, meaning_exact, tagged_exact, sequence_exact, list_exact, advances}
 use Rattle.ldap_filter.specs.declared.filter.Filter.{Filter}
 use Rattle.ldap_filter.specs.Pieces.{has_piece}
-use Rattle.ldap_filter.specs.Tree.{Tree, Trees, all_of, any_of, negated, equal, substrings, at_least, at_most, present, approx, extensible, no_trees, more_trees, trees, tree_of}
+use Rattle.ldap_filter.specs.FilterTree.{FilterTree, Trees, all_of, any_of, negated, equal, substrings, at_least, at_most, present, approx, extensible, no_trees, more_trees, trees, tree_of}
 use Rattle.ldap_parts.specs.declared.fault.PartFault.{PartFault}
 use Rattle.ldap_parts.specs.declared.fault.PartFault.TheVariants.{Refused, NoMemory}
 use Rattle.ldap_parts.specs.Gives.{Fails, place_of}
 use Rattle.ldap_parts.specs.Components.{OptionForm, string_at, option_at}
 use Rattle.ldap_parts.specs.Filters.{listed, While, while_at, Parts, ArePieces, PiecesForm, SubstringsForm, AssertionForm, FilterIn, pieces_of, parts_at, pieces_at, substrings_at, assertion_at, all_with, any_with, substrings_with, equal_with, at_least_with, at_most_with, approx_with, item_at, filter_in}
 use Rattle.ldap_parts.proofs.ComponentLemmas.{string_exact, string_shortens, option_exact}
-use Rattle.ldap_parts.proofs.WhileLemmas.{and_front, while_goes_on, while_fails, while_ended, while_exact}
+use Rattle.ldap_parts.proofs.WhileLemmas.{and_prefix, while_goes_on, while_fails, while_ended, while_exact}
 
 -- ---- the pieces of a substring filter
 
 piece_advances : Advances (string_at 129)
 piece_advances = advances (OctetString 129) (string_at 129) (string_exact 129) (string_shortens 129)
 
-pub middle_begins : (read : Result (List (List ℕ) × List ℕ) ℕ) → and_front [] read ≡ read
+pub middle_begins : (read : Result (List (List ℕ) × List ℕ) ℕ) → and_prefix [] read ≡ read
 middle_begins (Ok xs) = refl
 middle_begins (Err e) = refl
 
-pub middle_goes_on : (front next : List (List ℕ)) (stop after : ℕ) (bytes : List ℕ) (x : List ℕ) (rest : List ℕ) (all : Result (List (List ℕ) × List ℕ) ℕ) → true ≡ has_tag 129 bytes → string_at 129 stop bytes ≡ Ok (x, rest)
-    → next ≡ front ++ x ∷ [] → after ≡ stop → and_front front (while_at 129 (string_at 129) stop bytes) ≡ all → and_front next (while_at 129 (string_at 129) after rest) ≡ all
-middle_goes_on front next stop after bytes x rest all here h n a e = rw (n, a) (while_goes_on 129 (string_at 129) piece_advances front stop bytes x rest (sym here) h ∙ e)
+pub middle_goes_on : (prefix next : List (List ℕ)) (stop after : ℕ) (bytes : List ℕ) (x : List ℕ) (rest : List ℕ) (all : Result (List (List ℕ) × List ℕ) ℕ) → true ≡ has_tag 129 bytes → string_at 129 stop bytes ≡ Ok (x, rest)
+    → next ≡ prefix ++ x ∷ [] → after ≡ stop → and_prefix prefix (while_at 129 (string_at 129) stop bytes) ≡ all → and_prefix next (while_at 129 (string_at 129) after rest) ≡ all
+middle_goes_on prefix next stop after bytes x rest all here h n a e = rw (n, a) (while_goes_on 129 (string_at 129) piece_advances prefix stop bytes x rest (sym here) h ∙ e)
 
-pub middle_fails : (front : List (List ℕ)) (stop : ℕ) (bytes : List ℕ) (fault : PartFault) (all : Result (List (List ℕ) × List ℕ) ℕ) → true ≡ has_tag 129 bytes → Fails fault (string_at 129 stop bytes) → and_front front (while_at 129 (string_at 129) stop bytes) ≡ all → Fails fault all
-middle_fails front stop bytes (Refused place) all here h e = sym e ∙ while_fails 129 (string_at 129) piece_advances front stop bytes place (sym here) h
-middle_fails front stop bytes NoMemory all here h e = tt
+pub middle_fails : (prefix : List (List ℕ)) (stop : ℕ) (bytes : List ℕ) (fault : PartFault) (all : Result (List (List ℕ) × List ℕ) ℕ) → true ≡ has_tag 129 bytes → Fails fault (string_at 129 stop bytes) → and_prefix prefix (while_at 129 (string_at 129) stop bytes) ≡ all → Fails fault all
+middle_fails prefix stop bytes (Refused place) all here h e = sym e ∙ while_fails 129 (string_at 129) piece_advances prefix stop bytes place (sym here) h
+middle_fails prefix stop bytes NoMemory all here h e = tt
 
-pub middle_ends : (front : List (List ℕ)) (stop : ℕ) (bytes : List ℕ) (all : Result (List (List ℕ) × List ℕ) ℕ) → false ≡ has_tag 129 bytes → and_front front (while_at 129 (string_at 129) stop bytes) ≡ all → all ≡ Ok (front, bytes)
-middle_ends front stop bytes all none e = sym e ∙ while_ended 129 (string_at 129) front stop bytes (sym none)
+pub middle_ends : (prefix : List (List ℕ)) (stop : ℕ) (bytes : List ℕ) (all : Result (List (List ℕ) × List ℕ) ℕ) → false ≡ has_tag 129 bytes → and_prefix prefix (while_at 129 (string_at 129) stop bytes) ≡ all → all ≡ Ok (prefix, bytes)
+middle_ends prefix stop bytes all none e = sym e ∙ while_ended 129 (string_at 129) prefix stop bytes (sym none)
 
 pieces_there : (place : ℕ) (read pieces : Parts) → pieces_of place read ≡ Ok pieces → ArePieces read pieces
 pieces_there place read pieces h =
@@ -61,10 +61,10 @@ assertion_exact tag = sequence_exact place_of tag _ _ (both_exact _ _ _ _ (strin
 
 -- ---- items
 
-of_this : (levels : ℕ) (bytes : List ℕ) (x y : Tree) (rest : List ℕ) → x ≡ y → FilterIn levels bytes x rest → FilterIn levels bytes y rest
-of_this levels bytes x y rest e h = subst (λ (z : Tree). FilterIn levels bytes z rest) e h
+of_this : (levels : ℕ) (bytes : List ℕ) (x y : FilterTree) (rest : List ℕ) → x ≡ y → FilterIn levels bytes x rest → FilterIn levels bytes y rest
+of_this levels bytes x y rest e h = subst (λ (z : FilterTree). FilterIn levels bytes z rest) e h
 
-item_found : (levels stop : ℕ) (bytes : List ℕ) (x : Tree) (rest : List ℕ) → item_at stop bytes ≡ Ok (x, rest) → FilterIn (suc levels) bytes x rest
+item_found : (levels stop : ℕ) (bytes : List ℕ) (x : FilterTree) (rest : List ℕ) → item_at stop bytes ≡ Ok (x, rest) → FilterIn (suc levels) bytes x rest
 unfolding FilterIn item_at
 item_found d stop bytes x rest h = elim (chosen (has_tag 163 bytes) _ _ _ h) [
   | inl s ↦ let m = made_ok equal_with (assertion_at 163) stop bytes x rest s.1 in of_this (suc d) bytes (equal_with m.0) x rest m.2 ((assertion_exact 163).found stop bytes m.0 rest m.1)
@@ -99,9 +99,9 @@ goes_by f g stop bytes tag body rest after x y b step h =
 
 -- ---- filters
 
-listed_trees : (ts : List Tree) → listed (trees ts) ≡ ts
+listed_trees : (ts : List FilterTree) → listed (trees ts) ≡ ts
 listed_trees [] = refl
-listed_trees (t ∷ ts) = ap (λ (us : List Tree). t ∷ us) (listed_trees ts)
+listed_trees (t ∷ ts) = ap (λ (us : List FilterTree). t ∷ us) (listed_trees ts)
 
 trees_listed : (ts : Trees) → trees (listed ts) ≡ ts
 trees_listed no_trees = refl
@@ -124,11 +124,11 @@ filter_shortens (suc d) bytes (extensible v) rest h = Begins-shorter bytes 169 v
 filters_exact : (tag levels : ℕ) → Exact (FilterIn levels) (filter_in levels) → Exact (ListOf tag (FilterIn levels)) (list_at place_of tag (filter_in levels))
 filters_exact tag d p = list_exact place_of tag (FilterIn d) (filter_in d) p (filter_shortens d)
 
-list_here : (tag levels stop : ℕ) (bytes : List ℕ) (ts : List Tree) (rest : List ℕ) → Exact (FilterIn levels) (filter_in levels) → list_at place_of tag (filter_in levels) stop bytes ≡ Ok (ts, rest) → ListOf tag (FilterIn levels) bytes (listed (trees ts)) rest
+list_here : (tag levels stop : ℕ) (bytes : List ℕ) (ts : List FilterTree) (rest : List ℕ) → Exact (FilterIn levels) (filter_in levels) → list_at place_of tag (filter_in levels) stop bytes ≡ Ok (ts, rest) → ListOf tag (FilterIn levels) bytes (listed (trees ts)) rest
 list_here tag d stop bytes ts rest p h =
-    subst (λ (us : List Tree). ListOf tag (FilterIn d) bytes us rest) (sym (listed_trees ts)) ((filters_exact tag d p).found stop bytes ts rest h)
+    subst (λ (us : List FilterTree). ListOf tag (FilterIn d) bytes us rest) (sym (listed_trees ts)) ((filters_exact tag d p).found stop bytes ts rest h)
 
-filter_found : (levels : ℕ) → Exact (FilterIn levels) (filter_in levels) → (stop : ℕ) (bytes : List ℕ) (x : Tree) (rest : List ℕ) → filter_in (suc levels) stop bytes ≡ Ok (x, rest) → FilterIn (suc levels) bytes x rest
+filter_found : (levels : ℕ) → Exact (FilterIn levels) (filter_in levels) → (stop : ℕ) (bytes : List ℕ) (x : FilterTree) (rest : List ℕ) → filter_in (suc levels) stop bytes ≡ Ok (x, rest) → FilterIn (suc levels) bytes x rest
 unfolding FilterIn filter_in
 filter_found d p stop bytes x rest h = elim (chosen (has_tag 160 bytes) _ _ _ h) [
   | inl s ↦ let m = made_ok all_with (list_at place_of 160 (filter_in d)) stop bytes x rest s.1 in of_this (suc d) bytes (all_with m.0) x rest m.2 (list_here 160 d stop bytes m.0 rest p m.1)
@@ -141,7 +141,7 @@ filter_found d p stop bytes x rest h = elim (chosen (has_tag 160 bytes) _ _ _ h)
   ]
 ]
 
-filter_only : (levels : ℕ) → Exact (FilterIn levels) (filter_in levels) → (stop : ℕ) (bytes : List ℕ) (x : Tree) (rest : List ℕ) → FilterIn (suc levels) bytes x rest → filter_in (suc levels) stop bytes ≡ Ok (x, rest)
+filter_only : (levels : ℕ) → Exact (FilterIn levels) (filter_in levels) → (stop : ℕ) (bytes : List ℕ) (x : FilterTree) (rest : List ℕ) → FilterIn (suc levels) bytes x rest → filter_in (suc levels) stop bytes ≡ Ok (x, rest)
 unfolding FilterIn filter_in item_at
 filter_only d p stop bytes (all_of ts) rest h = goes_by (list_at place_of 160 (filter_in d)) (filter_in (suc d)) stop bytes 160 h.0 rest rest (listed ts) (all_of ts) h.1 (λ more r. rw (r, trees_listed ts) refl) ((filters_exact 160 d p).only stop bytes (listed ts) rest h)
 filter_only d p stop bytes (any_of ts) rest h = goes_by (list_at place_of 161 (filter_in d)) (filter_in (suc d)) stop bytes 161 h.0 rest rest (listed ts) (any_of ts) h.1 (λ more r. rw (r, trees_listed ts) refl) ((filters_exact 161 d p).only stop bytes (listed ts) rest h)
@@ -168,11 +168,11 @@ filter_advances : (levels : ℕ) → Advances (filter_in levels)
 filter_advances levels = advances (FilterIn levels) (filter_in levels) (filter_exact levels) (filter_shortens levels)
 
 pub filters_go_on : (levels : ℕ) (xs : List Filter) (x : Filter) (stop : ℕ) (bytes rest : List ℕ) → 0 < length bytes → filter_in levels stop bytes ≡ Ok (tree_of x, rest)
-    → with_front (map tree_of (xs ++ x ∷ [])) (many_at (filter_in levels) stop rest) ≡ with_front (map tree_of xs) (many_at (filter_in levels) stop bytes)
+    → with_prefix (map tree_of (xs ++ x ∷ [])) (many_at (filter_in levels) stop rest) ≡ with_prefix (map tree_of xs) (many_at (filter_in levels) stop bytes)
 filters_go_on levels xs x stop bytes rest some h = rw (map_push tree_of xs x) (many_goes_on (filter_in levels) (filter_advances levels) (map tree_of xs) stop bytes (tree_of x) rest some h)
 
-pub filters_fail : (levels : ℕ) (front : List Tree) (stop : ℕ) (bytes : List ℕ) (e : ℕ) → 0 < length bytes → filter_in levels stop bytes ≡ Err e → with_front front (many_at (filter_in levels) stop bytes) ≡ Err e
-filters_fail levels front stop bytes e some h = many_fails (filter_in levels) (filter_advances levels) front stop bytes e some h
+pub filters_fail : (levels : ℕ) (prefix : List FilterTree) (stop : ℕ) (bytes : List ℕ) (e : ℕ) → 0 < length bytes → filter_in levels stop bytes ≡ Err e → with_prefix prefix (many_at (filter_in levels) stop bytes) ≡ Err e
+filters_fail levels prefix stop bytes e some h = many_fails (filter_in levels) (filter_advances levels) prefix stop bytes e some h
 
-pub filters_end : (levels : ℕ) (front : List Tree) (stop : ℕ) (bytes : List ℕ) → length bytes ≡ 0 → with_front front (many_at (filter_in levels) stop bytes) ≡ Ok front
-filters_end levels front stop bytes none = many_ended (filter_in levels) front stop bytes none
+pub filters_end : (levels : ℕ) (prefix : List FilterTree) (stop : ℕ) (bytes : List ℕ) → length bytes ≡ 0 → with_prefix prefix (many_at (filter_in levels) stop bytes) ≡ Ok prefix
+filters_end levels prefix stop bytes none = many_ended (filter_in levels) prefix stop bytes none

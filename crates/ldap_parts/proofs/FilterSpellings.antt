@@ -1,37 +1,38 @@
 -- The canonical spelling of a filter is one of its spellings.
-use Rattle.std.proofs.Common.{◌≡◌, ◌≢◌, ℕ, zero, suc, max, ◌<◌, ◌≤◌, ◌%◌, ◌^◌, Bool, true, false, ◌&&◌, List, [], ◌∷◌, ◌++◌, length, Option, refl, sym, ap, subst, ◌∙◌, append_assoc, arith}
+use Rattle.std.proofs.Common.{◌≡◌, ◌≢◌, ℕ, zero, suc, ◌<◌, ◌≤◌, ◌%◌, ◌^◌, true, List, ◌++◌, length, Option, refl, sym, ap, subst, ◌∙◌, append_assoc, arith}
 use Rattle.std.specs.List.{flat_map, AllByRecursion}
 use Rattle.std.proofs.lemmas.List.Concat.{flat_map-cons}
-use Rattle.ldap_ber.specs.Form.{Form, OctetString, Both, Tagged, Sequence, ListOf}
+use Rattle.std.proofs.lemmas.Bool.{and_parts}
+use Rattle.ldap_ber.specs.Form.{OctetString, Both, Tagged, ListOf}
 use Rattle.ldap_ber.specs.Canonical.{element}
-use Rattle.ldap_ber.proofs.CanonicalLemmas.{Spelled, Anything, Always, Lacks, octets_spelled, both_spelled, meaning_spelled, sequence_spelled, list_spelled, tagged_spelled}
+use Rattle.ldap_ber.proofs.CanonicalLemmas.{Spelled, Anything, Always, Lacks, octets_spelled, both_spelled, meaning_spelled, sequence_spelled, list_spelled, tagged_spelled, none_next}
 use Rattle.ldap_filter.specs.Pieces.{has_piece}
-use Rattle.ldap_filter.specs.Tree.{Tree, Trees, all_of, any_of, negated, equal, substrings, at_least, at_most, present, approx, extensible, no_trees, more_trees, depth, deepest}
+use Rattle.ldap_filter.specs.FilterTree.{FilterTree, Trees, all_of, any_of, negated, equal, substrings, at_least, at_most, present, approx, extensible, no_trees, more_trees, depth, deepest}
 use Rattle.ldap_parts.specs.Components.{OptionForm, string_octets}
 use Rattle.ldap_parts.specs.Filters.{listed, While, Parts, ArePieces, PiecesForm, SubstringsForm, AssertionForm, FilterIn, pieces_octets, substrings_octets, assertion_octets, filter_octets, filters_octets, have_piece, all_have_piece}
-use Rattle.ldap_parts.proofs.ComponentLemmas.{option_spelled, option_lacks, none_next}
+use Rattle.ldap_parts.proofs.ComponentLemmas.{option_spelled, option_lacks}
 use Rattle.ldap_parts.proofs.WhileLemmas.{strings_while_spelled, strings_lack}
 
 -- ---- the pieces of a substring filter
 
-abbrev behind : List (List ℕ) × Option (List ℕ) → List ℕ
-behind parts = flat_map (element 129) parts.0 ++ string_octets 130 parts.1
+abbrev beyond : List (List ℕ) × Option (List ℕ) → List ℕ
+beyond parts = flat_map (element 129) parts.0 ++ string_octets 130 parts.1
 
 abbrev parts_octets : Parts → List ℕ
-parts_octets parts = string_octets 128 parts.0 ++ behind parts.1
+parts_octets parts = string_octets 128 parts.0 ++ beyond parts.1
 
 -- no piece comes next
 abbrev NoPiece : List ℕ → Type 0
 NoPiece rest = Lacks 128 rest × (Lacks 129 rest × Lacks 130 rest)
 
-behind_spelled : Spelled (Both (While 129 (OctetString 129)) (OptionForm 130)) behind (λ p. Unit {0} × Unit {0}) NoPiece
-behind_spelled = both_spelled (While 129 (OctetString 129)) (OptionForm 130) (flat_map (element 129)) (string_octets 130) (Always {X = List (List ℕ)}) (Always {X = Option (List ℕ)}) (Lacks 129) NoPiece
+after_spelled : Spelled (Both (While 129 (OctetString 129)) (OptionForm 130)) beyond (λ p. Unit {0} × Unit {0}) NoPiece
+after_spelled = both_spelled (While 129 (OctetString 129)) (OptionForm 130) (flat_map (element 129)) (string_octets 130) (Always {X = List (List ℕ)}) (Always {X = Option (List ℕ)}) (Lacks 129) NoPiece
     (strings_while_spelled 129 (omega arith)) (record { spells = λ value rest small sound after. (option_spelled 130 (omega arith)).spells value rest small sound after.1.1 })
     (λ value rest sound after. option_lacks 129 130 value rest (omega arith) after.1.0)
 
 parts_spelled : Spelled (Both (OptionForm 128) (Both (While 129 (OctetString 129)) (OptionForm 130))) parts_octets (λ p. Unit {0} × (Unit {0} × Unit {0})) NoPiece
-parts_spelled = both_spelled (OptionForm 128) (Both (While 129 (OctetString 129)) (OptionForm 130)) (string_octets 128) behind (Always {X = Option (List ℕ)}) (λ p. Unit {0} × Unit {0}) (Lacks 128) NoPiece
-    (option_spelled 128 (omega arith)) behind_spelled
+parts_spelled = both_spelled (OptionForm 128) (Both (While 129 (OctetString 129)) (OptionForm 130)) (string_octets 128) beyond (Always {X = Option (List ℕ)}) (λ p. Unit {0} × Unit {0}) (Lacks 128) NoPiece
+    (option_spelled 128 (omega arith)) after_spelled
     (λ parts rest sound after. subst (λ (y : List ℕ). Lacks 128 y) (sym (append_assoc (flat_map (element 129) parts.0) (string_octets 130 parts.1) rest)) (strings_lack 128 129 parts.0 (string_octets 130 parts.1 ++ rest) (omega arith) (option_lacks 128 130 parts.1 rest (omega arith) after.0)))
 
 abbrev HasPiece : Parts → Type 0
@@ -54,22 +55,18 @@ assertion_spelled tag low = sequence_spelled tag (Both (OctetString 4) (OctetStr
 
 -- ---- filters
 
--- what has a spelling in so many levels
-abbrev pub FitsIn : ℕ → Tree → Type 0
+-- what has a spelling in n levels
+abbrev pub FitsIn : ℕ → FilterTree → Type 0
 FitsIn levels filter = (depth filter ≤ levels) × (have_piece filter ≡ true)
 
 filters_flat : (ts : Trees) → filters_octets ts ≡ flat_map filter_octets (listed ts)
 filters_flat no_trees = refl
 filters_flat (more_trees t ts) = ap (λ (y : List ℕ). filter_octets t ++ y) (filters_flat ts) ∙ sym (flat_map-cons filter_octets t (listed ts))
 
-both_true : (a b : Bool) → (a && b) ≡ true → (a ≡ true) × (b ≡ true)
-both_true true b h = (refl, h)
-both_true false b h = absurd cc
-
 each_fits : (levels : ℕ) (ts : Trees) → deepest ts ≤ levels → all_have_piece ts ≡ true → AllByRecursion (FitsIn levels) (listed ts)
 each_fits d no_trees deep some = tt
 each_fits d (more_trees t ts) deep some =
-    let b = both_true (have_piece t) (all_have_piece ts) some in
+    let b = and_parts (have_piece t) (all_have_piece ts) some in
     ((omega arith, b.0), each_fits d ts (omega arith) b.1)
 
 list_goes : (tag levels : ℕ) → tag % 32 ≢ 31 → Spelled (FilterIn levels) filter_octets (FitsIn levels) Anything → (ts : Trees) (rest : List ℕ) → length (element tag (filters_octets ts)) < 2 ^ 32 → deepest ts ≤ levels → all_have_piece ts ≡ true
@@ -79,7 +76,7 @@ list_goes tag d low p ts rest small deep some =
     subst (λ (y : List ℕ). ListOf tag (FilterIn d) (element tag y ++ rest) (listed ts) rest) (sym flat)
     ((list_spelled tag (FilterIn d) filter_octets (FitsIn d) low p).spells (listed ts) rest (subst (λ (y : List ℕ). length (element tag y) < 2 ^ 32) flat small) (each_fits d ts deep some) tt)
 
-filter_goes : (levels : ℕ) → Spelled (FilterIn levels) filter_octets (FitsIn levels) Anything → (t : Tree) (rest : List ℕ) → length (filter_octets t) < 2 ^ 32 → FitsIn (suc levels) t → FilterIn (suc levels) (filter_octets t ++ rest) t rest
+filter_goes : (levels : ℕ) → Spelled (FilterIn levels) filter_octets (FitsIn levels) Anything → (t : FilterTree) (rest : List ℕ) → length (filter_octets t) < 2 ^ 32 → FitsIn (suc levels) t → FilterIn (suc levels) (filter_octets t ++ rest) t rest
 unfolding FilterIn
 filter_goes d p (all_of ts) rest small fits = list_goes 160 d (omega arith) p ts rest small (omega (arith, fits.0)) fits.1
 filter_goes d p (any_of ts) rest small fits = list_goes 161 d (omega arith) p ts rest small (omega (arith, fits.0)) fits.1
@@ -92,7 +89,7 @@ filter_goes d p (present n) rest small fits = (octets_spelled 135 (omega arith))
 filter_goes d p (approx n v) rest small fits = (assertion_spelled 168 (omega arith)).spells (n, v) rest small (tt, tt) tt
 filter_goes d p (extensible v) rest small fits = (octets_spelled 169 (omega arith)).spells v rest small tt tt
 
-some_level : (t : Tree) → depth t ≤ 0 → ⊥
+some_level : (t : FilterTree) → depth t ≤ 0 → ⊥
 some_level (all_of ts) h = omega arith
 some_level (any_of ts) h = omega arith
 some_level (negated t) h = omega arith

@@ -1,5 +1,6 @@
 pub mod AgreementLemmas
 pub mod ComponentLemmas
+pub mod SizeLemmas
 pub mod StringLemmas
 pub mod AttributeLemmas
 pub mod ControlLemmas

@@ -1,13 +1,12 @@
 -- Lists of octet strings: their reading is exact, and their canonical spelling is a spelling.
-use Rattle.std.proofs.Common.{◌≡◌, ◌≢◌, ℕ, ◌<◌, ◌%◌, List, [], ◌∷◌, ◌++◌, length, Result, Ok, Err, arith}
+use Rattle.std.proofs.Common.{◌≡◌, ◌≢◌, ℕ, ◌<◌, ◌%◌, List, [], ◌∷◌, ◌++◌, length, Ok, Err, arith}
 use Rattle.std.specs.List.{AllByRecursion}
 use Rattle.ldap_ber.specs.Form.{OctetString}
 use Rattle.ldap_ber.specs.Reading.{many_at}
 use Rattle.ldap_ber.specs.Canonical.{element}
-use Rattle.ldap_ber.proofs.ManyLemmas.{Advances, with_front, many_goes_on, many_fails, many_ended}
-use Rattle.ldap_ber.proofs.ExactLemmas.{Exact, Shortens, list_exact, advances}
+use Rattle.ldap_ber.proofs.ManyLemmas.{Advances, with_prefix, many_goes_on, many_fails, many_ended}
+use Rattle.ldap_ber.proofs.ExactLemmas.{Exact, list_exact, advances}
 use Rattle.ldap_ber.proofs.CanonicalLemmas.{Spelled, Anything, Always, octets_spelled, list_spelled}
-use Rattle.ldap_ber.proofs.SkipLemmas.{Begins-shorter}
 use Rattle.ldap_parts.specs.Gives.{place_of}
 use Rattle.ldap_parts.specs.Components.{StringsForm, string_at, strings_at, strings_octets}
 use Rattle.ldap_parts.proofs.ComponentLemmas.{string_exact, string_shortens}
@@ -15,21 +14,18 @@ use Rattle.ldap_parts.proofs.ComponentLemmas.{string_exact, string_shortens}
 pub strings_exact : (tag : ℕ) → Exact (StringsForm tag) (strings_at tag)
 strings_exact tag = list_exact place_of tag (OctetString 4) (string_at 4) (string_exact 4) (string_shortens 4)
 
-pub strings_shorten : (tag : ℕ) → Shortens (StringsForm tag)
-strings_shorten tag bytes xs rest h = Begins-shorter bytes tag h.0 rest h.1
-
 string_advances : Advances (string_at 4)
 string_advances = advances (OctetString 4) (string_at 4) (string_exact 4) (string_shortens 4)
 
-pub strings_go_on : (front : List (List ℕ)) (stop : ℕ) (bytes : List ℕ) (x : List ℕ) (rest : List ℕ) → 0 < length bytes → string_at 4 stop bytes ≡ Ok (x, rest)
-    → with_front (front ++ x ∷ []) (many_at (string_at 4) stop rest) ≡ with_front front (many_at (string_at 4) stop bytes)
-strings_go_on front stop bytes x rest some h = many_goes_on (string_at 4) string_advances front stop bytes x rest some h
+pub strings_go_on : (prefix : List (List ℕ)) (stop : ℕ) (bytes : List ℕ) (x : List ℕ) (rest : List ℕ) → 0 < length bytes → string_at 4 stop bytes ≡ Ok (x, rest)
+    → with_prefix (prefix ++ x ∷ []) (many_at (string_at 4) stop rest) ≡ with_prefix prefix (many_at (string_at 4) stop bytes)
+strings_go_on prefix stop bytes x rest some h = many_goes_on (string_at 4) string_advances prefix stop bytes x rest some h
 
-pub strings_fail : (front : List (List ℕ)) (stop : ℕ) (bytes : List ℕ) (e : ℕ) → 0 < length bytes → string_at 4 stop bytes ≡ Err e → with_front front (many_at (string_at 4) stop bytes) ≡ Err e
-strings_fail front stop bytes e some h = many_fails (string_at 4) string_advances front stop bytes e some h
+pub strings_fail : (prefix : List (List ℕ)) (stop : ℕ) (bytes : List ℕ) (e : ℕ) → 0 < length bytes → string_at 4 stop bytes ≡ Err e → with_prefix prefix (many_at (string_at 4) stop bytes) ≡ Err e
+strings_fail prefix stop bytes e some h = many_fails (string_at 4) string_advances prefix stop bytes e some h
 
-pub strings_end : (front : List (List ℕ)) (stop : ℕ) (bytes : List ℕ) → length bytes ≡ 0 → with_front front (many_at (string_at 4) stop bytes) ≡ Ok front
-strings_end front stop bytes none = many_ended (string_at 4) front stop bytes none
+pub strings_end : (prefix : List (List ℕ)) (stop : ℕ) (bytes : List ℕ) → length bytes ≡ 0 → with_prefix prefix (many_at (string_at 4) stop bytes) ≡ Ok prefix
+strings_end prefix stop bytes none = many_ended (string_at 4) prefix stop bytes none
 
 pub all_sound : {X : Type 0} (F : X → Type 0) → ((x : X) → F x) → (xs : List X) → AllByRecursion F xs
 all_sound F h [] = tt

@@ -1,17 +1,17 @@
 -- As many of a component as there are elements with its tag: reading them is exact, and so is reading them one after the other.
-use Rattle.std.proofs.Common.{◌≡◌, ◌≢◌, ℕ, zero, suc, ◌<◌, ◌≤◌, ◌%◌, ◌^◌, Bool, true, false, List, [], ◌∷◌, ◌++◌, length, Option, Some, Result, Ok, Err, refl, sym, ap, subst, ◌∙◌, append_assoc, length-append, inl, inr, arith}
+use Rattle.std.proofs.Common.{◌≡◌, ◌≢◌, ℕ, zero, suc, ◌<◌, ◌≤◌, ◌%◌, ◌^◌, true, false, List, [], ◌∷◌, ◌++◌, length, Result, Ok, Err, refl, sym, ap, subst, ◌∙◌, append_assoc, length-append, inl, inr, arith}
 use Rattle.std.specs.List.{flat_map}
-use Rattle.std.proofs.lemmas.Bool.{eqb-true}
+use Rattle.std.proofs.lemmas.Bool.{cases_Bool}
 use Rattle.std.proofs.lemmas.List.{append-nil}
 use Rattle.std.proofs.lemmas.List.Concat.{flat_map-cons}
-use Rattle.ldap_ber.specs.Reader.{◌>>=◌, tag_at, has_tag}
+use Rattle.ldap_ber.specs.Reader.{◌>>=◌, has_tag}
 use Rattle.ldap_ber.specs.Form.{Form, OctetString}
 use Rattle.ldap_ber.specs.Reading.{Reading}
 use Rattle.ldap_ber.specs.Canonical.{element}
-use Rattle.ldap_ber.proofs.Steps.{bind_ok, bind_same, bool_cases, ok_pair}
-use Rattle.ldap_ber.proofs.ExactLemmas.{Exact, Shortens, tag_there, tag_not_there, advances}
+use Rattle.ldap_ber.proofs.Steps.{bind_ok, bind_same, ok_pair}
+use Rattle.ldap_ber.proofs.ExactLemmas.{Exact, Shortens, tag_there, tag_not_there, advances, tag_is, tag_is_not}
 use Rattle.ldap_ber.proofs.ManyLemmas.{Advances}
-use Rattle.ldap_ber.proofs.CanonicalLemmas.{Spelled, Always, Lacks, octets_spelled, begins_with}
+use Rattle.ldap_ber.proofs.CanonicalLemmas.{Spelled, Always, Lacks, begins_with}
 use Rattle.ldap_ber.proofs.ElementLemmas.{element_spells, body_size}
 use Rattle.ldap_parts.specs.Filters.{While, while_in, while_at}
 use Rattle.ldap_parts.proofs.ComponentLemmas.{other_next}
@@ -24,7 +24,7 @@ while_enough tag f adv zero (suc n) stop (b ∷ bytes) h k = absurd (omega arith
 while_enough tag f adv (suc m) zero stop [] h k = refl
 while_enough tag f adv (suc m) zero stop (b ∷ bytes) h k = absurd (omega arith)
 while_enough tag f adv (suc m) (suc n) stop [] h k = refl
-while_enough tag f adv (suc m) (suc n) stop (b ∷ bytes) h k = elim (bool_cases (has_tag tag (b ∷ bytes))) [
+while_enough tag f adv (suc m) (suc n) stop (b ∷ bytes) h k = elim (cases_Bool (has_tag tag (b ∷ bytes))) [
   | inr lacks ↦ rw lacks refl
   | inl there ↦ rw there (bind_same (f stop (b ∷ bytes)) _ _ (λ x e.
       let less : length x.1 < length (b ∷ bytes) = adv stop (b ∷ bytes) x.0 x.1 e in
@@ -48,32 +48,25 @@ while_none tag f stop (b ∷ bytes) h = rw h refl
 
 -- ---- as a loop reads them
 
-abbrev pub and_front : {X : Type 0} → List X → Result (List X × List ℕ) ℕ → Result (List X × List ℕ) ℕ
-and_front front read = read >>= λ xs. Ok (front ++ xs.0, xs.1)
+abbrev pub and_prefix : {X : Type 0} → List X → Result (List X × List ℕ) ℕ → Result (List X × List ℕ) ℕ
+and_prefix prefix read = read >>= λ xs. Ok (prefix ++ xs.0, xs.1)
 
-regroup : {X : Type 0} (front : List X) (x : X) (read : Result (List X × List ℕ) ℕ) → and_front (front ++ x ∷ []) read ≡ and_front front (read >>= λ xs. Ok (x ∷ xs.0, xs.1))
-regroup {X} front x (Ok xs) = ap (λ (ys : List X). Ok (ys, xs.1)) (simp append_assoc)
-regroup front x (Err f) = refl
+regroup : {X : Type 0} (prefix : List X) (x : X) (read : Result (List X × List ℕ) ℕ) → and_prefix (prefix ++ x ∷ []) read ≡ and_prefix prefix (read >>= λ xs. Ok (x ∷ xs.0, xs.1))
+regroup {X} prefix x (Ok xs) = ap (λ (ys : List X). Ok (ys, xs.1)) (simp append_assoc)
+regroup prefix x (Err f) = refl
 
-pub while_goes_on : {X : Type 0} (tag : ℕ) (f : Reading ℕ X) → Advances f → (front : List X) (stop : ℕ) (bytes : List ℕ) (x : X) (rest : List ℕ) → has_tag tag bytes ≡ true → f stop bytes ≡ Ok (x, rest)
-    → and_front (front ++ x ∷ []) (while_at tag f stop rest) ≡ and_front front (while_at tag f stop bytes)
-while_goes_on tag f adv front stop bytes x rest here h = regroup front x (while_at tag f stop rest) ∙ rw (while_next tag f adv stop bytes here, h) refl
+pub while_goes_on : {X : Type 0} (tag : ℕ) (f : Reading ℕ X) → Advances f → (prefix : List X) (stop : ℕ) (bytes : List ℕ) (x : X) (rest : List ℕ) → has_tag tag bytes ≡ true → f stop bytes ≡ Ok (x, rest)
+    → and_prefix (prefix ++ x ∷ []) (while_at tag f stop rest) ≡ and_prefix prefix (while_at tag f stop bytes)
+while_goes_on tag f adv prefix stop bytes x rest here h = regroup prefix x (while_at tag f stop rest) ∙ rw (while_next tag f adv stop bytes here, h) refl
 
-pub while_fails : {X : Type 0} (tag : ℕ) (f : Reading ℕ X) → Advances f → (front : List X) (stop : ℕ) (bytes : List ℕ) (e : ℕ) → has_tag tag bytes ≡ true → f stop bytes ≡ Err e
-    → and_front front (while_at tag f stop bytes) ≡ Err e
-while_fails tag f adv front stop bytes e here h = rw (while_next tag f adv stop bytes here, h) refl
+pub while_fails : {X : Type 0} (tag : ℕ) (f : Reading ℕ X) → Advances f → (prefix : List X) (stop : ℕ) (bytes : List ℕ) (e : ℕ) → has_tag tag bytes ≡ true → f stop bytes ≡ Err e
+    → and_prefix prefix (while_at tag f stop bytes) ≡ Err e
+while_fails tag f adv prefix stop bytes e here h = rw (while_next tag f adv stop bytes here, h) refl
 
-pub while_ended : {X : Type 0} (tag : ℕ) (f : Reading ℕ X) (front : List X) (stop : ℕ) (bytes : List ℕ) → has_tag tag bytes ≡ false → and_front front (while_at tag f stop bytes) ≡ Ok (front, bytes)
-while_ended {X} tag f front stop bytes none = rw (while_none tag f stop bytes none) (ap (λ (ys : List X). Ok (ys, bytes)) (append-nil front))
+pub while_ended : {X : Type 0} (tag : ℕ) (f : Reading ℕ X) (prefix : List X) (stop : ℕ) (bytes : List ℕ) → has_tag tag bytes ≡ false → and_prefix prefix (while_at tag f stop bytes) ≡ Ok (prefix, bytes)
+while_ended {X} tag f prefix stop bytes none = rw (while_none tag f stop bytes none) (ap (λ (ys : List X). Ok (ys, bytes)) (append-nil prefix))
 
 -- ---- exact
-
-its_tag : (tag : ℕ) (bytes : List ℕ) → has_tag tag bytes ≡ true → tag_at bytes ≡ Some tag
-its_tag tag [] h = absurd cc
-its_tag tag (b ∷ bytes) h = ap (λ (n : ℕ). Some n) (eqb-true b tag h)
-
-no_tag : (tag : ℕ) (bytes : List ℕ) → has_tag tag bytes ≡ false → tag_at bytes ≡ Some tag → ⊥
-no_tag tag bytes h e = let t = tag_there tag bytes e in cc
 
 abbrev none : (X : Type 0) → List X
 none X = []
@@ -81,12 +74,12 @@ none X = []
 nothing_found : {X : Type 0} (tag : ℕ) (R : Form X) (f : Reading ℕ X) (stop : ℕ) (bytes : List ℕ) (xs : List X) (rest : List ℕ) → has_tag tag bytes ≡ false → while_at tag f stop bytes ≡ Ok (xs, rest) → While tag R bytes xs rest
 nothing_found {X} tag R f stop bytes xs rest lacks h =
     let e = ok_pair (none X) bytes xs rest (sym (while_none tag f stop bytes lacks) ∙ h) in
-    subst (λ (y : List ℕ). While tag R bytes xs y) e.1 (subst (λ (ys : List X). While tag R bytes ys bytes) e.0 (refl, no_tag tag bytes lacks))
+    subst (λ (y : List ℕ). While tag R bytes xs y) e.1 (subst (λ (ys : List X). While tag R bytes ys bytes) e.0 (refl, tag_is_not tag bytes lacks))
 
 while_found : {X : Type 0} (tag : ℕ) (R : Form X) (f : Reading ℕ X) → Exact R f → Shortens R → (most stop : ℕ) (bytes : List ℕ) (xs : List X) (rest : List ℕ) → length bytes ≤ most → while_at tag f stop bytes ≡ Ok (xs, rest) → While tag R bytes xs rest
 while_found tag R f p short most stop [] xs rest le h = nothing_found tag R f stop [] xs rest refl h
 while_found tag R f p short zero stop (b ∷ bytes) xs rest le h = absurd (omega arith)
-while_found {X} tag R f p short (suc most) stop (b ∷ bytes) xs rest le h = elim (bool_cases (has_tag tag (b ∷ bytes))) [
+while_found {X} tag R f p short (suc most) stop (b ∷ bytes) xs rest le h = elim (cases_Bool (has_tag tag (b ∷ bytes))) [
   | inr lacks ↦ nothing_found tag R f stop (b ∷ bytes) xs rest lacks h
   | inl there ↦
       let step = sym (while_next tag f (advances R f p short) stop (b ∷ bytes) there) ∙ h in
@@ -95,7 +88,7 @@ while_found {X} tag R f p short (suc most) stop (b ∷ bytes) xs rest le h = eli
       let e = ok_pair (a.0.0 ∷ c.0.0) c.0.1 xs rest c.2 in
       let r = p.found stop (b ∷ bytes) a.0.0 a.0.1 a.1 in
       let less : length a.0.1 < length (b ∷ bytes) = short (b ∷ bytes) a.0.0 a.0.1 r in
-      let here : While tag R (b ∷ bytes) (a.0.0 ∷ c.0.0) c.0.1 = (its_tag tag (b ∷ bytes) there, a.0.1, r, while_found tag R f p short most stop a.0.1 c.0.0 c.0.1 (omega arith) c.1) in
+      let here : While tag R (b ∷ bytes) (a.0.0 ∷ c.0.0) c.0.1 = (tag_is tag (b ∷ bytes) there, a.0.1, r, while_found tag R f p short most stop a.0.1 c.0.0 c.0.1 (omega arith) c.1) in
       subst (λ (y : List ℕ). While tag R (b ∷ bytes) xs y) e.1 (subst (λ (ys : List X). While tag R (b ∷ bytes) ys c.0.1) e.0 here)
 ]
 

@@ -23,13 +23,16 @@ abbrev pub AttributesForm : Form (List RawAttribute)
 AttributesForm = ListOf 48 AttributeForm
 
 unfoldable pub attribute_at : Reading ℕ RawAttribute
-attribute_at stop bytes = made_at attribute_with (sequence_at place_of 48 (both_at (string_at 4) (strings_at 49))) stop bytes
+attribute_at stop bytes =
+    made_at attribute_with
+    (sequence_at place_of 48 (both_at (string_at 4) (strings_at 49))) stop bytes
 
 abbrev pub attributes_at : Reading ℕ (List RawAttribute)
 attributes_at = list_at place_of 48 attribute_at
 
 unfoldable pub attribute_octets : RawAttribute → List ℕ
-attribute_octets attribute = element 48 (element 4 attribute.name ++ strings_octets 49 attribute.values)
+attribute_octets attribute =
+    element 48 (element 4 attribute.name ++ strings_octets 49 attribute.values)
 
 abbrev pub attributes_octets : List RawAttribute → List ℕ
 attributes_octets attributes = element 48 (flat_map attribute_octets attributes)

@@ -2,7 +2,7 @@
 use Rattle.std.specs.Prelude.{◌≡◌, ℕ, ◌≤◌, ◌&&◌, nat_le, if◌then◌else◌, List, Bool, false, Option, Result, Ok, Err, ℤ, pos, negsuc}
 use Rattle.std.specs.List.{flat_map}
 use Rattle.ldap_ber.specs.Form.{Form, OctetString, Integer, Boolean, Optional, Default, Meaning, ListOf}
-use Rattle.ldap_ber.specs.Reading.{Reading, told, octets_at, integer_at, boolean_at, optional_at, default_at, meaning_at, list_at}
+use Rattle.ldap_ber.specs.Reading.{Reading, reworded, octets_at, integer_at, boolean_at, optional_at, default_at, meaning_at, list_at}
 use Rattle.ldap_ber.specs.Canonical.{element, integer_octets, option_octets}
 use Rattle.ldap_parts.specs.Gives.{place_of}
 
@@ -30,20 +30,21 @@ StringsForm tag = ListOf tag (OctetString 4)
 -- ---- how they are read
 
 abbrev pub string_at : ℕ → Reading ℕ (List ℕ)
-string_at tag stop bytes = told place_of (octets_at tag stop bytes)
+string_at tag stop bytes = reworded place_of (octets_at tag stop bytes)
 
 abbrev pub number_at : ℕ → Reading ℕ ℤ
-number_at tag stop bytes = told place_of (integer_at tag stop bytes)
+number_at tag stop bytes = reworded place_of (integer_at tag stop bytes)
 
 abbrev pub truth_at : Reading ℕ Bool
-truth_at stop bytes = told place_of (boolean_at 1 stop bytes)
+truth_at stop bytes = reworded place_of (boolean_at 1 stop bytes)
 
 abbrev pub flag_at : Reading ℕ Bool
-flag_at stop bytes = told place_of (default_at 1 false (boolean_at 1) stop bytes)
+flag_at stop bytes = reworded place_of (default_at 1 false (boolean_at 1) stop bytes)
 
 -- a number out of its bounds is refused at its element
 abbrev pub within : ℕ → ℕ → ℕ → ℤ → Result ℕ ℕ
-within least most place (pos value) = if nat_le least value && nat_le value most then Ok value else Err place
+within least most place (pos value) =
+    if nat_le least value && nat_le value most then Ok value else Err place
 within least most place (negsuc value) = Err place
 
 abbrev pub range_at : ℕ → ℕ → ℕ → Reading ℕ ℕ

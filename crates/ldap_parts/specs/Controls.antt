@@ -16,20 +16,26 @@ control_with parts = record { name = parts.0; critical = parts.1.0; value = part
 
 -- Control
 abbrev pub ControlForm : Form Control
-ControlForm = MadeOf control_parts (Sequence 48 (Both (OctetString 4) (Both FlagForm (OptionForm 4))))
+ControlForm =
+    MadeOf control_parts (Sequence 48 (Both (OctetString 4) (Both FlagForm (OptionForm 4))))
 
 -- controls [0] Controls OPTIONAL, where absence stands for an empty list
 abbrev pub ControlsForm : Form (List Control)
 ControlsForm = Default 160 [] (ListOf 160 ControlForm)
 
 unfoldable pub control_at : Reading ℕ Control
-control_at stop bytes = made_at control_with (sequence_at place_of 48 (both_at (string_at 4) (both_at flag_at (option_at 4)))) stop bytes
+control_at stop bytes =
+    made_at control_with
+    (sequence_at place_of 48 (both_at (string_at 4) (both_at flag_at (option_at 4)))) stop bytes
 
 abbrev pub controls_at : Reading ℕ (List Control)
 controls_at = default_at 160 [] (list_at place_of 160 control_at)
 
 unfoldable pub control_octets : Control → List ℕ
-control_octets control = element 48 (element 4 control.name ++ (flag_octets 1 false control.critical ++ string_octets 4 control.value))
+control_octets control =
+    element 48
+    (element 4 control.name
+    ++ (flag_octets 1 false control.critical ++ string_octets 4 control.value))
 
 -- an empty list is left out
 abbrev pub controls_octets : List Control → List ℕ

@@ -5,12 +5,12 @@ use Rattle.ldap_ber.specs.Reader.{◌>>=◌, tag_at, has_tag}
 use Rattle.ldap_ber.specs.Form.{Form, OctetString, Both, Meaning, Tagged, Sequence, ListOf}
 use Rattle.ldap_ber.specs.Reading.{Reading, both_at, meaning_at, made_at, tagged_at, sequence_at, list_at}
 use Rattle.ldap_ber.specs.Canonical.{element}
-use Rattle.ldap_filter.specs.Tree.{Tree, Trees, all_of, any_of, negated, equal, substrings, at_least, at_most, present, approx, extensible, no_trees, more_trees, trees}
+use Rattle.ldap_filter.specs.FilterTree.{FilterTree, Trees, all_of, any_of, negated, equal, substrings, at_least, at_most, present, approx, extensible, no_trees, more_trees, trees}
 use Rattle.ldap_filter.specs.Pieces.{has_piece}
 use Rattle.ldap_parts.specs.Gives.{place_of}
 use Rattle.ldap_parts.specs.Components.{OptionForm, string_at, option_at, string_octets}
 
-abbrev pub listed : Trees → List Tree
+abbrev pub listed : Trees → List FilterTree
 listed no_trees = []
 listed (more_trees t ts) = t ∷ listed ts
 
@@ -19,9 +19,10 @@ listed (more_trees t ts) = t ∷ listed ts
 -- as many of a component as there are elements with this tag
 abbrev pub While : {X : Type 0} → ℕ → Form X → Form (List X)
 While tag R bytes [] rest = (rest ≡ bytes) × (tag_at bytes ≡ Some tag → ⊥)
-While tag R bytes (x ∷ xs) rest = (tag_at bytes ≡ Some tag) × (between : List ℕ) × R bytes x between × While tag R between xs rest
+While tag R bytes (x ∷ xs) rest =
+    (tag_at bytes ≡ Some tag) × (between : List ℕ) × R bytes x between × While tag R between xs rest
 
--- what a value begins with, what it holds behind that, and what it ends with
+-- what a value begins with, what it holds after that, and what it ends with
 abbrev pub Parts : Type 0
 Parts = Option (List ℕ) × (List (List ℕ) × Option (List ℕ))
 
@@ -30,7 +31,9 @@ abbrev pub ArePieces : Parts → Parts → Type 0
 ArePieces read pieces = (read ≡ pieces) × (has_piece read.0 read.1.0 read.1.1 ≡ true)
 
 abbrev pub PiecesForm : Form Parts
-PiecesForm = Meaning ArePieces (Tagged 48 (Both (OptionForm 128) (Both (While 129 (OctetString 129)) (OptionForm 130))))
+PiecesForm =
+    Meaning ArePieces
+    (Tagged 48 (Both (OptionForm 128) (Both (While 129 (OctetString 129)) (OptionForm 130))))
 
 -- SubstringFilter
 abbrev pub SubstringsForm : Form (List ℕ × Parts)
@@ -41,13 +44,16 @@ abbrev pub AssertionForm : ℕ → Form (List ℕ × List ℕ)
 AssertionForm tag = Sequence tag (Both (OctetString 4) (OctetString 4))
 
 -- a filter of no more levels than this, of which an item counts as one
-unfoldable pub FilterIn : ℕ → Form Tree
+unfoldable pub FilterIn : ℕ → Form FilterTree
 FilterIn zero bytes filter rest = ⊥
-FilterIn (suc levels) bytes (all_of parts) rest = ListOf 160 (FilterIn levels) bytes (listed parts) rest
-FilterIn (suc levels) bytes (any_of parts) rest = ListOf 161 (FilterIn levels) bytes (listed parts) rest
+FilterIn (suc levels) bytes (all_of parts) rest =
+    ListOf 160 (FilterIn levels) bytes (listed parts) rest
+FilterIn (suc levels) bytes (any_of parts) rest =
+    ListOf 161 (FilterIn levels) bytes (listed parts) rest
 FilterIn (suc levels) bytes (negated part) rest = Tagged 162 (FilterIn levels) bytes part rest
 FilterIn (suc levels) bytes (equal name value) rest = AssertionForm 163 bytes (name, value) rest
-FilterIn (suc levels) bytes (substrings name initial middle last) rest = SubstringsForm bytes (name, (initial, (middle, last))) rest
+FilterIn (suc levels) bytes (substrings name initial middle last) rest =
+    SubstringsForm bytes (name, (initial, (middle, last))) rest
 FilterIn (suc levels) bytes (at_least name value) rest = AssertionForm 165 bytes (name, value) rest
 FilterIn (suc levels) bytes (at_most name value) rest = AssertionForm 166 bytes (name, value) rest
 FilterIn (suc levels) bytes (present name) rest = OctetString 135 bytes name rest
@@ -59,7 +65,9 @@ FilterIn (suc levels) bytes (extensible body) rest = OctetString 169 bytes body 
 abbrev pub while_in : {X : Type 0} → ℕ → Reading ℕ X → ℕ → Reading ℕ (List X)
 while_in tag f zero stop bytes = Ok ([], bytes)
 while_in tag f (suc most) stop bytes =
-    if has_tag tag bytes then (f stop bytes >>= λ x. while_in tag f most stop x.1 >>= λ xs. Ok (x.0 ∷ xs.0, xs.1)) else Ok ([], bytes)
+    if has_tag tag bytes
+    then (f stop bytes >>= λ x. while_in tag f most stop x.1 >>= λ xs. Ok (x.0 ∷ xs.0, xs.1))
+    else Ok ([], bytes)
 
 unfoldable pub while_at : {X : Type 0} → ℕ → Reading ℕ X → Reading ℕ (List X)
 while_at tag f stop bytes = while_in tag f (length bytes) stop bytes
@@ -80,29 +88,29 @@ substrings_at = sequence_at place_of 164 (both_at (string_at 4) pieces_at)
 abbrev pub assertion_at : ℕ → Reading ℕ (List ℕ × List ℕ)
 assertion_at tag = sequence_at place_of tag (both_at (string_at 4) (string_at 4))
 
-abbrev pub all_with : List Tree → Tree
+abbrev pub all_with : List FilterTree → FilterTree
 all_with parts = all_of (trees parts)
 
-abbrev pub any_with : List Tree → Tree
+abbrev pub any_with : List FilterTree → FilterTree
 any_with parts = any_of (trees parts)
 
-abbrev pub substrings_with : List ℕ × Parts → Tree
+abbrev pub substrings_with : List ℕ × Parts → FilterTree
 substrings_with item = substrings item.0 item.1.0 item.1.1.0 item.1.1.1
 
-abbrev pub equal_with : List ℕ × List ℕ → Tree
+abbrev pub equal_with : List ℕ × List ℕ → FilterTree
 equal_with item = equal item.0 item.1
 
-abbrev pub at_least_with : List ℕ × List ℕ → Tree
+abbrev pub at_least_with : List ℕ × List ℕ → FilterTree
 at_least_with item = at_least item.0 item.1
 
-abbrev pub at_most_with : List ℕ × List ℕ → Tree
+abbrev pub at_most_with : List ℕ × List ℕ → FilterTree
 at_most_with item = at_most item.0 item.1
 
-abbrev pub approx_with : List ℕ × List ℕ → Tree
+abbrev pub approx_with : List ℕ × List ℕ → FilterTree
 approx_with item = approx item.0 item.1
 
 -- the items
-unfoldable pub item_at : Reading ℕ Tree
+unfoldable pub item_at : Reading ℕ FilterTree
 item_at stop bytes =
     if has_tag 163 bytes then made_at equal_with (assertion_at 163) stop bytes else
     if has_tag 164 bytes then made_at substrings_with substrings_at stop bytes else
@@ -112,18 +120,23 @@ item_at stop bytes =
     if has_tag 168 bytes then made_at approx_with (assertion_at 168) stop bytes else
     made_at extensible (string_at 169) stop bytes
 
-unfoldable pub filter_in : ℕ → Reading ℕ Tree
+unfoldable pub filter_in : ℕ → Reading ℕ FilterTree
 filter_in zero stop bytes = Err (stop - length bytes)
 filter_in (suc levels) stop bytes =
-    if has_tag 160 bytes then made_at all_with (list_at place_of 160 (filter_in levels)) stop bytes else
-    if has_tag 161 bytes then made_at any_with (list_at place_of 161 (filter_in levels)) stop bytes else
-    if has_tag 162 bytes then made_at negated (tagged_at place_of 162 (filter_in levels)) stop bytes else
-    item_at stop bytes
+    if has_tag 160 bytes then made_at all_with (list_at place_of 160 (filter_in levels)) stop bytes
+    else if has_tag 161 bytes
+    then made_at any_with (list_at place_of 161 (filter_in levels)) stop bytes
+    else if has_tag 162 bytes
+    then made_at negated (tagged_at place_of 162 (filter_in levels)) stop bytes
+    else item_at stop bytes
 
 -- ---- how they are written
 
 abbrev pub pieces_octets : Parts → List ℕ
-pieces_octets pieces = element 48 (string_octets 128 pieces.0 ++ (flat_map (element 129) pieces.1.0 ++ string_octets 130 pieces.1.1))
+pieces_octets pieces =
+    element 48
+    (string_octets 128 pieces.0
+    ++ (flat_map (element 129) pieces.1.0 ++ string_octets 130 pieces.1.1))
 
 abbrev pub substrings_octets : List ℕ × Parts → List ℕ
 substrings_octets item = element 164 (element 4 item.0 ++ pieces_octets item.1)
@@ -132,12 +145,13 @@ abbrev pub assertion_octets : ℕ → List ℕ × List ℕ → List ℕ
 assertion_octets tag item = element tag (element 4 item.0 ++ element 4 item.1)
 
 abbrev mutual
-  pub filter_octets : Tree → List ℕ
+  pub filter_octets : FilterTree → List ℕ
   filter_octets (all_of parts) = element 160 (filters_octets parts)
   filter_octets (any_of parts) = element 161 (filters_octets parts)
   filter_octets (negated part) = element 162 (filter_octets part)
   filter_octets (equal name value) = assertion_octets 163 (name, value)
-  filter_octets (substrings name initial middle last) = substrings_octets (name, (initial, (middle, last)))
+  filter_octets (substrings name initial middle last) =
+      substrings_octets (name, (initial, (middle, last)))
   filter_octets (at_least name value) = assertion_octets 165 (name, value)
   filter_octets (at_most name value) = assertion_octets 166 (name, value)
   filter_octets (present name) = element 135 name
@@ -150,7 +164,7 @@ abbrev mutual
 
 -- each substring filter has a piece
 abbrev mutual
-  pub have_piece : Tree → Bool
+  pub have_piece : FilterTree → Bool
   have_piece (all_of parts) = all_have_piece parts
   have_piece (any_of parts) = all_have_piece parts
   have_piece (negated part) = have_piece part

@@ -1,4 +1,5 @@
--- What a function answered, seen by `view`, is what reading gives, unless memory ran out. A fault of a reading is its place.
+-- What a function answered, seen by `view`, is what reading gives, unless memory ran out. A fault
+-- of a reading is its place.
 use Rattle.std.specs.Prelude.{◌≡◌, ℕ, Result, Ok, Err}
 use Rattle.ldap_ber.specs.declared.fault.BerFault.{BerFault}
 use Rattle.ldap_parts.specs.declared.fault.PartFault.{PartFault}

@@ -25,7 +25,8 @@ use ldap_ber::{NoMemory, Reader, Writer};
 use schema_rules::{RawAttribute, RawList};
 use std::alloc::Global;
 
-/// The attribute that comes next.
+/// The attribute that comes next. Else it is `Refused` with the place of the first element that is
+/// not so, or `NoMemory`, and the reader is as before.
 #[tactic(auto, unfolding(crate::specs::Attributes::attribute_at))]
 pub fn attribute_of(alloc: Global, reader: &mut Reader) -> Result<RawAttribute, PartFault>
     ensures exact { Gives (λ attribute. (attribute, reader.new.left)) result
@@ -44,7 +45,8 @@ pub fn attribute_of(alloc: Global, reader: &mut Reader) -> Result<RawAttribute, 
     Ok(RawAttribute { name, values })
 }
 
-/// The list of attributes that comes next.
+/// The list of attributes that comes next. Else it is `Refused` with the place of the first element
+/// that is not so, or `NoMemory`, and the reader is as before.
 pub fn attributes_of(alloc: Global, reader: &mut Reader) -> Result<RawList, PartFault>
     ensures exact { Gives (λ attributes. (attributes, reader.new.left)) result
         (attributes_at reader.old.stop reader.old.left) }
@@ -73,7 +75,8 @@ fn attributes_in(alloc: Global, reader: &mut Reader) -> Result<RawList, PartFaul
     Ok(attributes)
 }
 
-/// Writes an attribute.
+/// Writes an attribute (RFC 4511, section 4.1.7). It is `NoMemory` where memory runs out, and the
+/// writer is as before.
 #[tactic(auto, unfolding(crate::specs::Attributes::attribute_octets))]
 pub fn put_attribute(writer: &mut Writer, attribute: &RawAttribute) -> Result<(), NoMemory>
     ensures ok { OnOk result
@@ -94,7 +97,8 @@ fn put_body(writer: &mut Writer, attribute: &RawAttribute) -> Result<(), NoMemor
     put_strings(writer, 0x31, attribute.values.list())
 }
 
-/// Writes a list of attributes.
+/// Writes a list of attributes. It is `NoMemory` where memory runs out, and the writer is as
+/// before.
 pub fn put_attributes(writer: &mut Writer, attributes: &[RawAttribute]) -> Result<(), NoMemory>
     ensures ok { OnOk result
         (writer.new ≡ after_bytes writer.old (attributes_octets attributes.now)) }

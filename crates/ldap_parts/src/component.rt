@@ -24,7 +24,8 @@ use crate::fault::PartFault;
 use ldap_ber::{NoMemory, Octets, Reader, Writer};
 use std::alloc::Global;
 
-/// The octet string with this tag that comes next.
+/// The octet string with this tag that comes next. Else it is `Refused` with the place of the first
+/// element that is not so, or `NoMemory`, and the reader is as before.
 pub fn string_of(alloc: Global, reader: &mut Reader, tag: u8) -> Result<Octets, PartFault>
     ensures exact { Gives (λ string. (string, reader.new.left)) result
         (string_at tag reader.old.stop reader.old.left) }
@@ -38,7 +39,8 @@ pub fn string_of(alloc: Global, reader: &mut Reader, tag: u8) -> Result<Octets, 
     Ok(string)
 }
 
-/// The octet string with this tag, where one comes next.
+/// The octet string with this tag, where one comes next. It is `Refused` with the place of an
+/// element with this tag that is none, or `NoMemory`, and then the reader is as before.
 pub fn option_of(alloc: Global, reader: &mut Reader, tag: u8) -> Result<Option<Octets>, PartFault>
     ensures exact { Gives (λ option. (option, reader.new.left)) result
         (option_at tag reader.old.stop reader.old.left) }
@@ -51,7 +53,8 @@ pub fn option_of(alloc: Global, reader: &mut Reader, tag: u8) -> Result<Option<O
     Ok(None)
 }
 
-/// The integer with this tag that comes next.
+/// The integer with this tag that comes next. Else it is `Refused` with its place, and the reader
+/// is as before.
 pub fn number_of(reader: &mut Reader, tag: u8) -> Result<i64, PartFault>
     ensures exact { Gives (λ number. (number, reader.new.left)) result
         (number_at tag reader.old.stop reader.old.left) }
@@ -62,7 +65,8 @@ pub fn number_of(reader: &mut Reader, tag: u8) -> Result<i64, PartFault>
     Ok(number)
 }
 
-/// The truth value that comes next.
+/// The truth value that comes next. Else it is `Refused` with its place, and the reader is as
+/// before.
 pub fn truth_of(reader: &mut Reader) -> Result<bool, PartFault>
     ensures exact { Gives (λ truth. (truth, reader.new.left)) result
         (truth_at reader.old.stop reader.old.left) }
@@ -73,7 +77,8 @@ pub fn truth_of(reader: &mut Reader) -> Result<bool, PartFault>
     Ok(truth)
 }
 
-/// The integer with this tag that comes next, which has to be within these bounds.
+/// The integer with this tag that comes next, which has to be within these bounds. Else it is
+/// `Refused` with its place, and the reader is as before.
 pub fn range_of(reader: &mut Reader, tag: u8, least: u32, most: u32) -> Result<u32, PartFault>
     ensures exact { Gives (λ number. (number, reader.new.left)) result
         (range_at least most tag reader.old.stop reader.old.left) }
@@ -95,7 +100,8 @@ pub fn range_of(reader: &mut Reader, tag: u8, least: u32, most: u32) -> Result<u
     Err(PartFault::Refused(place))
 }
 
-/// Writes an octet string where there is one.
+/// Writes an octet string with this tag where there is one. It is `NoMemory` where memory runs out,
+/// and the writer is as before.
 pub fn put_option(writer: &mut Writer, tag: u8, option: &Option<Octets>) -> Result<(), NoMemory>
     ensures ok { OnOk result (writer.new ≡ after_bytes writer.old (string_octets tag option.now)) }
     ensures err { OnErr result (writer.new ≡ writer.old) }
@@ -106,7 +112,8 @@ pub fn put_option(writer: &mut Writer, tag: u8, option: &Option<Octets>) -> Resu
     }
 }
 
-/// Writes a number.
+/// Writes an integer with this tag. It is `NoMemory` where memory runs out, and the writer is as
+/// before.
 pub fn put_number(writer: &mut Writer, tag: u8, number: u32) -> Result<(), NoMemory>
     ensures ok { OnOk result (writer.new ≡ after_bytes writer.old (number_octets tag number)) }
     ensures err { OnErr result (writer.new ≡ writer.old) }

@@ -48,6 +48,7 @@ impl Model for ControlList {
 }
 
 impl ControlList {
+    /// Makes a list without controls.
     pub fn new(alloc: Global) -> ControlList
         ensures { result ≡ [] }
     {
@@ -65,6 +66,7 @@ impl ControlList {
         Ok(())
     }
 
+    /// Lends the controls, in their order.
     pub fn list(&self) -> &[Control]
         ensures { result.now ≡ self.now }
     {
@@ -72,7 +74,8 @@ impl ControlList {
     }
 }
 
-/// The controls of a message, where they come next, or none.
+/// The controls of a message, where they come next, or none. Else it is `Refused` with the place of
+/// the first element that is not so, or `NoMemory`, and the reader is as before.
 pub fn controls_of(alloc: Global, reader: &mut Reader) -> Result<ControlList, PartFault>
     ensures exact { Gives (λ controls. (controls, reader.new.left)) result
         (controls_at reader.old.stop reader.old.left) }
@@ -125,7 +128,8 @@ fn control_of(alloc: Global, reader: &mut Reader) -> Result<Control, PartFault>
     })
 }
 
-/// Writes the controls of a message, where there are any.
+/// Writes the controls of a message (RFC 4511, section 4.1.11), where there are any. It is
+/// `NoMemory` where memory runs out, and the writer is as before.
 pub fn put_controls(writer: &mut Writer, controls: &[Control]) -> Result<(), NoMemory>
     ensures ok { OnOk result
         (writer.new ≡ after_bytes writer.old (controls_octets controls.now)) }

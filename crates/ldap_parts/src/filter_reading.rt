@@ -29,7 +29,7 @@
 
 ghost use Rattle.std.specs.Prelude.{◌≡◌, ◌<◌, ◌≤◌, length, map, IfOk, OnOk, OnErr};
 ghost use Rattle.ldap_ber.specs.Reading.{many_at, list_at, made_at, tagged_at};
-ghost use Rattle.ldap_filter.specs.Tree.{tree_of, parts_of};
+ghost use Rattle.ldap_filter.specs.FilterTree.{tree_of, parts_of};
 ghost use Rattle.ldap_parts.specs.Gives.{Gives, place_of};
 ghost use Rattle.ldap_parts.specs.Components.{string_at};
 ghost use Rattle.ldap_parts.specs.Filters.{while_at, pieces_at, substrings_at, substrings_with, assertion_at, item_at, filter_in};
@@ -40,7 +40,9 @@ use ldap_ber::{Octets, OctetsList, Reader};
 use ldap_filter::{Filter, FilterList, Pieces};
 use std::alloc::Global;
 
-/// The filter that comes next, in at most so many levels. An item and an empty list are a level.
+/// The filter that comes next, in at most n levels. An item and an empty list are a level.
+/// Else it is `Refused` with the place of the first element that is not so, or `NoMemory`, and the
+/// reader is as before.
 #[cycle(filters)]
 #[tactic(auto, unfolding(crate::specs::Filters::filter_in))]
 pub fn filter_of(alloc: Global, reader: &mut Reader, levels: usize) -> Result<Filter, PartFault>
@@ -155,7 +157,8 @@ fn item_of(alloc: Global, reader: &mut Reader) -> Result<Filter, PartFault>
     Ok(Filter::Extensible(string_of(alloc, reader, 0xA9)?))
 }
 
-/// The type and the value of the element with this tag that comes next.
+/// The type and the value of the element with this tag that comes next. Else it is `Refused` with
+/// the place of the first element that is not so, or `NoMemory`, and the reader is as before.
 pub fn assertion_of(
     alloc: Global,
     reader: &mut Reader,

@@ -4,7 +4,7 @@ ghost use Rattle.std.specs.Prelude.{◌≡◌, ◌++◌, true, map, OnOk, OnErr}
 ghost use Rattle.std.specs.List.{flat_map};
 ghost use Rattle.ldap_ber.specs.Canonical.{element};
 ghost use Rattle.ldap_ber.specs.Writer.{after_bytes};
-ghost use Rattle.ldap_filter.specs.Tree.{tree_of, trees};
+ghost use Rattle.ldap_filter.specs.FilterTree.{tree_of, trees};
 ghost use Rattle.ldap_filter.specs.Pieces.{has_piece};
 ghost use Rattle.ldap_parts.specs.Components.{string_octets};
 ghost use Rattle.ldap_parts.specs.Filters.{pieces_octets, assertion_octets, substrings_octets, filter_octets, filters_octets, have_piece, all_have_piece};
@@ -14,7 +14,8 @@ use crate::lists;
 use ldap_ber::{NoMemory, Octets, Writer};
 use ldap_filter::{Filter, Pieces};
 
-/// Writes a filter.
+/// Writes a filter (RFC 4511, section 4.5.1.7). It is `NoMemory` where memory runs out, and the
+/// writer is as before.
 #[cycle(writing)]
 pub fn put_filter(writer: &mut Writer, filter: &Filter) -> Result<(), NoMemory>
     ensures ok { OnOk result
@@ -61,7 +62,8 @@ fn put_each(writer: &mut Writer, filters: &[Filter]) -> Result<(), NoMemory>
     Ok(())
 }
 
-/// Writes a type and a value.
+/// Writes a type and a value as an element with this tag (RFC 4511, section 4.1.6). It is
+/// `NoMemory` where memory runs out, and the writer is as before.
 pub fn put_assertion(
     writer: &mut Writer,
     tag: u8,

@@ -4,7 +4,7 @@ ghost use Rattle.std.specs.Prelude.{◌≡◌, ◌≢◌, ℕ, ◌<◌, ◌≤�
 ghost use Rattle.ldap_ber.specs.Reader.{tag_at};
 ghost use Rattle.ldap_ber.specs.Writer.{IsSmall};
 ghost use Rattle.schema_rules.specs.declared.raw.RawAttribute.{RawAttribute};
-ghost use Rattle.ldap_filter.specs.Tree.{Tree, depth};
+ghost use Rattle.ldap_filter.specs.FilterTree.{FilterTree, depth};
 ghost use Rattle.ldap_parts.specs.declared.control.Control.{Control};
 ghost use Rattle.ldap_parts.specs.Agreement.{Agree, IsASpelling};
 ghost use Rattle.ldap_parts.specs.Components.{RangeForm, OptionForm, StringsForm, range_at, option_at, strings_at, number_octets, string_octets, strings_octets};
@@ -15,7 +15,8 @@ ghost use Rattle.ldap_parts.specs.Filters.{AssertionForm, FilterIn, assertion_at
 /// What is read was spelled so, and what is spelled so is read.
 pub fn components_are_read()
     ensures option { (tag : ℕ) → Agree (OptionForm tag) (option_at tag) }
-    ensures range { (least most tag : ℕ) → Agree (RangeForm least most tag) (range_at least most tag) }
+    ensures range { (least most tag : ℕ)
+        → Agree (RangeForm least most tag) (range_at least most tag) }
     ensures strings { (tag : ℕ) → Agree (StringsForm tag) (strings_at tag) }
     ensures attributes { Agree AttributesForm attributes_at }
     ensures controls { Agree ControlsForm controls_at }
@@ -24,7 +25,7 @@ pub fn components_are_read()
 {}
 
 /// What is written is one of the spellings of its value. An optional component may not stand before
-/// an element with its tag; a number is within its bounds; a filter is in so many levels, and each
+/// an element with its tag; a number is within its bounds; a filter is in n levels, and each
 /// substring filter in it has a piece.
 pub fn canonical_spellings()
     ensures option { (tag : ℕ) (option : Option (List ℕ)) (rest : List ℕ) → tag % 32 ≢ 31
@@ -42,6 +43,6 @@ pub fn canonical_spellings()
         → ControlsForm (controls_octets controls ++ rest) controls rest }
     ensures assertion { (tag : ℕ) (item : List ℕ × List ℕ) → tag % 32 ≢ 31
         → IsASpelling (AssertionForm tag) (assertion_octets tag) item }
-    ensures filter { (levels : ℕ) (filter : Tree) → depth filter ≤ levels
+    ensures filter { (levels : ℕ) (filter : FilterTree) → depth filter ≤ levels
         → have_piece filter ≡ true → IsASpelling (FilterIn levels) filter_octets filter }
 {}

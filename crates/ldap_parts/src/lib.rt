@@ -1,7 +1,7 @@
 //! Components that several messages of LDAP hold: octet strings, numbers, attributes, controls and
 //! filters, as bytes (RFC 4511, sections 4.1 and 4.5.1.7).
 //!
-//! Each is read in any spelling of its elements, with unknown elements behind the last known one
+//! Each is read in any spelling of its elements, with unknown elements after the last known one
 //! of a SEQUENCE, and with values written that could be left out. It is written in its one
 //! canonical spelling. In a SEQUENCE OF or SET OF no element is unknown. A refused place is
 //! the first octet of the first element that the grammar refuses; a missing element is refused

@@ -13,7 +13,8 @@ use crate::fault::PartFault;
 use ldap_ber::{NoMemory, Octets, OctetsList, Reader, Writer};
 use std::alloc::Global;
 
-/// The element with this tag that comes next: octet strings alone.
+/// The element with this tag that comes next: octet strings alone. Else it is `Refused` with the
+/// place of the first element that is not so, or `NoMemory`, and the reader is as before.
 pub fn strings_of(alloc: Global, reader: &mut Reader, tag: u8) -> Result<OctetsList, PartFault>
     ensures exact { Gives (λ strings. (strings, reader.new.left)) result
         (strings_at tag reader.old.stop reader.old.left) }
@@ -42,7 +43,8 @@ fn strings_in(alloc: Global, reader: &mut Reader) -> Result<OctetsList, PartFaul
     Ok(strings)
 }
 
-/// Writes an element of octet strings.
+/// Writes an element with this tag of octet strings alone. It is `NoMemory` where memory runs out,
+/// and the writer is as before.
 pub fn put_strings(writer: &mut Writer, tag: u8, strings: &[Octets]) -> Result<(), NoMemory>
     ensures ok { OnOk result
         (writer.new ≡ after_bytes writer.old (strings_octets tag strings.now)) }
@@ -53,7 +55,8 @@ pub fn put_strings(writer: &mut Writer, tag: u8, strings: &[Octets]) -> Result<(
     writer.end_after(body)
 }
 
-/// Writes octet strings one after the other. After an `Err` only the open element is changed.
+/// Writes octet strings one after the other. After an `Err` only what was written in the innermost
+/// open element is changed.
 pub(crate) fn put_each(writer: &mut Writer, tag: u8, strings: &[Octets]) -> Result<(), NoMemory>
     ensures ok { OnOk result
         (writer.new ≡ after_bytes writer.old (flat_map (element tag) strings.now)) }

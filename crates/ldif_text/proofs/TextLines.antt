@@ -23,10 +23,10 @@ split-cut mark (b ∷ bs) =
 -- a first line that a line feed ends
 pub lines-some : (bs rest : List ℕ) → (cut 10 bs).1 ≡ Some rest → lines bs ≡ strip_carriage_return (cut 10 bs).0 ∷ lines rest
 lines-some bs rest e =
-    let front = (cut 10 bs).0 in
-    let whole : slice_split (λ b. b == 10) bs ≡ front ∷ slice_split (λ b. b == 10) rest = split-cut 10 bs ∙ ap (λ o. front ∷ parts_after 10 o) e in
+    let prefix = (cut 10 bs).0 in
+    let whole : slice_split (λ b. b == 10) bs ≡ prefix ∷ slice_split (λ b. b == 10) rest = split-cut 10 bs ∙ ap (λ o. prefix ∷ parts_after 10 o) e in
     let next = split-cut 10 rest in
-    ap lines_of_parts whole ∙ ap (λ p. lines_of_parts (front ∷ p)) next ∙ ap (λ p. strip_carriage_return front ∷ lines_of_parts p) (sym next)
+    ap lines_of_parts whole ∙ ap (λ p. lines_of_parts (prefix ∷ p)) next ∙ ap (λ p. strip_carriage_return prefix ∷ lines_of_parts p) (sym next)
 
 cut-none : (mark : ℕ) (bs : List ℕ) → (cut mark bs).1 ≡ None → (cut mark bs).0 ≡ bs
 cut-none mark [] e = refl
@@ -43,8 +43,8 @@ one_part (b ∷ bs) l = let some : (length (b ∷ bs) == 0) ≡ false = grind (a
 -- a first line that the text ends
 lines-none : (bs : List ℕ) → 0 < length bs → (cut 10 bs).1 ≡ None → lines bs ≡ (cut 10 bs).0 ∷ []
 lines-none bs l e =
-    let front = (cut 10 bs).0 in
-    ap lines_of_parts (split-cut 10 bs ∙ ap (λ o. front ∷ parts_after 10 o) e) ∙ ap (λ f. lines_of_parts (f ∷ [])) (cut-none 10 bs e) ∙ one_part bs l ∙ ap (λ f. f ∷ []) (sym (cut-none 10 bs e))
+    let prefix = (cut 10 bs).0 in
+    ap lines_of_parts (split-cut 10 bs ∙ ap (λ o. prefix ∷ parts_after 10 o) e) ∙ ap (λ f. lines_of_parts (f ∷ [])) (cut-none 10 bs e) ∙ one_part bs l ∙ ap (λ f. f ∷ []) (sym (cut-none 10 bs e))
 
 -- where the rest stands
 cut-place : (mark : ℕ) (bs rest : List ℕ) → (cut mark bs).1 ≡ Some rest → rest ≡ drop (length (cut mark bs).0 + 1) bs
@@ -66,24 +66,20 @@ cut-length mark (b ∷ bs) rest e =
 -- the line at a place, where a line feed ends it and where the text does
 pub next-some : (bytes line rest : List ℕ) (at next : ℕ) → at < length bytes → line ≡ (cut 10 (drop at bytes)).0 → Some rest ≡ (cut 10 (drop at bytes)).1 → next ≡ at + length line + 1
     → lines (drop at bytes) ≡ strip_carriage_return line ∷ lines (drop next bytes)
-next-some bytes line rest at next l front back n =
+next-some bytes line rest at next l prefix back n =
     let here = drop at bytes in
     let after : lines rest ≡ lines (drop next bytes) =
     ap lines (cut-place 10 here rest (sym back) ∙ drop-drop (length (cut 10 here).0 + 1) at bytes)
-    ∙ ap (λ k. lines (drop k bytes)) (let s : at + (length (cut 10 here).0 + 1) ≡ next = omega (arith, n, ap length front) in s) in
-    lines-some here rest (sym back) ∙ ap (λ t. strip_carriage_return (cut 10 here).0 ∷ t) after ∙ ap (λ f. strip_carriage_return f ∷ lines (drop next bytes)) (sym front)
+    ∙ ap (λ k. lines (drop k bytes)) (let s : at + (length (cut 10 here).0 + 1) ≡ next = omega (arith, n, ap length prefix) in s) in
+    lines-some here rest (sym back) ∙ ap (λ t. strip_carriage_return (cut 10 here).0 ∷ t) after ∙ ap (λ f. strip_carriage_return f ∷ lines (drop next bytes)) (sym prefix)
 
 pub next-none : (bytes line : List ℕ) (at next : ℕ) → at < length bytes → line ≡ (cut 10 (drop at bytes)).0 → None ≡ (cut 10 (drop at bytes)).1 → next ≡ length bytes
     → lines (drop at bytes) ≡ line ∷ lines (drop next bytes)
-next-none bytes line at next l front back n =
+next-none bytes line at next l prefix back n =
     let here = drop at bytes in
     let nothing : [] ≡ lines (drop next bytes) = ap lines (sym (drop_all next bytes (omega arith))) in
-    lines-none here (simp length-drop (omega arith)) (sym back) ∙ ap (λ f. f ∷ []) (sym front) ∙ ap (λ t. line ∷ t) nothing
+    lines-none here (simp length-drop (omega arith)) (sym back) ∙ ap (λ f. f ∷ []) (sym prefix) ∙ ap (λ t. line ∷ t) nothing
 
 -- the next line lies within the text
 pub next_within : (bytes line rest : List ℕ) (at : ℕ) → at < length bytes → line ≡ (cut 10 (drop at bytes)).0 → Some rest ≡ (cut 10 (drop at bytes)).1 → at + length line + 1 ≤ length bytes
-next_within bytes line rest at l front back = omega (arith, cut-length 10 (drop at bytes) rest (sym back), ap length front, length-drop at bytes)
-
--- no line is left behind the text
-pub no_lines : (bytes : List ℕ) (at : ℕ) → length bytes ≤ at → lines (drop at bytes) ≡ []
-no_lines bytes at l = ap lines (drop_all at bytes l)
+next_within bytes line rest at l prefix back = omega (arith, cut-length 10 (drop at bytes) rest (sym back), ap length prefix, length-drop at bytes)

@@ -53,11 +53,11 @@ all_at p (c ∷ xs) (suc k) z e = all_at p xs k z (both (p c) (list_all p xs) e)
 abbrev pub in_line : ℕ → Bool
 in_line c = not (c == 10) && not (c == 13)
 
-pub cut_front : (mark : ℕ) (front rest : List ℕ) → list_all (λ c. not (c == mark)) front ≡ true → cut mark (front ++ mark ∷ rest) ≡ (front, Some rest)
-cut_front mark [] rest e = rw (eq-eqb mark mark refl) refl
-cut_front mark (c ∷ front) rest e =
-    let h = both (not (c == mark)) (list_all (λ c. not (c == mark)) front) e in
-    rw (not_true (c == mark) h.0, cut_front mark front rest h.1) refl
+pub cut_prefix : (mark : ℕ) (prefix rest : List ℕ) → list_all (λ c. not (c == mark)) prefix ≡ true → cut mark (prefix ++ mark ∷ rest) ≡ (prefix, Some rest)
+cut_prefix mark [] rest e = rw (eq-eqb mark mark refl) refl
+cut_prefix mark (c ∷ prefix) rest e =
+    let h = both (not (c == mark)) (list_all (λ c. not (c == mark)) prefix) e in
+    rw (not_true (c == mark) h.0, cut_prefix mark prefix rest h.1) refl
 
 no_return : (line : List ℕ) → list_all in_line line ≡ true → strip_carriage_return line ≡ line
 no_return line e =
@@ -66,9 +66,9 @@ no_return line e =
 
 lines_more : (line rest : List ℕ) → list_all in_line line ≡ true → lines (line ++ 10 ∷ rest) ≡ line ∷ lines rest
 lines_more line rest e =
-    let front = cut_front 10 line rest (all_weaker in_line (λ c. not (c == 10)) (λ c h. (both (not (c == 10)) (not (c == 13)) h).0) line e) in
-    lines-some (line ++ 10 ∷ rest) rest (ap (λ (p : List ℕ × Option (List ℕ)). p.1) front)
-    ∙ ap (λ (p : List ℕ × Option (List ℕ)). strip_carriage_return p.0 ∷ lines rest) front
+    let prefix = cut_prefix 10 line rest (all_weaker in_line (λ c. not (c == 10)) (λ c h. (both (not (c == 10)) (not (c == 13)) h).0) line e) in
+    lines-some (line ++ 10 ∷ rest) rest (ap (λ (p : List ℕ × Option (List ℕ)). p.1) prefix)
+    ∙ ap (λ (p : List ℕ × Option (List ℕ)). strip_carriage_return p.0 ∷ lines rest) prefix
     ∙ ap (λ l. l ∷ lines rest) (no_return line e)
 
 -- lines, each with its line feed
@@ -180,9 +180,9 @@ is_good_name name = list_all (λ c. in_line c && not (c == 58)) name && (not (be
 abbrev pub body_of_field : Field → List ℕ
 body_of_field f = f.name ++ value_text f.value
 
-front_begins : (mark : ℕ) (name rest : List ℕ) → begins_with mark name ≡ false → (58 == mark) ≡ false → begins_with mark (name ++ 58 ∷ rest) ≡ false
-front_begins mark [] rest e n = n
-front_begins mark (c ∷ name) rest e n = e
+prefix_begins : (mark : ℕ) (name rest : List ℕ) → begins_with mark name ≡ false → (58 == mark) ≡ false → begins_with mark (name ++ 58 ∷ rest) ≡ false
+prefix_begins mark [] rest e n = n
+prefix_begins mark (c ∷ name) rest e n = e
 
 pub field_in_line : (f : Field) → is_good_name f.name ≡ true → list_all in_line (body_of_field f) ≡ true
 field_in_line f good =
@@ -194,21 +194,21 @@ field_in_line f good =
 pub field_not_continued : (f : Field) → is_good_name f.name ≡ true → is_continuation (body_of_field f) ≡ false
 field_not_continued f good =
     let h = both (list_all (λ c. in_line c && not (c == 58)) f.name) _ good in
-    let marks = both (not (begins_with 32 f.name)) (not (begins_with 35 f.name)) h.1 in
-    rw value_text_after (front_begins 32 f.name (after_colon f.value) (not_true (begins_with 32 f.name) marks.0) refl)
+    let operational = both (not (begins_with 32 f.name)) (not (begins_with 35 f.name)) h.1 in
+    rw value_text_after (prefix_begins 32 f.name (after_colon f.value) (not_true (begins_with 32 f.name) operational.0) refl)
 
 pub field_not_comment : (f : Field) → is_good_name f.name ≡ true → begins_with 35 (body_of_field f) ≡ false
 field_not_comment f good =
     let h = both (list_all (λ c. in_line c && not (c == 58)) f.name) _ good in
-    let marks = both (not (begins_with 32 f.name)) (not (begins_with 35 f.name)) h.1 in
-    rw value_text_after (front_begins 35 f.name (after_colon f.value) (not_true (begins_with 35 f.name) marks.1) refl)
+    let operational = both (not (begins_with 32 f.name)) (not (begins_with 35 f.name)) h.1 in
+    rw value_text_after (prefix_begins 35 f.name (after_colon f.value) (not_true (begins_with 35 f.name) operational.1) refl)
 
 pub field_back : (first last : ℕ) (f : Field) → is_good_name f.name ≡ true → IsBytes f.value → field_of (record { first = first; last = last; text = body_of_field f }) ≡ Ok f
 unfolding field_of
 field_back first last f good bytes =
     let h = both (list_all (λ c. in_line c && not (c == 58)) f.name) _ good in
-    let front = cut_front 58 f.name (after_colon f.value) (all_weaker (λ c. in_line c && not (c == 58)) (λ c. not (c == 58)) (λ c p. (both (in_line c) (not (c == 58)) p).1) f.name h.0) in
+    let prefix = cut_prefix 58 f.name (after_colon f.value) (all_weaker (λ c. in_line c && not (c == 58)) (λ c. not (c == 58)) (λ c p. (both (in_line c) (not (c == 58)) p).1) f.name h.0) in
     rw (field_not_continued f good)
     (ap (λ t. field_after first (cut 58 (f.name ++ t)).0 (cut 58 (f.name ++ t)).1) (value_text_after f.value)
-    ∙ ap (λ (p : List ℕ × Option (List ℕ)). field_after first p.0 p.1) front
+    ∙ ap (λ (p : List ℕ × Option (List ℕ)). field_after first p.0 p.1) prefix
     ∙ rw (value_back first f.value bytes) refl)

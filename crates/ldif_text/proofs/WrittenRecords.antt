@@ -45,9 +45,9 @@ unfolded-fields number (f ∷ fields) good =
     ∙ onto_end (line_at number (body_of_field f)) (next_number number) (map body_of_field fields ++ [] ∷ []) (not_continued fields good.2)
     ∙ ap (λ l. line_at number (body_of_field f) ∷ l) (unfolded-fields (next_number number) fields good.2)
 
-filled_before : (front text : List ℕ) (c : ℕ) → is_empty (front ++ c ∷ text) ≡ false
+filled_before : (prefix text : List ℕ) (c : ℕ) → is_empty (prefix ++ c ∷ text) ≡ false
 filled_before [] text c = refl
-filled_before (b ∷ front) text c = refl
+filled_before (b ∷ prefix) text c = refl
 
 field_filled : (f : Field) → is_empty (body_of_field f) ≡ false
 field_filled f = rw value_text_after (filled_before f.name _ 58)

@@ -6,10 +6,15 @@ use Rattle.ldif_text.specs.Lines.{text_lines, from_content}
 use Rattle.ldif_text.specs.Reader.{Reader, next_record}
 use Rattle.ldif_text.specs.Written.{entry_text, raw_of}
 
--- a reader at the text of the entry, whose lines have any numbers, finds the add of this entry, and no content after it
+-- a reader at the text of the entry, whose lines have any numbers, finds the add of this entry, and
+-- no content after it
 abbrev pub IsReadAgain : List ℕ → List Attribute → Type 0
 IsReadAgain name attrs =
     (number line : ℕ) (begun : Bool) → (after : Reader)
-    × (next_record (record { lines = text_lines number (entry_text name attrs None); line = line; begun = begun })
+    × (next_record (record {
+      lines = text_lines number (entry_text name attrs None);
+      line = line;
+      begun = begun;
+    })
     ≡ Ok (Some (record { change = Add name (map raw_of attrs); after = after })))
     × (from_content after.lines ≡ [])

@@ -20,9 +20,10 @@ shown (Some slice) = Some slice.now
 -- the two sides of the first mark: all bytes and nothing where there is none
 abbrev pub cut : ℕ → List ℕ → List ℕ × Option (List ℕ)
 cut mark [] = ([], None)
-cut mark (b ∷ bytes) = if b == mark then ([], Some bytes) else (b ∷ (cut mark bytes).0, (cut mark bytes).1)
+cut mark (b ∷ bytes) =
+    if b == mark then ([], Some bytes) else (b ∷ (cut mark bytes).0, (cut mark bytes).1)
 
--- the bytes without the spaces at their front
+-- the bytes without the spaces at their prefix
 abbrev pub unspaced : List ℕ → List ℕ
 unspaced [] = []
 unspaced (b ∷ bytes) = if b == 32 then unspaced bytes else b ∷ bytes
@@ -48,7 +49,8 @@ field_after number name (Some bytes) = do
   value ← value_after number bytes
   Ok (record { name = name; value = value })
 
--- the name before the first colon, and the value after it; a line that continues nothing has neither
+-- the name before the first colon, and the value after it; a line that
+-- continues nothing has neither
 unfoldable pub field_of : Line → Result Field LdifFault
 field_of line =
     if is_continuation line.text then Err (BadLine line.first)
@@ -63,7 +65,8 @@ keyword name line = do
   field ← field_of line
   value_if (bytes_eq field.name name) line.first field.value
 
--- the value of a line of this type, whose name is without regard to ASCII case (RFC 4512, section 2.5)
+-- the value of a line of this type, whose name is without regard to ASCII case
+-- (RFC 4512, section 2.5)
 unfoldable pub value_of_type : List ℕ → Line → Result (List ℕ) LdifFault
 value_of_type name line = do
   field ← field_of line

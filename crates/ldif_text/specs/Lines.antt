@@ -1,4 +1,5 @@
--- The lines of an LDIF text, with those that continue them (RFC 2849, notes on LDIF syntax, 2 and 3).
+-- The lines of an LDIF text, with those that continue them (RFC 2849, notes on
+-- LDIF syntax, 2 and 3).
 use Rattle.std.specs.Prelude.{ℕ, ◌+◌, ◌-◌, ◌^◌, Bool, true, false, not, ◌&&◌, ◌||◌, ◌==◌, min, List, [], ◌∷◌, ◌++◌, drop, if◌then◌else◌}
 use Rattle.std.specs.Str.Lines.{lines}
 use Rattle.ldif_text.specs.declared.lines.Line.{Line}
@@ -29,19 +30,22 @@ is_comment text = begins_with 35 text
 abbrev pub next_number : ℕ → ℕ
 next_number number = min (number + 1) (2 ^ 64 - 1)
 
--- the line before these lines, which the first of them may continue; an empty line is continued by none
+-- the line before these lines, which the first of them may continue; an empty line
+-- is continued by none
 abbrev pub onto : Line → List Line → List Line
 onto line [] = line ∷ []
 onto line (next ∷ rest) =
     if is_continuation next.text && not (is_empty line.text)
-    then record { first = line.first; last = next.last; text = line.text ++ drop 1 next.text } ∷ rest
+    then record { first = line.first; last = next.last; text = line.text ++ drop 1 next.text }
+    ∷ rest
     else line ∷ next ∷ rest
 
 -- lines, numbered from this number on, each joined with those that continue it
 unfoldable pub unfolded : ℕ → List (List ℕ) → List Line
 unfolded number [] = []
 unfolded number (text ∷ texts) =
-    onto (record { first = number; last = number; text = text }) (unfolded (next_number number) texts)
+    onto (record { first = number; last = number; text = text })
+    (unfolded (next_number number) texts)
 
 -- the lines of a text
 abbrev pub text_lines : ℕ → List ℕ → List Line

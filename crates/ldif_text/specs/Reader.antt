@@ -11,7 +11,8 @@ use Rattle.ldif_text.specs.declared.records.Taken.{Taken}
 use Rattle.ldif_text.specs.Lines.{left_at, from_content, record_lines, after_record, last_number}
 use Rattle.ldif_text.specs.Record.{change_of}
 
--- the lines that are left, the number of the last line of the record that was given last, and whether one was given
+-- the lines that are left, the number of the last line of the record that was given last, and
+-- whether one was given
 pub record Reader : Type 0 where
   pub lines : List Line
   pub line : ℕ
@@ -21,7 +22,8 @@ pub record Reader : Type 0 where
 unfoldable pub is_version : Line → Result Bool LdifFault
 is_version line = do
   field ← field_of line
-  if bytes_eq field.name (codes "version") then (if bytes_eq field.value (codes "1") then Ok true else Err (BadChange line.first))
+  if bytes_eq field.name (codes "version")
+      then (if bytes_eq field.value (codes "1") then Ok true else Err (BadChange line.first))
       else Ok false
 
 -- a record, and the reader after it
@@ -32,15 +34,24 @@ pub record Found : Type 0 where
 -- what was taken from a text
 abbrev pub found_in : List ℕ → Taken → Found
 found_in text taken =
-    record { change = taken.change; after = record { lines = left_at text taken.place; line = taken.line; begun = true } }
+    record {
+      change = taken.change;
+      after = record { lines = left_at text taken.place; line = taken.line; begun = true };
+    }
 
--- the record that these lines begin with; `number` is that of a line before it, for a record that has no line
+-- the record that these lines begin with; `number` is that of a line before it, for a
+-- record that has no line
 abbrev pub record_at : ℕ → List Line → Result Found LdifFault
 record_at number lines = do
   change ← change_of (last_number number (record_lines lines)) (record_lines lines)
   Ok (record {
     change = change;
-    after = record { lines = after_record lines; line = last_number number (record_lines lines); begun = true };
+    after =
+        record {
+          lines = after_record lines;
+          line = last_number number (record_lines lines);
+          begun = true;
+        };
   })
 
 -- the record that begins with the line, or that the version before it announces

@@ -28,7 +28,8 @@ nothing_more (line ∷ lines) = do
 abbrev pub is_of_type : List ℕ → RawAttribute → Bool
 is_of_type name a = str_eq_ignore_ascii_case a.name name
 
--- one more value, behind the others of its type; a type without values yet comes behind the other types
+-- one more value, after the others of its type; a type without values yet comes
+-- after the other types
 abbrev pub with_value : List RawAttribute → List ℕ → List ℕ → List RawAttribute
 with_value [] name value = record { name = name; values = value ∷ [] } ∷ []
 with_value (a ∷ attrs) name value =
@@ -71,14 +72,18 @@ edit_of line = do
 -- the edit with one value more
 abbrev pub with_edit_value : RawEdit → List ℕ → RawEdit
 with_edit_value e value =
-    record { how = e.how; attribute = record { name = e.attribute.name; values = e.attribute.values ++ value ∷ [] } }
+    record {
+      how = e.how;
+      attribute = record { name = e.attribute.name; values = e.attribute.values ++ value ∷ [] };
+    }
 
 unfoldable pub edit_value : RawEdit → Line → Result RawEdit LdifFault
 edit_value e line = do
   value ← value_of_type e.attribute.name line
   Ok (with_edit_value e value)
 
--- the edits after those, where the last one is open to further values; a line `-` closes it, and the end does
+-- the edits after those, where the last one is open to further values; a line `-` closes
+-- it, and the end does
 abbrev pub edits_of : List RawEdit → Option RawEdit → List Line → Result (List RawEdit) LdifFault
 edits_of done None [] = Ok done
 edits_of done (Some e) [] = Ok (done ++ e ∷ [])
@@ -89,10 +94,14 @@ edits_of done (Some e) (line ∷ lines) =
     if bytes_eq line.text (codes "-") then edits_of (done ++ e ∷ []) None lines
     else (edit_value e line >>= λ longer. edits_of done (Some longer) lines)
 
--- what a function that reads one line into the edits did: with any further lines the edits are the same
-abbrev pub Edits : Result (Option RawEdit) LdifFault → List RawEdit → List RawEdit → Option RawEdit → Line → Type 0
-Edits (Ok next) done now current line = (lines : List Line) → edits_of done current (line ∷ lines) ≡ edits_of now next lines
-Edits (Err fault) done now current line = (lines : List Line) → Refuses fault (edits_of done current (line ∷ lines))
+-- what a function that reads one line into the edits did: with any further lines
+-- the edits are the same
+abbrev pub Edits :
+    Result (Option RawEdit) LdifFault → List RawEdit → List RawEdit → Option RawEdit → Line → Type 0
+Edits (Ok next) done now current line =
+    (lines : List Line) → edits_of done current (line ∷ lines) ≡ edits_of now next lines
+Edits (Err fault) done now current line =
+    (lines : List Line) → Refuses fault (edits_of done current (line ∷ lines))
 
 abbrev pub modify_of : List ℕ → List Line → Result Change LdifFault
 modify_of name lines = do
@@ -147,7 +156,8 @@ abbrev pub body_of : ℕ → List ℕ → List Line → Result Change LdifFault
 body_of last name [] = Err (BadChange last)
 body_of last name (line ∷ lines) = do
   field ← field_of line
-  if bytes_eq field.name (codes "changetype") then change_of_kind last line.first name field.value lines
+  if bytes_eq field.name (codes "changetype")
+      then change_of_kind last line.first name field.value lines
       else add_of last name (line ∷ lines)
 
 -- `dn:` and the lines after it

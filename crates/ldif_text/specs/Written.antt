@@ -5,7 +5,7 @@ use Rattle.std.specs.Int.{to_be_bytes, w128}
 use Rattle.base64.specs.Engines.{standard}
 use Rattle.base64.specs.GeneralPurpose.{IsBytes, encode_of}
 use Rattle.uuid.specs.Text.{hyphenated_text, lower}
-use Rattle.csn_cookie.specs.Csn.{Stamp, csn_text}
+use Rattle.csn_cookie.specs.Csn.{CsnValue, csn_text}
 use Rattle.schema_rules.specs.declared.attributes.Attribute.{Attribute}
 use Rattle.schema_rules.specs.declared.raw.RawAttribute.{RawAttribute}
 use Rattle.schema_rules.specs.Attributes.{IsAttributeList}
@@ -23,11 +23,14 @@ is_unsafe_first b = (b == 32 || b == 58) || b == 60
 abbrev pub is_plain : List ℕ → Bool
 is_plain value =
     if length value == 0 then true
-    else (not (is_unsafe_first (slice_index value 0)) && not (slice_index value (length value - 1) == 32)) && not (list_any is_unsafe value)
+    else (not (is_unsafe_first (slice_index value 0))
+    && not (slice_index value (length value - 1) == 32))
+    && not (list_any is_unsafe value)
 
 -- what stands after a name: `: VALUE`, or `:: BASE64`
 unfoldable pub value_text : List ℕ → List ℕ
-value_text value = if is_plain value then codes ": " ++ value else codes ":: " ++ encode_of standard value
+value_text value =
+    if is_plain value then codes ": " ++ value else codes ":: " ++ encode_of standard value
 
 unfoldable pub line_text : List ℕ → List ℕ → List ℕ
 line_text name value = name ++ (value_text value ++ codes "\n")
@@ -44,17 +47,17 @@ abbrev pub uuid_line : ℕ → List ℕ
 uuid_line uuid = line_text (codes "entryUUID") (uuid_text uuid)
 
 -- the identity of the entry and the number of its last change (RFC 4530)
-abbrev pub marks_text : Option (ℕ × Stamp) → List ℕ
-marks_text None = []
-marks_text (Some marks) = uuid_line marks.0 ++ line_text (codes "entryCSN") (csn_text marks.1)
+abbrev pub operational_text : Option (ℕ × CsnValue) → List ℕ
+operational_text None = []
+operational_text (Some operational) = uuid_line operational.0 ++ line_text (codes "entryCSN") (csn_text operational.1)
 
 abbrev pub attributes_text : List Attribute → List ℕ
 attributes_text attributes = flat_map attribute_text attributes
 
 -- `dn:` and the name, a line for each value in the order held, the marks, and an empty line
-abbrev pub entry_text : List ℕ → List Attribute → Option (ℕ × Stamp) → List ℕ
-entry_text name attrs marks =
-    line_text (codes "dn") name ++ (attributes_text attrs ++ (marks_text marks ++ codes "\n"))
+abbrev pub entry_text : List ℕ → List Attribute → Option (ℕ × CsnValue) → List ℕ
+entry_text name attrs operational =
+    line_text (codes "dn") name ++ (attributes_text attrs ++ (operational_text operational ++ codes "\n"))
 
 -- the attribute by the name of its type
 abbrev pub raw_of : Attribute → RawAttribute

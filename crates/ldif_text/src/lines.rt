@@ -27,18 +27,21 @@ pub struct Line {
 }
 
 impl Line {
+    /// Reports whether the line has no byte, as one that ends a record.
     pub fn is_empty(&self) -> bool
         ensures { result ≡ spec.is_empty self.now.text }
     {
         matches!(self.text.as_slice(), [])
     }
 
+    /// Reports whether nothing is read of the line: it is empty or a comment.
     pub fn is_blank(&self) -> bool
         ensures { result ≡ spec.is_blank self.now }
     {
         self.is_empty() || self.is_comment()
     }
 
+    /// Reports whether it begins with `#`, as a comment line does (RFC 2849).
     pub fn is_comment(&self) -> bool
         ensures { result ≡ spec.is_comment self.now.text }
     {
@@ -55,7 +58,7 @@ impl Line {
 
 /// The two sides of the first mark: all bytes and nothing where there is none.
 pub fn cut_at(bytes: &[u8], mark: u8) -> (&[u8], Option<&[u8]>)
-    ensures front { result.0.now ≡ (cut mark bytes.now).0 }
+    ensures prefix { result.0.now ≡ (cut mark bytes.now).0 }
     ensures back { shown result.1 ≡ (cut mark bytes.now).1 }
 {
     for (i, b) in bytes.iter().enumerate() {
@@ -85,7 +88,8 @@ pub fn next_line(text: &[u8], cursor: Cursor) -> Option<(&[u8], Cursor)>
 /// The line at a place that is not the text's end.
 fn line_at(text: &[u8], cursor: Cursor) -> (&[u8], Cursor)
     requires { cursor.at < length text.now }
-    ensures line { lines (drop cursor.at text.now) ≡ result.0.now ∷ lines (drop result.1.at text.now) }
+    ensures line { lines (drop cursor.at text.now)
+        ≡ result.0.now ∷ lines (drop result.1.at text.now) }
     ensures number { result.1.number ≡ spec.next_number cursor.number }
     ensures later { cursor.at < result.1.at }
     ensures within { result.1.at ≤ length text.now }
@@ -108,7 +112,7 @@ fn without_return(line: &[u8]) -> &[u8]
     ensures { result.now ≡ strip_carriage_return line.now }
 {
     match line {
-        [front @ .., b'\r'] => front,
+        [prefix @ .., b'\r'] => prefix,
         _ => line,
     }
 }
@@ -142,11 +146,11 @@ pub fn joined_line(
 {
     match next_line(text, cursor) {
         None => Ok(None),
-        Some((front, after)) => {
+        Some((prefix, after)) => {
             let line = Line {
                 first: cursor.number,
                 last: cursor.number,
-                text: Octets::from_slice(alloc, front)?,
+                text: Octets::from_slice(alloc, prefix)?,
             };
             if line.is_empty() {
                 return Ok(Some((line, after)));
@@ -166,7 +170,8 @@ fn continued(
 ) -> Result<(Line, Cursor), NoMemory>
     requires place { cursor.at ≤ length text.now }
     requires filled { spec.is_empty line.text ≡ false }
-    ensures line { IfOk result (λ x. spec.onto line (spec.left_at text.now cursor) ≡ x.0 ∷ spec.left_at text.now x.1) }
+    ensures line { IfOk result (λ x.
+        spec.onto line (spec.left_at text.now cursor) ≡ x.0 ∷ spec.left_at text.now x.1) }
     ensures later { IfOk result (λ x. cursor.at ≤ x.1.at) }
     ensures within { IfOk result (λ x. x.1.at ≤ length text.now) }
 {
@@ -189,7 +194,8 @@ fn continued(
 /// The place of the next line that is neither empty nor a comment, or the end of the text.
 pub fn content_place(alloc: Global, text: &[u8], cursor: Cursor) -> Result<Cursor, NoMemory>
     requires { cursor.at ≤ length text.now }
-    ensures left { IfOk result (λ x. spec.from_content (spec.left_at text.now cursor) ≡ spec.left_at text.now x) }
+    ensures left { IfOk result (λ x.
+        spec.from_content (spec.left_at text.now cursor) ≡ spec.left_at text.now x) }
     ensures within { IfOk result (λ x. x.at ≤ length text.now) }
 {
     let mut place = cursor;
@@ -209,8 +215,10 @@ pub fn record_lines(
     cursor: Cursor,
 ) -> Result<(Vec<Line>, Cursor), NoMemory>
     requires { cursor.at ≤ length text.now }
-    ensures lines { IfOk result (λ x. spec.record_lines (spec.left_at text.now cursor) ≡ x.0.items) }
-    ensures left { IfOk result (λ x. spec.after_record (spec.left_at text.now cursor) ≡ spec.left_at text.now x.1) }
+    ensures lines { IfOk result (λ x.
+        spec.record_lines (spec.left_at text.now cursor) ≡ x.0.items) }
+    ensures left { IfOk result (λ x.
+        spec.after_record (spec.left_at text.now cursor) ≡ spec.left_at text.now x.1) }
     ensures within { IfOk result (λ x. x.1.at ≤ length text.now) }
 {
     let mut lines = Vec::new(alloc);

@@ -30,7 +30,11 @@ impl<'a> Model for Records<'a> {
 
     ghost Value = { Reader };
 
-    ghost view = { λ r. record { lines = left_at r.text.now r.place; line = r.line; begun = r.begun } };
+    ghost view = { λ r. record {
+      lines = left_at r.text.now r.place;
+      line = r.line;
+      begun = r.begun;
+    } };
 
     ghost invariant = { λ r. r.place.at ≤ length r.text.now };
 }
@@ -38,7 +42,12 @@ impl<'a> Model for Records<'a> {
 impl<'a> Records<'a> {
     /// A reader at the beginning of a text, whose first line has this number.
     pub fn new(text: &'a [u8], first_line: u64) -> Records<'a>
-        ensures { result ≡ record { lines = text_lines first_line text.entry.now; line = first_line; begun = false } }
+        ensures { result
+            ≡ record {
+              lines = text_lines first_line text.entry.now;
+              line = first_line;
+              begun = false;
+            } }
     {
         Records {
             text,
@@ -67,7 +76,8 @@ impl<'a> Records<'a> {
         ensures end { IfOk result (λ found. IfNone found (spec.next_record self.old ≡ Ok None)) }
         ensures same { IfOk result (λ found. IfNone found (self.new ≡ self.old)) }
         // A record takes a line at least.
-        ensures shorter { IfOk result (λ found. OnSome found (length self.new.lines < length self.old.lines)) }
+        ensures shorter { IfOk result (λ found.
+            OnSome found (length self.new.lines < length self.old.lines)) }
         ensures refused { IfErr result (λ fault. Refuses fault (spec.next_record self.old)) }
         ensures err { OnErr result (self.new ≡ self.old) }
     {
@@ -99,7 +109,8 @@ fn next_record(
     begun: bool,
 ) -> Result<Option<Taken>, LdifFault>
     requires { cursor.at ≤ length text.now }
-    ensures found { Gives (option_map (found_in text.now)) result (spec.record_from begun (from_content (left_at text.now cursor))) }
+    ensures found { Gives (option_map (found_in text.now)) result
+        (spec.record_from begun (from_content (left_at text.now cursor))) }
     ensures within { IfOk result (λ found. IfSome found (λ x. x.place.at ≤ length text.now)) }
 {
     let start = content_place(alloc, text, cursor)?;
@@ -126,7 +137,8 @@ fn first_record(
     requires start { cursor.at ≤ length text.now }
     requires end { after.at ≤ length text.now }
     requires line { left_at text.now cursor ≡ line.now ∷ left_at text.now after }
-    ensures found { Gives (found_in text.now) result (spec.first_record line.now (left_at text.now after)) }
+    ensures found { Gives (found_in text.now) result
+        (spec.first_record line.now (left_at text.now after)) }
     ensures within { IfOk result (λ x. x.place.at ≤ length text.now) }
 {
     let start = if is_version(alloc, line)? {
@@ -137,7 +149,7 @@ fn first_record(
     record_at(alloc, text, start, line.last)
 }
 
-/// Whether the line tells the version, which is 1.
+/// Whether the line reports the version, which is 1.
 #[tactic(auto, unfolding(crate::specs::Reader::is_version))]
 fn is_version(alloc: Global, line: &Line) -> Result<bool, LdifFault>
     ensures { Gives (λ x. x) result (spec.is_version line.now) }
@@ -156,7 +168,8 @@ fn is_version(alloc: Global, line: &Line) -> Result<bool, LdifFault>
 /// The record at a place. A line before it has this number.
 fn record_at(alloc: Global, text: &[u8], cursor: Cursor, number: u64) -> Result<Taken, LdifFault>
     requires { cursor.at ≤ length text.now }
-    ensures found { Gives (found_in text.now) result (spec.record_at number (left_at text.now cursor)) }
+    ensures found { Gives (found_in text.now) result
+        (spec.record_at number (left_at text.now cursor)) }
     ensures within { IfOk result (λ x. x.place.at ≤ length text.now) }
 {
     let (lines, place) = record_lines(alloc, text, cursor)?;

@@ -19,14 +19,14 @@ pub fn write_entry(
     alloc: Global,
     name: &[u8],
     attrs: &Attrs,
-    marks: Option<(u128, Csn)>,
+    operational: Option<(u128, Csn)>,
 ) -> Result<Vec<u8>, NoMemory>
-    ensures { IfOk result (λ text. text.items ≡ spec.entry_text name.now attrs.now marks) }
+    ensures { IfOk result (λ text. text.items ≡ spec.entry_text name.now attrs.now operational) }
 {
     let mut text = Vec::new(alloc);
     push_line(alloc, &mut text, b"dn", name)?;
     push_attributes(alloc, &mut text, attrs.list())?;
-    push_marks(alloc, &mut text, marks)?;
+    push_operational(alloc, &mut text, operational)?;
     text.push(b'\n')?;
     Ok(text)
 }
@@ -54,10 +54,14 @@ fn push_attribute(alloc: Global, text: &mut Vec<u8>, attribute: &Attribute) -> R
     Ok(())
 }
 
-fn push_marks(alloc: Global, text: &mut Vec<u8>, marks: Option<(u128, Csn)>) -> Result<(), NoMemory>
-    ensures { OnOk result (text.new.items ≡ text.old.items ++ spec.marks_text marks) }
+fn push_operational(
+    alloc: Global,
+    text: &mut Vec<u8>,
+    operational: Option<(u128, Csn)>,
+) -> Result<(), NoMemory>
+    ensures { OnOk result (text.new.items ≡ text.old.items ++ spec.operational_text operational) }
 {
-    match marks {
+    match operational {
         None => Ok(()),
         Some((uuid, csn)) => {
             push_uuid(alloc, text, uuid)?;
@@ -125,5 +129,6 @@ fn holds_unsafe(value: &[u8]) -> bool
 
 /// What is written of an entry without marks is read again as the add of that entry.
 pub fn entries_are_read_again()
-    ensures { (name : List ℕ) (attrs : List Attribute) → spec.IsEntry name attrs → IsReadAgain name attrs }
+    ensures { (name : List ℕ) (attrs : List Attribute) → spec.IsEntry name attrs
+        → IsReadAgain name attrs }
 {}

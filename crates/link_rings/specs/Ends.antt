@@ -5,7 +5,7 @@ use Rattle.rtrb.specs.Ring as ring
 use Rattle.link_rings.specs.declared.ends.Producer.{Producer}
 use Rattle.link_rings.specs.declared.ends.Consumer.{Consumer}
 
--- the items that were offered with Ok, the first at the front
+-- the items that were offered with Ok, the first at the start
 abbrev pub offered : Producer → List (List ℕ)
 offered p = sent p.end
 
@@ -13,7 +13,7 @@ offered p = sent p.end
 abbrev pub known_slots : Producer → ℕ
 known_slots p = known_free p.end
 
--- the items that were taken, the first at the front
+-- the items that were taken, the first at the start
 abbrev pub taken : Consumer → List (List ℕ)
 taken c = received c.end
 

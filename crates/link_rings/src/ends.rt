@@ -26,7 +26,8 @@ pub struct Full(pub Bytes);
 pub fn ring(alloc: Global, capacity: usize) -> Result<(Producer, Consumer), AllocError>
     requires { 1 ≤ capacity }
     ensures ends { IfOk result (λ ends. AreOneRing ends.0 ends.1) }
-    ensures producer { IfOk result (λ ends. (offered ends.0 ≡ []) × (known_slots ends.0 ≡ capacity)) }
+    ensures producer { IfOk result (λ ends.
+        (offered ends.0 ≡ []) × (known_slots ends.0 ≡ capacity)) }
     ensures consumer { IfOk result (λ ends. (taken ends.1 ≡ []) × (known_items ends.1 ≡ [])) }
 {
     let (producer, consumer) = RingBuffer::new(alloc, capacity)?;
@@ -34,7 +35,7 @@ pub fn ring(alloc: Global, capacity: usize) -> Result<(Producer, Consumer), Allo
 }
 
 impl Producer {
-    /// Puts the item behind those that were offered before, or gives it back where no slot is free.
+    /// Puts the item after those that were offered before, or gives it back where no slot is free.
     /// Takes no memory.
     ///
     /// The producer asks the ring only where it knows of no free slot.
@@ -45,7 +46,8 @@ impl Producer {
 
         ensures full_only_where_none_is_free { 0 < known_slots self.old → IsOk result }
         ensures full { IfErr result (λ full. full.0 ≡ item) }
-        ensures err { OnErr result ((offered self.new ≡ offered self.old) × (known_slots self.new ≡ 0)) }
+        ensures err { OnErr result
+            ((offered self.new ≡ offered self.old) × (known_slots self.new ≡ 0)) }
     {
         match self.end.push(item) {
             Ok(()) => Ok(()),
@@ -64,9 +66,11 @@ impl Consumer {
         ensures item { IfSome result (λ item. taken self.new ≡ taken self.old ++ item ∷ []) }
 
         // The items that it knew of come in their order, and it may know of more after them.
-        ensures one_fewer { IfSome result (λ item. IsPrefix (known_items self.old) (item ∷ known_items self.new)) }
+        ensures one_fewer { IfSome result (λ item.
+            IsPrefix (known_items self.old) (item ∷ known_items self.new)) }
         ensures none_only_where_none_is_known { 0 < length (known_items self.old) → IsSome result }
-        ensures none { IfNone result ((taken self.new ≡ taken self.old) × (known_items self.new ≡ [])) }
+        ensures none { IfNone result
+            ((taken self.new ≡ taken self.old) × (known_items self.new ≡ [])) }
     {
         self.end.pop().ok()
     }

@@ -190,8 +190,8 @@ impl<'a> Expected<'a> {
     fn outcome(self, outcome: &LdapResult) -> Expected<'a> {
         let left = self
             .number(outcome.code)
-            .string(&outcome.matched)
-            .string(&outcome.message);
+            .string(&outcome.matched_dn)
+            .string(&outcome.diagnostic_message);
         match &outcome.referral {
             Some(uris) => left.list(uris.list()),
             None => left,
@@ -215,7 +215,7 @@ fn scope_of(scope: SearchScope) -> i64 {
     }
 }
 
-/// What is left of the expected parts behind those of a change, the tag in front.
+/// What is left of the expected parts after those of a change, the tag in front.
 fn without_change<'a>(all: Expected<'a>, change: &Change) -> Expected<'a> {
     match change {
         Change::Add(name, attributes) => {
@@ -239,7 +239,7 @@ fn without_authentication<'a>(all: Expected<'a>, authentication: &Authentication
     }
 }
 
-/// What is left of the expected parts behind those of a request, the tag in front.
+/// What is left of the expected parts after those of a request, the tag in front.
 fn without_request<'a>(all: Expected<'a>, op: &Protocol) -> Expected<'a> {
     match op {
         Protocol::BindRequest {
@@ -279,7 +279,7 @@ fn without_request<'a>(all: Expected<'a>, op: &Protocol) -> Expected<'a> {
     }
 }
 
-/// What is left of the expected parts behind those of a response, the tag in front.
+/// What is left of the expected parts after those of a response, the tag in front.
 fn without_response<'a>(all: Expected<'a>, op: &Protocol) -> Expected<'a> {
     match op {
         Protocol::BindResponse { result, sasl } => all.number(0x61).outcome(result).option(sasl),
@@ -707,9 +707,9 @@ fn assert_frame(
     assert_same_of(rt, bytes, &frame_of(alloc, bytes), wanted);
 }
 
-/// At each proper front of a message more bytes are waited for.
+/// At each proper prefix of a message more bytes are waited for.
 #[test]
-fn fronts_of_a_frame(rt: HostRuntime) {
+fn prefixes_of_a_frame(rt: HostRuntime) {
     for count in 0..150 {
         assert_frame(&rt, rt.alloc(), &FRAME[..count], &Ok(None));
     }

@@ -63,7 +63,7 @@ fn read(alloc: Global, kind: Kind, bytes: &[u8]) -> Result<Component, PartFault>
 /// What the component that all of the bytes are says.
 fn says(alloc: Global, kind: Kind, bytes: &[u8]) -> Result<Vec<u8>, Fail> {
     let component = read(alloc, kind, bytes)?;
-    let text = told(alloc, &component);
+    let text = reported(alloc, &component);
     discard(component);
     text
 }
@@ -143,34 +143,34 @@ fn put(writer: &mut Writer, component: &Component) -> Result<(), NoMemory>
 }
 
 /// What a component says, as a text of these tests.
-fn told(alloc: Global, component: &Component) -> Result<Vec<u8>, Fail> {
+fn reported(alloc: Global, component: &Component) -> Result<Vec<u8>, Fail> {
     let mut text = Vec::new(alloc);
-    tell(alloc, &mut text, component)?;
+    report(alloc, &mut text, component)?;
     Ok(text)
 }
 
-fn tell(alloc: Global, text: &mut Vec<u8>, component: &Component) -> Result<(), Fail> {
+fn report(alloc: Global, text: &mut Vec<u8>, component: &Component) -> Result<(), Fail> {
     match component {
-        Component::Assertion(name, value) => Ok(tell_assertion(text, name, value)?),
-        Component::Attribute(attribute) => Ok(tell_attribute(text, attribute)?),
-        Component::Attributes(attributes) => Ok(tell_attributes(text, attributes.list())?),
-        Component::Controls(controls) => Ok(tell_controls(text, controls.list())?),
-        Component::Filter(filter) => tell_filter(alloc, text, filter),
-        Component::Names(name, superior) => Ok(tell_names(text, name, superior)?),
+        Component::Assertion(name, value) => Ok(report_assertion(text, name, value)?),
+        Component::Attribute(attribute) => Ok(report_attribute(text, attribute)?),
+        Component::Attributes(attributes) => Ok(report_attributes(text, attributes.list())?),
+        Component::Controls(controls) => Ok(report_controls(text, controls.list())?),
+        Component::Filter(filter) => report_filter(alloc, text, filter),
+        Component::Names(name, superior) => Ok(report_names(text, name, superior)?),
         Component::Numbers(code, version, truth) => {
-            Ok(tell_numbers(alloc, text, *code, *version, *truth)?)
+            Ok(report_numbers(alloc, text, *code, *version, *truth)?)
         }
-        Component::Strings(strings) => Ok(tell_strings(text, strings.list())?),
+        Component::Strings(strings) => Ok(report_strings(text, strings.list())?),
     }
 }
 
-fn tell_assertion(text: &mut Vec<u8>, name: &Octets, value: &Octets) -> Result<(), NoMemory> {
+fn report_assertion(text: &mut Vec<u8>, name: &Octets, value: &Octets) -> Result<(), NoMemory> {
     text.extend_from_slice(name.as_slice())?;
-    tell_string(text, value)
+    report_string(text, value)
 }
 
 /// The text of a filter, and the body of an extensible one.
-fn tell_filter(alloc: Global, text: &mut Vec<u8>, filter: &Filter) -> Result<(), Fail> {
+fn report_filter(alloc: Global, text: &mut Vec<u8>, filter: &Filter) -> Result<(), Fail> {
     if let Filter::Extensible(body) = filter {
         return Ok(text.extend_from_slice(body.as_slice())?);
     }
@@ -178,19 +178,19 @@ fn tell_filter(alloc: Global, text: &mut Vec<u8>, filter: &Filter) -> Result<(),
     Ok(text.extend_from_slice(written.as_slice())?)
 }
 
-fn tell_names(
+fn report_names(
     text: &mut Vec<u8>,
     name: &Octets,
     superior: &Option<Octets>,
 ) -> Result<(), NoMemory> {
     text.extend_from_slice(name.as_slice())?;
     match superior {
-        Some(superior) => tell_string(text, superior),
+        Some(superior) => report_string(text, superior),
         None => Ok(()),
     }
 }
 
-fn tell_numbers(
+fn report_numbers(
     alloc: Global,
     text: &mut Vec<u8>,
     code: i64,
@@ -201,47 +201,47 @@ fn tell_numbers(
     text.extend_from_slice(line.as_bytes())
 }
 
-fn tell_string(text: &mut Vec<u8>, string: &Octets) -> Result<(), NoMemory> {
+fn report_string(text: &mut Vec<u8>, string: &Octets) -> Result<(), NoMemory> {
     text.push(b':')?;
     text.extend_from_slice(string.as_slice())
 }
 
-fn tell_strings(text: &mut Vec<u8>, strings: &[Octets]) -> Result<(), NoMemory> {
+fn report_strings(text: &mut Vec<u8>, strings: &[Octets]) -> Result<(), NoMemory> {
     for string in strings {
-        tell_string(text, string)?;
+        report_string(text, string)?;
     }
     Ok(())
 }
 
-fn tell_attribute(text: &mut Vec<u8>, attribute: &RawAttribute) -> Result<(), NoMemory> {
+fn report_attribute(text: &mut Vec<u8>, attribute: &RawAttribute) -> Result<(), NoMemory> {
     text.extend_from_slice(attribute.name.as_slice())?;
-    tell_strings(text, attribute.values.list())
+    report_strings(text, attribute.values.list())
 }
 
-fn tell_attributes(text: &mut Vec<u8>, attributes: &[RawAttribute]) -> Result<(), NoMemory> {
+fn report_attributes(text: &mut Vec<u8>, attributes: &[RawAttribute]) -> Result<(), NoMemory> {
     for attribute in attributes {
-        tell_attribute(text, attribute)?;
+        report_attribute(text, attribute)?;
         text.push(b'\n')?;
     }
     Ok(())
 }
 
-fn tell_control(text: &mut Vec<u8>, control: &Control) -> Result<(), NoMemory> {
+fn report_control(text: &mut Vec<u8>, control: &Control) -> Result<(), NoMemory> {
     text.extend_from_slice(control.name.as_slice())?;
     if control.critical {
         text.push(b'!')?;
     }
     if let Some(value) = &control.value {
-        tell_string(text, value)?;
+        report_string(text, value)?;
     }
     text.push(b'\n')?;
     Ok(())
 }
 
 /// A line for each: its name, `!` where it is critical, and its value where it has one.
-fn tell_controls(text: &mut Vec<u8>, controls: &[Control]) -> Result<(), NoMemory> {
+fn report_controls(text: &mut Vec<u8>, controls: &[Control]) -> Result<(), NoMemory> {
     for control in controls {
-        tell_control(text, control)?;
+        report_control(text, control)?;
     }
     Ok(())
 }
@@ -379,8 +379,8 @@ fn assert_says(
     spelling: &[u8],
     wanted: &[u8],
 ) -> Result<(), Fail> {
-    let told = says(alloc, kind, spelling)?;
-    assert_same_of(rt, spelling, &told.as_slice(), &wanted);
+    let reported = says(alloc, kind, spelling)?;
+    assert_same_of(rt, spelling, &reported.as_slice(), &wanted);
     Ok(())
 }
 
@@ -419,7 +419,7 @@ const SPELLINGS: [(Kind, &[u8], &[u8]); 11] = [
     ),
     // no controls, in an element of their own
     (Kind::Controls, b"", b"\xa0\0"),
-    // unknown elements behind the last known one, and a string behind an unknown element
+    // unknown elements after the last known one, and a string after an unknown element
     (
         Kind::Controls,
         b"1.2:v\n",
@@ -510,11 +510,11 @@ const REFUSED: [(Kind, &[u8], usize); 41] = [
     (Kind::Filter, b"", 0),
     (Kind::Filter, b"\xa1\x07\x87\x01a\x04\x02\x04\0", 5),
     (Kind::Filter, b"\xa7\x03\x04\x01a", 0),
-    // a not of none and of two, and bytes behind a filter
+    // a not of none and of two, and bytes after a filter
     (Kind::Filter, b"\xa2\0", 2),
     (Kind::Filter, b"\xa2\x06\x87\x01a\x87\x01b", 5),
     (Kind::Filter, b"\x87\x01a\x87\x01b", 3),
-    // pieces: two initial ones, one behind the final one, two final ones, an initial one behind
+    // pieces: two initial ones, one after the final one, two final ones, an initial one after
     // another, an unknown one, one in the constructed form, none, and no list of them
     (
         Kind::Filter,

@@ -3,7 +3,7 @@ use Rattle.std.specs.Prelude.{◌≡◌, ℕ, ◌<◌, ◌⊎◌, List, length, 
 use Rattle.std.specs.Coded.{Coded, code_by, coded×, coded_list, coded_ℕ}
 use Rattle.persist_queues.specs.declared.weight.TheConstants.{MOST_WEIGHT}
 
--- the pending items, the one that went in first at the front; how many there may be; and, beside
+-- the pending items, the one that went in first at the start; how many there may be; and, beside
 -- these, the number of further items for which room is made
 pub record Pending (X : Type 0) : Type 0 where
   pub items : List X
@@ -13,7 +13,8 @@ pub record Pending (X : Type 0) : Type 0 where
 module _ {X : Type 0} where
   abbrev pub pending_code : Coded X → Coded (Pending X)
   pending_code c =
-      code_by (List X × (ℕ × ℕ)) (coded× (coded_list c) (coded× coded_ℕ coded_ℕ)) (λ p. (p.items, (p.limit, p.spare)))
+      code_by (List X × (ℕ × ℕ)) (coded× (coded_list c) (coded× coded_ℕ coded_ℕ))
+      (λ p. (p.items, (p.limit, p.spare)))
       (λ t. record { items = t.0; limit = t.1.0; spare = t.1.1 }) (λ _. refl)
 
   -- these items are more than the limit, or weigh more than any search may have pending

@@ -26,9 +26,14 @@ impl<T: Weighs> Model for SearchQueue<T> {
 
     ghost coded = { pending_code T.code };
 
-    ghost view = { λ q. record { items = q.items.items; limit = q.limit; spare = deque_capacity q.items - deque_len q.items } };
+    ghost view = { λ q. record {
+      items = q.items.items;
+      limit = q.limit;
+      spare = deque_capacity q.items - deque_len q.items;
+    } };
 
-    ghost invariant = { λ q. (q.weight ≡ sum_by T.weight q.items.items) × (q.weight ≤ MOST_WEIGHT) };
+    ghost invariant = { λ q.
+        (q.weight ≡ sum_by T.weight q.items.items) × (q.weight ≤ MOST_WEIGHT) };
 }
 
 impl<T: Weighs + Drop> SearchQueue<T> {
@@ -63,7 +68,7 @@ impl<T: Weighs + Drop> SearchQueue<T> {
         self.items.len()
     }
 
-    /// The pending item with so many before it, if there are more than that.
+    /// The pending item with n before it, if there are more than that.
     pub fn get(&self, place: usize) -> Option<&T>
         ensures { option_copied result ≡ slice_get self.now.items place }
     {
@@ -84,17 +89,20 @@ impl<T: Weighs + Drop> SearchQueue<T> {
         self.limit = limit;
     }
 
-    /// Puts all the items behind those that are pending, or none of them.
+    /// Puts all the items after those that are pending, or none of them.
     ///
     /// Where they are refused they are dropped, since the search that they were for can't go on
     /// without them.
     pub fn push_all(&mut self, items: Vec<T>) -> Result<(), QueueFault>
-        ensures ok { OnOk result ((self.new.items ≡ self.old.items ++ items.items) × (self.new.limit ≡ self.old.limit)) }
+        ensures ok { OnOk result
+            ((self.new.items ≡ self.old.items ++ items.items) × (self.new.limit ≡ self.old.limit)) }
 
         // Too many or too heavy items are reported as such, also where there is no memory.
-        ensures full { (result ≡ Err (QueueFault.QueueFull self.old.limit)) ↔ IsOver T.weight self.old.limit (self.old.items ++ items.items) }
+        ensures full { (result ≡ Err (QueueFault.QueueFull self.old.limit))
+            ↔ IsOver T.weight self.old.limit (self.old.items ++ items.items) }
         ensures no_memory { result ≡ Err QueueFault.NoMemory → self.old.spare < vec_len items }
-        ensures faults { IfErr result (λ e. (e ≡ QueueFault.QueueFull self.old.limit) ⊎ (e ≡ QueueFault.NoMemory)) }
+        ensures faults { IfErr result (λ e.
+            (e ≡ QueueFault.QueueFull self.old.limit) ⊎ (e ≡ QueueFault.NoMemory)) }
         ensures err { OnErr result (IsAsBefore self.old self.new) }
 
         // Room is used up by the items that went in, and by nothing else.
@@ -138,8 +146,10 @@ impl<T: Weighs + Drop> SearchQueue<T> {
 
     /// The weight of what is pending with these items, or None where that is more than fits.
     fn weight_with(&self, items: &[T]) -> Option<u64>
-        ensures over { IsNone result ↔ IsOver T.weight self.now.limit (self.now.items ++ items.now) }
-        ensures weight { IfSome result (λ w. (w ≡ sum_by T.weight (self.now.items ++ items.now)) × (w ≤ MOST_WEIGHT)) }
+        ensures over { IsNone result
+            ↔ IsOver T.weight self.now.limit (self.now.items ++ items.now) }
+        ensures weight { IfSome result (λ w.
+            (w ≡ sum_by T.weight (self.now.items ++ items.now)) × (w ≤ MOST_WEIGHT)) }
     {
         let pending = self.items.len() as u64;
         if pending > self.limit || items.len() as u64 > self.limit - pending {

@@ -8,6 +8,7 @@ pub trait Weighs {
     /// The weight, which a value keeps as long as it does not change.
     ghost weight: { Self → ℕ };
 
+    /// Reports the weight, in bytes.
     fn weight(&self) -> u64
         ensures { result ≡ weight self.now };
 }

@@ -19,13 +19,13 @@ use std::test::Fail;
 use sync_messages::IdList;
 use sync_provider::{CommitFault, Provider, StagedCommit};
 
-/// The stamp of each entry, which is of the provider with the number 2.
+/// The CSN of each entry, which is of the provider with the number 2.
 const STAMP: &[u8] = b"20260101000000.000000Z#000007#002#000000";
 
 /// The most that the attributes of an entry weigh.
 const MOST_WEIGHT: u64 = 65_536;
 
-/// Tells `w` and the number of writes, or what is against the commit.
+/// Reports `w` and the number of writes, or what rejects the commit.
 pub(crate) fn commit(
     alloc: Global,
     provider: &mut Provider,
@@ -67,7 +67,7 @@ fn staged(alloc: Global, of: &str) -> Result<StagedCommit, Fail>
     })
 }
 
-/// Tells `same` and the numbers of two entries of one name, `limit` and a limit, or `root`.
+/// Reports `same` and the numbers of two entries of one name, `limit` and a limit, or `root`.
 fn push_refusal(alloc: Global, text: &mut String, fault: CommitFault) -> Result<(), Fail> {
     match fault {
         CommitFault::DuplicateName(one, other) => {

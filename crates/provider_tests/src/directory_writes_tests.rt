@@ -1,25 +1,25 @@
-//! What a directory tells of writes before they are done, and what then comes of them. The codes
-//! are those of RFC 4511; the stamps rise by the clock, or by the count where it stands or goes back.
+//! What a directory reports of writes before they are done, and what then comes of them. The codes
+//! are those of RFC 4511; the CSNs rise by the clock, or by the count where it stands or goes back.
 ghost use Rattle.std.specs.Prelude.{◌≡◌, true, false, IfOk};
 ghost use Rattle.entry_tree.specs.Fitting.{fits};
 ghost use Rattle.entry_tree.specs.Sound.{is_sound_op, is_commit};
 ghost use Rattle.directory_writes.specs.Directory.{entries_of};
 
 use crate::commits::{drops_of, puts_of};
-use crate::rows::{discard, number, parted, push_counted, push_stamp, push_word};
+use crate::rows::{discard, number, parted, push_counted, push_csn, push_word};
 use crate::writes::change;
 use directory_writes::{CommitFault, Directory, Preview, Start};
 use dn_names::Dn;
-use entry_tree::{Op, OpFault, Touch, read_op};
+use entry_tree::{EntryChange, Op, OpFault, read_op};
 use ldap_ber::NoMemory;
 use std::alloc::Global;
 use std::process::Abort;
 use std::test::Fail;
 
-/// Steps of a directory, each with what the clock shows, and what is told of it. Of a write that is not yet
-/// done: its stamp and a letter for each entry that it adds, changes or deletes, or its code; the numbers of
-/// writes and entries then; and when it is done its code, these numbers, and the last stamp. Of a commit that
-/// something is against: that alone.
+/// Steps of a directory, each with what the clock shows, and what is reported of it. Of a write that is not yet
+/// done: its CSN and a letter for each entry that it adds, changes or deletes, or its code; the numbers of
+/// writes and entries then; and when it is done its code, these numbers, and the last CSN. Of a commit that
+/// something rejects: that alone.
 const ROWS: &str = "\
 0 first => 19700101000000.000000Z#000001#001#000000 a n0 e0 c0 n1 e1 19700101000000.000000Z#000001#001#000000
 5 add ou=a,dc=x => 19700101000000.000005Z#000000#001#000000 a n1 e1 c0 n2 e2 19700101000000.000005Z#000000#001#000000
@@ -40,7 +40,7 @@ const ROWS: &str = "\
 ";
 
 #[test]
-fn writes_are_told_before_they_are_done(rt: HostRuntime) -> Result<(), Fail> {
+fn writes_are_notified_before_they_are_done(rt: HostRuntime) -> Result<(), Fail> {
     let alloc = rt.alloc();
     let suffix = Dn::parse(alloc, b"dc=x")?;
     let mut directory = Directory::new(alloc, suffix, 1, 1);
@@ -70,8 +70,8 @@ fn take_step(
     match word {
         "commit" => commit(alloc, directory, of, text),
         "moment" => {
-            let moment = directory.moment()?;
-            directory.return_to_moment(moment);
+            let snapshot = directory.snapshot()?;
+            directory.return_to_snapshot(snapshot);
             push_state(alloc, directory, text)
         }
         "since" => push_since(alloc, directory, text),
@@ -122,7 +122,7 @@ fn commit(
     }
 }
 
-/// Tells of the write, does it, and tells what came of it.
+/// Reports of the write, does it, and reports what came of it.
 fn done(
     alloc: Global,
     directory: &mut Directory,
@@ -134,10 +134,10 @@ fn done(
     requires fits { fits (entries_of directory.old) op ≡ true }
 {
     let preview = directory.preview(&op, now);
-    let told = push_preview(alloc, directory, &preview, text);
+    let notified = push_preview(alloc, directory, &preview, text);
     discard(preview);
     let code = directory.write(op, now);
-    told?;
+    notified?;
     push_counted(alloc, text, "c", u64::from(code?))?;
     push_state(alloc, directory, text)
 }
@@ -150,7 +150,7 @@ fn push_preview(
 ) -> Result<(), Fail> {
     match preview {
         Ok(preview) => {
-            push_stamp(text, preview.csn)?;
+            push_csn(text, preview.csn)?;
             push_word(text, "")?;
             push_letters(text, preview.touched.list())?;
         }
@@ -161,9 +161,9 @@ fn push_preview(
     Ok(push_counted(alloc, text, "e", directory.tree().len() as u64)?)
 }
 
-fn push_letters(text: &mut String, touches: &[Touch]) -> Result<(), NoMemory> {
-    for touch in touches {
-        text.push(match (&touch.was, &touch.now) {
+fn push_letters(text: &mut String, entry_changes: &[EntryChange]) -> Result<(), NoMemory> {
+    for entry_change in entry_changes {
+        text.push(match (&entry_change.before, &entry_change.after) {
             (None, _) => 'a',
             (Some(_), Some(_)) => 'c',
             (Some(_), None) => 'd',
@@ -176,7 +176,7 @@ fn push_state(alloc: Global, directory: &Directory, text: &mut String) -> Result
     push_counted(alloc, text, "n", directory.accepted().len() as u64)?;
     push_counted(alloc, text, "e", directory.tree().len() as u64)?;
     match directory.accepted().last() {
-        Some(write) => Ok(push_stamp(text, write.csn)?),
+        Some(write) => Ok(push_csn(text, write.csn)?),
         None => Ok(push_word(text, "none")?),
     }
 }
@@ -187,7 +187,7 @@ fn push_since(alloc: Global, directory: &Directory, text: &mut String) -> Result
     if directory.accepted().is_empty() {
         return Err(Fail::from("no write"));
     }
-    let Start::Covered(number) = directory.start_at(Some(1)) else {
+    let Start::DeletePhase(number) = directory.start_at(Some(1)) else {
         return Err(Fail::from("the log is too short"));
     };
     for uuid in &directory.touched_since(number)? {

@@ -1,23 +1,19 @@
 //! Messages that are handed out, in words: `+`, `~` or `!` for an entry that is added, modified or
 //! deleted, the number of the write that gave its identity, `:` and its name; `-` or `=` and such numbers for
 //! identities that are named as deleted or as present; `deletes` or `presents` for the end of a refresh, with
-//! `on-` before it where the search goes on; `busy` for the end of a search whose queue was full. Behind it,
+//! `on-` before it where the search goes on; `busy` for the end of a search whose queue was full. After it,
 //! `@` and the number of writes that its cookie names. Where there is no message: `nothing` or `none`.
 use crate::rows::{discard, number, parted, push_word, utf8};
 use csn_cookie::Cookie;
 use ldap_ber::{NoMemory, Octets};
+use ldap_constants::{BUSY, SUCCESS, SYNC_DONE, SYNC_STATE};
 use ldap_messages::{Message, Protocol};
 use std::alloc::Global;
 use std::test::Fail;
 use sync_messages::{State, SyncDone, SyncInfo, SyncState};
 use sync_provider::{Handed, Provider};
 
-/// The Sync State control and the Sync Done control.
-const SYNC_STATE: &[u8] = b"1.3.6.1.4.1.4203.1.9.1.2";
-
-const SYNC_DONE: &[u8] = b"1.3.6.1.4.1.4203.1.9.1.3";
-
-/// Tells so many messages of a search, or fewer where it has not so many.
+/// Reports n messages of a search, or fewer where it has not n.
 pub(crate) fn hand_out(
     alloc: Global,
     provider: &mut Provider,
@@ -33,7 +29,7 @@ pub(crate) fn hand_out(
     Ok(())
 }
 
-/// Tells the next message. False where nothing more can come.
+/// Reports the next message. False where nothing more can come.
 fn hand_out_next(
     alloc: Global,
     provider: &mut Provider,
@@ -139,7 +135,7 @@ fn push_names(
     Ok(())
 }
 
-/// The end of a search, which has the code that is told with it.
+/// The end of a search, which has the code that is reported with it.
 fn push_end(
     alloc: Global,
     provider: &Provider,
@@ -148,13 +144,14 @@ fn push_end(
     text: &mut String,
 ) -> Result<(), Fail> {
     match &message.op {
-        Protocol::SearchResultDone(outcome) if outcome.code == 0 && code == 0 => {
+        Protocol::SearchResultDone(outcome)
+            if outcome.code == i64::from(SUCCESS) && code == SUCCESS => {
             let done = SyncDone::read(alloc, value_of(message, SYNC_DONE)?)?;
             let deletes = done.refresh_deletes;
             push_word(text, if deletes { "deletes" } else { "presents" })?;
             push_cookie(alloc, provider, &done.cookie, text)
         }
-        Protocol::SearchResultDone(outcome) if outcome.code == 51 && code == 51 => {
+        Protocol::SearchResultDone(outcome) if outcome.code == i64::from(BUSY) && code == BUSY => {
             Ok(push_word(text, "busy")?)
         }
         _ => Err(Fail::from("another end")),

@@ -1,10 +1,10 @@
-//! Rows of tests: steps with `; ` between them, and behind ` => ` what is told of them, word by word. A line
+//! Rows of tests: steps with `; ` between them, and after ` => ` what is reported of them, word by word. A line
 //! that begins with `^` has the steps that the rows below it begin with, and one with `#` says something
 //! of them. What `aside` does to three open searches is undone then.
 //!
-//! A write tells `w` and the number of writes, or `c` and the code that is against it. `add` is of a
-//! unit with the name of its first part, `first` of `dc=x`, `addto` of units up to so many writes.
-//! `replace` gives an attribute one value, `swell` a description of so many octets. `rename` has the name,
+//! A write reports `w` and the number of writes, or `c` and the code that rejects it. `add` is of a
+//! unit with the name of its first part, `first` of `dc=x`, `addto` of units up to n writes.
+//! `replace` gives an attribute one value, `swell` a description of n octets. `rename` has the name,
 //! the new first part and perhaps a new superior; `swing` lets two first parts take turns.
 ghost use Rattle.std.specs.Prelude.{◌≡◌};
 
@@ -21,7 +21,7 @@ use std::process::Abort;
 use std::test::Fail;
 use sync_provider::{Kind, Provider};
 
-/// Asserts that each row is told as it has it.
+/// Asserts that each row is reported as it has it.
 pub(crate) fn check_rows(rt: &impl Abort, alloc: Global, rows: &str) -> Result<(), Fail> {
     for group in rows.split('^') {
         let (begun, rows) = group.split_once('\n').unwrap_or((group, ""));
@@ -42,12 +42,12 @@ fn check_row(rt: &impl Abort, alloc: Global, begun: &str, row: &str) -> Result<(
         return Ok(());
     }
     let (steps, wanted) = row.split_once(" => ").ok_or(row)?;
-    let told = told(alloc, begun, steps)?;
-    assert!(rt; told.as_str() == wanted, "{row}: {told}");
+    let notified = notified(alloc, begun, steps)?;
+    assert!(rt; notified.as_str() == wanted, "{row}: {notified}");
     Ok(())
 }
 
-fn told(alloc: Global, begun: &str, steps: &str) -> Result<String, Fail> {
+fn notified(alloc: Global, begun: &str, steps: &str) -> Result<String, Fail> {
     let kind = if begun.starts_with("replica") {
         Kind::Replica
     } else {
@@ -121,7 +121,7 @@ fn take_step(
         "addto" => add_up_to(alloc, provider, of, text),
         "swing" => swing(alloc, provider, of, text),
         "log" | "queue" | "drop" => change(alloc, provider, word, of, text),
-        "size" | "stamp" | "upto" | "of" => look(alloc, provider, word, of, text),
+        "size" | "csn" | "upto" | "of" => look(alloc, provider, word, of, text),
         _ => write(alloc, provider, word, of, text),
     }
 }
@@ -149,7 +149,7 @@ fn drop_search(provider: &mut Provider, search: u64, text: &mut String) -> Resul
     Ok(push_word(text, if was_open { "dropped" } else { "none" })?)
 }
 
-/// Tells what the first two of three searches hand out up to their ends, and drops the third. Then the
+/// Reports what the first two of three searches hand out up to their ends, and drops the third. Then the
 /// searches are again those before.
 #[tactic(auto, using(sync_provider::proofs::Returns::no_write_came))]
 fn take_aside(alloc: Global, provider: &mut Provider, text: &mut String) -> Result<(), Fail> {
@@ -168,8 +168,8 @@ fn end_searches(alloc: Global, provider: &mut Provider, text: &mut String) -> Re
     drop_search(provider, 3, text)
 }
 
-/// The numbers of writes and entries with the history, the stamp of a write or of an entry, or the number
-/// of writes up to a stamp.
+/// The numbers of writes and entries with the history, the CSN of a write or of an entry, or the number
+/// of writes up to a CSN.
 fn look(
     alloc: Global,
     provider: &Provider,
@@ -184,12 +184,12 @@ fn look(
             push_word(text, &size)?;
         }
         "upto" => push_counted(alloc, text, "", provider.upto(Csn::parse(of.as_bytes())?))?,
-        _ => push_stamp(text, stamp_of(provider, word, number(of))?)?,
+        _ => push_csn(text, csn_of(provider, word, number(of))?)?,
     }
     Ok(())
 }
 
-fn stamp_of(provider: &Provider, word: &str, number: u64) -> Result<Csn, Fail> {
+fn csn_of(provider: &Provider, word: &str, number: u64) -> Result<Csn, Fail> {
     if word == "of" {
         let entry = provider.tree().get(u128::from(number)).ok_or("no entry")?;
         return Ok(entry.csn);
@@ -219,11 +219,11 @@ pub(crate) fn push_counted(
     push_word(text, &counted)
 }
 
-pub(crate) fn push_stamp(text: &mut String, stamp: Csn) -> Result<(), NoMemory> {
-    push_word(text, utf8(&stamp.write()))
+pub(crate) fn push_csn(text: &mut String, csn: Csn) -> Result<(), NoMemory> {
+    push_word(text, utf8(&csn.write()))
 }
 
-/// The first word of the text, and what is behind it.
+/// The first word of the text, and what is after it.
 pub(crate) fn parted(text: &str) -> (&str, &str) {
     text.split_once(' ').unwrap_or((text, ""))
 }

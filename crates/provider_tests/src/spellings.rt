@@ -5,6 +5,7 @@ ghost use Rattle.ldap_messages.specs.Operation.{IsOfGrammar, operation_of};
 ghost use Rattle.ldap_messages.specs.Outcome.{RefersOn};
 
 use crate::rows::{discard, number, push_word};
+use ldap_constants::BUSY;
 use ldap_messages::{LdapResult, Message, Protocol};
 use std::alloc::Global;
 use std::test::Fail;
@@ -39,7 +40,7 @@ const SPELLINGS: [(&str, &[u8]); 4] = [
     ("busy-end", b"0\x0c\x02\x01\x07e\x07\x0a\x013\x04\0\x04\0"),
 ];
 
-/// Tells the name of the spelling of the next message.
+/// Reports the name of the spelling of the next message.
 pub(crate) fn spell(
     alloc: Global,
     provider: &mut Provider,
@@ -54,9 +55,9 @@ pub(crate) fn spell(
     Ok(push_word(text, &name?)?)
 }
 
-/// Tells the name of the spelling of the end with 51.
+/// Reports the name of the spelling of the end with busy.
 pub(crate) fn spell_busy(alloc: Global, text: &mut String) -> Result<(), Fail> {
-    let message = done_message(alloc, 7, 51)?;
+    let message = done_message(alloc, 7, BUSY)?;
     let name = name_of(alloc, &message);
     discard(message);
     Ok(push_word(text, &name?)?)

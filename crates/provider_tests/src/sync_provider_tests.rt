@@ -3,7 +3,7 @@
 use crate::rows::check_rows;
 use std::test::Fail;
 
-/// Spellings, requests, codes, moments and stamps.
+/// Spellings, requests, codes, moments and CSNs.
 const OWN: &str = "\
 ^root
 # Messages as they are spelled
@@ -18,8 +18,8 @@ once dc=x * ''; once dc=x * rid=001; once dc=x * rid=001,sid=00a; once dc=x * ri
 bad dc=y * -; stay dc=y * x; stay ou=b,ou=a,dc=x * x; times 64 once ou=b,ou=a,dc=x * -; stay dc=x * x; stay dc=y * x => w1 c2 c32 c4096 s1@1 s2@1 s3@1 s4@1 s5@1 s6@1 s7@1 s8@1 s9@1 s10@1 s11@1 s12@1 s13@1 s14@1 s15@1 s16@1 s17@1 s18@1 s19@1 s20@1 s21@1 s22@1 s23@1 s24@1 s25@1 s26@1 s27@1 s28@1 s29@1 s30@1 s31@1 s32@1 s33@1 s34@1 s35@1 s36@1 s37@1 s38@1 s39@1 s40@1 s41@1 s42@1 s43@1 s44@1 s45@1 s46@1 s47@1 s48@1 s49@1 s50@1 s51@1 s52@1 s53@1 s54@1 s55@1 s56@1 s57@1 s58@1 s59@1 s60@1 s61@1 s62@1 s63@1 s64@1 c11 c32
 # Searches return to an earlier moment.
 times 3 once dc=x * -; spell 2; aside; spell 1; spell 2; spell 1; drop 1; drop 2; drop 3; size => w1 s1@1 s2@1 s3@1 entry entry entry-end entry-end dropped entry entry-end entry-end none none dropped 1/1/1
-# Writes up to a stamp
-add ou=a,dc=x; size; stamp 2; upto 19700101000000.000000Z#000000#001#000000; upto 19700101000000.000000Z#000001#001#000000; upto 19700101000000.000000Z#000001#fff#000000; upto 19700101000000.000001Z#000000#000#000000 => w1 w2 2/2/1 19700101000000.000000Z#000002#001#000000 0 1 1 2
+# Writes up to a CSN
+add ou=a,dc=x; size; csn 2; upto 19700101000000.000000Z#000000#001#000000; upto 19700101000000.000000Z#000001#001#000000; upto 19700101000000.000000Z#000001#fff#000000; upto 19700101000000.000001Z#000000#000#000000 => w1 w2 2/2/1 19700101000000.000000Z#000002#001#000000 0 1 1 2
 # Commits at a root, among writes
 commit 9:ou=a,dc=x; commit; add ou=a,dc=x; commit 9:ou=a,dc=x => w1 root root w2 root
 ";
@@ -81,12 +81,12 @@ stay dc=x (ou=z) ''; hand 1 9; rename ou=a,dc=x ou=z; rename ou=z,dc=x ou=y; han
 stay dc=x (ou=c) ''; hand 1 9; replace ou=a,dc=x description=d; delete dc=x; add ou=c,dc=x; replace ou=c,dc=x description=d; hand 1 9; rename ou=a,dc=x ou=z; hand 1 9 => w1 w2 w3 s1@3 on-presents@3 nothing w4 c66 w5 w6 +5:ou=c,dc=x@5 ~5:ou=c,dc=x@6 nothing w7 nothing
 # A unit moves below another one and back.
 add ou=c,dc=x; stay dc=x (!(ou=c)) ''; hand 1 9; rename ou=a,dc=x ou=a ou=c,dc=x; rename ou=a,ou=c,dc=x ou=a dc=x; hand 1 9 => w1 w2 w3 w4 s1@4 +1:dc=x +2:ou=a,dc=x +3:ou=b,ou=a,dc=x on-presents@4 nothing w5 w6 ~2:ou=a,ou=c,dc=x ~3:ou=b,ou=a,ou=c,dc=x@5 ~2:ou=a,dc=x ~3:ou=b,ou=a,dc=x@6 nothing
-# Searches beside others, and behind a refresh of each kind.
+# Searches beside others, and after a refresh of each kind.
 # A search that does not stay gets nothing of later writes.
 once dc=x * ''; add ou=c,dc=x; hand 1 9; hand 1 9 => w1 w2 w3 s1@3 w4 +1:dc=x +2:ou=a,dc=x +3:ou=b,ou=a,dc=x presents@3 none
-# Behind a refresh that a cookie serves.
+# After a refresh that a cookie serves.
 stay dc=x * 2/1; add ou=c,dc=x; hand 1 9; hand 1 1; delete ou=c,dc=x; hand 1 9 => w1 w2 w3 s1@3 w4 +3:ou=b,ou=a,dc=x on-deletes@3 +4:ou=c,dc=x@4 nothing nothing w5 !4:ou=c,dc=x@5 nothing
-# And behind a present phase.
+# And after a present phase.
 add ou=c,dc=x; log 0; stay dc=x * 2/1; delete ou=c,dc=x; hand 1 9 => w1 w2 w3 w4 s1@4 w5 +3:ou=b,ou=a,dc=x +4:ou=c,dc=x =1,2 on-presents@4 !4:ou=c,dc=x@5 nothing
 # A cookie that does not serve is refused in this mode too, and a hint opens the search.
 stay dc=x * x; stay! dc=x * x; hand 1 2 => w1 w2 w3 c4096 s1@3 +1:dc=x +2:ou=a,dc=x
@@ -96,7 +96,7 @@ stay dc=x (ou=a) ''; stay dc=x (!(ou=a)) ''; hand 1 9; hand 2 9; rename ou=a,dc=
 stay dc=x * ''; add ou=c,dc=x; drop 1; drop 1; hand 1 9; stay dc=x (ou=c) ''; hand 1 9; delete ou=c,dc=x; hand 1 9 => w1 w2 w3 s1@3 w4 dropped none none s1@4 +4:ou=c,dc=x on-presents@4 nothing w5 !4:ou=c,dc=x@5 nothing
 # All 64 searches get a message of one write.
 times 64 stay dc=x * ''; stay dc=x * ''; add ou=c,dc=x; hand 1 9; hand 64 9; drop 63; stay dc=x (ou=c) ''; hand 63 9 => w1 w2 w3 s1@3 s2@3 s3@3 s4@3 s5@3 s6@3 s7@3 s8@3 s9@3 s10@3 s11@3 s12@3 s13@3 s14@3 s15@3 s16@3 s17@3 s18@3 s19@3 s20@3 s21@3 s22@3 s23@3 s24@3 s25@3 s26@3 s27@3 s28@3 s29@3 s30@3 s31@3 s32@3 s33@3 s34@3 s35@3 s36@3 s37@3 s38@3 s39@3 s40@3 s41@3 s42@3 s43@3 s44@3 s45@3 s46@3 s47@3 s48@3 s49@3 s50@3 s51@3 s52@3 s53@3 s54@3 s55@3 s56@3 s57@3 s58@3 s59@3 s60@3 s61@3 s62@3 s63@3 s64@3 c11 w4 +1:dc=x +2:ou=a,dc=x +3:ou=b,ou=a,dc=x on-presents@3 +4:ou=c,dc=x@4 nothing +1:dc=x +2:ou=a,dc=x +3:ou=b,ou=a,dc=x on-presents@3 +4:ou=c,dc=x@4 nothing dropped s63@4 +4:ou=c,dc=x on-presents@4 nothing
-# Queues with so many messages at most.
+# Queues with n messages at most.
 # No message fits into a queue of none; a write that sends nothing is no cause.
 queue 0; stay dc=x (ou=c) ''; hand 1 9; replace ou=a,dc=x description=d; hand 1 9; add ou=c,dc=x; hand 1 9; hand 1 9 => w1 w2 w3 s1@3 on-presents@3 nothing w4 nothing w5 busy none
 # The queue is full with three messages, and a fourth ends the search. Its number is free then.
@@ -120,7 +120,7 @@ queue 0; times 64 stay dc=x * ''; add ou=c,dc=x; stay dc=x * ''; drop 7; stay dc
 stay dc=x (description=*) ''; hand 1 9; swing ou=a ou=z 64; swell ou=r,dc=x 1932; hand 1 1; swell ou=b,ou=a,dc=x 65407; hand 1 1; swell ou=b,ou=a,dc=x 65408; hand 1 9 => w1 w2 w3 w4 w5 w6 w7 w8 w9 w10 w11 s1@11 +3:ou=b,ou=a,dc=x +4:ou=c,ou=a,dc=x +5:ou=d,ou=a,dc=x +6:ou=e,ou=a,dc=x on-presents@11 nothing w75 w76 ~3:ou=b,ou=z,dc=x w77 ~4:ou=c,ou=z,dc=x w78 busy
 ";
 
-/// Searches that stay, each opened behind some writes, with a limit of so many messages of later writes, and
+/// Searches that stay, each opened after some writes, with a limit of n messages of later writes, and
 /// messages that are handed out between the writes.
 const SEQUENCES: &str = "\
 ^root
@@ -168,10 +168,10 @@ queue 3; first; add ou=a,dc=x; stay base:cn=k,ou=b,dc=x (sn=T) -; person cn=k,ou
 queue 1; first; add ou=a,dc=x; person cn=k,ou=a,dc=x; stay base:cn=k,ou=b,dc=x (sn=T) -; rename ou=a,dc=x ou=b; replace cn=k,ou=b,dc=x sn=t; delete cn=k,ou=b,dc=x; hand 1 9; hand 1 20 => w1 w2 w3 s1@3 w4 w5 w6 busy none
 ";
 
-/// A replica takes commits, and no writes of clients; its searches are told of commits as of writes.
+/// A replica takes commits, and no writes of clients; its searches are reported of commits as of writes.
 const COMMITS: &str = "\
 ^replica
-# Commits, and what a refresh tells of the entries then.
+# Commits, and what a refresh reports of the entries then.
 # Entries are put, and one is dropped. The name above them need not be there.
 commit 2:ou=b,dc=x 1:ou=a,dc=x; commit 3:ou=c,dc=x -2; once dc=x * ''; hand 1 9 => w1 w2 s1@2 +1:ou=a,dc=x +3:ou=c,dc=x presents@2
 # What is dropped and put is there. What is dropped may be missing.
@@ -197,12 +197,12 @@ commit 1:ou=a,dc=x; stay dc=x * ''; hand 1 9; commit 2:ou=b,dc=x 1:ou=z,dc=x; ha
 commit 1:ou=a,dc=x 2:ou=b,dc=x; stay dc=x (ou=z) ''; hand 1 9; commit 1:ou=z,dc=x; commit 2:ou=z,dc=x; commit 1:ou=a,dc=x 2:ou=z,dc=x; hand 1 9 => w1 s1@1 on-presents@1 nothing w2 same1,2 w3 +1:ou=z,dc=x@2 !1:ou=z,dc=x +2:ou=z,dc=x@3 nothing
 # A commit that is too much for the queue.
 queue 1; stay dc=x * ''; commit 1:ou=a,dc=x; hand 1 1; commit 2:ou=b,dc=x; hand 1 9 => s1@0 w1 on-presents@0 w2 busy
-# An entry keeps its stamp in a commit, which has one of the replica's own.
-commit 1:ou=a,dc=x; of 1; stamp 1 => w1 20260101000000.000000Z#000007#002#000000 19700101000000.000000Z#000001#001#000000
+# An entry keeps its CSN in a commit, which has one of the replica's own.
+commit 1:ou=a,dc=x; of 1; csn 1 => w1 20260101000000.000000Z#000007#002#000000 19700101000000.000000Z#000001#001#000000
 ";
 
 #[test]
-fn spellings_codes_and_moments(rt: HostRuntime) -> Result<(), Fail> {
+fn spellings_codes_and_snapshots(rt: HostRuntime) -> Result<(), Fail> {
     check_rows(&rt, rt.alloc(), OWN)
 }
 

@@ -2,12 +2,13 @@
 use crate::rows::{discard, number, parted, push_counted};
 use entry_tree::{OpFault, read_op};
 use ldap_ber::{NoMemory, Octets, OctetsList};
+use ldap_constants::SUCCESS;
 use schema_rules::{Change, EditList, How, RawAttribute, RawEdit, RawList};
 use std::alloc::Global;
 use std::test::Fail;
 use sync_provider::{Provider, Reply};
 
-/// Tells what comes of the write.
+/// Reports what comes of the write.
 pub(crate) fn write(
     alloc: Global,
     provider: &mut Provider,
@@ -17,7 +18,7 @@ pub(crate) fn write(
 ) -> Result<(), Fail> {
     let reply = replied(alloc, provider, change(alloc, word, of)?)?;
     match reply.code {
-        0 => push_counted(alloc, text, "w", reply.number)?,
+        SUCCESS => push_counted(alloc, text, "w", reply.number)?,
         code => push_counted(alloc, text, "c", u64::from(code))?,
     }
     Ok(())
@@ -36,12 +37,12 @@ fn replied(alloc: Global, provider: &mut Provider, change: Change) -> Result<Rep
 
 fn accept(alloc: Global, provider: &mut Provider, word: &str, of: &str) -> Result<(), Fail> {
     match replied(alloc, provider, change(alloc, word, of)?)?.code {
-        0 => Ok(()),
+        SUCCESS => Ok(()),
         _ => Err(Fail::from("a write is refused")),
     }
 }
 
-/// Adds units with the names of their writes, up to so many writes.
+/// Adds units with the names of their writes, up to n writes.
 pub(crate) fn add_up_to(
     alloc: Global,
     provider: &mut Provider,
@@ -55,7 +56,7 @@ pub(crate) fn add_up_to(
     Ok(push_counted(alloc, text, "w", provider.writes())?)
 }
 
-/// One first part becomes the other, and the other the one, so many times in all.
+/// One first part becomes the other, and the other the one, n times in all.
 pub(crate) fn swing(
     alloc: Global,
     provider: &mut Provider,
@@ -127,7 +128,7 @@ fn attribute(alloc: Global, text: &str) -> Result<RawAttribute, NoMemory> {
     })
 }
 
-/// A description of so many octets.
+/// A description of n octets.
 fn description(alloc: Global, length: u64) -> Result<RawAttribute, NoMemory> {
     let mut values = OctetsList::new(alloc);
     values.push(Octets::from(Vec::from_elem(alloc, b'd', length as usize)?))?;

@@ -13,15 +13,16 @@ use std::alloc::Global;
 
 /// Decides a whole walk over identities at one moment, for a client that has the content after
 /// write `after`. Of the items that were touched since, the selected ones are sent and the others
-/// are named as deleted; nothing is told of the rest.
+/// are named as deleted; nothing is reported of the rest.
 pub fn plan(alloc: Global, items: &[Item], after: u64) -> Result<Vec<Decision>, NoMemory>
     requires { IsStrictlySortedBy nat_cmp (identities items.now) }
     ensures exact { IfOk result (λ plan. plan.items ≡ spec.planned after items.now) }
 
-    // It tells each touched entry once and no other, in ascending order of identity.
-    ensures told { IfOk result (λ plan.
+    // It reports each touched entry once and no other, in ascending order of identity.
+    ensures items_decided { IfOk result (λ plan.
         map identity_of plan.items ≡ identities (spec.touched_after after items.now)) }
-    ensures ascends { IfOk result (λ plan. IsStrictlySortedBy nat_cmp (map identity_of plan.items)) }
+    ensures ascends { IfOk result (λ plan.
+        IsStrictlySortedBy nat_cmp (map identity_of plan.items)) }
 {
     decide_each(alloc, items, after)
 }
@@ -31,9 +32,10 @@ pub fn slice(alloc: Global, items: &[Item], after: u64) -> Result<Vec<Decision>,
     requires few { length items.now ≤ 256 }
     requires ascends { IsStrictlySortedBy nat_cmp (identities items.now) }
     ensures exact { IfOk result (λ plan. plan.items ≡ spec.planned after items.now) }
-    ensures told { IfOk result (λ plan.
+    ensures items_decided { IfOk result (λ plan.
         map identity_of plan.items ≡ identities (spec.touched_after after items.now)) }
-    ensures ascends { IfOk result (λ plan. IsStrictlySortedBy nat_cmp (map identity_of plan.items)) }
+    ensures ascends { IfOk result (λ plan.
+        IsStrictlySortedBy nat_cmp (map identity_of plan.items)) }
 {
     decide_each(alloc, items, after)
 }
@@ -48,7 +50,7 @@ fn decide_each(alloc: Global, items: &[Item], after: u64) -> Result<Vec<Decision
         .collect(alloc)
 }
 
-/// What a delete phase tells of the item, if anything.
+/// What a delete phase reports of the item, if anything.
 fn decide(item: &Item, after: u64) -> Option<Decision>
     ensures { result ≡ spec.decided after item.now }
 {
@@ -65,5 +67,6 @@ fn decide(item: &Item, after: u64) -> Option<Decision>
 /// they are made at one moment.
 pub fn slices_make_the_plan()
     ensures { (after : ℕ) (pieces : List (List Item))
-        → flat_map (spec.planned after) pieces ≡ spec.planned after (flat_map (λ piece. piece) pieces) }
+        → flat_map (spec.planned after) pieces
+        ≡ spec.planned after (flat_map (λ piece. piece) pieces) }
 {}

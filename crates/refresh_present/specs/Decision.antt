@@ -1,4 +1,4 @@
--- What a refresh tells of one entry (RFC 4533, section 2.3).
+-- What a refresh reports of one entry (RFC 4533, section 2.3).
 use Rattle.std.specs.Prelude.{ℕ}
 use Rattle.refresh_present.specs.declared.decision.Decision.{Decision}
 use Rattle.refresh_present.specs.declared.decision.Decision.TheVariants.{Send, Present, Delete}

@@ -1,6 +1,6 @@
-//! What a refresh tells of one entry.
+//! What a refresh reports of one entry.
 
-/// What a refresh tells of the entry of an identity (RFC 4533, section 2.3).
+/// What a refresh reports of the entry of an identity (RFC 4533, section 2.3).
 #[derive(Clone, Copy, Debug, PartialEq, Eq)]
 pub enum Decision {
     /// The entry is sent whole.

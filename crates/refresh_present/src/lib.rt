@@ -1,6 +1,6 @@
-//! What a refresh tells of a content where nothing says which entries left it (RFC 4533, section
+//! What a refresh reports of a content where nothing says which entries left it (RFC 4533, section
 //! 3.3): the initial content, and the present phase of a content update, at whose end the client
-//! drops each entry that was not told.
+//! drops each entry that was not reported.
 #![tactic(auto)]
 
 mod decision;

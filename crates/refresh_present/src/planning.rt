@@ -12,7 +12,7 @@ use crate::decision::Decision;
 use crate::item::Item;
 use std::alloc::{AllocError, Global};
 
-/// Want of memory, as an error by itself.
+/// Out of memory, as an error by itself.
 pub type NoMemory = AllocError;
 
 /// Decides a whole walk over the entries at one moment. Without a cookie (`after` is None) each
@@ -22,10 +22,11 @@ pub fn plan(alloc: Global, items: &[Item], after: Option<u64>) -> Result<Vec<Dec
     requires { IsStrictlySortedBy nat_cmp (identities items.now) }
     ensures exact { IfOk result (λ plan. plan.items ≡ spec.planned after items.now) }
 
-    // It tells each selected entry once and no other, in ascending order of identity.
-    ensures told { IfOk result (λ plan.
+    // It reports each selected entry once and no other, in ascending order of identity.
+    ensures items_decided { IfOk result (λ plan.
         map identity_of plan.items ≡ identities (selected_of items.now)) }
-    ensures ascends { IfOk result (λ plan. IsStrictlySortedBy nat_cmp (map identity_of plan.items)) }
+    ensures ascends { IfOk result (λ plan.
+        IsStrictlySortedBy nat_cmp (map identity_of plan.items)) }
 {
     decide_each(alloc, items, after)
 }
@@ -35,9 +36,10 @@ pub fn slice(alloc: Global, items: &[Item], after: Option<u64>) -> Result<Vec<De
     requires few { length items.now ≤ 256 }
     requires ascends { IsStrictlySortedBy nat_cmp (identities items.now) }
     ensures exact { IfOk result (λ plan. plan.items ≡ spec.planned after items.now) }
-    ensures told { IfOk result (λ plan.
+    ensures items_decided { IfOk result (λ plan.
         map identity_of plan.items ≡ identities (selected_of items.now)) }
-    ensures ascends { IfOk result (λ plan. IsStrictlySortedBy nat_cmp (map identity_of plan.items)) }
+    ensures ascends { IfOk result (λ plan.
+        IsStrictlySortedBy nat_cmp (map identity_of plan.items)) }
 {
     decide_each(alloc, items, after)
 }
@@ -52,7 +54,7 @@ fn decide_each(alloc: Global, items: &[Item], after: Option<u64>) -> Result<Vec<
         .collect(alloc)
 }
 
-/// What a present phase tells of the item, if anything.
+/// What a present phase reports of the item, if anything.
 fn decide(item: &Item, after: Option<u64>) -> Option<Decision>
     ensures { result ≡ spec.decided after item.now }
 {
@@ -69,5 +71,6 @@ fn decide(item: &Item, after: Option<u64>) -> Option<Decision>
 /// they are made at one moment.
 pub fn slices_make_the_plan()
     ensures { (after : Option ℕ) (pieces : List (List Item))
-        → flat_map (spec.planned after) pieces ≡ spec.planned after (flat_map (λ piece. piece) pieces) }
+        → flat_map (spec.planned after) pieces
+        ≡ spec.planned after (flat_map (λ piece. piece) pieces) }
 {}

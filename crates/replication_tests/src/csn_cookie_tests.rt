@@ -57,7 +57,7 @@ fn change_numbers_and_cookies(rt: HostRuntime) -> Result<(), Fail> {
     check_rows(&rt, rt.alloc(), ROWS)
 }
 
-pub(crate) fn told(alloc: Global, word: &str, text: &str) -> Result<String, AllocError> {
+pub(crate) fn reported(alloc: Global, word: &str, text: &str) -> Result<String, AllocError> {
     match word {
         "csn" => csn_read(alloc, text),
         "cookie" => cookie_read(alloc, text),
@@ -68,12 +68,12 @@ pub(crate) fn told(alloc: Global, word: &str, text: &str) -> Result<String, Allo
 
 fn csn_read(alloc: Global, text: &str) -> Result<String, AllocError> {
     match Csn::parse(text.as_bytes()) {
-        Ok(csn) => csn_told(alloc, csn),
+        Ok(csn) => csn_reported(alloc, csn),
         Err(fault) => format!(in alloc; "{fault:?}"),
     }
 }
 
-fn csn_told(alloc: Global, csn: Csn) -> Result<String, AllocError> {
+fn csn_reported(alloc: Global, csn: Csn) -> Result<String, AllocError> {
     let written = csn.write();
     let text = text_of(&written);
     format!(in alloc;
@@ -93,12 +93,12 @@ fn text_of(bytes: &[u8]) -> &str {
 fn cookie_read(alloc: Global, text: &str) -> Result<String, AllocError> {
     let blank = is_blank(text.as_bytes());
     match Cookie::parse(text.as_bytes()) {
-        Ok(cookie) => cookie_told(alloc, cookie, blank),
+        Ok(cookie) => cookie_reported(alloc, cookie, blank),
         Err(fault) => format!(in alloc; "{fault:?} {blank}"),
     }
 }
 
-fn cookie_told(alloc: Global, cookie: Cookie, blank: bool) -> Result<String, AllocError> {
+fn cookie_reported(alloc: Global, cookie: Cookie, blank: bool) -> Result<String, AllocError> {
     let written = cookie.csn.write();
     let csn = text_of(&written);
     format!(in alloc;

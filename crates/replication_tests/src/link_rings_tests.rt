@@ -20,24 +20,24 @@ fn item(text: &'static [u8]) -> Bytes {
     Bytes::from_static(text)
 }
 
-pub(crate) fn told(alloc: Global) -> Result<String, AllocError> {
+pub(crate) fn reported(alloc: Global) -> Result<String, AllocError> {
     let (mut producer, mut consumer) = ring(alloc, 2)?;
     let first = producer.offer(item(b"a"));
     let second = producer.offer(item(b"b"));
     let full = producer.offer(item(b"c"));
-    let offered = offers_told(alloc, &first, &second, &full);
+    let offered = offers_reported(alloc, &first, &second, &full);
     let taken = [consumer.take(), consumer.take(), consumer.take()];
     let again = producer.offer(item(b"c"));
     let left = consumer.beside(&mut producer);
     let last = consumer.take();
     let none = consumer.beside(&mut producer);
-    let behind = behind_told(alloc, &again, left, &last, none);
-    whole(alloc, offered, &taken, behind)
+    let beyond = after_reported(alloc, &again, left, &last, none);
+    whole(alloc, offered, &taken, beyond)
 }
 
 type Offer = Result<(), Full>;
 
-fn offers_told(
+fn offers_reported(
     alloc: Global,
     first: &Offer,
     second: &Offer,
@@ -46,7 +46,7 @@ fn offers_told(
     format!(in alloc; "{first:?} {second:?} {full:?}")
 }
 
-fn behind_told(
+fn after_reported(
     alloc: Global,
     again: &Offer,
     left: usize,
@@ -60,8 +60,8 @@ fn whole(
     alloc: Global,
     offered: Result<String, AllocError>,
     taken: &[Option<Bytes>; 3],
-    behind: Result<String, AllocError>,
+    beyond: Result<String, AllocError>,
 ) -> Result<String, AllocError> {
     let [a, b, c] = taken;
-    format!(in alloc; "{} {a:?} {b:?} {c:?} {}", offered?, behind?)
+    format!(in alloc; "{} {a:?} {b:?} {c:?} {}", offered?, beyond?)
 }

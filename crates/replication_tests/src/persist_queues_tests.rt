@@ -6,7 +6,7 @@ use std::test::Fail;
 
 /// Calls of a queue, and what comes of each.
 const ROWS: &str = "\
-# A limit, what is pending, and what is put behind it
+# A limit, what is pending, and what is put after it
 queue limit 2;push 1;push 1 => set,pushed,pushed,
 queue limit 2;push 1,1;push 1 => set,pushed,the queue of 2 items is full,
 queue limit 3;push 1;push 1,1,1 => set,pushed,the queue of 3 items is full,
@@ -61,8 +61,8 @@ fn items(alloc: Global, weights: &str) -> Result<Vec<Item>, AllocError> {
     Ok(items)
 }
 
-/// What comes of each call, with a comma behind it.
-pub(crate) fn told(alloc: Global, calls: &str) -> Result<String, AllocError> {
+/// What comes of each call, with a comma after it.
+pub(crate) fn reported(alloc: Global, calls: &str) -> Result<String, AllocError> {
     let mut queue = SearchQueue::new(alloc, 0);
     let mut text = String::new(alloc);
     for call in calls.split(';') {

@@ -8,7 +8,7 @@ use refresh_present::{Decision, Item};
 use std::alloc::{AllocError, Global};
 use std::test::Fail;
 
-/// Behind which write the phase begins, and what is decided of the entries: as a whole, and of the
+/// After which write the phase begins, and what is decided of the entries: as a whole, and of the
 /// entries as one slice. The third entry is not selected, and the last one by a present phase alone.
 const ROWS: &str = "\
 present none => [Send(1), Send(2), Send(7)] [Send(1), Send(2), Send(7)]
@@ -55,22 +55,22 @@ fn items(last: bool) -> [Item; 4]
     ]
 }
 
-pub(crate) fn told(alloc: Global, phase: &str, after: &str) -> Result<String, AllocError> {
+pub(crate) fn reported(alloc: Global, phase: &str, after: &str) -> Result<String, AllocError> {
     let after = after.parse::<u64>().ok();
     if phase == "present" {
-        present_told(alloc, after)
+        present_reported(alloc, after)
     } else {
-        delete_told(alloc, after.unwrap_or(0))
+        delete_reported(alloc, after.unwrap_or(0))
     }
 }
 
-fn present_told(alloc: Global, after: Option<u64>) -> Result<String, AllocError> {
+fn present_reported(alloc: Global, after: Option<u64>) -> Result<String, AllocError> {
     let whole = refresh_present::plan(alloc, &items(true), after)?;
     let piece = refresh_present::slice(alloc, &items(true), after)?;
     both(alloc, &whole, &piece)
 }
 
-fn delete_told(alloc: Global, after: u64) -> Result<String, AllocError> {
+fn delete_reported(alloc: Global, after: u64) -> Result<String, AllocError> {
     let whole = refresh_delete::plan(alloc, &items(false), after)?;
     let piece = refresh_delete::slice(alloc, &items(false), after)?;
     both(alloc, &whole, &piece)

@@ -164,7 +164,7 @@ with_values-gathered xs a (k ∷ ks) once = by (nat_eq k a.kind) refl (with_valu
         ∙ ap (λ y. y ∷ map (gathered more) ks) (sym (gathered-push xs a k true (nat_eq_sym a.kind k ∙ e)))
     by false e ih = ap (λ ys. gathered xs k ∷ ys) ih ∙ later e (among a.kind ks)
 
--- the values of one more attribute go behind those of its type
+-- the values of one more attribute go after those of its type
 pub joined-push : (xs : List Attribute) (a : Attribute) → joined (xs ++ a ∷ []) ≡ with_values (joined xs) a.kind a.values
 joined-push xs a =
     ap (map (gathered more)) (kinds_of-push xs a) ∙ by (among a.kind (kinds_of xs)) refl ∙ sym (with_values-gathered xs a (kinds_of xs) (IsOnce-kinds_of xs))

@@ -3,7 +3,7 @@ use Rattle.std.proofs.Common.{◌≡◌, ◌≢◌, ℕ, zero, suc, ◌+◌, ◌
 use Rattle.std.specs.List.{position, position_or_len, list_all, AllPairs}
 use Rattle.std.proofs.Math.ListN.{get_or-map}
 use Rattle.std.proofs.Math.Seq.{map-set_same}
-use Rattle.std.proofs.lemmas.Bool.{ltb-false, eqb-true, eq-eqb, false≢true}
+use Rattle.std.proofs.lemmas.Bool.{ltb-false, eqb-true, eq-eqb, false≢true, and_parts}
 use Rattle.std.proofs.lemmas.List.{length-map}
 use Rattle.std.proofs.lemmas.List.Elements.{All-push, All-set, All-get_or}
 use Rattle.std.proofs.lemmas.List.Folds.{list_all-append}
@@ -52,7 +52,8 @@ at_end (a ∷ rest) kind values none = by (is_of kind a) (at_end rest kind value
     by true shorter long = absurd (omega arith)
     by false shorter long = ap (λ xs. a ∷ xs) (shorter (omega arith))
 
-none_long : (m l : ℕ) → cond (nat_lt m l) (Some m) None ≡ None → l ≤ m
+-- a place that is not within the list is past its end
+pub none_long : (m l : ℕ) → cond (nat_lt m l) (Some m) None ≡ None → l ≤ m
 none_long m l none = by (nat_lt m l) refl none
   where
     by : (b : Bool) → nat_lt m l ≡ b → cond b (Some m) None ≡ None → l ≤ m
@@ -114,28 +115,20 @@ both true true c e h = h
 both true false c e h = absurd (cc)
 both false b c e h = absurd (cc)
 
-right_true : (a b : Bool) → (a && b) ≡ true → b ≡ true
-right_true true b e = e
-right_true false b e = absurd (cc)
-
-left_true : (a b : Bool) → (a && b) ≡ true → a ≡ true
-left_true true b e = refl
-left_true false b e = absurd (cc)
-
 is_given-grown : (a : Attribute) (kind : ℕ) (values : List (List ℕ)) → a.kind ≡ kind → is_given a ≡ true → is_given (fresh kind values) ≡ true → is_given (grown a values) ≡ true
 is_given-grown a kind values same old new =
-    let more : list_all (is_of_syntax a.kind) values ≡ true = ap (λ k. list_all (is_of_syntax k) values) same ∙ right_true (not (is_operational kind)) _ new in
+    let more : list_all (is_of_syntax a.kind) values ≡ true = ap (λ k. list_all (is_of_syntax k) values) same ∙ (and_parts (not (is_operational kind)) _ new).1 in
     ap (λ b. not (is_operational a.kind) && b) (list_all-append (is_of_syntax a.kind) a.values values)
     ∙ both (not (is_operational a.kind)) (list_all (is_of_syntax a.kind) a.values) _ old more
 
 pub is_given-with_values : (xs : List Attribute) (kind : ℕ) (values : List (List ℕ)) → list_all is_given xs ≡ true → is_given (fresh kind values) ≡ true
     → list_all is_given (with_values xs kind values) ≡ true
 is_given-with_values [] kind values all given = ap (λ b. b && true) given
-is_given-with_values (x ∷ xs) kind values all given = by (nat_eq x.kind kind) refl (is_given-with_values xs kind values (right_true (is_given x) _ all) given)
+is_given-with_values (x ∷ xs) kind values all given = by (nat_eq x.kind kind) refl (is_given-with_values xs kind values (and_parts (is_given x) _ all).1 given)
   where
     by : (b : Bool) → nat_eq x.kind kind ≡ b → list_all is_given (with_values xs kind values) ≡ true
         → list_all is_given (cond b (grown x values ∷ xs) (x ∷ with_values xs kind values)) ≡ true
     by true e ih =
-        ap (λ b. b && list_all is_given xs) (is_given-grown x kind values (eqb-true x.kind kind e) (left_true (is_given x) _ all) given)
-        ∙ right_true (is_given x) _ all
-    by false e ih = ap (λ b. b && list_all is_given (with_values xs kind values)) (left_true (is_given x) _ all) ∙ ih
+        ap (λ b. b && list_all is_given xs) (is_given-grown x kind values (eqb-true x.kind kind e) (and_parts (is_given x) _ all).0 given)
+        ∙ (and_parts (is_given x) _ all).1
+    by false e ih = ap (λ b. b && list_all is_given (with_values xs kind values)) (and_parts (is_given x) _ all).0 ∙ ih

@@ -3,4 +3,5 @@ pub mod Joining
 pub mod Lines
 pub mod Lists
 pub mod Reading
+pub mod Sizes
 pub mod Tables

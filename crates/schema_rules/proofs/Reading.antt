@@ -3,31 +3,28 @@ use Rattle.std.proofs.Common.{◌≡◌, ◌≢◌, ℕ, ◌+◌, ◌<◌, Bool,
 use Rattle.std.specs.Option.{option_or, option_map}
 use Rattle.std.specs.List.{filter_map, list_all}
 use Rattle.std.proofs.lemmas.List.{take_more, take-append-drop}
+use Rattle.ldap_constants.specs.declared.result_codes.TheConstants.{CONSTRAINT_VIOLATION, INVALID_ATTRIBUTE_SYNTAX}
 use Rattle.schema_rules.specs.declared.raw.RawAttribute.{RawAttribute}
 use Rattle.schema_rules.specs.declared.fault.SchemaFault.{SchemaFault}
 use Rattle.schema_rules.specs.declared.fault.SchemaFault.TheVariants.{Code, NoMemory}
-use Rattle.schema_rules.specs.Fault.{Tells}
+use Rattle.schema_rules.specs.Fault.{HasCode}
 use Rattle.schema_rules.specs.Schema.{type_named, is_operational}
 use Rattle.schema_rules.specs.Attributes.{raw_code, typed_code, values_code, is_of_syntax, is_given, first_code, typed, joined, with_values}
-use Rattle.schema_rules.proofs.Lists.{filter_map_some}
+use Rattle.schema_rules.proofs.Lists.{filter_map_some, option_or-assoc}
 use Rattle.schema_rules.proofs.Joined.{joined-push}
-
-option_or_assoc : (a b c : Option ℕ) → option_or (option_or a b) c ≡ option_or a (option_or b c)
-option_or_assoc None b c = refl
-option_or_assoc (Some x) b c = refl
 
 first_code-append : (xs ys : List RawAttribute) → first_code (xs ++ ys) ≡ option_or (first_code xs) (first_code ys)
 first_code-append [] ys = refl
-first_code-append (x ∷ xs) ys = ap (option_or (raw_code x)) (first_code-append xs ys) ∙ sym (option_or_assoc (raw_code x) (first_code xs) (first_code ys))
+first_code-append (x ∷ xs) ys = ap (option_or (raw_code x)) (first_code-append xs ys) ∙ sym (option_or-assoc (raw_code x) (first_code xs) (first_code ys))
 
--- nothing is against the next attribute either
+-- nothing rejects the next attribute either
 pub first_code_none : (raws : List RawAttribute) (i : ℕ) (raw : RawAttribute) → i < length raws → raw ≡ get_or raws i raw → first_code (take i raws) ≡ None → raw_code raw ≡ None
     → first_code (take (i + 1) raws) ≡ None
 first_code_none raws i raw low at before none =
     ap first_code (take_more raws i raw low ∙ ap (λ r. take i raws ++ r ∷ []) (sym at)) ∙ first_code-append (take i raws) (raw ∷ [])
     ∙ ap (λ o. option_or o (option_or (raw_code raw) None)) before ∙ ap (λ o. option_or o None) none
 
--- something is against the next attribute
+-- something rejects the next attribute
 pub first_code_some : (raws : List RawAttribute) (i : ℕ) (raw : RawAttribute) (n : ℕ) → i < length raws → raw ≡ get_or raws i raw → first_code (take i raws) ≡ None → raw_code raw ≡ Some n
     → first_code raws ≡ Some n
 first_code_some raws i raw n low at before some =
@@ -44,28 +41,28 @@ joined_more raws i raw kind low at named =
     (ap (option_map (λ k. record { kind = k; values = raw.values })) named))
     ∙ joined-push (filter_map typed (take i raws)) (record { kind = kind; values = raw.values })
 
--- ---- what is known where nothing is against an attribute
+-- ---- what is known where nothing rejects an attribute
 
-pub Tells-same : (one two : Option ℕ) (fault : SchemaFault) → ((n : ℕ) → one ≡ Some n → two ≡ Some n) → Tells one fault → Tells two fault
-Tells-same one two (Code n) same told = same n told
-Tells-same one two NoMemory same told = tt
+pub HasCode-same : (one two : Option ℕ) (fault : SchemaFault) → ((n : ℕ) → one ≡ Some n → two ≡ Some n) → HasCode one fault → HasCode two fault
+HasCode-same one two (Code n) same shown = same n shown
+HasCode-same one two NoMemory same shown = tt
 
 pub none_given : (kind : ℕ) (values : List (List ℕ)) → typed_code (Some kind) values ≡ None → is_given (record { kind = kind; values = values }) ≡ true
 none_given kind values none = by (is_operational kind) none
   where
-    rest : (long all : Bool) → cond {A = Option ℕ} long (Some 21) (cond {A = Option ℕ} all None (Some 21)) ≡ None → all ≡ true
+    rest : (long all : Bool) → cond {A = Option ℕ} long (Some INVALID_ATTRIBUTE_SYNTAX) (cond {A = Option ℕ} all None (Some INVALID_ATTRIBUTE_SYNTAX)) ≡ None → all ≡ true
     rest true all h = absurd (cc)
     rest false true h = refl
     rest false false h = absurd (cc)
 
-    by : (b : Bool) → cond {A = Option ℕ} b (Some 19) (values_code kind values) ≡ None → (not b && list_all (is_of_syntax kind) values) ≡ true
+    by : (b : Bool) → cond {A = Option ℕ} b (Some CONSTRAINT_VIOLATION) (values_code kind values) ≡ None → (not b && list_all (is_of_syntax kind) values) ≡ true
     by true h = absurd (cc)
     by false h = rest (nat_eq (length values) 0) (list_all (is_of_syntax kind) values) h
 
 pub none_filled : (kind : ℕ) (values : List (List ℕ)) → typed_code (Some kind) values ≡ None → values ≢ []
 none_filled kind [] none e = by (is_operational kind) none
   where
-    by : (b : Bool) → cond {A = Option ℕ} b (Some 19) (Some 21) ≡ None → ⊥
+    by : (b : Bool) → cond {A = Option ℕ} b (Some CONSTRAINT_VIOLATION) (Some INVALID_ATTRIBUTE_SYNTAX) ≡ None → ⊥
     by true h = cc
     by false h = cc
 none_filled kind (v ∷ values) none e = cc

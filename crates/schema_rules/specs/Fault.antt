@@ -1,9 +1,9 @@
--- What the faults of the schema tell.
+-- What the faults of the schema report.
 use Rattle.std.specs.Prelude.{◌≡◌, ℕ, Option, Some}
 use Rattle.schema_rules.specs.declared.fault.SchemaFault.{SchemaFault}
 use Rattle.schema_rules.specs.declared.fault.SchemaFault.TheVariants.{Code, NoMemory}
 
--- the fault tells this code; want of memory tells nothing
-abbrev pub Tells : Option ℕ → SchemaFault → Type 0
-Tells code (Code number) = code ≡ Some number
-Tells code NoMemory = Unit {0}
+-- the fault reports this code; out of memory reports nothing
+abbrev pub HasCode : Option ℕ → SchemaFault → Type 0
+HasCode code (Code number) = code ≡ Some number
+HasCode code NoMemory = Unit {0}

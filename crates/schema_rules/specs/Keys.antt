@@ -1,4 +1,5 @@
--- The keys of values: two values of a type match where their keys are equal (RFC 4512, section 2.5.1).
+-- The keys of values: two values of a type match where their keys are equal (RFC
+-- 4512, section 2.5.1).
 use Rattle.std.specs.Prelude.{ℕ, Bool, List, Option, None, Some, is_some, if◌then◌else◌, nat_lt}
 use Rattle.std.specs.Str.{str_to_ascii_lowercase}
 use Rattle.std.specs.List.{list_all, filter_map}

@@ -93,21 +93,38 @@ pub record ClassRow : Type 0 where
 
 abbrev pub derived : String → ClassKind → String → List String → List String → ClassRow
 derived superior kind name must may =
-    record { name = codes name; kind = kind; superior = Some (codes superior); must = map codes must; may = map codes may }
+    record {
+      name = codes name;
+      kind = kind;
+      superior = Some (codes superior);
+      must = map codes must;
+      may = map codes may;
+    }
 
 -- a class is known by its place in this list
 unfoldable pub classes : List ClassRow
 classes =
-    record { name = codes "top"; kind = Abstract; superior = None; must = codes "objectClass" ∷ []; may = [] } ∷
-    derived "top" Structural "organization" ("o" ∷ []) ("description" ∷ "l" ∷ "telephoneNumber" ∷ []) ∷
-    derived "top" Structural "organizationalUnit" ("ou" ∷ []) ("description" ∷ "l" ∷ "telephoneNumber" ∷ []) ∷
+    record {
+      name = codes "top";
+      kind = Abstract;
+      superior = None;
+      must = codes "objectClass" ∷ [];
+      may = [];
+    } ∷
+    derived "top" Structural "organization" ("o" ∷ [])
+    ("description" ∷ "l" ∷ "telephoneNumber" ∷ []) ∷
+    derived "top" Structural "organizationalUnit" ("ou" ∷ [])
+    ("description" ∷ "l" ∷ "telephoneNumber" ∷ []) ∷
     derived "top" Structural "person" ("sn" ∷ "cn" ∷ []) ("telephoneNumber" ∷ "description" ∷ []) ∷
     derived "person" Structural "organizationalPerson" [] ("title" ∷ "ou" ∷ "l" ∷ []) ∷
     derived "organizationalPerson" Structural "inetOrgPerson" []
-    ("givenName" ∷ "displayName" ∷ "uid" ∷ "mail" ∷ "departmentNumber" ∷ "employeeNumber" ∷ "o" ∷ []) ∷
-    derived "top" Structural "posixGroup" ("cn" ∷ "gidNumber" ∷ []) ("memberUid" ∷ "description" ∷ []) ∷
+    ("givenName" ∷ "displayName" ∷ "uid" ∷ "mail" ∷ "departmentNumber" ∷ "employeeNumber" ∷ "o"
+    ∷ []) ∷
+    derived "top" Structural "posixGroup" ("cn" ∷ "gidNumber" ∷ [])
+    ("memberUid" ∷ "description" ∷ []) ∷
     derived "top" Auxiliary "dcObject" ("dc" ∷ []) [] ∷
-    derived "top" Auxiliary "posixAccount" ("cn" ∷ "uid" ∷ "uidNumber" ∷ "gidNumber" ∷ "homeDirectory" ∷ []) ("description" ∷ []) ∷
+    derived "top" Auxiliary "posixAccount"
+    ("cn" ∷ "uid" ∷ "uidNumber" ∷ "gidNumber" ∷ "homeDirectory" ∷ []) ("description" ∷ []) ∷
     derived "top" Auxiliary "syncSubject" [] ("syncActive" ∷ "syncExpiry" ∷ []) ∷ []
 
 -- past the end of the list nothing is a class
@@ -133,7 +150,7 @@ is_structural class = is_structural_kind (class_row class).kind
 abbrev pub superior_of : ℕ → Option ℕ
 superior_of class = option_and_then class_named (class_row class).superior
 
--- a class and its superiors, the nearest first, at most so many
+-- a class and its superiors, the nearest first, at most n
 abbrev pub line_within : ℕ → Option ℕ → List ℕ
 line_within zero class = []
 line_within (suc n) None = []

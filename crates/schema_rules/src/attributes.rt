@@ -3,17 +3,18 @@ ghost use Rattle.std.specs.Prelude.{◌≡◌, ◌-◌, ◌^◌, ◌==◌, true,
 ghost use Rattle.std.specs.List.{AllPass, filter_map, list_any, list_all};
 ghost use Rattle.std.specs.Result.{result_err};
 ghost use Rattle.schema_rules.specs.Attributes as spec;
-ghost use Rattle.schema_rules.specs.Fault.{Tells};
+ghost use Rattle.schema_rules.specs.Fault.{HasCode};
 ghost use Rattle.schema_rules.specs.Schema.{type_name, type_named};
 
-use crate::fault::{
-    ATTRIBUTE_OR_VALUE_EXISTS, CONSTRAINT_VIOLATION, INVALID_ATTRIBUTE_SYNTAX, SchemaFault,
-    UNDEFINED_ATTRIBUTE_TYPE,
-};
+use crate::fault::SchemaFault;
 use crate::keys::{are_of_syntax, keys_of};
 use crate::raw::{RawAttribute, RawList};
 use crate::types::AttributeType;
 use ldap_ber::{NoMemory, Octets, OctetsList};
+use ldap_constants::{
+    ATTRIBUTE_OR_VALUE_EXISTS, CONSTRAINT_VIOLATION, INVALID_ATTRIBUTE_SYNTAX,
+    UNDEFINED_ATTRIBUTE_TYPE,
+};
 use std::alloc::Global;
 use std::marker::Model;
 
@@ -25,6 +26,7 @@ pub struct Attribute {
 }
 
 impl Attribute {
+    /// Makes the same type and values a second time. It is `NoMemory` where memory runs out.
     pub fn copy(&self) -> Result<Attribute, NoMemory>
         ensures { IfOk result (λ attribute. attribute ≡ self.now) }
     {
@@ -36,7 +38,8 @@ impl Attribute {
 
     /// The length of each value and of the type's name, summed, as far as the numbers go.
     fn weight(&self) -> u64
-        ensures { result ≡ min (spec.values_weight (type_name self.now.kind) self.now.values) (2 ^ 64 - 1) }
+        ensures { result
+            ≡ min (spec.values_weight (type_name self.now.kind) self.now.values) (2 ^ 64 - 1) }
     {
         let name = self.kind.name().len() as u64;
         let mut total: u64 = 0;
@@ -68,6 +71,7 @@ impl Model for Attrs {
 }
 
 impl Attrs {
+    /// Makes a list without attributes.
     pub fn new(alloc: Global) -> Attrs
         ensures { result ≡ [] }
     {
@@ -84,6 +88,7 @@ impl Attrs {
         Attrs { items }
     }
 
+    /// Lends the attributes, in the order held: each type once, and none without values.
     pub fn list(&self) -> &[Attribute]
         ensures value { result.now ≡ self.now }
         ensures sound { spec.IsAttributeList self.now }
@@ -91,6 +96,7 @@ impl Attrs {
         self.items.as_slice()
     }
 
+    /// Makes the same attributes a second time. It is `NoMemory` where memory runs out.
     pub fn copy(&self) -> Result<Attrs, NoMemory>
         ensures { IfOk result (λ attrs. attrs ≡ self.now) }
     {
@@ -114,14 +120,15 @@ impl Attrs {
     }
 
     /// Reads attributes as they came. Those of one type are joined in order, at the place of the
-    /// first. The codes, the first of which is told: of each attribute in order 17 where its name
-    /// names no type, 19 where the type is operational, and 21 where it has no value or a value
-    /// that is not of the type's syntax; and after all of these 20 where two values of a type have
+    /// first. The codes, the first of which is reported: of each attribute in order
+    /// undefinedAttributeType where its name names no type, constraintViolation where the type is
+    /// operational, and invalidAttributeSyntax where it has no value or a value that is not of the
+    /// type's syntax; and after all of these attributeOrValueExists where two values of a type have
     /// one key.
     #[tactic(auto, unfolding(crate::specs::Attributes::read_attributes))]
     pub fn read(alloc: Global, raw: &RawList) -> Result<Attrs, SchemaFault>
         ensures ok { IfOk result (λ attrs. spec.read_attributes raw.now ≡ Ok attrs) }
-        ensures fault { IfErr result (Tells (result_err (spec.read_attributes raw.now))) }
+        ensures fault { IfErr result (HasCode (result_err (spec.read_attributes raw.now))) }
         ensures sound { IfOk result (AllPass spec.is_sound) }
     {
         let items = joined(alloc, raw.list())?;
@@ -132,13 +139,13 @@ impl Attrs {
     }
 }
 
-/// One attribute for each type, where nothing is against any attribute by itself.
+/// One attribute for each type, where nothing rejects any attribute by itself.
 fn joined(alloc: Global, raws: &[RawAttribute]) -> Result<Vec<Attribute>, SchemaFault>
     ensures ok { IfOk result (λ items. items.items ≡ spec.joined (filter_map spec.typed raws.now)) }
     ensures none { OnOk result (spec.first_code raws.now ≡ None) }
     ensures list { IfOk result (λ items. spec.IsAttributeList items.items) }
     ensures given { IfOk result (λ items. list_all spec.is_given items.items ≡ true) }
-    ensures fault { IfErr result (Tells (spec.first_code raws.now)) }
+    ensures fault { IfErr result (HasCode (spec.first_code raws.now)) }
 {
     let mut items = Vec::new(alloc);
     for raw in raws {
@@ -160,11 +167,11 @@ fn any_repeats(alloc: Global, attributes: &[Attribute]) -> Result<bool, NoMemory
     Ok(false)
 }
 
-/// The type of an attribute as it came, where nothing is against the attribute by itself.
+/// The type of an attribute as it came, where nothing rejects the attribute by itself.
 fn checked_type(alloc: Global, raw: &RawAttribute) -> Result<AttributeType, SchemaFault>
     ensures kind { IfOk result (λ kind. type_named raw.now.name ≡ Some kind) }
     ensures ok { OnOk result (spec.raw_code raw.now ≡ None) }
-    ensures fault { IfErr result (Tells (spec.raw_code raw.now)) }
+    ensures fault { IfErr result (HasCode (spec.raw_code raw.now)) }
 {
     let Some(kind) = AttributeType::find(raw.name.as_slice()) else {
         return Err(SchemaFault::Code(UNDEFINED_ATTRIBUTE_TYPE));
@@ -179,14 +186,15 @@ fn checked_type(alloc: Global, raw: &RawAttribute) -> Result<AttributeType, Sche
     Ok(kind)
 }
 
-/// Puts values of a type behind its other values, or behind all attributes. After an `Err` the list
+/// Puts values of a type after its other values, or after all attributes. After an `Err` the list
 /// is as before.
 pub fn add_values(
     attributes: &mut Vec<Attribute>,
     kind: AttributeType,
     values: &[Octets],
 ) -> Result<(), NoMemory>
-    ensures ok { OnOk result (attributes.new.items ≡ spec.with_values attributes.old.items kind values.now) }
+    ensures ok { OnOk result
+        (attributes.new.items ≡ spec.with_values attributes.old.items kind values.now) }
     ensures err { OnErr result (attributes.new.items ≡ attributes.old.items) }
 {
     let copies = copies_of(*attributes.allocator(), values)?;
@@ -223,12 +231,12 @@ fn repeats_value(alloc: Global, attribute: &Attribute) -> Result<bool, NoMemory>
     ensures { IfOk result (λ repeats. repeats ≡ spec.repeats_value attribute.now) }
 {
     let keys = keys_of(alloc, attribute.kind, attribute.values.list())?;
-    Ok(has_twins(&keys))
+    Ok(has_duplicates(&keys))
 }
 
 /// Whether a key comes twice.
-pub fn has_twins(keys: &[Octets]) -> bool
-    ensures { result ≡ spec.has_twins keys.now }
+pub fn has_duplicates(keys: &[Octets]) -> bool
+    ensures { result ≡ spec.has_duplicates keys.now }
 {
     let mut rest = keys;
     while let Some((key, later)) = rest.split_first() {

@@ -150,7 +150,8 @@ impl ObjectClass {
     /// The class that this one is derived from.
     pub(crate) fn superior(&self) -> Option<ObjectClass>
         ensures value { result ≡ schema.superior_of self.now }
-        ensures line { schema.line_of self.now ≡ self.now ∷ schema.line_from (schema.superior_of self.now) }
+        ensures line { schema.line_of self.now
+            ≡ self.now ∷ schema.line_from (schema.superior_of self.now) }
         ensures lower { schema.height (schema.superior_of self.now) ≤ self.now }
     {
         ObjectClass::find(self.row().superior?)
@@ -186,10 +187,12 @@ impl ObjectClass {
 
     fn row(&self) -> &'static ClassRow
         ensures kind { result.now.kind ≡ (schema.class_row self.now).kind }
-        ensures superior { option_map (λ n. n.now) result.now.superior ≡ (schema.class_row self.now).superior }
+        ensures superior { option_map (λ n. n.now) result.now.superior
+            ≡ (schema.class_row self.now).superior }
         ensures must { map (λ n. n.now) result.now.must.now ≡ (schema.class_row self.now).must }
         ensures may { map (λ n. n.now) result.now.may.now ≡ (schema.class_row self.now).may }
-        ensures line { schema.line_of self.now ≡ self.now ∷ schema.line_from (schema.superior_of self.now) }
+        ensures line { schema.line_of self.now
+            ≡ self.now ∷ schema.line_from (schema.superior_of self.now) }
         ensures lower { schema.height (schema.superior_of self.now) ≤ self.now }
     {
         row_at(&CLASSES, self.number as usize)
@@ -216,14 +219,16 @@ fn is_among(name: &[u8], names: &[&[u8]]) -> bool
 
 fn row_at(rows: &'static [ClassRow], number: usize) -> &'static ClassRow
     requires { number < length rows.now }
-    ensures { listed_class result.now ≡ slice_index_or (map listed_class rows.entry.now) number schema.no_class }
+    ensures { listed_class result.now
+        ≡ slice_index_or (map listed_class rows.entry.now) number schema.no_class }
 {
     &rows[number]
 }
 
 /// The place of the class of this name.
 fn place_of(rows: &[ClassRow], name: &[u8]) -> Option<usize>
-    ensures value { result ≡ position (λ row. str_eq_ignore_ascii_case row.name.now name.now) rows.now }
+    ensures value { result
+        ≡ position (λ row. str_eq_ignore_ascii_case row.name.now name.now) rows.now }
     ensures within { IfSome result (λ place. place < length rows.now) }
 {
     rows.iter().position(|row| is_same_name(row.name, name))

@@ -2,23 +2,25 @@
 ghost use Rattle.std.specs.Prelude.{◌≡◌, ◌++◌, None, codes, filter, map, IfOk, IfErr, OnOk};
 ghost use Rattle.std.specs.List.{list_any, list_all, filter_map, flat_map};
 ghost use Rattle.schema_rules.specs.Attributes as spec;
-ghost use Rattle.schema_rules.specs.Fault.{Tells};
+ghost use Rattle.schema_rules.specs.Fault.{HasCode};
 ghost use Rattle.schema_rules.specs.Schema.{class_named, line_of, is_structural, type_name};
 
 use crate::attributes::{Attribute, Attrs};
 use crate::classes::{ObjectClass, push_line};
-use crate::fault::{CONSTRAINT_VIOLATION, OBJECT_CLASS_VIOLATION, SchemaFault};
+use crate::fault::SchemaFault;
 use ldap_ber::{NoMemory, Octets};
+use ldap_constants::{CONSTRAINT_VIOLATION, OBJECT_CLASS_VIOLATION};
 use std::alloc::Global;
 
-/// Refuses attributes that no entry may have: 19 where a single-valued type has more than one
-/// value, else 65 where objectClass or a structural class is missing, where the structural classes
-/// given are not on one line of superiors, where a type that a class asks for is missing, or where
-/// no class allows a type. The superiors of a class count as given.
+/// Refuses attributes that no entry may have: constraintViolation where a single-valued type has
+/// more than one value, else objectClassViolation where objectClass or a structural class is
+/// missing, where the structural classes given are not on one line of superiors, where a type that
+/// a class asks for is missing, or where no class allows a type. The superiors of a class count as
+/// given.
 #[tactic(auto, unfolding(crate::specs::Attributes::entry_code))]
 pub fn check_entry(alloc: Global, attrs: &Attrs) -> Result<(), SchemaFault>
     ensures ok { OnOk result (spec.entry_code attrs.now ≡ None) }
-    ensures fault { IfErr result (Tells (spec.entry_code attrs.now)) }
+    ensures fault { IfErr result (HasCode (spec.entry_code attrs.now)) }
 {
     let attributes = attrs.list();
     if has_crowded(attributes) {
@@ -77,7 +79,8 @@ fn classes_given(alloc: Global, attributes: &[Attribute]) -> Result<Vec<ObjectCl
 
 /// Puts the classes that these values name at the end.
 fn push_classes(classes: &mut Vec<ObjectClass>, values: &[Octets]) -> Result<(), NoMemory>
-    ensures { OnOk result (classes.new.items ≡ classes.old.items ++ filter_map class_named values.now) }
+    ensures { OnOk result
+        (classes.new.items ≡ classes.old.items ++ filter_map class_named values.now) }
 {
     for value in values {
         if let Some(class) = ObjectClass::find(value.as_slice()) {
@@ -97,7 +100,7 @@ fn structural_of(alloc: Global, classes: &[ObjectClass]) -> Result<Vec<ObjectCla
         .collect(alloc)
 }
 
-/// Each class with its superiors behind it.
+/// Each class with its superiors after it.
 fn with_superiors(alloc: Global, classes: &[ObjectClass]) -> Result<Vec<ObjectClass>, NoMemory>
     ensures { IfOk result (λ all. all.items ≡ flat_map line_of classes.now) }
 {
@@ -145,7 +148,8 @@ fn has_each(attributes: &[Attribute], names: &[&[u8]]) -> bool
 
 /// Whether some class allows each type.
 fn has_only_allowed(attributes: &[Attribute], classes: &[ObjectClass]) -> bool
-    ensures { result ≡ list_all (λ a. spec.is_allowed classes.now (type_name a.kind)) attributes.now }
+    ensures { result
+        ≡ list_all (λ a. spec.is_allowed classes.now (type_name a.kind)) attributes.now }
 {
     attributes
         .iter()

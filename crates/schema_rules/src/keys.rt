@@ -13,8 +13,9 @@ use std::alloc::{AllocError, Global};
 use std::str;
 use text_keys::{KeyFault, boolean_key, exact_key, ignore_case_key, integer_key, time_key};
 
-/// The key of a value: two values of a type match exactly where their keys are the same bytes
-/// (RFC 4512, section 2.5.1).
+/// The key of a value: two values of a type match exactly where their keys are the same bytes (RFC
+/// 4512, section 2.5.1). It is `NotUtf8` or `NotOfSyntax` where the value is not of the type's
+/// syntax, or `NoMemory`.
 #[tactic(auto, unfolding(crate::specs::Keys::key_of))]
 pub fn key_of(alloc: Global, kind: AttributeType, value: &[u8]) -> Result<Vec<u8>, KeyFault>
     requires { is_operational kind ≡ false }
@@ -62,7 +63,7 @@ fn class_key(alloc: Global, value: &[u8]) -> Result<Vec<u8>, KeyFault>
 /// The fault of a value that is not of its type's syntax.
 fn syntax_fault(value: &[u8]) -> KeyFault
     ensures fault { IsFaultOf value.now None result }
-    ensures told { result ≢ KeyFault.NoMemory }
+    ensures shown { result ≢ KeyFault.NoMemory }
 {
     match str::from_utf8(value) {
         Ok(_) => KeyFault::NotOfSyntax,

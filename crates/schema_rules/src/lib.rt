@@ -10,7 +10,7 @@ mod keys;
 mod raw;
 mod types;
 
-pub use attributes::{Attribute, Attrs, add_values, has_twins};
+pub use attributes::{Attribute, Attrs, add_values, has_duplicates};
 pub use entry_check::check_entry;
 pub use fault::SchemaFault;
 pub use keys::{are_of_syntax, key_of, keys_of, known_key};

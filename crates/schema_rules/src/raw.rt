@@ -54,6 +54,7 @@ impl Model for RawList {
 }
 
 impl RawList {
+    /// Makes a list without attributes.
     pub fn new(alloc: Global) -> RawList
         ensures { result ≡ [] }
     {
@@ -71,6 +72,7 @@ impl RawList {
         Ok(())
     }
 
+    /// Lends the attributes, in the order in which they came.
     pub fn list(&self) -> &[RawAttribute]
         ensures { result.now ≡ self.now }
     {
@@ -94,6 +96,7 @@ impl Model for EditList {
 }
 
 impl EditList {
+    /// Makes a list without edits.
     pub fn new(alloc: Global) -> EditList
         ensures { result ≡ [] }
     {
@@ -111,6 +114,7 @@ impl EditList {
         Ok(())
     }
 
+    /// Lends the edits, in the order in which they came.
     pub fn list(&self) -> &[RawEdit]
         ensures { result.now ≡ self.now }
     {

@@ -111,18 +111,22 @@ impl AttributeType {
         self.row().name
     }
 
+    /// Gives the rule by which values of the type are read and compared.
     pub fn rule(&self) -> Rule
         ensures { result ≡ schema.type_rule self.now }
     {
         self.row().rule
     }
 
+    /// Reports whether an entry has at most one value of the type (SINGLE-VALUE of RFC 4512, section
+    /// 4.1.2).
     pub fn single(&self) -> bool
         ensures { result ≡ schema.is_single self.now }
     {
         self.row().single
     }
 
+    /// Reports whether the type is operational (RFC 4512, section 3.4), so that no client writes it.
     pub fn operational(&self) -> bool
         ensures { result ≡ schema.is_operational self.now }
     {
@@ -142,14 +146,16 @@ impl AttributeType {
 
 fn row_at(rows: &'static [TypeRow], number: usize) -> &'static TypeRow
     requires { number < length rows.now }
-    ensures { listed_type result.now ≡ slice_index_or (map listed_type rows.entry.now) number schema.no_type }
+    ensures { listed_type result.now
+        ≡ slice_index_or (map listed_type rows.entry.now) number schema.no_type }
 {
     &rows[number]
 }
 
 /// The place of the type of this name.
 fn place_of(rows: &[TypeRow], name: &[u8]) -> Option<usize>
-    ensures value { result ≡ position (λ row. str_eq_ignore_ascii_case row.name.now name.now) rows.now }
+    ensures value { result
+        ≡ position (λ row. str_eq_ignore_ascii_case row.name.now name.now) rows.now }
     ensures within { IfSome result (λ place. place < length rows.now) }
 {
     rows.iter().position(|row| is_same_name(row.name, name))

@@ -2,7 +2,7 @@
 use std::fmt::Debug;
 use std::process::Abort;
 
-/// Asserts that what was found is what is wanted, or tells the row.
+/// Asserts that what was found is what is wanted, or reports the row.
 pub(crate) fn assert_same<T: PartialEq + Debug>(rt: &impl Abort, row: &str, found: &T, wanted: &T) {
     assert!(rt;
         *found == *wanted,

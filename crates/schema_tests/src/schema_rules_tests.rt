@@ -40,16 +40,16 @@ const TYPE_ROWS: [(&str, Rule, bool); 24] = [
 
 /// A name, how the values are compared, whether there is one at most, and whether clients may not
 /// give it.
-type Told = (&'static [u8], Rule, bool, bool);
+type Reported = (&'static [u8], Rule, bool, bool);
 
-fn told(kind: AttributeType) -> Told {
+fn reported(kind: AttributeType) -> Reported {
     (kind.name(), kind.rule(), kind.single(), kind.operational())
 }
 
 /// What the table says of a name.
-fn found(name: &str) -> Option<Told> {
+fn found(name: &str) -> Option<Reported> {
     match AttributeType::find(name.as_bytes()) {
-        Some(kind) => Some(told(kind)),
+        Some(kind) => Some(reported(kind)),
         None => None,
     }
 }
@@ -80,7 +80,7 @@ fn names_of_types(rt: HostRuntime) {
     assert_known(&rt, &UNKNOWN, false);
 }
 
-/// Types and values, and the keys of these or what is against them.
+/// Types and values, and the keys of these or what rejects them.
 const KEYS: [(&str, &[u8], &[u8]); 17] = [
     ("objectClass", b"INETORGPERSON", b"inetorgperson"),
     ("objectClass", b"foo", b"NotOfSyntax"),
@@ -161,7 +161,7 @@ fn keys_of_values(rt: HostRuntime) -> Result<(), Fail> {
     Ok(())
 }
 
-/// Types, and values that are put behind those of the type.
+/// Types, and values that are put after those of the type.
 const ADDED: [(&str, &[&[u8]]); 3] = [
     ("cn", &[b"a"]),
     ("sn", &[b"b", b"A"]),
@@ -419,7 +419,7 @@ type ClassRow = (
     &'static str,
 );
 
-/// The classes, each behind its superior.
+/// The classes, each after its superior.
 const CLASSES: [ClassRow; 10] = [
     ("top", ClassKind::Abstract, "", "objectClass", ""),
     (

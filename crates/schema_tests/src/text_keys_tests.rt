@@ -14,7 +14,7 @@ enum Syntax {
     Folded,
     /// Text in its case.
     Exact,
-    /// A piece of text in any case, with nothing in front of it or behind it.
+    /// A piece of text in any case, with nothing in front of it or after it.
     Piece,
     Integer,
     Boolean,

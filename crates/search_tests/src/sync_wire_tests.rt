@@ -15,8 +15,8 @@ use std::process::Abort;
 use std::test::Fail;
 use sync_messages::{Mode, SyncDone, SyncRequest};
 use sync_wire::{
-    Heard, HearingFault, done_message, end_message, entry_message, gone_message, hear,
-    names_message, search_request, tag_of,
+    DecodeFault, SyncEvent, decode, delete_message, done_message, end_message, entry_message,
+    id_set_message, search_request, tag_of,
 };
 
 // What these calls answer is compared when the tests run: the proofs of the tests know nothing of it.
@@ -119,7 +119,7 @@ const PRESENT: &[u8] =
     b"0D\x02\x01\x07d\x08\x04\x04dc=x0\0\xa0503\x04\x181.3.6.1.4.1.4203.1.9.1.2\x04\x170\x15\x0a\
     \x01\0\x04\x10\xf8\x1dO\xae}\xec\x11\xd0\xa7e\0\xa0\xc9\x1ek\xf6";
 
-/// Asserts that what was found is what is wanted, or tells the row.
+/// Asserts that what was found is what is wanted, or reports the row.
 fn assert_same<T: PartialEq + Debug>(rt: &impl Abort, row: &str, found: &T, wanted: &T) {
     assert!(rt;
         *found == *wanted,
@@ -172,7 +172,7 @@ fn entry(alloc: Global) -> Result<Entry, Fail> {
     })
 }
 
-/// The cookie of this stamp.
+/// The cookie of this CSN.
 fn cookie(csn: Csn) -> Cookie
     ensures rid { result.rid < 1000 }
     ensures sid { result.sid < 4096 }
@@ -185,7 +185,7 @@ fn cookie(csn: Csn) -> Cookie
     }
 }
 
-/// The cookie of this stamp, if there is one.
+/// The cookie of this CSN, if there is one.
 fn cookie_with(csn: Option<Csn>) -> Option<Cookie>
     ensures rid { IfSome result (λ c. c.rid < 1000) }
     ensures sid { IfSome result (λ c. c.sid < 4096) }
@@ -206,13 +206,13 @@ fn entry_bytes(
 }
 
 fn gone_bytes(alloc: Global, name: &Dn, csn: Option<Csn>) -> Result<Octets, NoMemory> {
-    let message = gone_message(alloc, 7, UUID, name, cookie_with(csn))?;
+    let message = delete_message(alloc, 7, UUID, name, cookie_with(csn))?;
     let bytes = message.write(alloc);
     discard(message);
     bytes
 }
 
-/// The end of a refresh with the cookie of this stamp.
+/// The end of a refresh with the cookie of this CSN.
 fn end_bytes(alloc: Global, persists: bool, deletes: bool, csn: Csn) -> Result<Octets, NoMemory> {
     let message = end_message(alloc, 7, persists, deletes, &cookie(csn))?;
     let bytes = message.write(alloc);
@@ -221,14 +221,14 @@ fn end_bytes(alloc: Global, persists: bool, deletes: bool, csn: Csn) -> Result<O
 }
 
 fn names_bytes(alloc: Global, deletes: bool, uuids: &[u128]) -> Result<Octets, NoMemory> {
-    let message = names_message(alloc, 7, deletes, uuids)?;
+    let message = id_set_message(alloc, 7, deletes, uuids)?;
     let bytes = message.write(alloc);
     discard(message);
     bytes
 }
 
 fn busy_bytes(alloc: Global) -> Result<Octets, NoMemory> {
-    let message = done_message(alloc, 7, 51)?;
+    let message = done_message(alloc, 7, ldap_constants::BUSY)?;
     let bytes = message.write(alloc);
     discard(message);
     bytes
@@ -293,7 +293,7 @@ fn names_are_sent(rt: HostRuntime) -> Result<(), Fail> {
     Ok(())
 }
 
-/// Whether the search goes on, whether its refresh told what is deleted, and its end.
+/// Whether the search goes on, whether its refresh reported what is deleted, and its end.
 const REFRESH_ENDS: [(bool, bool, &[u8]); 4] = [
     (false, false, END),
     (false, true, DELETES_END),
@@ -382,7 +382,7 @@ const OPERATIONS: [&[u8]; 21] = [
 #[test]
 fn each_operation_has_its_tag(rt: HostRuntime) -> Result<(), Fail> {
     for bytes in &OPERATIONS {
-        // The tag stands behind the message's tag and length and the ID of three octets.
+        // The tag stands after the message's tag and length and the ID of three octets.
         assert_same(
             &rt,
             "tag",
@@ -393,7 +393,7 @@ fn each_operation_has_its_tag(rt: HostRuntime) -> Result<(), Fail> {
     Ok(())
 }
 
-// ---- what is heard, as text
+// ---- what is decoded, as text
 
 fn shown(octets: &Octets) -> &str {
     str::from_utf8(octets.as_slice()).unwrap_or("?")
@@ -425,14 +425,14 @@ fn attribute_shown(alloc: Global, attribute: &Attribute) -> Result<String, NoMem
     format!(in alloc; " {kind}={values}")
 }
 
-/// The name and the stamp.
+/// The name and the CSN.
 fn head_shown(alloc: Global, entry: &Entry) -> Result<String, NoMemory> {
     let name = entry.dn.write()?;
     let csn = entry.csn.write();
     format!(in alloc; "{} {}", shown(&name), str::from_utf8(&csn).unwrap_or("?"))
 }
 
-/// The name, the stamp and the attributes.
+/// The name, the CSN and the attributes.
 fn entry_shown(alloc: Global, entry: &Entry) -> Result<String, NoMemory> {
     let mut text = head_shown(alloc, entry)?;
     for attribute in entry.attrs.list() {
@@ -441,7 +441,7 @@ fn entry_shown(alloc: Global, entry: &Entry) -> Result<String, NoMemory> {
     Ok(text)
 }
 
-/// The text with the cookie behind it.
+/// The text with the cookie after it.
 fn with_cookie(alloc: Global, text: &str, cookie: &Option<Octets>) -> Result<String, NoMemory> {
     format!(in alloc; "{text} cookie {}", cookie_shown(cookie))
 }
@@ -492,48 +492,48 @@ fn done_shown(alloc: Global, code: i64, control: &Option<SyncDone>) -> Result<St
     }
 }
 
-fn heard_shown(alloc: Global, heard: &Heard) -> Result<String, NoMemory> {
-    match heard {
-        Heard::Put(entry, cookie) => put_shown(alloc, entry, cookie),
-        Heard::Gone(uuid, cookie) => gone_shown(alloc, *uuid, cookie),
-        Heard::Present(uuid) => format!(in alloc; "present {uuid:x}"),
-        Heard::IdSet {
+fn decoded_shown(alloc: Global, decoded: &SyncEvent) -> Result<String, NoMemory> {
+    match decoded {
+        SyncEvent::AddOrModify(entry, cookie) => put_shown(alloc, entry, cookie),
+        SyncEvent::Delete(uuid, cookie) => gone_shown(alloc, *uuid, cookie),
+        SyncEvent::Present(uuid) => format!(in alloc; "present {uuid:x}"),
+        SyncEvent::IdSet {
             deletes,
             uuids,
             cookie,
         } => set_shown(alloc, *deletes, uuids.list(), cookie),
-        Heard::NewCookie(cookie) => format!(in alloc; "new cookie {}", shown(cookie)),
-        Heard::PhaseEnds {
-            deletes,
-            done,
-            cookie,
-        } => phase_shown(alloc, *deletes, *done, cookie),
-        Heard::Done { code, control } => done_shown(alloc, *code, control),
-        Heard::Passed => format!(in alloc; "passed"),
+        SyncEvent::NewCookie(cookie) => format!(in alloc; "new cookie {}", shown(cookie)),
+        SyncEvent::RefreshDelete { done, cookie } => phase_shown(alloc, true, *done, cookie),
+        SyncEvent::RefreshPresent { done, cookie } => phase_shown(alloc, false, *done, cookie),
+        SyncEvent::Done { code, control } => done_shown(alloc, *code, control),
+        SyncEvent::Ignored => format!(in alloc; "passed"),
     }
 }
 
-fn fault_shown(alloc: Global, fault: HearingFault) -> Result<String, NoMemory> {
+fn fault_shown(alloc: Global, fault: DecodeFault) -> Result<String, NoMemory> {
     match fault {
-        HearingFault::OutOfPlace => format!(in alloc; "out of place"),
-        HearingFault::BadValue => format!(in alloc; "bad value"),
-        HearingFault::UuidDiffers(uuid, other) => format!(in alloc; "differs {uuid:x} {other:x}"),
-        HearingFault::BadEntry(code) => format!(in alloc; "bad entry {code}"),
-        HearingFault::NoMemory => format!(in alloc; "no memory"),
+        DecodeFault::OutOfPlace => format!(in alloc; "out of place"),
+        DecodeFault::BadValue => format!(in alloc; "bad value"),
+        DecodeFault::UuidDiffers(uuid, other) => format!(in alloc; "differs {uuid:x} {other:x}"),
+        DecodeFault::BadEntry(code) => format!(in alloc; "bad entry {code}"),
+        DecodeFault::NoMemory => format!(in alloc; "no memory"),
     }
 }
 
-/// What is heard, or the first that is against it.
-fn outcome_shown(alloc: Global, outcome: &Result<Heard, HearingFault>) -> Result<String, NoMemory> {
+/// What is decoded, or the first that rejects it.
+fn outcome_shown(
+    alloc: Global,
+    outcome: &Result<SyncEvent, DecodeFault>,
+) -> Result<String, NoMemory> {
     match outcome {
-        Ok(heard) => heard_shown(alloc, heard),
+        Ok(decoded) => decoded_shown(alloc, decoded),
         Err(fault) => fault_shown(alloc, *fault),
     }
 }
 
 /// What the message says in this part of a search.
 fn said_by(alloc: Global, message: &Message, persisting: bool) -> Result<String, NoMemory> {
-    let outcome = hear(alloc, message, persisting);
+    let outcome = decode(alloc, message, persisting);
     let text = outcome_shown(alloc, &outcome);
     discard(outcome);
     text
@@ -547,7 +547,7 @@ fn said(alloc: Global, bytes: &[u8], persisting: bool) -> Result<String, Fail> {
     Ok(text?)
 }
 
-/// The bytes of a message, and what is heard of it.
+/// The bytes of a message, and what is decoded of it.
 type Row = (&'static [u8], &'static str);
 
 fn assert_said(
@@ -562,8 +562,8 @@ fn assert_said(
     Ok(())
 }
 
-/// What is heard of each message in this part of a search.
-fn assert_heard(
+/// What is decoded of each message in this part of a search.
+fn assert_decoded(
     rt: &impl Abort,
     alloc: Global,
     rows: &[Row],
@@ -575,7 +575,7 @@ fn assert_heard(
     Ok(())
 }
 
-/// Entries, and what is heard of them.
+/// Entries, and what is decoded of them.
 const ENTRIES: [Row; 3] = [
     // An entry that was added.
     (
@@ -610,9 +610,9 @@ const ENTRIES: [Row; 3] = [
 ];
 
 #[test]
-fn entries_are_heard(rt: HostRuntime) -> Result<(), Fail> {
-    assert_heard(&rt, rt.alloc(), &ENTRIES, false)?;
-    assert_heard(&rt, rt.alloc(), &ENTRIES, true)
+fn entries_are_decoded(rt: HostRuntime) -> Result<(), Fail> {
+    assert_decoded(&rt, rt.alloc(), &ENTRIES, false)?;
+    assert_decoded(&rt, rt.alloc(), &ENTRIES, true)
 }
 
 #[test]
@@ -622,7 +622,7 @@ fn only_a_refresh_names_what_is_present(rt: HostRuntime) -> Result<(), Fail> {
     assert_said(&rt, rt.alloc(), PRESENT, true, "out of place")
 }
 
-/// Sync Info messages, and what is heard of them.
+/// Sync Info messages, and what is decoded of them.
 const INFORMATION: [Row; 5] = [
     // Deleted ones.
     (
@@ -657,12 +657,12 @@ const INFORMATION: [Row; 5] = [
 ];
 
 #[test]
-fn sync_info_messages_are_heard(rt: HostRuntime) -> Result<(), Fail> {
-    assert_heard(&rt, rt.alloc(), &INFORMATION, false)?;
-    assert_heard(&rt, rt.alloc(), &INFORMATION, true)
+fn sync_info_messages_are_decoded(rt: HostRuntime) -> Result<(), Fail> {
+    assert_decoded(&rt, rt.alloc(), &INFORMATION, false)?;
+    assert_decoded(&rt, rt.alloc(), &INFORMATION, true)
 }
 
-/// Ends and other messages, and what is heard of them.
+/// Ends and other messages, and what is decoded of them.
 const ENDS: [Row; 4] = [
     // The end with a Sync Done control.
     (
@@ -682,9 +682,9 @@ const ENDS: [Row; 4] = [
 ];
 
 #[test]
-fn ends_and_other_messages_are_heard(rt: HostRuntime) -> Result<(), Fail> {
-    assert_heard(&rt, rt.alloc(), &ENDS, false)?;
-    assert_heard(&rt, rt.alloc(), &ENDS, true)
+fn ends_and_other_messages_are_decoded(rt: HostRuntime) -> Result<(), Fail> {
+    assert_decoded(&rt, rt.alloc(), &ENDS, false)?;
+    assert_decoded(&rt, rt.alloc(), &ENDS, true)
 }
 
 /// What does not belong into a refresh, or is not as it has to be.
@@ -736,7 +736,7 @@ const MISPLACED: [Row; 6] = [
 
 #[test]
 fn what_does_not_belong_is_refused(rt: HostRuntime) -> Result<(), Fail> {
-    assert_heard(&rt, rt.alloc(), &MISPLACED, false)
+    assert_decoded(&rt, rt.alloc(), &MISPLACED, false)
 }
 
 /// Entries that cannot be held.
@@ -802,5 +802,5 @@ const UNHELD: [Row; 6] = [
 
 #[test]
 fn entries_that_cannot_be_held_are_refused(rt: HostRuntime) -> Result<(), Fail> {
-    assert_heard(&rt, rt.alloc(), &UNHELD, true)
+    assert_decoded(&rt, rt.alloc(), &UNHELD, true)
 }

@@ -5,15 +5,17 @@ use Rattle.std.proofs.lemmas.Bool.{le-ltb}
 use Rattle.std.proofs.lemmas.List.{take-append-drop}
 use Rattle.session_log.specs.declared.note.Note.{Note}
 use Rattle.session_log.specs.Log.{Log, greatest, limited, noted, trimmed, fresh, last_of, before_last, since, joined, uuids_after}
-use Rattle.session_log.specs.Calls.{Call, after_calls, notes_of, IsLogOf}
-use Rattle.session_log.specs.Calls.Call.{Noted, Trimmed}
+use Rattle.session_log.specs.Calls.{LogCall, after_calls, notes_of, IsLogOf}
+use Rattle.session_log.specs.Calls.LogCall.{Noted, Trimmed}
 use Rattle.session_log.proofs.Searches.{uuids_after-append}
 
-greatest-append : (xs ys : List Note) (floor : ℕ) → greatest floor (xs ++ ys) ≡ greatest (greatest floor xs) ys
+-- the greatest number of notes in two parts
+pub greatest-append : (xs ys : List Note) (floor : ℕ) → greatest floor (xs ++ ys) ≡ greatest (greatest floor xs) ys
 greatest-append [] ys floor = refl
 greatest-append (x ∷ xs) ys floor = greatest-append xs ys (max floor x.number)
 
-le-greatest : (xs : List Note) (floor : ℕ) → floor ≤ greatest floor xs
+-- the floor is not above it
+pub le-greatest : (xs : List Note) (floor : ℕ) → floor ≤ greatest floor xs
 le-greatest [] floor = omega arith
 le-greatest (x ∷ xs) floor = omega (arith, le-greatest xs (max floor x.number))
 
@@ -51,7 +53,7 @@ IsLogOf-noted all log number uuid h =
 pub IsLogOf-trimmed : (all : List Note) (log : Log) (limit : ℕ) → IsLogOf all log → IsLogOf all (trimmed limit log)
 IsLogOf-trimmed all log limit h = IsLogOf-limited all h.dropped log.notes limit log.floor h.split h.floor
 
-pub IsLogOf-calls : (calls : List Call) (all : List Note) (log : Log) → IsLogOf all log
+pub IsLogOf-calls : (calls : List LogCall) (all : List Note) (log : Log) → IsLogOf all log
     → IsLogOf (all ++ notes_of calls) (after_calls log calls)
 IsLogOf-calls [] all log h = record { dropped = h.dropped; split = h.split ∙ sym (append-nil all); floor = h.floor }
 IsLogOf-calls (Noted number uuid ∷ calls) all log h =

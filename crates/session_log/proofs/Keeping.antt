@@ -1,5 +1,5 @@
--- The last notes of a list, dropped one by one from the front.
-use Rattle.std.proofs.Common.{◌≡◌, ap, sym, ◌∙◌, refl, ℕ, suc, ◌-◌, ◌<◌, ◌≤◌, List, [], ◌∷◌, ◌++◌, length, take, drop, arith}
+-- The last notes of a list, dropped one by one from the prefix.
+use Rattle.std.proofs.Common.{◌≡◌, ap, ℕ, suc, ◌-◌, ◌<◌, List, ◌∷◌, length, take, drop, arith}
 use Rattle.std.specs.Prelude.{max}
 use Rattle.session_log.specs.declared.note.Note.{Note}
 use Rattle.session_log.specs.Log.{last_of, before_last, greatest}
@@ -16,14 +16,3 @@ pub greatest-drop : (limit floor : ℕ) (note : Note) (notes : List Note) → li
     → greatest floor (before_last limit (note ∷ notes)) ≡ greatest (max floor note.number) (before_last limit notes)
 greatest-drop limit floor note notes long =
     ap (λ k. greatest floor (take k (note ∷ notes))) (one_less limit note notes long)
-
-none_over : (limit : ℕ) (notes : List Note) → length notes ≤ limit → length notes - limit ≡ 0
-none_over limit notes short = omega arith
-
--- nothing is dropped of a list that is short enough
-pub last_of-short : (limit : ℕ) (notes : List Note) → length notes ≤ limit → last_of limit notes ≡ notes
-last_of-short limit notes short = ap (λ k. drop k notes) (none_over limit notes short)
-
-pub greatest-short : (limit floor : ℕ) (notes : List Note) → length notes ≤ limit
-    → greatest floor (before_last limit notes) ≡ floor
-greatest-short limit floor notes short = ap (λ k. greatest floor (take k notes)) (none_over limit notes short)

@@ -18,7 +18,7 @@ pub record LogWithRoom : Type 0 where
 
 -- ---- what is kept
 
--- the last so many notes
+-- the last n notes
 abbrev pub last_of : ℕ → List Note → List Note
 last_of limit notes = drop (length notes - limit) notes
 
@@ -33,25 +33,32 @@ greatest floor (note ∷ notes) = greatest (max floor note.number) notes
 
 -- a log of these notes, where those before the last ones are dropped
 abbrev pub limited : ℕ → List Note → ℕ → Log
-limited limit notes floor = record { notes = last_of limit notes; limit = limit; floor = greatest floor (before_last limit notes) }
+limited limit notes floor =
+    record {
+      notes = last_of limit notes;
+      limit = limit;
+      floor = greatest floor (before_last limit notes);
+    }
 
 abbrev pub fresh : ℕ → Log
 fresh limit = record { notes = []; limit = limit; floor = 0 }
 
 abbrev pub noted : ℕ → ℕ → Log → Log
-noted number uuid log = limited log.limit (log.notes ++ (record { number = number; uuid = uuid }) ∷ []) log.floor
+noted number uuid log =
+    limited log.limit (log.notes ++ (record { number = number; uuid = uuid }) ∷ []) log.floor
 
 abbrev pub trimmed : ℕ → Log → Log
 trimmed limit log = limited limit log.notes log.floor
 
--- ---- what is told
+-- ---- what is reported
 
 abbrev pub covers : ℕ → Log → Bool
 covers number log = nat_le log.floor number
 
 -- the identities that were noted after write `number`, in the order of the notes
 abbrev pub uuids_after : ℕ → List Note → List ℕ
-uuids_after number notes = map (λ note. note.uuid) (filter (λ note. nat_lt number note.number) notes)
+uuids_after number notes =
+    map (λ note. note.uuid) (filter (λ note. nat_lt number note.number) notes)
 
 -- the numbers of both lists, ascending, each once, where the first list is so
 abbrev pub joined : List ℕ → List ℕ → List ℕ

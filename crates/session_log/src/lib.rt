@@ -1,4 +1,4 @@
-//! A bounded log of which entries were touched by which write, by which a server tells what was
+//! A bounded log of which entries were touched by which write, by which a server reports what was
 //! deleted since a client's cookie (RFC 4533, section 3.3.2).
 #![tactic(auto)]
 

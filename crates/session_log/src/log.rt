@@ -11,7 +11,7 @@ use std::alloc::{AllocError, Global};
 use std::collections::{BTreeSet, VecDeque};
 use std::marker::Model;
 
-/// Want of memory, as an error by itself.
+/// Out of memory, as an error by itself.
 pub type NoMemory = AllocError;
 
 /// Which entries were touched by the latest writes. It keeps the last notes up to a limit, and the
@@ -38,7 +38,7 @@ impl Model for SessionLog {
 }
 
 impl SessionLog {
-    /// An empty log that keeps so many notes.
+    /// An empty log that keeps n notes.
     pub fn new(alloc: Global, limit: u64) -> SessionLog
         ensures { result.log ≡ spec.fresh limit }
     {
@@ -64,7 +64,7 @@ impl SessionLog {
         })
     }
 
-    /// Makes room for so many notes beyond those that are kept.
+    /// Makes room for n notes beyond those that are kept.
     pub fn reserve(&mut self, extra: usize) -> Result<(), NoMemory>
         ensures log { self.new.log ≡ self.old.log }
         ensures room { OnOk result (extra ≤ self.new.spare) }
@@ -98,13 +98,13 @@ impl SessionLog {
     {
         let alloc = *self.notes.allocator();
         let mut uuids = BTreeSet::new(alloc);
-        let (front, back) = self.notes.as_slices();
-        insert_after(&mut uuids, front, number)?;
+        let (prefix, back) = self.notes.as_slices();
+        insert_after(&mut uuids, prefix, number)?;
         insert_after(&mut uuids, back, number)?;
         uuids.iter().copied().collect(alloc)
     }
 
-    /// Keeps so many notes from now on. It takes no memory.
+    /// Keeps n notes from now on. It takes no memory.
     pub fn trim(&mut self, limit: u64)
         ensures log { self.new.log ≡ spec.trimmed limit self.old.log }
         ensures spare { self.old.spare ≤ self.new.spare }

@@ -15,6 +15,7 @@ use Rattle.entry_tree.proofs.Passing.{list_all-filter}
 use Rattle.sync_model.specs.Copy.Fault.{StageFull, DuplicateName}
 use Rattle.sync_model.specs.Copy.{Fault, Stage, effected, puts_of}
 use Rattle.sync_model.specs.Within.{against}
+use Rattle.sync_model.proofs.Limits.{option_or-none, option_map-none}
 use Rattle.sync_model.proofs.Taking.{ascends-effected}
 use Rattle.sync_consumer.specs.Names.{is_own, noted_at, AreClear}
 
@@ -83,14 +84,12 @@ all_clear : (es : List Entry) → ascends es ≡ true → same_named es ≡ None
 all_clear [] up none = refl
 all_clear (e ∷ es) up none =
     let u = and_parts (above e.uuid es) (ascends es) up in
-    let n = both (entry_named es e.dn) (same_named es) none in
+    let pair : Entry → ℕ × ℕ = λ other. (e.uuid, other.uuid) in
+    let n = option_or-none (option_map pair (entry_named es e.dn)) (same_named es) none in
     and_from (clear_of e (e ∷ es)) (each_clear es (e ∷ es))
-    (and_from (not (clashes e e)) (clear_of e es) (ap (λ b. not (b && is_named e.dn e)) (le-ltb e.uuid e.uuid (omega arith))) (clear_named e es n.0))
+    (and_from (not (clashes e e)) (clear_of e es) (ap (λ b. not (b && is_named e.dn e)) (le-ltb e.uuid e.uuid (omega arith)))
+    (clear_named e es (option_map-none pair (entry_named es e.dn) n.0)))
     (more_clear e es es u.0 (all_clear es u.1 n.1))
-  where
-    both : (one : Option Entry) (rest : Option (ℕ × ℕ)) → option_or (option_map (λ (other : Entry). (e.uuid, other.uuid)) one) rest ≡ None → (one ≡ None) × (rest ≡ None)
-    both None rest h = (refl, h)
-    both (Some other) rest h = absurd (cc)
 
 -- ---- what holds of the entries before and of those that are put holds of all that a stage leaves
 
@@ -182,7 +181,7 @@ module _ (note : Entry → Option ℕ) (one : (e x : Entry) → is_named e.dn x 
         none_same (effected held stage) after_up
         (after_clear (effected held stage) all (all_effected known stage held (held_known held before) (puts_known (puts_of stage) noted)))
 
--- ---- what is against entries
+-- ---- what rejects entries
 
 abbrev by_name : Option (ℕ × ℕ) → Option Fault
 by_name pair = option_map (λ (p : ℕ × ℕ). DuplicateName p.0 p.1) pair
@@ -194,6 +193,7 @@ none_against es none = by (is_crowded es) (same_named es) none where
   by false None h = refl
   by false (Some pair) h = absurd (cc)
 
+-- where names are clear of each other, a stage leaves no two entries with one name
 pub apart : (held : List Entry) (stage : Stage) → ascends held ≡ true → against held ≡ None → AreClear (puts_of stage) (effected held stage) → against (effected held stage) ≡ None
 apart held stage up none clear =
     ap (λ b. cond b (Some StageFull) (by_name (same_named (effected held stage)))) clear.within

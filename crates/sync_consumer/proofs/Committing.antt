@@ -15,6 +15,7 @@ use Rattle.entry_tree.specs.State.{ascends, entry_at}
 use Rattle.entry_tree.proofs.Committing.{ascends_committed, entry_at_committed}
 use Rattle.entry_tree.proofs.Rising.{among}
 use Rattle.sync_model.specs.Copy.{Stage, slot, staged, effected, puts_of, drops_of}
+use Rattle.sync_model.proofs.Limits.{option_or-none}
 use Rattle.sync_model.proofs.Order.{same_entries}
 use Rattle.sync_model.proofs.Taking.{IsOwn, IsKeyed, ascends-effected, at-effected}
 use Rattle.sync_consumer.specs.Committing.{is_of}
@@ -27,6 +28,7 @@ use Rattle.sync_consumer.proofs.Rising.{head_below, tail_rises}
 abbrev pub each_own : Stage → Bool
 each_own stage = list_all (λ (change : ℕ × Option Entry). is_of change.0 change.1) stage
 
+-- a stage whose changes are each of their own identity is so with one more
 pub own-staged : (stage : Stage) (uuid : ℕ) (change : Option Entry) → is_of uuid change ≡ true → each_own stage ≡ true → each_own (staged uuid change stage) ≡ true
 own-staged [] uuid change own all = and_from (is_of uuid change) true own refl
 own-staged (s ∷ stage) uuid change own all =
@@ -58,10 +60,6 @@ left_at stage u was = option_or (entry_at (reverse (puts_of stage)) u) (cond (am
 at_last : (e : Entry) (puts : List Entry) (u : ℕ) → entry_at (reverse (e ∷ puts)) u ≡ option_or (entry_at (reverse puts) u) (cond (nat_eq e.uuid u) (Some e) None)
 at_last e puts u = ap (λ xs. entry_at xs u) (reverse-append (e ∷ []) puts) ∙ find-append (λ x. nat_eq x.uuid u) (reverse puts) (e ∷ [])
 
-first_none : (one other : Option Entry) → option_or one other ≡ None → one ≡ None
-first_none None other h = refl
-first_none (Some e) other h = let never : ⊥ = cc in absurd never
-
 or_none : (found : Option Entry) → option_or found None ≡ found
 or_none None = refl
 or_none (Some e) = refl
@@ -81,8 +79,8 @@ slot_left (s ∷ stage) u was ordered keyed =
     -- nothing further is at an identity below all those that follow
     nothing : nat_eq u s.0 ≡ true → left_at stage u None ≡ unwrap_or (slot stage u) None → entry_at (reverse puts) u ≡ None
     nothing here is =
-        first_none (entry_at (reverse puts) u) (cond (among u drops) None None)
-        (is ∙ ap (λ found. unwrap_or found None) (ap (slot stage) (eqb-true u s.0 here) ∙ lookup_below stage s.0 (head_below s.0 (keys_of stage) ordered)))
+        (option_or-none (entry_at (reverse puts) u) (cond (among u drops) None None)
+        (is ∙ ap (λ found. unwrap_or found None) (ap (slot stage) (eqb-true u s.0 here) ∙ lookup_below stage s.0 (head_below s.0 (keys_of stage) ordered)))).0
 
     step : (change : Option Entry) (here : Bool) → nat_eq u s.0 ≡ here → IsOwn s.0 change → left_at stage u was ≡ unwrap_or (slot stage u) was → left_at stage u None ≡ unwrap_or (slot stage u) None
         → option_or (entry_at (reverse (cons_option change puts)) u) (cond (among u (cons_option (cond (is_none change) (Some s.0) None) drops)) None was)
@@ -100,9 +98,13 @@ slot_left (s ∷ stage) u was ordered keyed =
 
 -- ---- and as a whole
 
-pub stage_commits : (held : List Entry) (stage : Stage) → rises (keys_of stage) ≡ true → each_own stage ≡ true → ascends held ≡ true
+pub keyed_commits : (held : List Entry) (stage : Stage) → rises (keys_of stage) ≡ true → IsKeyed stage → ascends held ≡ true
     → committed held (puts_of stage) (drops_of stage) ≡ effected held stage
-stage_commits held stage ordered all up =
-    let own : IsKeyed stage = keyed stage all in
+keyed_commits held stage ordered own up =
     same_entries (committed held (puts_of stage) (drops_of stage)) (effected held stage) (ascends_committed held (puts_of stage) (drops_of stage) up) (ascends-effected stage held up)
     (λ u. entry_at_committed held (puts_of stage) (drops_of stage) u up ∙ slot_left stage u (entry_at held u) ordered own ∙ sym (at-effected stage held u up own))
+
+-- committing what a stage puts and drops is its effect
+pub stage_commits : (held : List Entry) (stage : Stage) → rises (keys_of stage) ≡ true → each_own stage ≡ true → ascends held ≡ true
+    → committed held (puts_of stage) (drops_of stage) ≡ effected held stage
+stage_commits held stage ordered all up = keyed_commits held stage ordered (keyed stage all) up

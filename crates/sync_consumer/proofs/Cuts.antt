@@ -15,7 +15,7 @@ gap_above : (es : List Entry) (u : ℕ) → IsGapFor (identities es) u zero → 
 gap_above [] u gap = refl
 gap_above (x ∷ es) u gap =
     and_from (nat_lt u x.uuid) (above u es) (lt-ltb u x.uuid (gap_first x.uuid (identities es) u gap))
-    (gap_above es u (record { within = omega arith; before = λ k less. absurd (omega arith); behind = λ k from less. gap.behind (suc k) (omega arith) (omega arith) }))
+    (gap_above es u (record { within = omega arith; before = λ k less. absurd (omega arith); beyond = λ k from less. gap.beyond (suc k) (omega arith) (omega arith) }))
 
 module _ (u : ℕ) where
   lower_in : (x : Entry) (es : List Entry) → x.uuid < u → lower u (x ∷ es) ≡ x ∷ lower u es
@@ -27,6 +27,7 @@ module _ (u : ℕ) where
   higher_out : (x : Entry) (es : List Entry) → x.uuid ≤ u → higher u (x ∷ es) ≡ higher u es
   higher_out x es le = ap (λ b. cond b (x ∷ higher u es) (higher u es)) (le-ltb u x.uuid le)
 
+  -- the entries before the gap for an identity are those below it
   pub lower_gap : (es : List Entry) (place : ℕ) → IsGapFor (identities es) u place → take place es ≡ lower u es
   lower_gap [] zero gap = refl
   lower_gap [] (suc place) gap = absurd (no_gap u place gap)
@@ -34,6 +35,7 @@ module _ (u : ℕ) where
   lower_gap (x ∷ es) (suc place) gap =
       ap (λ xs. x ∷ xs) (lower_gap es place (gap_tail x.uuid (identities es) u place gap)) ∙ sym (lower_in x es (gap_head x.uuid (identities es) u place gap))
 
+  -- the entries from the gap for an identity on are those above it
   pub higher_gap : (es : List Entry) (place : ℕ) → IsGapFor (identities es) u place → drop place es ≡ higher u es
   higher_gap [] zero gap = refl
   higher_gap [] (suc place) gap = absurd (no_gap u place gap)
@@ -48,6 +50,7 @@ module _ (u : ℕ) where
   rest_ascends : (x : Entry) (es : List Entry) → ascends (x ∷ es) ≡ true → ascends es ≡ true
   rest_ascends x es asc = (and_parts (above x.uuid es) (ascends es) asc).1
 
+  -- the entries before that of an identity are those below it
   pub lower_at : (es : List Entry) (place : ℕ) → ascends es ≡ true → IsAt (identities es) u place → take place es ≡ lower u es
   lower_at [] place asc at = absurd (not_at u place at)
   lower_at (x ∷ es) zero asc at =
@@ -57,6 +60,7 @@ module _ (u : ℕ) where
       ap (λ xs. x ∷ xs) (lower_at es place (rest_ascends x es asc) (at_tail x.uuid (identities es) u place at))
       ∙ sym (lower_in x es (at_head x.uuid (identities es) u place (rises-identities (x ∷ es) ∙ asc) at))
 
+  -- the entries after that of an identity are those above it
   pub higher_at : (es : List Entry) (place : ℕ) → ascends es ≡ true → IsAt (identities es) u place → drop (suc place) es ≡ higher u es
   higher_at [] place asc at = absurd (not_at u place at)
   higher_at (x ∷ es) zero asc at =
@@ -68,6 +72,7 @@ module _ (u : ℕ) where
 
   -- ---- the entry at the place
 
+  -- the entry at the place of an identity is that of the identity
   pub entry_found : (es : List Entry) (place : ℕ) (d : Entry) → ascends es ≡ true → IsAt (identities es) u place → entry_at es u ≡ Some (get_or es place d)
   entry_found [] place d asc at = absurd (not_at u place at)
   entry_found (x ∷ es) zero d asc at = ap (λ b. cond b (Some x) (entry_at es u)) (eq-eqb x.uuid u at.has)
@@ -76,6 +81,7 @@ module _ (u : ℕ) where
       ap (λ b. cond b (Some x) (entry_at es u)) (ne_eqb x.uuid u (λ same. omega (arith, less, same)))
       ∙ entry_found es place d (rest_ascends x es asc) (at_tail x.uuid (identities es) u place at)
 
+  -- where there is a gap for an identity it has no entry
   pub entry_missed : (es : List Entry) (place : ℕ) → IsGapFor (identities es) u place → entry_at es u ≡ None
   entry_missed es zero gap = none_at es u (gap_above es u gap)
   entry_missed [] (suc place) gap = refl

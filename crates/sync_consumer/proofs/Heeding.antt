@@ -3,68 +3,49 @@ use Rattle.std.proofs.Common.{◌≡◌, Some, None, Result, Ok, Err, subst}
 use Rattle.std.proofs.lemmas.Bool.{eq-eqb}
 use Rattle.ldap_messages.specs.declared.message.Message.{Message}
 use Rattle.sync_model.specs.Message.{SyncMessage}
-use Rattle.sync_model.specs.Message.SyncMessage.{Put, Gone, Present, IdSet, NewCookie, PhaseEnds, Done, Passed}
-use Rattle.sync_wire.specs.Hearing.{said, heard_of}
-use Rattle.sync_wire.specs.Refusals.{Fails, on_ok}
-use Rattle.sync_wire.specs.declared.fault.HearingFault.{HearingFault}
-use Rattle.sync_wire.specs.declared.fault.HearingFault.TheVariants.{OutOfPlace, BadValue, UuidDiffers, BadEntry, NoMemory}
-use Rattle.sync_wire.specs.declared.hearing.Heard.{Heard}
+use Rattle.sync_model.specs.Message.SyncMessage.{AddOrModify, Delete, Present, IdSet, NewCookie, RefreshDelete, RefreshPresent, Done, Ignored}
+use Rattle.sync_wire.specs.Decoding.{said, decoded_of}
+use Rattle.sync_wire.specs.Refusals.{on_ok}
+use Rattle.sync_wire.specs.declared.fault.DecodeFault.{DecodeFault}
+use Rattle.sync_wire.specs.declared.fault.DecodeFault.TheVariants.{OutOfPlace, NoMemory}
+use Rattle.sync_wire.specs.declared.decoding.SyncEvent.{SyncEvent}
 use Rattle.sync_consumer.specs.declared.fault.Refusal.{Refusal}
 use Rattle.sync_consumer.specs.declared.fault.Refusal.TheVariants as refusal
 use Rattle.sync_consumer.specs.declared.held.Held.{Held}
-use Rattle.sync_consumer.specs.declared.running.Running.{Running}
-use Rattle.sync_consumer.specs.declared.running.Step.{Step}
-use Rattle.sync_consumer.specs.Running.{message_of, StepsBy, heard_by_search, taken_by_search}
-use Rattle.sync_consumer.specs.Taking.{refusal_of}
+use Rattle.sync_consumer.specs.declared.session.SyncSession.{SyncSession}
+use Rattle.sync_consumer.specs.declared.session.Step.{Step}
+use Rattle.sync_consumer.specs.SyncSession.{message_of, StepsBy, decoded_by_search, taken_by_search}
 
 -- a step by what counts of a message is one by the message
-counts : (message : SyncMessage) (held : Held) (running : Running) (held' : Held) (running' : Running) (result : Result Step Refusal)
-    → StepsBy held running held' running' result (message_of (heard_of message)) → StepsBy held running held' running' result message
-counts (Put adds entry cookie) held running held' running' result step = step
-counts (Gone uuid name cookie) held running held' running' result step = step
-counts (Present uuid cookie) held running held' running' result step = step
-counts (IdSet deletes uuids cookie) held running held' running' result step = step
-counts (NewCookie cookie) held running held' running' result step = step
-counts (PhaseEnds deletes done cookie) held running held' running' result step = step
-counts (Done code None) held running held' running' result step = step
-counts (Done code (Some control)) held running held' running' result step = step
-counts Passed held running held' running' result step = step
+counts : (message : SyncMessage) (held : Held) (session : SyncSession) (held' : Held) (session' : SyncSession) (result : Result Step Refusal)
+    → StepsBy held session held' session' result (message_of (decoded_of message)) → StepsBy held session held' session' result message
+counts (AddOrModify adds entry cookie) held session held' session' result step = step
+counts (Delete uuid name cookie) held session held' session' result step = step
+counts (Present uuid cookie) held session held' session' result step = step
+counts (IdSet deletes uuids cookie) held session held' session' result step = step
+counts (NewCookie cookie) held session held' session' result step = step
+counts (RefreshDelete done cookie) held session held' session' result step = step
+counts (RefreshPresent done cookie) held session held' session' result step = step
+counts (Done code None) held session held' session' result step = step
+counts (Done code (Some control)) held session held' session' result step = step
+counts Ignored held session held' session' result step = step
 
-heeds : (what : Result SyncMessage HearingFault) (heard : Heard) (held : Held) (running : Running) (held' : Held) (running' : Running) (result : Result Step Refusal)
-    → on_ok heard_of what ≡ Ok heard → StepsBy held running held' running' result (message_of heard)
-    → heard_by_search held running held' running' result what
-heeds (Ok message) heard held running held' running' result is step =
-    let same : heard ≡ heard_of message = cc in
-    counts message held running held' running' result (subst (λ (h : Heard). StepsBy held running held' running' result (message_of h)) same step)
-heeds (Err found) heard held running held' running' result is step = let wrong : ⊥ = cc in absurd wrong
+heeds : (what : Result SyncMessage DecodeFault) (decoded : SyncEvent) (held : Held) (session : SyncSession) (held' : Held) (session' : SyncSession) (result : Result Step Refusal)
+    → on_ok decoded_of what ≡ Ok decoded → StepsBy held session held' session' result (message_of decoded)
+    → decoded_by_search held session held' session' result what
+heeds (Ok message) decoded held session held' session' result is step =
+    let same : decoded ≡ decoded_of message = cc in
+    counts message held session held' session' result (subst (λ (h : SyncEvent). StepsBy held session held' session' result (message_of h)) same step)
+heeds (Err found) decoded held session held' session' result is step = let wrong : ⊥ = cc in absurd wrong
 
-fails : (what : Result SyncMessage HearingFault) (found : HearingFault) (held : Held) (running : Running) (held' : Held) (running' : Running)
-    → on_ok heard_of what ≡ Err found → held' ≡ held → heard_by_search held running held' running' (Err (refusal_of found)) what
-fails (Ok message) found held running held' running' is same = let wrong : ⊥ = cc in absurd wrong
-fails (Err other) found held running held' running' is same = (same, let one : found ≡ other = cc in cc)
-
--- by what was heard of a message of the search
-pub heard_step : (result : Result Step Refusal) (heard : Heard) (held : Held) (running : Running) (held' : Held) (running' : Running) (message : Message)
-    → message.id ≡ running.id → on_ok heard_of (said running.persisting message) ≡ Ok heard
-    → StepsBy held running held' running' result (message_of heard) → taken_by_search held running held' running' result message
-heard_step (Err refusal.NoMemory) heard held running held' running' message own is step = step
-heard_step (Err refusal.OutOfPlace) heard held running held' running' message own is step =
-    rw (eq-eqb message.id running.id own) (heeds (said running.persisting message) heard held running held' running' (Err refusal.OutOfPlace) is step)
-heard_step (Err (refusal.Fault told)) heard held running held' running' message own is step =
-    rw (eq-eqb message.id running.id own) (heeds (said running.persisting message) heard held running held' running' (Err (refusal.Fault told)) is step)
-heard_step (Ok done) heard held running held' running' message own is step =
-    rw (eq-eqb message.id running.id own) (heeds (said running.persisting message) heard held running held' running' (Ok done) is step)
-
--- where it says nothing
-pub heard_fault : (found : HearingFault) (held : Held) (running : Running) (held' : Held) (running' : Running) (message : Message)
-    → message.id ≡ running.id → Fails found (on_ok heard_of (said running.persisting message)) → held' ≡ held → running' ≡ running
-    → taken_by_search held running held' running' (Err (refusal_of found)) message
-heard_fault NoMemory held running held' running' message own fault same same' = (same, same')
-heard_fault OutOfPlace held running held' running' message own fault same same' =
-    rw (eq-eqb message.id running.id own) (fails (said running.persisting message) OutOfPlace held running held' running' fault same)
-heard_fault BadValue held running held' running' message own fault same same' =
-    rw (eq-eqb message.id running.id own) (fails (said running.persisting message) BadValue held running held' running' fault same)
-heard_fault (UuidDiffers uuid other) held running held' running' message own fault same same' =
-    rw (eq-eqb message.id running.id own) (fails (said running.persisting message) (UuidDiffers uuid other) held running held' running' fault same)
-heard_fault (BadEntry code) held running held' running' message own fault same same' =
-    rw (eq-eqb message.id running.id own) (fails (said running.persisting message) (BadEntry code) held running held' running' fault same)
+-- by what was decoded of a message of the search
+pub decoded_step : (result : Result Step Refusal) (decoded : SyncEvent) (held : Held) (session : SyncSession) (held' : Held) (session' : SyncSession) (message : Message)
+    → message.id ≡ session.id → on_ok decoded_of (said session.persisting message) ≡ Ok decoded
+    → StepsBy held session held' session' result (message_of decoded) → taken_by_search held session held' session' result message
+decoded_step (Err refusal.NoMemory) decoded held session held' session' message own is step = step
+decoded_step (Err refusal.OutOfPlace) decoded held session held' session' message own is step =
+    rw (eq-eqb message.id session.id own) (heeds (said session.persisting message) decoded held session held' session' (Err refusal.OutOfPlace) is step)
+decoded_step (Err (refusal.Fault answer_taken)) decoded held session held' session' message own is step =
+    rw (eq-eqb message.id session.id own) (heeds (said session.persisting message) decoded held session held' session' (Err (refusal.Fault answer_taken)) is step)
+decoded_step (Ok done) decoded held session held' session' message own is step =
+    rw (eq-eqb message.id session.id own) (heeds (said session.persisting message) decoded held session held' session' (Ok done) is step)

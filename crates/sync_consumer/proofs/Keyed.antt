@@ -12,7 +12,8 @@ use Rattle.std.proofs.lemmas.Bool.{and_parts, eq-eqb, ne_eqb, ltb-true, cases_or
 use Rattle.std.proofs.lemmas.Bool.Decides.{nat_tests}
 use Rattle.std.proofs.lemmas.List.Sums.{sum_by-cons}
 use Rattle.sync_consumer.specs.Staging.{rises, IsAt, IsGapFor}
-use Rattle.sync_consumer.proofs.Rising.{below_all, tail_rises, head_below, gap_tail, gap_head, gap_first, no_gap, at_tail, at_head, not_at, below_lower, rises-insert}
+use Rattle.sync_consumer.proofs.Rising.{below_all, tail_rises, head_below, gap_tail, gap_head, gap_first, no_gap, at_tail, at_head, not_at, rises-insert}
+use Rattle.entry_tree.proofs.Rising.{below_lower}
 
 off : (u n : ℕ) → n < u → nat_eq u n ≡ false
 off u n less = ne_eqb u n (λ same. omega (arith, less, same))
@@ -23,6 +24,7 @@ before u n less = ne_eqb u n (λ same. omega (arith, less, same))
 module _ {X : Type 0} where
   -- ---- what is at a key
 
+  -- the value at the place of a key is that of the key
   pub lookup_at : (es : List (ℕ × X)) (u place : ℕ) (d : ℕ × X) → rises (keys_of es) ≡ true → IsAt (keys_of es) u place → lookup (nat_eq u) es ≡ Some (get_or es place d).1
   lookup_at [] u place d up at = absurd (not_at u place at)
   lookup_at (e ∷ es) u zero d up at = ap (λ b. cond b (Some e.1) (lookup (nat_eq u) es)) (eq-eqb u e.0 (sym at.has))
@@ -40,8 +42,9 @@ module _ {X : Type 0} where
   gap_below : (es : List (ℕ × X)) (u : ℕ) → IsGapFor (keys_of es) u zero → below_all u (keys_of es) ≡ true
   gap_below [] u gap = refl
   gap_below (e ∷ es) u gap =
-      grind (arith, nat_tests, gap_first e.0 (keys_of es) u gap, gap_below es u (record { within = omega arith; before = λ k less. absurd (omega arith); behind = λ k from less. gap.behind (suc k) (omega arith) (omega arith) }))
+      grind (arith, nat_tests, gap_first e.0 (keys_of es) u gap, gap_below es u (record { within = omega arith; before = λ k less. absurd (omega arith); beyond = λ k from less. gap.beyond (suc k) (omega arith) (omega arith) }))
 
+  -- where there is a gap for a key it has no value
   pub lookup_gap : (es : List (ℕ × X)) (u place : ℕ) → IsGapFor (keys_of es) u place → lookup (nat_eq u) es ≡ None
   lookup_gap es u zero gap = lookup_below es u (gap_below es u gap)
   lookup_gap [] u (suc place) gap = refl
@@ -51,6 +54,7 @@ module _ {X : Type 0} where
 
   -- ---- a value set
 
+  -- an entry that is inserted into the gap for its key is where a map has it
   pub insert_gap : (es : List (ℕ × X)) (u : ℕ) (x : X) (place : ℕ) → IsGapFor (keys_of es) u place → insert es place (u, x) ≡ insert_entry nat_cmp es u x
   insert_gap [] u x zero gap = refl
   insert_gap [] u x (suc place) gap = absurd (no_gap u place gap)
@@ -60,6 +64,7 @@ module _ {X : Type 0} where
       ap (λ xs. e ∷ xs) (insert_gap es u x place (gap_tail e.0 (keys_of es) u place gap))
       ∙ ap (λ o. match_ordering o ((u, x) ∷ e ∷ es) ((e.0, x) ∷ es) (e ∷ insert_entry nat_cmp es u x)) (nat_cmp_is u e.0 Greater (gap_head e.0 (keys_of es) u place gap))
 
+  -- an entry that is set at the place of its key is put there
   pub set_at : (es : List (ℕ × X)) (u : ℕ) (x : X) (place : ℕ) → rises (keys_of es) ≡ true → IsAt (keys_of es) u place → set es place (u, x) ≡ insert_entry nat_cmp es u x
   set_at [] u x place up at = absurd (not_at u place at)
   set_at (e ∷ es) u x zero up at =
@@ -69,6 +74,7 @@ module _ {X : Type 0} where
       ap (λ xs. e ∷ xs) (set_at es u x place (tail_rises e.0 (keys_of es) up) (at_tail e.0 (keys_of es) u place at))
       ∙ ap (λ o. match_ordering o ((u, x) ∷ e ∷ es) ((e.0, x) ∷ es) (e ∷ insert_entry nat_cmp es u x)) (nat_cmp_is u e.0 Greater (at_head e.0 (keys_of es) u place up at))
 
+  -- another value at the place of a key is put there
   pub value_at : (es : List (ℕ × X)) (u : ℕ) (x : X) (place : ℕ) → rises (keys_of es) ≡ true → IsAt (keys_of es) u place → set es place (u, x) ≡ set_value (nat_eq u) es x
   value_at [] u x place up at = absurd (not_at u place at)
   value_at (e ∷ es) u x zero up at =
@@ -87,6 +93,7 @@ module _ {X : Type 0} where
     step true ih h = cc
     step false ih h = ap (λ xs. e ∷ xs) (ih h)
 
+  -- an entry that is removed at the place of its key is taken out
   pub removed_at : (es : List (ℕ × X)) (u place : ℕ) → rises (keys_of es) ≡ true → IsAt (keys_of es) u place → remove es place ≡ remove_entry (nat_eq u) es
   removed_at [] u place up at = absurd (not_at u place at)
   removed_at (e ∷ es) u zero up at = sym (ap (λ b. cond b es (e ∷ remove_entry (nat_eq u) es)) (eq-eqb u e.0 (sym at.has)))
@@ -94,6 +101,7 @@ module _ {X : Type 0} where
       ap (λ xs. e ∷ xs) (removed_at es u place (tail_rises e.0 (keys_of es) up) (at_tail e.0 (keys_of es) u place at))
       ∙ sym (ap (λ b. cond b es (e ∷ remove_entry (nat_eq u) es)) (off u e.0 (at_head e.0 (keys_of es) u place up at)))
 
+  -- a key that is not there is not taken out
   pub removed_none : (es : List (ℕ × X)) (u : ℕ) → lookup (nat_eq u) es ≡ None → remove_entry (nat_eq u) es ≡ es
   removed_none [] u none = refl
   removed_none (e ∷ es) u none = step (nat_eq u e.0) (removed_none es u) none where
@@ -104,6 +112,7 @@ module _ {X : Type 0} where
 
   -- ---- and taken back
 
+  -- what was at the place of a key is put there again
   pub back_at : (es : List (ℕ × X)) (u : ℕ) (x : X) (place : ℕ) (was : ℕ × X) → rises (keys_of es) ≡ true → IsAt (keys_of es) u place → was ≡ get_or es place was
       → set_value (nat_eq u) (set es place (u, x)) was.1 ≡ es
   back_at [] u x place was up at same = absurd (not_at u place at)
@@ -117,6 +126,7 @@ module _ {X : Type 0} where
       ap (λ b. cond b ((e.0, was.1) ∷ set es place (u, x)) (e ∷ set_value (nat_eq u) (set es place (u, x)) was.1)) (off u e.0 (at_head e.0 (keys_of es) u place up at))
       ∙ ap (λ xs. e ∷ xs) (back_at es u x place was (tail_rises e.0 (keys_of es) up) (at_tail e.0 (keys_of es) u place at) same)
 
+  -- an entry that was inserted into a gap is taken out again
   pub back_gap : (es : List (ℕ × X)) (u : ℕ) (x : X) (place : ℕ) → IsGapFor (keys_of es) u place → remove_entry (nat_eq u) (insert es place (u, x)) ≡ es
   back_gap es u x zero gap = ap (λ b. cond b es ((u, x) ∷ remove_entry (nat_eq u) es)) (eq-eqb u u refl)
   back_gap [] u x (suc place) gap = absurd (no_gap u place gap)
@@ -126,17 +136,19 @@ module _ {X : Type 0} where
 
   -- ---- the order of the keys
 
-  keys-laid : (es : List (ℕ × X)) (u : ℕ) (x : X) → keys_of (insert_entry nat_cmp es u x) ≡ insert_key nat_cmp (keys_of es) u
-  keys-laid [] u x = refl
-  keys-laid (e ∷ es) u x = grind (arith, nat_tests, keys-laid es u x)
+  keys-staged_each : (es : List (ℕ × X)) (u : ℕ) (x : X) → keys_of (insert_entry nat_cmp es u x) ≡ insert_key nat_cmp (keys_of es) u
+  keys-staged_each [] u x = refl
+  keys-staged_each (e ∷ es) u x = grind (arith, nat_tests, keys-staged_each es u x)
 
-  pub rises-laid : (es : List (ℕ × X)) (u : ℕ) (x : X) → rises (keys_of es) ≡ true → rises (keys_of (insert_entry nat_cmp es u x)) ≡ true
-  rises-laid es u x up = ap rises (keys-laid es u x) ∙ rises-insert (keys_of es) u up
+  -- keys ascend with one more at its place
+  pub rises-staged_each : (es : List (ℕ × X)) (u : ℕ) (x : X) → rises (keys_of es) ≡ true → rises (keys_of (insert_entry nat_cmp es u x)) ≡ true
+  rises-staged_each es u x up = ap rises (keys-staged_each es u x) ∙ rises-insert (keys_of es) u up
 
   below-removed : (n : ℕ) (es : List (ℕ × X)) (u : ℕ) → below_all n (keys_of es) ≡ true → below_all n (keys_of (remove_entry (nat_eq u) es)) ≡ true
   below-removed n [] u below = refl
   below-removed n (e ∷ es) u below = grind (arith, nat_tests, below-removed n es u)
 
+  -- keys ascend without one of them
   pub rises-removed : (es : List (ℕ × X)) (u : ℕ) → rises (keys_of es) ≡ true → rises (keys_of (remove_entry (nat_eq u) es)) ≡ true
   rises-removed [] u up = refl
   rises-removed (e ∷ es) u up =
@@ -145,9 +157,11 @@ module _ {X : Type 0} where
   -- ---- a sum over the values
 
   module _ (f : X → ℕ) where
+    -- the sum of what the values weigh
     abbrev pub total : List (ℕ × X) → ℕ
     total es = sum_by (λ (e : ℕ × X). f e.1) es
 
+    -- what the value weighs, or nothing where there is none
     abbrev pub at_slot : Option X → ℕ
     at_slot None = 0
     at_slot (Some x) = f x
@@ -155,13 +169,14 @@ module _ {X : Type 0} where
     abbrev one : ℕ × X → ℕ
     one e = f e.1
 
-    pub total-laid : (es : List (ℕ × X)) (u : ℕ) (x : X) → rises (keys_of es) ≡ true
+    -- the sum after a value is put in place of that of its key
+    pub total-staged_each : (es : List (ℕ × X)) (u : ℕ) (x : X) → rises (keys_of es) ≡ true
         → total (insert_entry nat_cmp es u x) + at_slot (lookup (nat_eq u) es) ≡ total es + f x
-    total-laid [] u x up = omega (arith, sum_by-cons one (u, x) [])
-    total-laid (e ∷ es) u x up = by (total-laid es u x (tail_rises e.0 (keys_of es) up)) (cases_order u e.0)
+    total-staged_each [] u x up = omega (arith, sum_by-cons one (u, x) [])
+    total-staged_each (e ∷ es) u x up = by (total-staged_each es u x (tail_rises e.0 (keys_of es) up)) (cases_order u e.0)
       where
-        laid_by : {o : Ordering} → o ≡ nat_cmp u e.0 → insert_entry nat_cmp (e ∷ es) u x ≡ match_ordering o ((u, x) ∷ e ∷ es) ((e.0, x) ∷ es) (e ∷ insert_entry nat_cmp es u x)
-        laid_by is = ap (λ o. match_ordering o ((u, x) ∷ e ∷ es) ((e.0, x) ∷ es) (e ∷ insert_entry nat_cmp es u x)) (sym is)
+        staged_by : {o : Ordering} → o ≡ nat_cmp u e.0 → insert_entry nat_cmp (e ∷ es) u x ≡ match_ordering o ((u, x) ∷ e ∷ es) ((e.0, x) ∷ es) (e ∷ insert_entry nat_cmp es u x)
+        staged_by is = ap (λ o. match_ordering o ((u, x) ∷ e ∷ es) ((e.0, x) ∷ es) (e ∷ insert_entry nat_cmp es u x)) (sym is)
 
         slot_by : (b : Bool) → nat_eq u e.0 ≡ b → at_slot (lookup (nat_eq u) (e ∷ es)) ≡ at_slot (cond b (Some e.1) (lookup (nat_eq u) es))
         slot_by b is = ap (λ b. at_slot (cond b (Some e.1) (lookup (nat_eq u) es))) is
@@ -169,19 +184,20 @@ module _ {X : Type 0} where
         by : total (insert_entry nat_cmp es u x) + at_slot (lookup (nat_eq u) es) ≡ total es + f x → (u ≡ e.0) ⊎ ((u < e.0) ⊎ (e.0 < u))
             → total (insert_entry nat_cmp (e ∷ es) u x) + at_slot (lookup (nat_eq u) (e ∷ es)) ≡ total (e ∷ es) + f x
         by ih (inl same) =
-            let now = ap total (laid_by (nat_cmp_is u e.0 Equal same)) in
+            let now = ap total (staged_by (nat_cmp_is u e.0 Equal same)) in
             let found = slot_by true (eq-eqb u e.0 same) in
             omega (arith, now, found, sum_by-cons one (e.0, x) es, sum_by-cons one e es)
         by ih (inr (inl less)) =
-            let now = ap total (laid_by (nat_cmp_is u e.0 Less less)) in
+            let now = ap total (staged_by (nat_cmp_is u e.0 Less less)) in
             let found = slot_by false (before u e.0 less) in
             let none = ap at_slot (lookup_below es u (below_lower u e.0 (keys_of es) less (head_below e.0 (keys_of es) up))) in
             omega (arith, now, found, none, sum_by-cons one (u, x) (e ∷ es))
         by ih (inr (inr more)) =
-            let now = ap total (laid_by (nat_cmp_is u e.0 Greater more)) in
+            let now = ap total (staged_by (nat_cmp_is u e.0 Greater more)) in
             let found = slot_by false (off u e.0 more) in
             omega (arith, ih, now, found, sum_by-cons one e (insert_entry nat_cmp es u x), sum_by-cons one e es)
 
+    -- the sum without the value of a key
     pub total-removed : (es : List (ℕ × X)) (u : ℕ) → total (remove_entry (nat_eq u) es) + at_slot (lookup (nat_eq u) es) ≡ total es
     total-removed [] u = omega arith
     total-removed (e ∷ es) u = step (nat_eq u e.0) (total-removed es u) where
@@ -190,6 +206,7 @@ module _ {X : Type 0} where
       step true ih = omega (arith, sum_by-cons one e es)
       step false ih = omega (arith, ih, sum_by-cons one e (remove_entry (nat_eq u) es), sum_by-cons one e es)
 
+    -- the sum after the value of a key is replaced
     pub total-valued : (es : List (ℕ × X)) (u : ℕ) (x y : X) → lookup (nat_eq u) es ≡ Some y → total (set_value (nat_eq u) es x) + f y ≡ total es + f x
     total-valued [] u x y found = cc
     total-valued (e ∷ es) u x y found = step (nat_eq u e.0) (total-valued es u x y) found where

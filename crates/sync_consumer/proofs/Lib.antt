@@ -3,7 +3,7 @@ pub mod Apart
 pub mod Committing
 pub mod Cuts
 pub mod Fits
-pub mod Fronts
+pub mod Prefixes
 pub mod Heeding
 pub mod Keyed
 pub mod Merging
@@ -15,7 +15,7 @@ pub mod Phases
 pub mod Rising
 pub mod Rooms
 pub mod Searches
-pub mod Settling
+pub mod Effecting
 pub mod Stages
 pub mod Takings
 pub mod Turns

@@ -9,12 +9,14 @@ use Rattle.entry_tree.specs.declared.entry.Entry.{Entry}
 use Rattle.entry_tree.specs.State.{ascends, put, is_identified}
 use Rattle.entry_tree.proofs.Directory.{above_filter}
 use Rattle.entry_tree.proofs.Identities.{above, above_lower}
+use Rattle.entry_tree.proofs.Rising.{below_lower}
 use Rattle.sync_model.specs.Copy.{put_or_dropped, effected}
 use Rattle.sync_consumer.specs.declared.stage.Staged.{Staged}
-use Rattle.sync_consumer.specs.declared.stage.Staged.TheVariants.{Put, Gone}
+use Rattle.sync_consumer.specs.declared.stage.Staged.TheVariants.{AddOrModify, Delete}
 use Rattle.sync_consumer.specs.Staging.{change_of, changes_of, put_alone, rises, lower, higher}
-use Rattle.sync_consumer.proofs.Rising.{below_all, below_lower, head_below, tail_rises}
+use Rattle.sync_consumer.proofs.Rising.{below_all, head_below, tail_rises}
 
+-- the identity of a staged change
 abbrev pub own : Staged → ℕ
 own s = (change_of s).0
 
@@ -26,6 +28,7 @@ keys ss = keys_of (changes_of ss)
 
 -- ---- entries above an identity
 
+-- no entry is below an identity that all of them are above
 pub none_lower : (u : ℕ) (es : List Entry) → above u es ≡ true → lower u es ≡ []
 none_lower u [] h = refl
 none_lower u (x ∷ es) h =
@@ -33,6 +36,7 @@ none_lower u (x ∷ es) h =
     let far : u < x.uuid = ltb-true u x.uuid p.0 in
     ap (λ b. cond b (x ∷ lower u es) (lower u es)) (le-ltb x.uuid u (omega (arith, far))) ∙ none_lower u es p.1
 
+-- all entries are above an identity that is below each of them
 pub all_higher : (u : ℕ) (es : List Entry) → above u es ≡ true → higher u es ≡ es
 all_higher u [] h = refl
 all_higher u (x ∷ es) h =
@@ -57,8 +61,8 @@ above_put u e es less later =
     (and_from (nat_lt u e.uuid) (above u (higher e.uuid es)) (lt-ltb u e.uuid less) (above_filter (λ (x : Entry). nat_lt e.uuid x.uuid) u es later))
 
 above_effect : (u : ℕ) (s : Staged) (es : List Entry) → u < own s → above u es ≡ true → above u (one_effect es s) ≡ true
-above_effect u (Put k) es less later = above_put u k.value es less later
-above_effect u (Gone v) es less later = above_filter (λ (entry : Entry). not (is_identified v entry)) u es later
+above_effect u (AddOrModify k) es less later = above_put u k.value es less later
+above_effect u (Delete v) es less later = above_filter (λ (entry : Entry). not (is_identified v entry)) u es later
 
 above_effected : (u : ℕ) (ss : List Staged) (es : List Entry) → below_all u (keys ss) ≡ true → above u es ≡ true → above u (effected es (changes_of ss)) ≡ true
 above_effected u [] es below later = later
@@ -68,35 +72,35 @@ above_effected u (s ∷ ss) es below later =
 
 -- ---- one change, above the first entry, at it, or below all
 
-effect_behind : (x : Entry) (es : List Entry) (s : Staged) → x.uuid < own s → one_effect (x ∷ es) s ≡ x ∷ one_effect es s
-effect_behind x es (Put k) less =
+effect_after : (x : Entry) (es : List Entry) (s : Staged) → x.uuid < own s → one_effect (x ∷ es) s ≡ x ∷ one_effect es s
+effect_after x es (AddOrModify k) less =
     ap (λ b. cond b (x ∷ lower k.value.uuid es) (lower k.value.uuid es) ++ k.value ∷ higher k.value.uuid (x ∷ es)) (lt-ltb x.uuid k.value.uuid less)
     ∙ ap (λ b. (x ∷ lower k.value.uuid es) ++ k.value ∷ cond b (x ∷ higher k.value.uuid es) (higher k.value.uuid es)) (le-ltb k.value.uuid x.uuid (omega (arith, less)))
-effect_behind x es (Gone u) less =
+effect_after x es (Delete u) less =
     let rest = filter (λ entry. not (is_identified u entry)) es in
     ap (λ b. cond (not b) (x ∷ rest) rest) (ne_eqb x.uuid u (λ same. omega (arith, less, same)))
 
 effect_before : (es : List Entry) (s : Staged) → above (own s) es ≡ true → one_effect es s ≡ put_alone s ++ es
-effect_before es (Put k) later = λ i. none_lower k.value.uuid es later i ++ k.value ∷ all_higher k.value.uuid es later i
-effect_before es (Gone u) later = none_identified u es later
+effect_before es (AddOrModify k) later = λ i. none_lower k.value.uuid es later i ++ k.value ∷ all_higher k.value.uuid es later i
+effect_before es (Delete u) later = none_identified u es later
 
 effect_there : (x : Entry) (es : List Entry) (s : Staged) → x.uuid ≡ own s → above (own s) es ≡ true → one_effect (x ∷ es) s ≡ put_alone s ++ es
-effect_there x es (Put k) same later =
+effect_there x es (AddOrModify k) same later =
     ap (λ b. cond b (x ∷ lower k.value.uuid es) (lower k.value.uuid es) ++ k.value ∷ higher k.value.uuid (x ∷ es)) (le-ltb x.uuid k.value.uuid (omega (arith, same)))
     ∙ ap (λ b. lower k.value.uuid es ++ k.value ∷ cond b (x ∷ higher k.value.uuid es) (higher k.value.uuid es)) (le-ltb k.value.uuid x.uuid (omega (arith, same)))
     ∙ (λ i. none_lower k.value.uuid es later i ++ k.value ∷ all_higher k.value.uuid es later i)
-effect_there x es (Gone u) same later =
+effect_there x es (Delete u) same later =
     let rest = filter (λ entry. not (is_identified u entry)) es in
     ap (λ b. cond (not b) (x ∷ rest) rest) (eq-eqb x.uuid u same) ∙ none_identified u es later
 
 -- ---- some changes
 
 -- an entry below all of them comes first
-effected_behind : (ss : List Staged) (x : Entry) (es : List Entry) → below_all x.uuid (keys ss) ≡ true → effected (x ∷ es) (changes_of ss) ≡ x ∷ effected es (changes_of ss)
-effected_behind [] x es below = refl
-effected_behind (s ∷ ss) x es below =
+effected_after : (ss : List Staged) (x : Entry) (es : List Entry) → below_all x.uuid (keys ss) ≡ true → effected (x ∷ es) (changes_of ss) ≡ x ∷ effected es (changes_of ss)
+effected_after [] x es below = refl
+effected_after (s ∷ ss) x es below =
     let p = and_parts (nat_lt x.uuid (own s)) (below_all x.uuid (keys ss)) below in
-    ap (λ es'. one_effect es' s) (effected_behind ss x es p.1) ∙ effect_behind x (effected es (changes_of ss)) s (ltb-true x.uuid (own s) p.0)
+    ap (λ es'. one_effect es' s) (effected_after ss x es p.1) ∙ effect_after x (effected es (changes_of ss)) s (ltb-true x.uuid (own s) p.0)
 
 -- the first change with the others
 pub effected-cons : (es : List Entry) (s : Staged) (ss : List Staged) → ascends es ≡ true → rises (keys (s ∷ ss)) ≡ true
@@ -116,14 +120,14 @@ effected-cons (x ∷ es) s ss asc up =
     by later rest below ih (inl same) =
         let far : above (own s) es ≡ true = ap (λ n. above n es) (sym same) ∙ later in
         let low : below_all x.uuid (keys ss) ≡ true = ap (λ n. below_all n (keys ss)) same ∙ below in
-        ap (λ es'. one_effect es' s) (effected_behind ss x es low)
+        ap (λ es'. one_effect es' s) (effected_after ss x es low)
         ∙ effect_there x (effected es (changes_of ss)) s same (above_effected (own s) ss es below far)
         ∙ sym (ap (λ b. after (cond b (x ∷ lower (own s) es) (lower (own s) es)) (higher (own s) (x ∷ es))) (le-ltb x.uuid (own s) (omega (arith, same)))
         ∙ ap (λ b. after (lower (own s) es) (cond b (x ∷ higher (own s) es) (higher (own s) es))) (le-ltb (own s) x.uuid (omega (arith, same)))
         ∙ (λ i. after (none_lower (own s) es far i) (all_higher (own s) es far i)))
     by later rest below ih (inr (inl less)) =
         let low : below_all x.uuid (keys (s ∷ ss)) ≡ true = and_from (nat_lt x.uuid (own s)) (below_all x.uuid (keys ss)) (lt-ltb x.uuid (own s) less) (below_lower x.uuid (own s) (keys ss) less below) in
-        effected_behind (s ∷ ss) x es low
+        effected_after (s ∷ ss) x es low
         ∙ ap (λ xs. x ∷ xs) ih
         ∙ sym (ap (λ b. after (cond b (x ∷ lower (own s) es) (lower (own s) es)) (higher (own s) (x ∷ es))) (lt-ltb x.uuid (own s) less)
         ∙ ap (λ b. after (x ∷ lower (own s) es) (cond b (x ∷ higher (own s) es) (higher (own s) es))) (le-ltb (own s) x.uuid (omega (arith, less))))
@@ -151,6 +155,7 @@ more_merged done rest stage k s all low same asc up so_far =
     first_is : (stage : List Staged) (k : ℕ) (s : Staged) → k < length stage → s ≡ get_or stage k s → drop k stage ≡ s ∷ drop (suc k) stage
     first_is stage k s low same = drop-cons stage k s low ∙ ap (λ x. x ∷ drop (suc k) stage) (sym same)
 
+-- the rest of an ascending stage ascends
 pub more_rises : (stage : List Staged) (k : ℕ) → k < length stage → rises (keys (drop k stage)) ≡ true → rises (keys (drop (suc k) stage)) ≡ true
 more_rises [] k low up = absurd (omega (arith, low))
 more_rises (s ∷ stage) k low up = tail_rises (own (get_or (s ∷ stage) k s)) (keys (drop k stage)) (sym (ap (λ ss. rises (keys ss)) (drop-cons (s ∷ stage) k s low)) ∙ up)

@@ -17,6 +17,7 @@ Key = Bor (List ℕ)
 abbrev pub by_text : Key → Key → Ordering
 by_text one other = slice_cmp nat_cmp one.now other.now
 
+-- the identity that is noted for a name
 abbrev pub found : List ℕ → List (Key × ℕ) → Option ℕ
 found text es = lookup (is_at (λ (other : Key). slice_cmp nat_cmp text other.now)) es
 
@@ -39,6 +40,7 @@ either : (b : Bool) (uuid : ℕ) (other : Option ℕ) → is_some other ≡ true
 either true uuid other some = refl
 either false uuid other some = some
 
+-- a name that is noted stays so with one more
 pub kept : (es : List (Key × ℕ)) (key : Key) (uuid : ℕ) (text : List ℕ) → is_some (found text es) ≡ true → is_some (found text (insert_entry by_text es key uuid)) ≡ true
 kept [] key uuid text some = absurd (cc)
 kept (e ∷ es) key uuid text some = by (by_text key e.0) (is_eq (slice_cmp nat_cmp text e.0.now)) refl some (kept es key uuid text) where
@@ -61,11 +63,13 @@ stay_noted old new (e ∷ es) keeps all =
     let p = and_parts (is_some (noted_at old (name_key e.dn))) (are_noted old es) all in
     and_from (is_some (noted_at new (name_key e.dn))) (are_noted new es) (keeps (name_key e.dn) p.0) (stay_noted old new es keeps p.1)
 
+-- names of entries stay noted where more are noted
 pub noted_more : (old new : Names) (es more : List Entry) → Keeps old new → are_noted new more ≡ true → are_noted old es ≡ true → are_noted new (es ++ more) ≡ true
 noted_more old new es more keeps own all =
     list_all-append (λ (e : Entry). is_some (noted_at new (name_key e.dn))) es more
     ∙ and_from (are_noted new es) (are_noted new more) (stay_noted old new es keeps all) own
 
+-- the name that was noted last is noted
 pub noted_one : (old new : Names) (key : Key) (entry : Entry) (uuid : ℕ) → key.now ≡ name_key entry.dn → new.entries ≡ insert_entry by_text old.entries key uuid
     → are_noted new (entry ∷ []) ≡ true
 noted_one old new key entry uuid is entries =

@@ -1,4 +1,4 @@
--- What is against entries that a directory may not have.
+-- What rejects entries that a directory may not have.
 use Rattle.std.proofs.Common.{◌≡◌, ℕ, Bool, true, false, not, ◌&&◌, cond, nat_lt, List, length, Option, Some, None, refl, ap, subst, ◌∙◌}
 use Rattle.std.specs.Prelude.{◌||◌, is_none, option_map}
 use Rattle.std.proofs.lemmas.Bool.{lt-ltb}
@@ -10,7 +10,7 @@ use Rattle.entry_tree.specs.State.{is_crowded, same_named, most_entries, most_we
 use Rattle.sync_model.specs.Copy.Fault.{StageFull, DuplicateName}
 use Rattle.sync_model.specs.Copy.{Fault}
 use Rattle.sync_model.specs.Within.{against}
-use Rattle.sync_consumer.specs.Running.{RefusesBy}
+use Rattle.sync_consumer.specs.SyncSession.{RefusesBy}
 use Rattle.sync_consumer.specs.Taking.{refusal_against}
 use Rattle.sync_consumer.specs.declared.fault.Refusal.{Refusal}
 
@@ -27,6 +27,7 @@ right_or : (a b : Bool) → b ≡ true → (a || b) ≡ true
 right_or true b h = refl
 right_or false b h = h
 
+-- a refusal of entries is the first limit that they pass
 pub opposed : (entries : List Entry) (found : CommitRefusal) → Opposes entries found → RefusesBy (against entries) (refusal_against found)
 opposed entries TooMany many =
     (StageFull, crowded entries (left_or (nat_lt most_entries (length entries)) (nat_lt most_weight (total_weight entries)) (lt-ltb most_entries (length entries) many)), refl)
@@ -39,9 +40,11 @@ opposed entries (SameName one other) same = (
 )
 opposed entries NoMemory none = tt
 
+-- a refusal of entries is one of equal entries
 pub opposed_as : (left all : List Entry) (refusal : Refusal) → left ≡ all → RefusesBy (against left) refusal → RefusesBy (against all) refusal
 opposed_as left all refusal is refuses = subst (λ (es : List Entry). RefusesBy (against es) refusal) is refuses
 
+-- entries that may be held pass no limit
 pub unopposed : (entries : List Entry) → may_be_held entries ≡ true → against entries ≡ None
 unopposed entries held = by (is_crowded entries) (same_named entries) held
   where

@@ -12,7 +12,7 @@ use Rattle.entry_tree.specs.State.{total_weight, most_entries, most_weight}
 use Rattle.sync_model.specs.Copy.{Stage, slot, staged, puts_of}
 use Rattle.sync_model.specs.Within.{is_crowded}
 use Rattle.sync_consumer.specs.Staging.{IsStage, count_of, weight_within, entry_staged}
-use Rattle.sync_consumer.proofs.Keyed.{total, at_slot, total-laid}
+use Rattle.sync_consumer.proofs.Keyed.{total, at_slot, total-staged_each}
 
 abbrev counts : ℕ × Option Entry → ℕ
 counts c = count_of c.1
@@ -72,12 +72,13 @@ crowded_with stage count weight is entry n w few light =
     let c = is.counted in
     let h = is.weighed in
     let slots = slot_total (slot stage entry.uuid) in
-    let counted = total-laid count_of stage entry.uuid (Some entry) is.ordered in
-    let weighed = total-laid weight_within stage entry.uuid (Some entry) is.ordered in
+    let counted = total-staged_each count_of stage entry.uuid (Some entry) is.ordered in
+    let weighed = total-staged_each weight_within stage entry.uuid (Some entry) is.ordered in
     let now : total count_of (staged entry.uuid (Some entry) stage) ≡ n + 1 = omega (arith, c, few, counted, slots.0) in
     let all : total weight_within (staged entry.uuid (Some entry) stage) ≡ w + weight_within (Some entry) = omega (arith, h, light, weighed, slots.1) in
     crowded_is (staged entry.uuid (Some entry) stage) ∙ (λ i. nat_lt most_entries (now i) || nat_lt most_weight (all i))
 
+-- a stage has room for an entry where count and weight allow it
 pub room_by_weight : (stage : Stage) (count weight : ℕ) → IsStage stage count weight → (entry : Entry) (n w : ℕ)
     → n + count_of (entry_staged stage entry.uuid) ≡ count → w + weight_within (entry_staged stage entry.uuid) ≡ weight → n < most_entries
     → (v : ℕ) → v ≡ weight_within (Some entry) → nat_le (w + v) most_weight ≡ not (is_crowded (puts_of (staged entry.uuid (Some entry) stage)))
@@ -90,6 +91,7 @@ room_by_weight stage count weight is entry n w few light less v same =
     turned : (m : ℕ) → not (nat_lt most_weight m) ≡ nat_le m most_weight
     turned m = grind (arith, nat_tests)
 
+-- a stage has no room for an entry where it puts the most entries already
 pub no_room : (stage : Stage) (count weight : ℕ) → IsStage stage count weight → (entry : Entry) (n w : ℕ)
     → n + count_of (entry_staged stage entry.uuid) ≡ count → w + weight_within (entry_staged stage entry.uuid) ≡ weight → most_entries ≤ n
     → false ≡ not (is_crowded (puts_of (staged entry.uuid (Some entry) stage)))

@@ -7,20 +7,22 @@ use Rattle.std.specs.Map.{keys_of, remove_entry, set_value}
 use Rattle.std.proofs.lemmas.List.{get_or_default, length-map, map-set, map_push}
 use Rattle.std.proofs.lemmas.List.Sums.{sum_by-cons, fold_push}
 use Rattle.std.proofs.lemmas.Map.{keys-set_value}
+use Rattle.std.proofs.Math.ListN.{get_or-map}
 use Rattle.entry_tree.specs.declared.entry.Entry.{Entry}
+use Rattle.entry_tree.proofs.References.{map-insert}
 use Rattle.sync_model.specs.Copy.{Stage, slot, is_put}
 use Rattle.sync_consumer.specs.declared.stage.Staged.{Staged}
 use Rattle.sync_consumer.specs.declared.stage.Before.{Before}
 use Rattle.sync_consumer.specs.declared.stage.Before.TheVariants.{Had, Nothing}
-use Rattle.sync_consumer.specs.Staging.{rises, IsAt, IsGapFor, IsStage, count_of, weight_within, entry_staged, change_of, changes_of, laid_one, laid, put_back, undone}
-use Rattle.sync_consumer.proofs.Keyed.{total, at_slot, total-laid, total-removed, total-valued, rises-laid, rises-removed, lookup_at, lookup_gap, insert_gap, set_at, value_at, value_none, removed_at, removed_none, back_at, back_gap}
-use Rattle.sync_consumer.proofs.Searches.{get_or-map, keys-changes}
+use Rattle.sync_consumer.specs.Staging.{rises, IsAt, IsGapFor, IsStage, count_of, weight_within, entry_staged, change_of, changes_of, staged_one, staged_each, put_back, undone}
+use Rattle.sync_consumer.proofs.Keyed.{total, at_slot, total-staged_each, total-removed, total-valued, rises-staged_each, rises-removed, lookup_at, lookup_gap, insert_gap, set_at, value_at, value_none, removed_at, removed_none, back_at, back_gap}
+use Rattle.sync_consumer.proofs.Searches.{keys-changes}
 
 abbrev pub IsOf : Before → ℕ → Type 0
 IsOf (Had s) uuid = (change_of s).0 ≡ uuid
 IsOf (Nothing v) uuid = v ≡ uuid
 
--- ---- no more than so many, and no heavier
+-- ---- no more than n, and no heavier
 
 pub few : (stage : Stage) → total count_of stage ≤ length stage
 few [] = omega arith
@@ -30,6 +32,7 @@ few (c ∷ stage) = let ih = few stage in let n = one c.1 in omega (arith, ih, n
     one None = omega arith
     one (Some entry) = omega arith
 
+-- what a stage weighs is bounded by its length
 pub light : (stage : Stage) → total weight_within stage ≤ (2 ^ 64 - 1) * length stage
 light [] = omega arith
 light (c ∷ stage) = let ih = light stage in let n = one c.1 in omega (arith, ih, n, sum_by-cons (λ (e : ℕ × Option Entry). weight_within e.1) c stage)
@@ -46,6 +49,7 @@ short changes =
     let small = changes.small in
     omega (arith, long, kept.0, kept.1, small)
 
+-- count and weight of a stage stay far below the greatest numbers
 pub within : (stage : Stage) (count weight : ℕ) → IsStage stage count weight → length stage < 2 ^ 63 → (count < 2 ^ 63) × (weight < 2 ^ 127)
 within stage count weight is short =
     let c = is.counted in
@@ -56,35 +60,38 @@ within stage count weight is short =
 
 -- ---- a change laid
 
-pub laid_enough : (stage : Stage) (change : ℕ × Option Entry) (count weight : ℕ) → IsStage stage count weight → (was : Option (Option Entry)) → was ≡ slot stage change.0
+-- a change that replaces another one takes no more from count and weight than there is
+pub staged_enough : (stage : Stage) (change : ℕ × Option Entry) (count weight : ℕ) → IsStage stage count weight → (was : Option (Option Entry)) → was ≡ slot stage change.0
     → (at_slot count_of was ≤ count + count_of change.1) × (at_slot weight_within was ≤ weight + weight_within change.1)
-laid_enough stage change count weight is was same =
+staged_enough stage change count weight is was same =
     let c = is.counted in
     let w = is.weighed in
-    let counts = total-laid count_of stage change.0 change.1 is.ordered in
-    let weighs = total-laid weight_within stage change.0 change.1 is.ordered in
+    let counts = total-staged_each count_of stage change.0 change.1 is.ordered in
+    let weighs = total-staged_each weight_within stage change.0 change.1 is.ordered in
     let n = ap (at_slot count_of) same in
     let m = ap (at_slot weight_within) same in
     (omega (arith, c, counts, n), omega (arith, w, weighs, m))
 
-pub laid_stage : (stage : Stage) (change : ℕ × Option Entry) (count weight : ℕ) → IsStage stage count weight → (was : Option (Option Entry)) → was ≡ slot stage change.0
+-- count and weight of a stage after a change is laid on it
+pub staged_stage : (stage : Stage) (change : ℕ × Option Entry) (count weight : ℕ) → IsStage stage count weight → (was : Option (Option Entry)) → was ≡ slot stage change.0
     → (now heavy : ℕ) → now ≡ count + count_of change.1 - at_slot count_of was → heavy ≡ weight + weight_within change.1 - at_slot weight_within was
-    → IsStage (laid_one stage change) now heavy
-laid_stage stage change count weight is was same now heavy counted weighed =
+    → IsStage (staged_one stage change) now heavy
+staged_stage stage change count weight is was same now heavy counted weighed =
     let c = is.counted in
     let w = is.weighed in
-    let counts = total-laid count_of stage change.0 change.1 is.ordered in
-    let weighs = total-laid weight_within stage change.0 change.1 is.ordered in
+    let counts = total-staged_each count_of stage change.0 change.1 is.ordered in
+    let weighs = total-staged_each weight_within stage change.0 change.1 is.ordered in
     let n = ap (at_slot count_of) same in
     let m = ap (at_slot weight_within) same in
     record {
-      ordered = rises-laid stage change.0 change.1 is.ordered;
+      ordered = rises-staged_each stage change.0 change.1 is.ordered;
       counted = omega (arith, c, counts, n, counted);
       weighed = omega (arith, w, weighs, m, weighed);
     }
 
 -- ---- a change removed, or put in the place of another
 
+-- a change that is removed takes no more from count and weight than there is
 pub removed_enough : (stage : Stage) (uuid count weight : ℕ) → IsStage stage count weight → (was : Option Entry) → slot stage uuid ≡ Some was
     → (count_of was ≤ count) × (weight_within was ≤ weight)
 removed_enough stage uuid count weight is was found =
@@ -96,6 +103,7 @@ removed_enough stage uuid count weight is was found =
     let m = ap (at_slot weight_within) found in
     (omega (arith, c, counts, n), omega (arith, w, weighs, m))
 
+-- count and weight of a stage without a change
 pub removed_stage : (stage : Stage) (uuid count weight : ℕ) → IsStage stage count weight → (was : Option Entry) → slot stage uuid ≡ Some was
     → (now heavy : ℕ) → now ≡ count - count_of was → heavy ≡ weight - weight_within was → IsStage (remove_entry (nat_eq uuid) stage) now heavy
 removed_stage stage uuid count weight is was found now heavy counted weighed =
@@ -111,6 +119,7 @@ removed_stage stage uuid count weight is was found now heavy counted weighed =
       weighed = omega (arith, w, weighs, m, weighed);
     }
 
+-- count and weight of a stage after a change is replaced
 pub valued_stage : (stage : Stage) (uuid : ℕ) (change : Option Entry) (count weight : ℕ) → IsStage stage count weight → (was : Option Entry) → slot stage uuid ≡ Some was
     → (now heavy : ℕ) → now ≡ count + count_of change - count_of was → heavy ≡ weight + weight_within change - weight_within was
     → IsStage (set_value (nat_eq uuid) stage change) now heavy
@@ -146,11 +155,6 @@ uuid_at items uuid place was at same =
     ∙ get_or_default (keys items) place (change_of was).0 0 at.within
     ∙ at.has
 
-map-insert : (items : List Staged) (place : ℕ) (s : Staged) → changes_of (insert items place s) ≡ insert (changes_of items) place (change_of s)
-map-insert items zero s = refl
-map-insert [] (suc place) s = refl
-map-insert (i ∷ items) (suc place) s = ap (λ cs. change_of i ∷ cs) (map-insert items place s)
-
 map-remove : (items : List Staged) (place : ℕ) → changes_of (remove items place) ≡ remove (changes_of items) place
 map-remove [] zero = refl
 map-remove (i ∷ items) zero = refl
@@ -158,14 +162,16 @@ map-remove [] (suc place) = refl
 map-remove (i ∷ items) (suc place) = ap (λ cs. change_of i ∷ cs) (map-remove items place)
 
 -- a change put in the place of one of its identity
-pub laid_at : (items : List Staged) (change : Staged) (place : ℕ) → rises (keys items) ≡ true → IsAt (keys items) (change_of change).0 place
-    → changes_of (set items place change) ≡ laid_one (changes_of items) (change_of change)
-laid_at items change place up at = map-set change_of items place change ∙ set_at (changes_of items) (change_of change).0 (change_of change).1 place up at
+pub staged_at : (items : List Staged) (change : Staged) (place : ℕ) → rises (keys items) ≡ true → IsAt (keys items) (change_of change).0 place
+    → changes_of (set items place change) ≡ staged_one (changes_of items) (change_of change)
+staged_at items change place up at = map-set change_of items place change ∙ set_at (changes_of items) (change_of change).0 (change_of change).1 place up at
 
+-- a change that is set at its place is put there
 pub valued_at : (items : List Staged) (change : Staged) (place : ℕ) → rises (keys items) ≡ true → IsAt (keys items) (change_of change).0 place
     → changes_of (set items place change) ≡ put_back (changes_of items) (Had change)
 valued_at items change place up at = map-set change_of items place change ∙ value_at (changes_of items) (change_of change).0 (change_of change).1 place up at
 
+-- what was at a place is put there again
 pub valued_back : (items : List Staged) (change was : Staged) (place : ℕ) → rises (keys items) ≡ true → IsAt (keys items) (change_of change).0 place → was ≡ get_or items place was
     → put_back (changes_of (set items place change)) (Had was) ≡ changes_of items
 valued_back items change was place up at same =
@@ -174,15 +180,17 @@ valued_back items change was place up at same =
     ∙ back_at (changes_of items) (change_of change).0 (change_of change).1 place (change_of was) up at (ap change_of same ∙ sym (get_or-map change_of items place was))
 
 -- a change put in its gap
-pub laid_gap : (items : List Staged) (change : Staged) (place : ℕ) → IsGapFor (keys items) (change_of change).0 place
-    → changes_of (insert items place change) ≡ laid_one (changes_of items) (change_of change)
-laid_gap items change place gap = map-insert items place change ∙ insert_gap (changes_of items) (change_of change).0 (change_of change).1 place gap
+pub staged_gap : (items : List Staged) (change : Staged) (place : ℕ) → IsGapFor (keys items) (change_of change).0 place
+    → changes_of (insert items place change) ≡ staged_one (changes_of items) (change_of change)
+staged_gap items change place gap = map-insert change_of items place change ∙ insert_gap (changes_of items) (change_of change).0 (change_of change).1 place gap
 
+-- a change that was inserted is taken out again
 pub gap_back : (items : List Staged) (change : Staged) (place : ℕ) → IsGapFor (keys items) (change_of change).0 place
     → put_back (changes_of (insert items place change)) (Nothing (change_of change).0) ≡ changes_of items
 gap_back items change place gap =
-    ap (λ cs. put_back cs (Nothing (change_of change).0)) (map-insert items place change) ∙ back_gap (changes_of items) (change_of change).0 (change_of change).1 place gap
+    ap (λ cs. put_back cs (Nothing (change_of change).0)) (map-insert change_of items place change) ∙ back_gap (changes_of items) (change_of change).0 (change_of change).1 place gap
 
+-- where there is a gap for an identity nothing is staged of it
 pub slot_gap : (items : List Staged) (uuid place : ℕ) → IsGapFor (keys items) uuid place → slot (changes_of items) uuid ≡ None
 slot_gap items uuid place gap = lookup_gap (changes_of items) uuid place gap
 
@@ -199,15 +207,18 @@ back_nowhere items (Nothing v) uuid place of gap = ap (λ n. remove_entry (nat_e
 
 -- ---- the latest is taken back first
 
+-- the last of some changes is undone first
 pub undone-push : (stage : Stage) (undo : List Before) (last : Before) → undone stage (undo ++ last ∷ []) ≡ undone (put_back stage last) undo
 undone-push stage [] last = refl
 undone-push stage (b ∷ undo) last = ap (λ s. put_back s b) (undone-push stage undo last)
 
 -- ---- nothing staged, and what is staged of an identity
 
+-- an empty stage has no count and no weight
 pub empty_stage : (changes : List Staged) → changes ≡ [] → IsStage (changes_of changes) 0 0
 empty_stage changes none = subst (λ (cs : List Staged). IsStage (changes_of cs) 0 0) (sym none) (record { ordered = refl; counted = refl; weighed = refl })
 
+-- an entry is staged of an identity exactly where one is found
 pub put_is : (found : Option (Bor Entry)) (stage : Stage) (uuid : ℕ) → option_copied found ≡ entry_staged stage uuid → is_some found ≡ is_put (slot stage uuid)
 put_is found stage uuid same = by found (slot stage uuid) same where
   by : (found : Option (Bor Entry)) (s : Option (Option Entry)) → option_copied found ≡ option_and_then (λ entry. entry) s → is_some found ≡ is_put s
@@ -218,10 +229,12 @@ put_is found stage uuid same = by found (slot stage uuid) same where
   by (Some f) (Some None) h = cc
   by (Some f) (Some (Some e)) h = refl
 
+-- an entry is found exactly where there is one
 pub found_is : (found : Option (Bor Entry)) (o : Option Entry) → option_copied found ≡ o → is_some found ≡ is_some o
 found_is None o same = ap is_some same
 found_is (Some f) o same = ap is_some same
 
+-- an entry that is staged of an identity is its change
 pub staged_slot : (stage : Stage) (uuid : ℕ) (entry : Entry) → Some entry ≡ entry_staged stage uuid → slot stage uuid ≡ Some (Some entry)
 staged_slot stage uuid entry same = by (slot stage uuid) same where
   by : (s : Option (Option Entry)) → Some entry ≡ option_and_then (λ entry. entry) s → s ≡ Some (Some entry)
@@ -231,5 +244,6 @@ staged_slot stage uuid entry same = by (slot stage uuid) same where
 
 -- ---- changes one after another
 
-pub laid-push : (stage : Stage) (xs : List Staged) (x : Staged) → laid stage (changes_of (xs ++ x ∷ [])) ≡ laid_one (laid stage (changes_of xs)) (change_of x)
-laid-push stage xs x = ap (laid stage) (map_push change_of xs x) ∙ fold_push laid_one stage (changes_of xs) (change_of x)
+-- laying one more change is laying it after the others
+pub staged_each-push : (stage : Stage) (xs : List Staged) (x : Staged) → staged_each stage (changes_of (xs ++ x ∷ [])) ≡ staged_one (staged_each stage (changes_of xs)) (change_of x)
+staged_each-push stage xs x = ap (staged_each stage) (map_push change_of xs x) ∙ fold_push staged_one stage (changes_of xs) (change_of x)

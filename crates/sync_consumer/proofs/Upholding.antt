@@ -8,14 +8,14 @@ use Rattle.entry_tree.specs.declared.entry.Entry.{Entry}
 use Rattle.ldap_messages.specs.declared.message.Message.{Message}
 use Rattle.sync_model.specs.Message.{SyncMessage}
 use Rattle.sync_model.specs.Copy as model
-use Rattle.sync_model.specs.Copy.{Answer as answer, Copy, Running, taken}
+use Rattle.sync_model.specs.Copy.{Answer as answer, Copy, SyncSession, taken}
 use Rattle.sync_model.specs.Copy.Fault.{StageFull}
 use Rattle.sync_model.specs.Keeping.{Keeps, IsEffected}
 use Rattle.sync_model.specs.Within.{is_crowded, puts_entry, against, limit_fault, refused_by, taken_within}
 use Rattle.sync_model.proofs.Keeping.{taking_keeps}
-use Rattle.sync_wire.specs.Hearing.{said}
+use Rattle.sync_wire.specs.Decoding.{said}
 use Rattle.sync_wire.specs.Kind.{tag_of}
-use Rattle.sync_wire.specs.declared.fault.HearingFault.{HearingFault}
+use Rattle.sync_wire.specs.declared.fault.DecodeFault.{DecodeFault}
 use Rattle.sync_consumer.specs.declared.consumer.Taken.{Taken}
 use Rattle.sync_consumer.specs.declared.consumer.Taken.TheVariants.{Staged, Stored, Copied, Over, Fault, NoMemory}
 use Rattle.sync_consumer.specs.declared.fault.PeerFault.{PeerFault}
@@ -23,36 +23,40 @@ use Rattle.sync_consumer.specs.declared.fault.PeerFault.TheVariants as peer
 use Rattle.sync_consumer.specs.declared.fault.Refusal.{Refusal}
 use Rattle.sync_consumer.specs.declared.fault.Refusal.TheVariants as refusal
 use Rattle.sync_consumer.specs.declared.held.Held.{Held}
-use Rattle.sync_consumer.specs.declared.running.Running as own
-use Rattle.sync_consumer.specs.declared.running.Step.{Step}
+use Rattle.sync_consumer.specs.declared.session.SyncSession as own
+use Rattle.sync_consumer.specs.declared.session.Step.{Step}
 use Rattle.sync_consumer.specs.Committing.{AreNamedApart, IsCommit, CanBeCommitted, IsReady, IsKept, stage_in}
 use Rattle.sync_consumer.specs.Holding.{MayHold}
-use Rattle.sync_consumer.specs.Running.{copy_of, copy_with, taken_by_search}
-use Rattle.sync_consumer.specs.Taking.{PutsFit, Takes, KeepsEntries, KeepsCookie, refusal_of, told_commit, told, told_refusal, without_search, taken_as, taken_by, taken_of}
+use Rattle.sync_consumer.specs.SyncSession.{copy_of, copy_with, taken_by_search}
+use Rattle.sync_consumer.specs.Taking.{PutsFit, Takes, KeepsEntries, KeepsCookie, refusal_of, taken_commit, answer_taken, taken_refusal, without_search, taken_as, taken_by, taken_of}
 use Rattle.sync_consumer.proofs.Fits.{Leaves, AnswerFits, Says, none_ready, taking_fits, says_operation}
 use Rattle.sync_consumer.proofs.Naming.{named_apart, held_allowed}
-use Rattle.sync_consumer.proofs.Settling.{nothing_held, after_held}
-use Rattle.sync_consumer.proofs.Takings.{takes_keeps, after_step, told_by, step_kept, refusal_kept}
+use Rattle.sync_consumer.proofs.Effecting.{nothing_held, after_held}
+use Rattle.sync_consumer.proofs.Takings.{takes_keeps, after_step, answered_by, step_kept, refusal_kept}
 
 -- ---- without a search, and where one begins
 
 held_same : (before after : List Entry) → after ≡ before → MayHold before → MayHold after
 held_same before after same held = subst (λ (es : List Entry). MayHold es) (sym same) held
 
+-- a consumer without entries keeps its invariant
 pub nothing_kept : (entries : List Entry) → entries ≡ [] → IsKept entries []
 nothing_kept entries none = record { held = held_same [] entries none nothing_held; staged = none_ready }
 
+-- the invariant holds without a search
 pub idle_kept : (entries : List Entry) (stage : model.Stage) → IsKept entries stage → IsKept entries []
 idle_kept entries stage kept = record { held = kept.held; staged = none_ready }
 
-pub begun_kept : (entries : List Entry) (stage : model.Stage) (id : ℕ) (persists : Bool) (copy : Copy) (running : Option Running) → IsKept entries stage
-    → running ≡ (model.asked id persists copy).running → IsKept entries (stage_in running)
-begun_kept entries stage id persists copy running kept is = subst (λ (r : Option Running). IsKept entries (stage_in r)) (sym is) (idle_kept entries stage kept)
+-- the invariant holds when a search begins
+pub begun_kept : (entries : List Entry) (stage : model.Stage) (id : ℕ) (persists : Bool) (copy : Copy) (session : Option SyncSession) → IsKept entries stage
+    → session ≡ (model.asked id persists copy).session → IsKept entries (stage_in session)
+begun_kept entries stage id persists copy session kept is = subst (λ (r : Option SyncSession). IsKept entries (stage_in r)) (sym is) (idle_kept entries stage kept)
 
-pub same_kept : (entries entries' : List Entry) (running running' : Option Running) → entries' ≡ entries → running' ≡ running → IsKept entries (stage_in running)
-    → IsKept entries' (stage_in running')
-same_kept entries entries' running running' is same kept =
-    subst (λ (es : List Entry). IsKept es (stage_in running')) (sym is) (subst (λ (r : Option Running). IsKept entries (stage_in r)) (sym same) kept)
+-- the invariant holds of an equal consumer
+pub same_kept : (entries entries' : List Entry) (session session' : Option SyncSession) → entries' ≡ entries → session' ≡ session → IsKept entries (stage_in session)
+    → IsKept entries' (stage_in session')
+same_kept entries entries' session session' is same kept =
+    subst (λ (es : List Entry). IsKept es (stage_in session')) (sym is) (subst (λ (r : Option SyncSession). IsKept entries (stage_in r)) (sym same) kept)
 
 -- ---- the entries may be held
 
@@ -86,53 +90,53 @@ message_held id copy message held =
 -- ---- and what takes effect can be committed
 
 record Upholds (before : Copy) (outcome : Copy × Taken) : Type 0 where
-  pub kept : MayHold before.held → IsKept outcome.0.held (stage_in outcome.0.running)
+  pub kept : MayHold before.held → IsKept outcome.0.held (stage_in outcome.0.session)
   pub fit : PutsFit outcome.1
   pub committed : MayHold before.held → CanBeCommitted before outcome.0 outcome.1
 
-commit_is : (before after : List Entry) (commit : model.Commit) → Leaves before after commit → MayHold before → MayHold after → IsCommit before after (told_commit commit)
+commit_is : (before after : List Entry) (commit : model.Commit) → Leaves before after commit → MayHold before → MayHold after → IsCommit before after (taken_commit commit)
 commit_is before after commit leaves held held' = record {
   fits = and_from (list_all is_light commit.puts) (may_be_held (committed before commit.puts commit.drops)) leaves.0.light (ap (λ es. may_be_held es) (leaves.1 held.0) ∙ held_allowed after held'.1);
   leaves = leaves.1 held.0;
 }
 
-told_upholds : (tag : ℕ) (before after : Copy) (given : model.Answer) → IsReady (stage_in after.running) → AnswerFits before.held after.held given
-    → (MayHold before.held → MayHold after.held) → Upholds before (after, told tag given)
-told_upholds tag before after answer.Staged ready fit held = record { kept = λ h. record { held = held h; staged = ready }; fit = tt; committed = λ h. tt }
-told_upholds tag before after (answer.Stored commit) ready fit held =
+answered_upholds : (tag : ℕ) (before after : Copy) (given : model.Answer) → IsReady (stage_in after.session) → AnswerFits before.held after.held given
+    → (MayHold before.held → MayHold after.held) → Upholds before (after, answer_taken tag given)
+answered_upholds tag before after answer.Staged ready fit held = record { kept = λ h. record { held = held h; staged = ready }; fit = tt; committed = λ h. tt }
+answered_upholds tag before after (answer.Stored commit) ready fit held =
     record { kept = λ h. record { held = held h; staged = ready }; fit = fit.0; committed = λ h. commit_is before.held after.held commit fit h (held h) }
-told_upholds tag before after (answer.Copied commit) ready fit held =
+answered_upholds tag before after (answer.Copied commit) ready fit held =
     record { kept = λ h. record { held = held h; staged = ready }; fit = fit.0; committed = λ h. commit_is before.held after.held commit fit h (held h) }
-told_upholds tag before after (answer.Over code) ready fit held = record { kept = λ h. record { held = held h; staged = ready }; fit = tt; committed = λ h. tt }
-told_upholds tag before after (answer.Refused found) ready fit held = record { kept = λ h. record { held = held h; staged = ready }; fit = tt; committed = λ h. tt }
+answered_upholds tag before after (answer.Over code) ready fit held = record { kept = λ h. record { held = held h; staged = ready }; fit = tt; committed = λ h. tt }
+answered_upholds tag before after (answer.Refused found) ready fit held = record { kept = λ h. record { held = held h; staged = ready }; fit = tt; committed = λ h. tt }
 
-refusal_upholds : (tag : ℕ) (before : Copy) (found : Refusal) → Upholds before (without_search before, told_refusal tag found)
+refusal_upholds : (tag : ℕ) (before : Copy) (found : Refusal) → Upholds before (without_search before, taken_refusal tag found)
 refusal_upholds tag before refusal.OutOfPlace = record { kept = λ h. record { held = h; staged = none_ready }; fit = tt; committed = λ h. tt }
 refusal_upholds tag before (refusal.Fault found) = record { kept = λ h. record { held = h; staged = none_ready }; fit = tt; committed = λ h. tt }
 refusal_upholds tag before refusal.NoMemory = record { kept = λ h. record { held = h; staged = none_ready }; fit = tt; committed = λ h. tt }
 
-said_upholds : (tag id : ℕ) (before : Copy) (what : Result SyncMessage HearingFault) → Says what → IsReady (stage_in before.running) → Upholds before (taken_as tag id before what)
+said_upholds : (tag id : ℕ) (before : Copy) (what : Result SyncMessage DecodeFault) → Says what → IsReady (stage_in before.session) → Upholds before (taken_as tag id before what)
 said_upholds tag id before (Err found) says ready = refusal_upholds tag before (refusal_of found)
 said_upholds tag id before (Ok message) says ready =
     let fit = taking_fits id before message says ready in
-    told_upholds tag before (taken_within id before message).0 (taken_within id before message).1 fit.0 fit.1 (message_held id before message)
+    answered_upholds tag before (taken_within id before message).0 (taken_within id before message).1 fit.0 fit.1 (message_held id before message)
 
 own_upholds : (own : Bool) (before : Copy) (one other : Copy × Taken) → Upholds before one → Upholds before other → Upholds before (cond own one other)
 own_upholds true before one other upholds upholds' = upholds
 own_upholds false before one other upholds upholds' = upholds'
 
-by_upholds : (search : Option Running) (before : Copy) (message : Message) → IsReady (stage_in before.running) → Upholds before (taken_by search before message)
+by_upholds : (search : Option SyncSession) (before : Copy) (message : Message) → IsReady (stage_in before.session) → Upholds before (taken_by search before message)
 by_upholds None before message ready = refusal_upholds (tag_of message.op) before refusal.OutOfPlace
-by_upholds (Some running) before message ready =
-    own_upholds (nat_eq message.id running.id) before (taken_as (tag_of message.op) message.id before (said running.persisting message))
+by_upholds (Some session) before message ready =
+    own_upholds (nat_eq message.id session.id) before (taken_as (tag_of message.op) message.id before (said session.persisting message))
     (without_search before, Fault (peer.OutOfPlace (tag_of message.op)))
-    (said_upholds (tag_of message.op) message.id before (said running.persisting message) (says_operation running.persisting message.controls message.op) ready)
+    (said_upholds (tag_of message.op) message.id before (said session.persisting message) (says_operation session.persisting message.controls message.op) ready)
     (refusal_upholds (tag_of message.op) before refusal.OutOfPlace)
 
-outcome_upholds : (before after : Copy) (message : Message) (result : Taken) → (after, result) ≡ taken_of before message → IsReady (stage_in before.running) → Upholds before (after, result)
-outcome_upholds before after message result is ready = subst (λ (o : Copy × Taken). Upholds before o) (sym is) (by_upholds before.running before message ready)
+outcome_upholds : (before after : Copy) (message : Message) (result : Taken) → (after, result) ≡ taken_of before message → IsReady (stage_in before.session) → Upholds before (after, result)
+outcome_upholds before after message result is ready = subst (λ (o : Copy × Taken). Upholds before o) (sym is) (by_upholds before.session before message ready)
 
-takes_upholds : (result : Taken) (before : Copy) (message : Message) (after : Copy) → Takes before message after result → IsReady (stage_in before.running) → Upholds before (after, result)
+takes_upholds : (result : Taken) (before : Copy) (message : Message) (after : Copy) → Takes before message after result → IsReady (stage_in before.session) → Upholds before (after, result)
 takes_upholds NoMemory before message after is ready =
     subst (λ (c : Copy). Upholds before (c, NoMemory)) (sym is) (record { kept = λ h. record { held = h; staged = ready }; fit = tt; committed = λ h. tt })
 takes_upholds Staged before message after is ready = outcome_upholds before after message Staged is ready
@@ -141,8 +145,9 @@ takes_upholds (Copied commit) before message after is ready = outcome_upholds be
 takes_upholds (Over code) before message after is ready = outcome_upholds before after message (Over code) is ready
 takes_upholds (Fault found) before message after is ready = outcome_upholds before after message (Fault found) is ready
 
--- ---- all that is told of a message
+-- ---- all that is reported of a message
 
+-- what `Consumer::take` promises of a message
 pub record IsTaken (before : Copy) (message : Message) (after : Copy) (result : Taken) : Type 0 where
   pub exact : Takes before message after result
   pub entries : KeepsEntries before after result
@@ -151,14 +156,14 @@ pub record IsTaken (before : Copy) (message : Message) (after : Copy) (result : 
   pub names : AreNamedApart after.held
   pub clear : may_be_held after.held ≡ true
   pub committed : CanBeCommitted before after result
-  pub kept : IsKept after.held (stage_in after.running)
+  pub kept : IsKept after.held (stage_in after.session)
 
-pub all_taken : (result : Taken) (before : Copy) (message : Message) (after : Copy) → Takes before message after result → IsKept before.held (stage_in before.running)
+pub all_taken : (result : Taken) (before : Copy) (message : Message) (after : Copy) → Takes before message after result → IsKept before.held (stage_in before.session)
     → IsTaken before message after result
 all_taken result before message after is was =
     let stays = takes_keeps result before message after is in
     let upholds : Upholds before (after, result) = takes_upholds result before message after is was.staged in
-    let now : IsKept after.held (stage_in after.running) = upholds.kept was.held in
+    let now : IsKept after.held (stage_in after.session) = upholds.kept was.held in
     record {
       exact = is;
       entries = stays.0;
@@ -171,21 +176,22 @@ all_taken result before message after is was =
     }
 
 -- by a step of its search, and by a refusal
-pub step_taken : (step : Step) (held : Held) (running : own.Running) (held' : Held) (running' : own.Running) (message : Message) (before after : Copy)
-    → before ≡ copy_with held running → after ≡ after_step step held' running' → taken_by_search held running held' running' (Ok step) message
-    → IsKept before.held (stage_in before.running) → IsTaken before message after (told_by step)
-step_taken step held running held' running' message before after was is by had =
-    all_taken (told_by step) before message after (step_kept step held running held' running' message before after was is by).0 had
+pub step_taken : (step : Step) (held : Held) (session : own.SyncSession) (held' : Held) (session' : own.SyncSession) (message : Message) (before after : Copy)
+    → before ≡ copy_with held session → after ≡ after_step step held' session' → taken_by_search held session held' session' (Ok step) message
+    → IsKept before.held (stage_in before.session) → IsTaken before message after (answered_by step)
+step_taken step held session held' session' message before after was is by had =
+    all_taken (answered_by step) before message after (step_kept step held session held' session' message before after was is by).0 had
 
-pub refusal_taken : (found : PeerFault) (held : Held) (running : own.Running) (held' : Held) (message : Message) (before after : Copy)
-    → before ≡ copy_with held running → after ≡ copy_of held' None → Takes (copy_with held running) message (copy_of held' None) (Fault found)
-    → IsKept before.held (stage_in before.running) → IsTaken before message after (Fault found)
-refusal_taken found held running held' message before after was is by had =
-    all_taken (Fault found) before message after (refusal_kept found held running held' message before after was is by).0 had
+-- a message that is refused for a fault is taken as `Consumer::take` promises
+pub refusal_taken : (found : PeerFault) (held : Held) (session : own.SyncSession) (held' : Held) (message : Message) (before after : Copy)
+    → before ≡ copy_with held session → after ≡ copy_of held' None → Takes (copy_with held session) message (copy_of held' None) (Fault found)
+    → IsKept before.held (stage_in before.session) → IsTaken before message after (Fault found)
+refusal_taken found held session held' message before after was is by had =
+    all_taken (Fault found) before message after (refusal_kept found held session held' message before after was is by).0 had
 
 -- and where memory ran out
-pub memory_taken : (held : Held) (running : own.Running) (held' : Held) (running' : own.Running) (message : Message) (before : Copy)
-    → before ≡ copy_with held running → taken_by_search held running held' running' (Err refusal.NoMemory) message
-    → IsKept before.held (stage_in before.running) → IsTaken before message (copy_with held' running') NoMemory
-memory_taken held running held' running' message before was by had =
-    all_taken NoMemory before message (copy_with held' running') ((λ i. copy_with (by.0 i) (by.1 i)) ∙ sym was) had
+pub memory_taken : (held : Held) (session : own.SyncSession) (held' : Held) (session' : own.SyncSession) (message : Message) (before : Copy)
+    → before ≡ copy_with held session → taken_by_search held session held' session' (Err refusal.NoMemory) message
+    → IsKept before.held (stage_in before.session) → IsTaken before message (copy_with held' session') NoMemory
+memory_taken held session held' session' message before was by had =
+    all_taken NoMemory before message (copy_with held' session') ((λ i. copy_with (by.0 i) (by.1 i)) ∙ sym was) had

@@ -1,10 +1,11 @@
--- An entry that is heard is fit for a commit of a replica.
+-- An entry that is decoded is fit for a commit of a replica.
 use Rattle.std.proofs.Common.{◌≡◌, ℕ, Bool, true, false, not, ◌&&◌, cond, nat_lt, nat_le, List, [], ◌∷◌, filter, nat_eq, Option, None, Some, Result, Ok, Err, refl, ap, ◌∙◌, arith}
 use Rattle.std.specs.Prelude.{⊤}
 use Rattle.std.specs.List.{list_all, filter_map, cons_option}
 use Rattle.std.proofs.lemmas.Bool.{and_parts, and_from}
 use Rattle.std.proofs.lemmas.Bool.Decides.{nat_tests}
 use Rattle.std.proofs.lemmas.List.Folds.{list_all-map}
+use Rattle.ldap_constants.specs.declared.result_codes.TheConstants.{ADMIN_LIMIT_EXCEEDED, INVALID_ATTRIBUTE_SYNTAX}
 use Rattle.schema_rules.specs.declared.attributes.Attribute.{Attribute}
 use Rattle.schema_rules.specs.declared.raw.RawAttribute.{RawAttribute}
 use Rattle.schema_rules.specs.Attributes.{is_of_syntax, kinds_of, joined, values_of, weight_of}
@@ -14,8 +15,8 @@ use Rattle.entry_tree.specs.Fitting.{is_light}
 use Rattle.entry_tree.specs.Sound.{is_sound_attribute, is_sound_put}
 use Rattle.entry_tree.specs.State.{most_entry_weight}
 use Rattle.sync_wire.specs.Refusals.{and_then, bad_entry}
-use Rattle.sync_wire.specs.WireEntry.{kept, kept_of, kept_values, unless_empty, attributes_of, is_of_its_syntax, are_uuids, checked_syntax, checked_weight, name_of, stamp_of, entry_of}
-use Rattle.sync_wire.specs.declared.fault.HearingFault.{HearingFault}
+use Rattle.sync_wire.specs.WireEntry.{kept, kept_of, kept_values, unless_empty, attributes_of, is_of_its_syntax, are_uuids, checked_syntax, checked_weight, name_of, entry_csn, entry_of}
+use Rattle.sync_wire.specs.declared.fault.DecodeFault.{DecodeFault}
 
 -- ---- no type is operational
 
@@ -86,16 +87,17 @@ sound_by (a ∷ attrs) free h =
 
 -- ---- the entry
 
+-- an entry may be put by a commit
 pub record IsFit (e : Entry) : Type 0 where
   pub sound : is_sound_put e ≡ true
   pub light : is_light e ≡ true
 
 -- the entry, where there is one, is fit
-abbrev pub EntryFits : Result Entry HearingFault → Type 0
+abbrev pub EntryFits : Result Entry DecodeFault → Type 0
 EntryFits (Ok e) = IsFit e
 EntryFits (Err found) = ⊤
 
-after : {X : Type 0} (first : Result X HearingFault) (next : X → Result Entry HearingFault)
+after : {X : Type 0} (first : Result X DecodeFault) (next : X → Result Entry DecodeFault)
     → ((x : X) → first ≡ Ok x → EntryFits (next x)) → EntryFits (and_then first next)
 after (Ok x) next fits = fits x refl
 after (Err found) next fits = tt
@@ -103,7 +105,7 @@ after (Err found) next fits = tt
 weighed : (e : Entry) → is_sound_put e ≡ true → EntryFits (checked_weight e)
 weighed e sound = by (nat_lt most_entry_weight (weight_of e.attrs)) refl
   where
-    by : (b : Bool) → nat_lt most_entry_weight (weight_of e.attrs) ≡ b → EntryFits (cond b (Err (bad_entry 11)) (Ok e))
+    by : (b : Bool) → nat_lt most_entry_weight (weight_of e.attrs) ≡ b → EntryFits (cond b (Err (bad_entry ADMIN_LIMIT_EXCEEDED)) (Ok e))
     by true heavy = tt
     by false low = record { sound = sound; light = light (weight_of e.attrs) low }
       where
@@ -113,7 +115,7 @@ weighed e sound = by (nat_lt most_entry_weight (weight_of e.attrs)) refl
 of_syntax : (raws : List RawAttribute) (attrs : List Attribute) (unit : Unit {0}) → checked_syntax raws attrs ≡ Ok unit → list_all is_of_its_syntax attrs ≡ true
 of_syntax raws attrs unit is = by (are_uuids raws) (list_all is_of_its_syntax attrs) is
   where
-    by : (a b : Bool) → cond {A = Result (Unit {0}) HearingFault} (a && b) (Ok tt) (Err (bad_entry 21)) ≡ Ok unit → b ≡ true
+    by : (a b : Bool) → cond {A = Result (Unit {0}) DecodeFault} (a && b) (Ok tt) (Err (bad_entry INVALID_ATTRIBUTE_SYNTAX)) ≡ Ok unit → b ≡ true
     by true true h = refl
     by true false h = absurd (cc)
     by false true h = refl
@@ -122,6 +124,6 @@ of_syntax raws attrs unit is = by (are_uuids raws) (list_all is_of_its_syntax at
 -- an entry that was sent is fit, or refused
 pub entry_fits : (uuid : ℕ) (name : List ℕ) (raws : List RawAttribute) → EntryFits (entry_of uuid name raws)
 entry_fits uuid name raws =
-    after (name_of name) _ (λ dn named. after (checked_syntax raws (attributes_of raws)) _ (λ checked are. after (stamp_of raws) _ (λ csn stamped.
+    after (name_of name) _ (λ dn named. after (checked_syntax raws (attributes_of raws)) _ (λ checked are. after (entry_csn raws) _ (λ csn stamped.
     weighed (record { uuid = uuid; csn = csn; dn = dn; attrs = attributes_of raws })
     (sound_by (attributes_of raws) (joined_free (filter_map kept raws) (kept_free raws)) (of_syntax raws (attributes_of raws) checked are)))))

@@ -15,14 +15,19 @@ use Rattle.sync_consumer.specs.declared.commit.Commit.{Commit}
 use Rattle.sync_consumer.specs.declared.consumer.Taken.{Taken}
 use Rattle.sync_consumer.specs.declared.consumer.Taken.TheVariants.{Staged, Stored, Copied, Over, Fault, NoMemory}
 
--- no two of the entries have one name (RFC 4512, section 2.3): where the names of two are the same, they are one entry
+-- no two of the entries have one name (RFC 4512, section 2.3): where the names of two are the same,
+-- they are one entry
 abbrev pub AreNamedApart : List Entry → Type 0
-AreNamedApart entries = All (λ (one : Entry). All (λ (other : Entry). same_name one.dn other.dn ≡ true → one ≡ other) entries) entries
+AreNamedApart entries =
+    All
+    (λ (one : Entry).
+    All (λ (other : Entry). same_name one.dn other.dn ≡ true → one ≡ other) entries) entries
 
 -- ---- what a stage puts and drops, as a commit
 
--- a directory of the entries before has room for the commit, with no name twice, and the commit leaves it the entries after,
--- in the same order; each keeps its own stamp, whatever stamp the write of the commit has
+-- a directory of the entries before has room for the commit, with no name twice, and the commit
+-- leaves it the entries after, in the same order; each keeps its own CSN, whatever CSN the
+-- write of the commit has
 pub record IsCommit (before after : List Entry) (commit : Commit) : Type 0 where
   pub fits : fits before (write.Commit commit.puts commit.drops) ≡ true
   pub leaves : committed before commit.puts commit.drops ≡ after
@@ -39,16 +44,17 @@ CanBeCommitted before after NoMemory = ⊤
 -- ---- what holds of what is held and what is staged
 
 -- what is staged by a search, if one runs
-abbrev pub stage_in : Option model.Running → model.Stage
+abbrev pub stage_in : Option model.SyncSession → model.Stage
 stage_in None = []
-stage_in (Some running) = running.stage
+stage_in (Some session) = session.stage
 
 -- an entry of this identity, or that it has none
 abbrev pub is_of : ℕ → Option Entry → Bool
 is_of uuid None = true
 is_of uuid (Some entry) = entry.uuid == uuid
 
--- the changes are in ascending order of identity, each is of its own, and what they put is fit for a commit of a replica
+-- the changes are in ascending order of identity, each is of its own, and what they put is fit for
+-- a commit of a replica
 pub record IsReady (stage : model.Stage) : Type 0 where
   pub ordered : rises (keys_of stage) ≡ true
   pub own : list_all (λ (change : ℕ × Option Entry). is_of change.0 change.1) stage ≡ true

@@ -15,6 +15,6 @@ abbrev pub held_in : Option (Rc (Vec (Rc Entry Global) Global) Global) → List 
 held_in None = []
 held_in (Some shared) = entries_in shared.value.items
 
--- entries that a consumer may hold: they ascend by identity, and nothing is against them
+-- entries that a consumer may hold: they ascend by identity, and nothing rejects them
 abbrev pub MayHold : List Entry → Type 0
 MayHold entries = (ascends entries ≡ true) × (against entries ≡ None)

@@ -2,6 +2,6 @@
 pub mod Committing
 pub mod Holding
 pub mod Names
-pub mod Running
+pub mod SyncSession
 pub mod Staging
 pub mod Taking

@@ -28,15 +28,18 @@ is_free names entry = is_own (noted_at names (name_key entry.dn)) entry.uuid
 
 -- the name of each of the entries is noted
 abbrev pub are_noted : Names → List Entry → Bool
-are_noted names entries = list_all (λ (entry : Entry). is_some (noted_at names (name_key entry.dn))) entries
+are_noted names entries =
+    list_all (λ (entry : Entry). is_some (noted_at names (name_key entry.dn))) entries
 
 -- what was noted still is
 abbrev pub Keeps : Names → Names → Type 0
-Keeps old new = (key : List ℕ) → is_some (noted_at old key) ≡ true → is_some (noted_at new key) ≡ true
+Keeps old new =
+    (key : List ℕ) → is_some (noted_at old key) ≡ true → is_some (noted_at new key) ≡ true
 
--- the entries keep within the limits of a directory, and some list of names, in which the name of each entry that is put is
--- noted, has the name of each of the entries with its own identity or not at all; where what is put is among the entries,
--- none of them then has the name of one that is put with another identity
+-- the entries keep within the limits of a directory, and some list of names, in which the name of
+-- each entry that is put is noted, has the name of each of the entries with its own identity or not
+-- at all; where what is put is among the entries, none of them then has the name of one that is put
+-- with another identity
 pub record AreClear (puts entries : List Entry) : Type 0 where
   pub names : Names
   pub within : is_crowded entries ≡ false

@@ -7,33 +7,33 @@ use Rattle.entry_tree.specs.declared.entry.Entry.{Entry}
 use Rattle.schema_rules.specs.Attributes.{weight_of}
 use Rattle.sync_model.specs.Copy.{Stage, slot, staged}
 use Rattle.sync_consumer.specs.declared.stage.Staged.{Staged}
-use Rattle.sync_consumer.specs.declared.stage.Staged.TheVariants.{Put, Gone}
+use Rattle.sync_consumer.specs.declared.stage.Staged.TheVariants.{AddOrModify, Delete}
 use Rattle.sync_consumer.specs.declared.stage.Before.{Before}
 use Rattle.sync_consumer.specs.declared.stage.Before.TheVariants.{Had, Nothing}
 
 abbrev pub change_of : Staged → ℕ × Option Entry
-change_of (Put kept) = (kept.value.uuid, Some kept.value)
-change_of (Gone uuid) = (uuid, None)
+change_of (AddOrModify kept) = (kept.value.uuid, Some kept.value)
+change_of (Delete uuid) = (uuid, None)
 
 abbrev pub changes_of : List Staged → Stage
 changes_of changes = map change_of changes
 
 -- the entry of one change, and the identity that has none, as lists
 abbrev pub put_alone : Staged → List Entry
-put_alone (Put kept) = kept.value ∷ []
-put_alone (Gone uuid) = []
+put_alone (AddOrModify kept) = kept.value ∷ []
+put_alone (Delete uuid) = []
 
 abbrev pub dropped_alone : Staged → List ℕ
-dropped_alone (Put kept) = []
-dropped_alone (Gone uuid) = uuid ∷ []
+dropped_alone (AddOrModify kept) = []
+dropped_alone (Delete uuid) = uuid ∷ []
 
 -- one change
-abbrev pub laid_one : Stage → ℕ × Option Entry → Stage
-laid_one stage change = staged change.0 change.1 stage
+abbrev pub staged_one : Stage → ℕ × Option Entry → Stage
+staged_one stage change = staged change.0 change.1 stage
 
 -- the changes one after another
-abbrev pub laid : Stage → Stage → Stage
-laid stage changes = fold laid_one stage changes
+abbrev pub staged_each : Stage → Stage → Stage
+staged_each stage changes = fold staged_one stage changes
 
 -- the entry that is staged of the identity
 abbrev pub entry_staged : Stage → ℕ → Option Entry
@@ -55,7 +55,7 @@ pub record IsAt (numbers : List ℕ) (number place : ℕ) : Type 0 where
 pub record IsGapFor (numbers : List ℕ) (number place : ℕ) : Type 0 where
   pub within : place ≤ length numbers
   pub before : (k : ℕ) → k < place → slice_index numbers k < number
-  pub behind : (k : ℕ) → place ≤ k → k < length numbers → number < slice_index numbers k
+  pub beyond : (k : ℕ) → place ≤ k → k < length numbers → number < slice_index numbers k
 
 -- each of the entries is above the identity
 abbrev pub is_above : ℕ → List Entry → Bool

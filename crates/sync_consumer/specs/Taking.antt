@@ -15,11 +15,11 @@ use Rattle.sync_model.specs.Message.{SyncMessage}
 use Rattle.sync_model.specs.Copy as model
 use Rattle.sync_model.specs.Copy.{Answer as answer, Fault as fault}
 use Rattle.sync_model.specs.Within.{taken_within}
-use Rattle.sync_wire.specs.Hearing.{said}
+use Rattle.sync_wire.specs.Decoding.{said}
 use Rattle.sync_wire.specs.Kind.{tag_of}
 use Rattle.sync_wire.specs.Requesting.{search_request}
-use Rattle.sync_wire.specs.declared.fault.HearingFault.{HearingFault}
-use Rattle.sync_wire.specs.declared.fault.HearingFault.TheVariants as hearing
+use Rattle.sync_wire.specs.declared.fault.DecodeFault.{DecodeFault}
+use Rattle.sync_wire.specs.declared.fault.DecodeFault.TheVariants as decoding
 use Rattle.sync_consumer.specs.declared.commit.Commit.{Commit}
 use Rattle.sync_consumer.specs.Staging.{is_above, up_to}
 use Rattle.sync_consumer.specs.declared.consumer.Taken.{Taken}
@@ -37,86 +37,96 @@ pub record Following : Type 0 where
 
 -- no entries, no cookie and no search
 abbrev pub nothing : model.Copy
-nothing = record { held = []; cookie = None; running = None }
+nothing = record { held = []; cookie = None; session = None }
 
--- the same entries, of which another search tells from now on: no cookie tells what it selected, and no search runs
+-- the same entries, of which another search reports from now on: no cookie reports what it
+-- selected, and no search runs
 abbrev pub wanting : Following → Search → Following
-wanting following search = record following { spec = search; copy = record following.copy { cookie = None; running = None } }
+wanting following search =
+    record following {
+      spec = search;
+      copy = record following.copy { cookie = None; session = None };
+    }
 
 -- ---- the request
 
 -- what is asked for with its control
 abbrev pub asked_of : Following → Mode → SyncRequest
-asked_of following mode = record { mode = mode; cookie = following.copy.cookie; reload_hint = following.reload }
+asked_of following mode =
+    record { mode = mode; cookie = following.copy.cookie; reload_hint = following.reload }
 
 abbrev pub request_of : Following → ℕ → Mode → Whole
-request_of following id mode = search_request following.spec id mode following.reload following.copy.cookie
+request_of following id mode =
+    search_request following.spec id mode following.reload following.copy.cookie
 
--- ---- what is told
+-- ---- what is reported
 
-abbrev pub told_fault : ℕ → model.Fault → PeerFault
-told_fault tag fault.OutOfPlace = peer.OutOfPlace tag
-told_fault tag (fault.PresentUnknown uuid) = peer.PresentUnknown uuid
-told_fault tag fault.StageFull = peer.StageFull
-told_fault tag (fault.DuplicateName one other) = peer.DuplicateName one other
+abbrev pub taken_fault : ℕ → model.Fault → PeerFault
+taken_fault tag fault.OutOfPlace = peer.OutOfPlace tag
+taken_fault tag (fault.PresentUnknown uuid) = peer.PresentUnknown uuid
+taken_fault tag fault.StageFull = peer.StageFull
+taken_fault tag (fault.DuplicateName one other) = peer.DuplicateName one other
 
-abbrev pub told_commit : model.Commit → Commit
-told_commit commit = record { puts = commit.puts; drops = commit.drops; cookie = commit.cookie }
+abbrev pub taken_commit : model.Commit → Commit
+taken_commit commit = record { puts = commit.puts; drops = commit.drops; cookie = commit.cookie }
 
 -- of a message whose operation has this tag
-abbrev pub told : ℕ → model.Answer → Taken
-told tag answer.Staged = Staged
-told tag (answer.Stored commit) = Stored (told_commit commit)
-told tag (answer.Copied commit) = Copied (told_commit commit)
-told tag (answer.Over code) = Over code
-told tag (answer.Refused found) = Fault (told_fault tag found)
+abbrev pub answer_taken : ℕ → model.Answer → Taken
+answer_taken tag answer.Staged = Staged
+answer_taken tag (answer.Stored commit) = Stored (taken_commit commit)
+answer_taken tag (answer.Copied commit) = Copied (taken_commit commit)
+answer_taken tag (answer.Over code) = Over code
+answer_taken tag (answer.Refused found) = Fault (taken_fault tag found)
 
--- what is told of a message that says nothing
-abbrev pub refusal_of : HearingFault → Refusal
-refusal_of hearing.OutOfPlace = refusal.OutOfPlace
-refusal_of hearing.BadValue = refusal.Fault peer.BadValue
-refusal_of (hearing.UuidDiffers uuid other) = refusal.Fault (peer.UuidDiffers uuid other)
-refusal_of (hearing.BadEntry code) = refusal.Fault (peer.BadEntry code)
-refusal_of hearing.NoMemory = refusal.NoMemory
+-- what is reported of a message that says nothing
+abbrev pub refusal_of : DecodeFault → Refusal
+refusal_of decoding.OutOfPlace = refusal.OutOfPlace
+refusal_of decoding.BadValue = refusal.Fault peer.BadValue
+refusal_of (decoding.UuidDiffers uuid other) = refusal.Fault (peer.UuidDiffers uuid other)
+refusal_of (decoding.BadEntry code) = refusal.Fault (peer.BadEntry code)
+refusal_of decoding.NoMemory = refusal.NoMemory
 
--- what is told of entries that a directory may not have
+-- what is reported of entries that a directory may not have
 abbrev pub refusal_against : CommitRefusal → Refusal
 refusal_against opposing.TooMany = refusal.Fault peer.StageFull
 refusal_against opposing.TooHeavy = refusal.Fault peer.StageFull
 refusal_against (opposing.SameName one other) = refusal.Fault (peer.DuplicateName one other)
 refusal_against opposing.NoMemory = refusal.NoMemory
 
-abbrev pub told_refusal : ℕ → Refusal → Taken
-told_refusal tag refusal.OutOfPlace = Fault (peer.OutOfPlace tag)
-told_refusal tag (refusal.Fault found) = Fault found
-told_refusal tag refusal.NoMemory = NoMemory
+abbrev pub taken_refusal : ℕ → Refusal → Taken
+taken_refusal tag refusal.OutOfPlace = Fault (peer.OutOfPlace tag)
+taken_refusal tag (refusal.Fault found) = Fault found
+taken_refusal tag refusal.NoMemory = NoMemory
 
 -- ---- each message
 
 -- a search runs whose refresh is done, and which goes on
-abbrev pub is_persisting : Option model.Running → Bool
+abbrev pub is_persisting : Option model.SyncSession → Bool
 is_persisting None = false
-is_persisting (Some running) = running.persisting
+is_persisting (Some session) = session.persisting
 
 abbrev pub without_search : model.Copy → model.Copy
-without_search copy = record copy { running = None }
+without_search copy = record copy { session = None }
 
-abbrev pub taken_as : ℕ → ℕ → model.Copy → Result SyncMessage HearingFault → model.Copy × Taken
-taken_as tag id copy (Err found) = (without_search copy, told_refusal tag (refusal_of found))
-taken_as tag id copy (Ok message) = ((taken_within id copy message).0, told tag (taken_within id copy message).1)
+abbrev pub taken_as : ℕ → ℕ → model.Copy → Result SyncMessage DecodeFault → model.Copy × Taken
+taken_as tag id copy (Err found) = (without_search copy, taken_refusal tag (refusal_of found))
+taken_as tag id copy (Ok message) =
+    ((taken_within id copy message).0, answer_taken tag (taken_within id copy message).1)
 
--- by the search that runs: the ID of its messages comes first, then what the message says, then what that leads to
-abbrev pub taken_by : Option model.Running → model.Copy → Message → model.Copy × Taken
+-- by the search that runs: the ID of its messages comes first, then what the message says, then
+-- what that leads to
+abbrev pub taken_by : Option model.SyncSession → model.Copy → Message → model.Copy × Taken
 taken_by None copy message = (without_search copy, Fault (peer.OutOfPlace (tag_of message.op)))
-taken_by (Some running) copy message =
-    if message.id == running.id
-    then taken_as (tag_of message.op) message.id copy (said running.persisting message)
+taken_by (Some session) copy message =
+    if message.id == session.id
+    then taken_as (tag_of message.op) message.id copy (said session.persisting message)
     else (without_search copy, Fault (peer.OutOfPlace (tag_of message.op)))
 
 abbrev pub taken_of : model.Copy → Message → model.Copy × Taken
-taken_of copy message = taken_by copy.running copy message
+taken_of copy message = taken_by copy.session copy message
 
--- the copy before a message and after it, and what is told of it; want of memory leaves all as it was
+-- the copy before a message and after it, and what is reported of it; out of memory
+-- leaves all as it was
 abbrev pub Takes : model.Copy → Message → model.Copy → Taken → Type 0
 Takes before message after NoMemory = after ≡ before
 Takes before message after Staged = (after, Staged) ≡ taken_of before message
@@ -127,22 +137,26 @@ Takes before message after (Fault found) = (after, Fault found) ≡ taken_of bef
 
 -- all that a stage puts and drops is above the identity
 abbrev pub IsBeyond : ℕ → Commit → Type 0
-IsBeyond uuid commit = (is_above uuid commit.puts ≡ true) × (list_all (nat_lt uuid) commit.drops ≡ true)
+IsBeyond uuid commit =
+    (is_above uuid commit.puts ≡ true) × (list_all (nat_lt uuid) commit.drops ≡ true)
 
 -- the entries up to an identity are as before where all that a stage puts and drops is above it
-abbrev pub KeepsFront : model.Copy → model.Copy → Commit → Type 0
-KeepsFront before after commit = (uuid : ℕ) → IsBeyond uuid commit → up_to uuid after.held ≡ up_to uuid before.held
+abbrev pub KeepsPrefix : model.Copy → model.Copy → Commit → Type 0
+KeepsPrefix before after commit =
+    (uuid : ℕ) → IsBeyond uuid commit → up_to uuid after.held ≡ up_to uuid before.held
 
--- the entries are as before, other than where a stage took effect, from the first identity on that it puts or drops
+-- the entries are as before, other than where a stage took effect, from the first identity on that
+-- it puts or drops
 abbrev pub KeepsEntries : model.Copy → model.Copy → Taken → Type 0
 KeepsEntries before after Staged = after.held ≡ before.held
-KeepsEntries before after (Stored commit) = KeepsFront before after commit
-KeepsEntries before after (Copied commit) = KeepsFront before after commit
+KeepsEntries before after (Stored commit) = KeepsPrefix before after commit
+KeepsEntries before after (Copied commit) = KeepsPrefix before after commit
 KeepsEntries before after (Over code) = after.held ≡ before.held
 KeepsEntries before after (Fault found) = after.held ≡ before.held
 KeepsEntries before after NoMemory = after.held ≡ before.held
 
--- the cookie is as before, other than where one came with a stage that took effect, or the search was refused for it
+-- the cookie is as before, other than where one came with a stage that took effect, or the search
+-- was refused for it
 abbrev pub KeepsCookie : model.Copy → model.Copy → Taken → Type 0
 KeepsCookie before after Staged = after.cookie ≡ before.cookie
 KeepsCookie before after (Stored commit) = after.cookie ≡ commit.cookie
@@ -153,8 +167,8 @@ KeepsCookie before after NoMemory = after.cookie ≡ before.cookie
 
 -- ---- commits of replicas
 
--- entries as a commit of a replica puts them: their values are of their types' syntax, no type is operational, and each
--- weighs no more than an entry of a directory may
+-- entries as a commit of a replica puts them: their values are of their types' syntax, no type is
+-- operational, and each weighs no more than an entry of a directory may
 pub record AreFit (entries : List Entry) : Type 0 where
   pub sound : list_all is_sound_put entries ≡ true
   pub light : list_all is_light entries ≡ true

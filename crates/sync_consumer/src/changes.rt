@@ -5,7 +5,7 @@ ghost use Rattle.std.specs.Map.{keys_of};
 ghost use Rattle.std.specs.Vec.{vec_capacity, vec_len};
 ghost use Rattle.sync_model.specs.Copy as model;
 ghost use Rattle.sync_consumer.specs.Staging as spec;
-ghost use Rattle.sync_consumer.specs.Staging.{change_of, changes_of, laid_one, rises, slot_before, IsStage};
+ghost use Rattle.sync_consumer.specs.Staging.{change_of, changes_of, staged_one, rises, slot_before, IsStage};
 
 use crate::places::place_of_change;
 use crate::stage::{Before, Staged};
@@ -23,7 +23,8 @@ impl Load {
         requires few { self.old.count < 2 ^ 63 }
         requires light { self.old.weight < 2 ^ 127 }
         ensures count { self.new.count ≡ self.old.count + spec.count_of (change_of change.now).1 }
-        ensures weight { self.new.weight ≡ self.old.weight + spec.weight_within (change_of change.now).1 }
+        ensures weight { self.new.weight
+            ≡ self.old.weight + spec.weight_within (change_of change.now).1 }
     {
         if let Some(entry) = change.entry() {
             self.count += 1;
@@ -35,7 +36,8 @@ impl Load {
         requires counted { spec.count_of (change_of change.now).1 ≤ self.old.count }
         requires weighed { spec.weight_within (change_of change.now).1 ≤ self.old.weight }
         ensures count { self.new.count ≡ self.old.count - spec.count_of (change_of change.now).1 }
-        ensures weight { self.new.weight ≡ self.old.weight - spec.weight_within (change_of change.now).1 }
+        ensures weight { self.new.weight
+            ≡ self.old.weight - spec.weight_within (change_of change.now).1 }
     {
         if let Some(entry) = change.entry() {
             self.count -= 1;
@@ -49,13 +51,15 @@ pub(crate) fn set(changes: &mut Vec<Staged>, load: &mut Load, change: Staged) ->
     requires stage { IsStage (changes_of changes.old.items) load.old.count load.old.weight }
     requires room { vec_len changes.old < vec_capacity changes.old }
     ensures stage { IsStage (changes_of changes.new.items) load.new.count load.new.weight }
-    ensures value { changes_of changes.new.items ≡ laid_one (changes_of changes.old.items) (change_of change) }
-    ensures back { spec.put_back (changes_of changes.new.items) result ≡ changes_of changes.old.items }
+    ensures value { changes_of changes.new.items
+        ≡ staged_one (changes_of changes.old.items) (change_of change) }
+    ensures back { spec.put_back (changes_of changes.new.items) result
+        ≡ changes_of changes.old.items }
     ensures len { vec_len changes.new ≤ vec_len changes.old + 1 }
     ensures capacity { vec_capacity changes.old ≤ vec_capacity changes.new }
 {
     load.add(&change);
-    let before = lay_one(changes, change);
+    let before = stage_one(changes, change);
     if let Before::Had(old) = &before {
         load.remove(old);
     }
@@ -63,12 +67,15 @@ pub(crate) fn set(changes: &mut Vec<Staged>, load: &mut Load, change: Staged) ->
 }
 
 /// Adds the change, for which there is room, in place of another of its identity.
-fn lay_one(changes: &mut Vec<Staged>, change: Staged) -> Before
+fn stage_one(changes: &mut Vec<Staged>, change: Staged) -> Before
     requires ordered { rises (keys_of (changes_of changes.old.items)) ≡ true }
     requires room { vec_len changes.old < vec_capacity changes.old }
-    ensures value { changes_of changes.new.items ≡ laid_one (changes_of changes.old.items) (change_of change) }
-    ensures back { spec.put_back (changes_of changes.new.items) result ≡ changes_of changes.old.items }
-    ensures was { slot_before result ≡ model.slot (changes_of changes.old.items) (change_of change).0 }
+    ensures value { changes_of changes.new.items
+        ≡ staged_one (changes_of changes.old.items) (change_of change) }
+    ensures back { spec.put_back (changes_of changes.new.items) result
+        ≡ changes_of changes.old.items }
+    ensures was { slot_before result
+        ≡ model.slot (changes_of changes.old.items) (change_of change).0 }
     ensures len { vec_len changes.new ≤ vec_len changes.old + 1 }
     ensures capacity { vec_capacity changes.old ≤ vec_capacity changes.new }
 {
@@ -86,7 +93,8 @@ fn lay_one(changes: &mut Vec<Staged>, change: Staged) -> Before
 pub(crate) fn put_back(changes: &mut Vec<Staged>, load: &mut Load, before: Before)
     requires stage { IsStage (changes_of changes.old.items) load.old.count load.old.weight }
     ensures stage { IsStage (changes_of changes.new.items) load.new.count load.new.weight }
-    ensures value { changes_of changes.new.items ≡ spec.put_back (changes_of changes.old.items) before }
+    ensures value { changes_of changes.new.items
+        ≡ spec.put_back (changes_of changes.old.items) before }
 {
     match before {
         Before::Had(old) => replace(changes, load, old),
@@ -98,7 +106,8 @@ pub(crate) fn put_back(changes: &mut Vec<Staged>, load: &mut Load, before: Befor
 fn replace(changes: &mut Vec<Staged>, load: &mut Load, old: Staged)
     requires stage { IsStage (changes_of changes.old.items) load.old.count load.old.weight }
     ensures stage { IsStage (changes_of changes.new.items) load.new.count load.new.weight }
-    ensures value { changes_of changes.new.items ≡ spec.put_back (changes_of changes.old.items) (Before.Had old) }
+    ensures value { changes_of changes.new.items
+        ≡ spec.put_back (changes_of changes.old.items) (Before.Had old) }
 {
     if let Ok(place) = place_of_change(changes, old.uuid()) {
         load.add(&old);
@@ -111,7 +120,8 @@ fn replace(changes: &mut Vec<Staged>, load: &mut Load, old: Staged)
 fn remove(changes: &mut Vec<Staged>, load: &mut Load, uuid: u128)
     requires stage { IsStage (changes_of changes.old.items) load.old.count load.old.weight }
     ensures stage { IsStage (changes_of changes.new.items) load.new.count load.new.weight }
-    ensures value { changes_of changes.new.items ≡ spec.put_back (changes_of changes.old.items) (Before.Nothing uuid) }
+    ensures value { changes_of changes.new.items
+        ≡ spec.put_back (changes_of changes.old.items) (Before.Nothing uuid) }
 {
     if let Ok(place) = place_of_change(changes, uuid) {
         let late = changes.remove(place);

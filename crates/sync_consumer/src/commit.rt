@@ -3,7 +3,7 @@
 ghost use Rattle.std.specs.Prelude.{◌≡◌, ◌++◌, IfOk, OnOk};
 ghost use Rattle.sync_model.specs.Copy as model;
 ghost use Rattle.sync_consumer.specs.Staging.{changes_of, put_alone, dropped_alone};
-ghost use Rattle.sync_consumer.specs.Taking.{told_commit};
+ghost use Rattle.sync_consumer.specs.Taking.{taken_commit};
 
 use crate::stage::Staged;
 use entry_tree::EntryList;
@@ -29,7 +29,7 @@ impl Commit {
         cookie: Option<Octets>,
     ) -> Result<Commit, NoMemory>
         ensures { IfOk result
-            (λ commit. commit ≡ told_commit (model.commit_of (changes_of stage.now) cookie)) }
+            (λ commit. commit ≡ taken_commit (model.commit_of (changes_of stage.now) cookie)) }
     {
         let (puts, drops) = parts_of(alloc, stage)?;
         Ok(Commit {
@@ -59,8 +59,8 @@ fn note(staged: &Staged, puts: &mut EntryList, drops: &mut IdList) -> Result<(),
     ensures drops { OnOk result (drops.new ≡ drops.old ++ dropped_alone staged.now) }
 {
     match staged {
-        Staged::Put(kept) => puts.push(kept.entry().copy()?)?,
-        Staged::Gone(uuid) => drops.push(*uuid)?,
+        Staged::AddOrModify(kept) => puts.push(kept.entry().copy()?)?,
+        Staged::Delete(uuid) => drops.push(*uuid)?,
     }
     Ok(())
 }

@@ -9,7 +9,7 @@ ghost use Rattle.sync_wire.specs.Kind as kind;
 ghost use Rattle.sync_wire.specs.Requesting.{persists};
 ghost use Rattle.sync_consumer.specs.declared.consumer.Taken.TheVariants.{Fault};
 ghost use Rattle.sync_consumer.specs.declared.fault.PeerFault.TheVariants.{OutOfPlace};
-ghost use Rattle.sync_consumer.specs.Running.{running_of};
+ghost use Rattle.sync_consumer.specs.SyncSession.{session_of};
 ghost use Rattle.sync_messages.specs.Request.{request_of, request_octets};
 ghost use Rattle.sync_consumer.specs.Committing.{AreNamedApart, CanBeCommitted};
 ghost use Rattle.sync_consumer.specs.Taking as taking;
@@ -18,7 +18,7 @@ use crate::commit::Commit;
 use crate::entry_map::EntryMap;
 use crate::fault::{PeerFault, Refusal};
 use crate::held::{Held, copy_of};
-use crate::running::{Running, Step};
+use crate::session::{Step, SyncSession};
 use entry_tree::Spec;
 use ldap_ber::{NoMemory, Octets};
 use ldap_messages::Message;
@@ -50,7 +50,7 @@ pub struct Consumer {
     spec: Spec,
     reload_hint: bool,
     held: Held,
-    running: Option<Running>,
+    session: Option<SyncSession>,
 }
 
 /// Contracts see the filter as a tree.
@@ -60,7 +60,7 @@ impl Model for Consumer {
     ghost use Rattle.entry_tree.specs.FilterCode.{tree_code};
     ghost use Rattle.entry_tree.specs.Selection.{search_of};
     ghost use Rattle.sync_consumer.specs.Committing.{IsKept, stage_in};
-    ghost use Rattle.sync_consumer.specs.Running.{running_of, copy_of};
+    ghost use Rattle.sync_consumer.specs.SyncSession.{session_of, copy_of};
     ghost use Rattle.sync_consumer.specs.Taking.{Following};
 
     ghost Value = { Following };
@@ -70,54 +70,54 @@ impl Model for Consumer {
     ghost view = { λ c. record {
       spec = search_of c.spec;
       reload = c.reload_hint;
-      copy = copy_of c.held (option_map running_of c.running);
+      copy = copy_of c.held (option_map session_of c.session);
     } };
 
-    ghost invariant = { λ c. IsKept c.held.entries (stage_in (option_map running_of c.running)) };
+    ghost invariant = { λ c. IsKept c.held.entries (stage_in (option_map session_of c.session)) };
 }
 
 impl Consumer {
-    /// A consumer without entries, a cookie and a search.
+    /// A consumer of what the specification selects, without entries, a cookie and a search. Each
+    /// of its requests has this reloadHint (RFC 4533, section 2.2).
     #[tactic(auto, using(crate::proofs::Upholding::nothing_kept))]
     pub fn new(alloc: Global, spec: Spec, reload_hint: bool) -> Result<Consumer, NoMemory>
-        ensures { result ≡ Ok (record { spec = search_of spec; reload = reload_hint; copy = taking.nothing }) }
+        ensures { result
+            ≡ Ok (record { spec = search_of spec; reload = reload_hint; copy = taking.nothing }) }
     {
         Ok(Consumer {
             spec,
             reload_hint,
             held: Held::new(alloc),
-            running: None,
+            session: None,
         })
     }
 
-    /// A consumer that goes on as this one does.
+    /// A consumer that goes on as this one does. It is `NoMemory` where memory runs out.
     #[tactic(auto, using(crate::proofs::Upholding::same_kept))]
     pub fn copy(&self) -> Result<Consumer, NoMemory>
         ensures { IfOk result (λ copy. copy ≡ self.now) }
     {
+        let spec = copy_of_spec(&self.spec)?;
+        let (held, session) = copies_of(&self.held, &self.session)?;
         Ok(Consumer {
-            spec: copy_of_spec(&self.spec)?,
+            spec,
             reload_hint: self.reload_hint,
-            held: self.held.copy()?,
-            running: self.copy_of_running()?,
+            held,
+            session,
         })
     }
 
-    fn copy_of_running(&self) -> Result<Option<Running>, NoMemory>
-        ensures { IfOk result (λ copy. option_map running_of copy ≡ self.now.copy.running) }
-    {
-        match &self.running {
-            Some(running) => Ok(Some(running.copy()?)),
-            None => Ok(None),
-        }
-    }
-
-    /// Begins a search, in place of one that runs. The answer asks for it.
+    /// Begins a search in this mode, in place of one that runs. The answer asks for it: a
+    /// SearchRequest with this message ID, whose Sync Request control (RFC 4533, section 2.2) has
+    /// the cookie that is held. It is `NoMemory` where memory runs out, and the consumer is as
+    /// before.
     pub fn request(&mut self, id: u32, mode: Mode) -> Result<Message, NoMemory>
         ensures message { IfOk result
             (λ message. whole_of message ≡ taking.request_of self.old id mode) }
         // The value of its control is read again as what is asked.
-        ensures read_again { IfOk result (λ message. request_of (request_octets (taking.asked_of self.old mode)) ≡ Ok (taking.asked_of self.old mode)) }
+        ensures read_again { IfOk result (λ message.
+            request_of (request_octets (taking.asked_of self.old mode))
+            ≡ Ok (taking.asked_of self.old mode)) }
         ensures ok { OnOk result (self.new
             ≡ record self.old { copy = model.asked id (persists mode) self.old.copy }) }
         ensures err { OnErr result (self.new ≡ self.old) }
@@ -129,11 +129,12 @@ impl Consumer {
             reload_hint: self.reload_hint,
         };
         let message = search_request(alloc, id, &self.spec, &sync)?;
-        self.running = Some(Running::new(alloc, id, mode));
+        self.session = Some(SyncSession::new(alloc, id, mode));
         Ok(message)
     }
 
-    /// Takes a message of the search.
+    /// Takes a message of the search (RFC 4533, sections 3.3 and 3.4). Where none runs, the message
+    /// is of another one, or says what no provider may say then, it is `Fault`.
     pub fn take(&mut self, message: &Message) -> Taken
         ensures exact { taking.Takes self.old.copy message.now self.new.copy result }
         ensures entries { taking.KeepsEntries self.old.copy self.new.copy result }
@@ -149,18 +150,17 @@ impl Consumer {
         ensures spec { self.new.spec ≡ self.old.spec }
         ensures reload { self.new.reload ≡ self.old.reload }
     {
-        let alloc = self.held.entries.allocator();
-        let Some(mut running) = self.running.take() else {
+        let Some(mut session) = self.session.take() else {
             return out_of_place(message);
         };
-        match running.take(alloc, &mut self.held, message) {
+        match session.take(&mut self.held, message) {
             Ok(Step::Goes(taken)) => {
-                self.running = Some(running);
+                self.session = Some(session);
                 taken
             }
             Ok(Step::Ends(taken)) => taken,
             Err(Refusal::NoMemory) => {
-                self.running = Some(running);
+                self.session = Some(session);
                 Taken::NoMemory
             }
             Err(Refusal::OutOfPlace) => out_of_place(message),
@@ -169,18 +169,18 @@ impl Consumer {
     }
 
     /// Whether a search runs.
-    pub fn is_running(&self) -> bool
-        ensures { result ≡ is_some self.now.copy.running }
+    pub fn has_session(&self) -> bool
+        ensures { result ≡ is_some self.now.copy.session }
     {
-        self.running.is_some()
+        self.session.is_some()
     }
 
     /// Whether a search runs whose refresh is done, and which goes on (RFC 4533, section 3.4).
     pub fn is_persisting(&self) -> bool
-        ensures { result ≡ taking.is_persisting self.now.copy.running }
+        ensures { result ≡ taking.is_persisting self.now.copy.session }
     {
-        match &self.running {
-            Some(running) => running.persisting,
+        match &self.session {
+            Some(session) => session.persisting,
             None => false,
         }
     }
@@ -190,9 +190,10 @@ impl Consumer {
     pub fn cut(&mut self)
         ensures { self.new ≡ record self.old { copy = taking.without_search self.old.copy } }
     {
-        self.running = None;
+        self.session = None;
     }
 
+    /// Loses the cookie. The entries stay, and a search that runs goes on.
     pub fn lose_cookie(&mut self)
         ensures { self.new ≡ record self.old { copy = record self.old.copy { cookie = None } } }
     {
@@ -200,7 +201,7 @@ impl Consumer {
     }
 
     /// Wants this from now on, in place of what was wanted. The entries stay, up to the refresh
-    /// that tells which of them are wanted now. The cookie is lost, since it tells of what was wanted
+    /// that reports which of them are wanted now. The cookie is lost, since it reports of what was wanted
     /// before, and a search that runs is ended, with what is staged. It takes no memory.
     pub fn respec(&mut self, spec: Spec)
         ensures { self.new ≡ taking.wanting self.old (search_of spec) }
@@ -210,7 +211,8 @@ impl Consumer {
         self.cut();
     }
 
-    /// Takes this text for the cookie, in place of the one that was there. A search that runs goes on.
+    /// Takes this text for the cookie, in place of the one that was there. A search that runs goes
+    /// on. It is `NoMemory` where memory runs out, and the consumer is as before.
     pub fn set_cookie(&mut self, text: &[u8]) -> Result<(), NoMemory>
         ensures ok { OnOk result (self.new
             ≡ record self.old { copy = record self.old.copy { cookie = Some text.now } }) }
@@ -221,12 +223,15 @@ impl Consumer {
         Ok(())
     }
 
+    /// Lends the entries that the consumer holds. What is staged is not among them.
     pub fn entries(&self) -> &EntryMap
         ensures { result.now ≡ self.now.copy.held }
     {
         &self.held.entries
     }
 
+    /// Lends the cookie that the consumer holds, whose octets came from its provider or were given
+    /// to it. It is None where there is none.
     pub fn cookie(&self) -> Option<&[u8]>
         ensures { option_map (λ cookie. cookie.now) result ≡ self.now.copy.cookie }
     {
@@ -236,10 +241,33 @@ impl Consumer {
         }
     }
 
+    /// Lends what the consumer wants: the base, the scope and the filter of its searches.
     pub fn spec(&self) -> &Spec
         ensures { search_of result.now ≡ self.now.spec }
     {
         &self.spec
+    }
+}
+
+/// Copies of what is held and of the search.
+fn copies_of(
+    held: &Held,
+    session: &Option<SyncSession>,
+) -> Result<(Held, Option<SyncSession>), NoMemory>
+    ensures held { IfOk result (λ copies. copies.0 ≡ held.now) }
+    ensures session { IfOk result (λ copies.
+        option_map session_of copies.1 ≡ option_map session_of session.now) }
+{
+    let held = held.copy()?;
+    Ok((held, copy_of_session(session)?))
+}
+
+fn copy_of_session(session: &Option<SyncSession>) -> Result<Option<SyncSession>, NoMemory>
+    ensures { IfOk result (λ copy. option_map session_of copy ≡ option_map session_of session.now) }
+{
+    match session {
+        Some(session) => Ok(Some(session.copy()?)),
+        None => Ok(None),
     }
 }
 

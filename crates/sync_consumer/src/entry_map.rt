@@ -7,7 +7,7 @@ ghost use Rattle.entry_tree.specs.State.{ascends, entry_at};
 ghost use Rattle.sync_model.specs.Copy.{effected};
 ghost use Rattle.sync_model.specs.Within.{against};
 ghost use Rattle.sync_consumer.specs.Holding.{entries_in, MayHold};
-ghost use Rattle.sync_consumer.specs.Running.{RefusesBy};
+ghost use Rattle.sync_consumer.specs.SyncSession.{RefusesBy};
 ghost use Rattle.sync_consumer.specs.Staging.{higher, up_to};
 
 use crate::fault::Refusal;
@@ -44,7 +44,7 @@ impl Model for EntryMap {
 }
 
 impl EntryMap {
-    #[tactic(auto, using(crate::proofs::Settling::nothing_held))]
+    #[tactic(auto, using(crate::proofs::Effecting::nothing_held))]
     pub(crate) fn new(alloc: Global) -> EntryMap
         ensures { result ≡ [] }
     {
@@ -68,12 +68,14 @@ impl EntryMap {
         })
     }
 
+    /// Reports how many entries are held.
     pub fn len(&self) -> usize
         ensures { result ≡ length self.now }
     {
         self.kept().len()
     }
 
+    /// Reports whether no entry is held.
     pub fn is_empty(&self) -> bool
         ensures { result ≡ (length self.now == 0) }
     {
@@ -92,17 +94,19 @@ impl EntryMap {
     }
 
     /// The entries above an identity, in ascending order of identity.
-    #[tactic(auto, using(crate::proofs::Fronts::both_sides))]
+    #[tactic(auto, using(crate::proofs::Prefixes::both_sides))]
     pub fn above(&self, uuid: u128) -> Result<Vec<&Entry>, NoMemory>
         ensures value { IfOk result (λ above. map (λ e. e.now) above.items ≡ higher uuid self.now) }
-        ensures split { IfOk result (λ above. up_to uuid self.now ++ map (λ e. e.now) above.items ≡ self.now) }
+        ensures split { IfOk result (λ above.
+            up_to uuid self.now ++ map (λ e. e.now) above.items ≡ self.now) }
     {
         entries_of(self.alloc, parted(self.kept(), uuid).1)
     }
 
     /// The greatest identity, up to which all entries are.
     pub fn greatest(&self) -> Option<u128>
-        ensures value { result ≡ option_map (λ entry. entry.uuid) (slice_get self.now (length self.now - 1)) }
+        ensures value { result
+            ≡ option_map (λ entry. entry.uuid) (slice_get self.now (length self.now - 1)) }
         ensures all { IfSome result (λ uuid. up_to uuid self.now ≡ self.now) }
         ensures none { IfNone result (self.now ≡ []) }
     {
@@ -166,7 +170,8 @@ impl EntryMap {
     /// The entries that there would be with the stage in effect, where a directory may have them.
     #[tactic(auto, using(crate::proofs::Opposing::opposed_as))]
     fn after(&self, stage: &Stage) -> Result<Vec<Rc<Kept>>, Refusal>
-        ensures value { IfOk result (λ after. entries_in after.items ≡ effected self.now stage.now) }
+        ensures value { IfOk result (λ after.
+            entries_in after.items ≡ effected self.now stage.now) }
         ensures held { IfOk result (λ after. MayHold (entries_in after.items)) }
         ensures fault { IfErr result (RefusesBy (against (effected self.now stage.now))) }
     {

@@ -6,7 +6,7 @@ ghost use Rattle.sync_consumer.specs.declared.fault.Refusal.TheVariants.{NoMemor
 
 use entry_tree::CommitRefusal;
 use std::alloc::AllocError;
-use sync_wire::HearingFault;
+use sync_wire::DecodeFault;
 
 /// Why a message of a search is refused, and its search given up.
 #[derive(Clone, Copy, Debug, PartialEq, Eq)]
@@ -19,8 +19,9 @@ pub enum PeerFault {
     OutOfPlace(u8),
     /// The value of a control or of a Sync Info message is outside its grammar.
     BadValue,
-    /// The entry cannot be held: its name is refused (34), a value is not of its type's syntax
-    /// (21), it has no entryCSN (65), or it weighs too much (11).
+    /// The entry cannot be held: its name is refused (invalidDNSyntax), a value is not of its
+    /// type's syntax (invalidAttributeSyntax), it has no entryCSN (objectClassViolation), or it
+    /// weighs too much (adminLimitExceeded).
     BadEntry(u32),
     /// There would be more entries than a directory may have, or heavier ones.
     StageFull,
@@ -45,18 +46,18 @@ impl From<AllocError> for Refusal {
     }
 }
 
-impl From<HearingFault> for Refusal {
+impl From<DecodeFault> for Refusal {
     ghost from_gives = { λ fault refusal. refusal ≡ refusal_of fault };
 
-    fn from(fault: HearingFault) -> Refusal {
+    fn from(fault: DecodeFault) -> Refusal {
         match fault {
-            HearingFault::OutOfPlace => Refusal::OutOfPlace,
-            HearingFault::BadValue => Refusal::Fault(PeerFault::BadValue),
-            HearingFault::UuidDiffers(uuid, other) => {
+            DecodeFault::OutOfPlace => Refusal::OutOfPlace,
+            DecodeFault::BadValue => Refusal::Fault(PeerFault::BadValue),
+            DecodeFault::UuidDiffers(uuid, other) => {
                 Refusal::Fault(PeerFault::UuidDiffers(uuid, other))
             }
-            HearingFault::BadEntry(code) => Refusal::Fault(PeerFault::BadEntry(code)),
-            HearingFault::NoMemory => Refusal::NoMemory,
+            DecodeFault::BadEntry(code) => Refusal::Fault(PeerFault::BadEntry(code)),
+            DecodeFault::NoMemory => Refusal::NoMemory,
         }
     }
 }

@@ -4,8 +4,8 @@ ghost use Rattle.std.specs.Prelude.{◌≡◌, [], None, Some, not, find, IfOk, 
 ghost use Rattle.std.specs.Option.{option_or};
 ghost use Rattle.sync_model.specs.Copy as model;
 ghost use Rattle.sync_model.specs.Within.{against};
-ghost use Rattle.sync_consumer.specs.Running.{RefusesBy};
-ghost use Rattle.sync_consumer.specs.Taking.{told_commit};
+ghost use Rattle.sync_consumer.specs.SyncSession.{RefusesBy};
+ghost use Rattle.sync_consumer.specs.Taking.{taken_commit};
 
 use crate::commit::Commit;
 use crate::entry_map::EntryMap;
@@ -44,17 +44,20 @@ impl Held {
 
     /// Brings the stage into effect, with the cookie where one came. A refusal leaves both as they
     /// were.
-    pub(crate) fn settle(
+    pub(crate) fn commit_stage(
         &mut self,
         stage: &mut Stage,
         cookie: Option<Octets>,
     ) -> Result<Commit, Refusal>
-        ensures commit { IfOk result (λ commit. commit ≡ told_commit (model.commit_of stage.old cookie)) }
-        ensures entries { OnOk result (self.new.entries ≡ model.effected self.old.entries stage.old) }
+        ensures commit { IfOk result (λ commit.
+            commit ≡ taken_commit (model.commit_of stage.old cookie)) }
+        ensures entries { OnOk result
+            (self.new.entries ≡ model.effected self.old.entries stage.old) }
         ensures cookie { OnOk result (self.new.cookie ≡ option_or cookie self.old.cookie) }
         ensures stage { OnOk result (stage.new ≡ []) }
         ensures within { OnOk result (against (model.effected self.old.entries stage.old) ≡ None) }
-        ensures fault { IfErr result (RefusesBy (against (model.effected self.old.entries stage.old))) }
+        ensures fault { IfErr result
+            (RefusesBy (against (model.effected self.old.entries stage.old))) }
         ensures err { OnErr result (self.new ≡ self.old) }
         ensures err_stage { OnErr result (stage.new ≡ stage.old) }
     {
@@ -71,7 +74,8 @@ impl Held {
 
     /// The first of the identities that is neither held nor staged with an entry.
     pub(crate) fn unknown(&self, stage: &Stage, uuids: &[u128]) -> Option<u128>
-        ensures { result ≡ find (λ uuid. not (model.is_known self.now.entries stage.now uuid)) uuids.now }
+        ensures { result
+            ≡ find (λ uuid. not (model.is_known self.now.entries stage.now uuid)) uuids.now }
     {
         for uuid in uuids {
             if !self.knows(stage, *uuid) {
@@ -90,8 +94,9 @@ impl Held {
     }
 
     /// The identities that are held, and were neither named nor sent.
-    pub(crate) fn unspoken(&self, named: &Named, stage: &Stage) -> Result<Vec<u128>, NoMemory>
-        ensures { IfOk result (λ uuids. uuids.items ≡ model.unspoken named.now stage.now self.now.entries) }
+    pub(crate) fn unmentioned(&self, named: &Named, stage: &Stage) -> Result<Vec<u128>, NoMemory>
+        ensures { IfOk result (λ uuids.
+            uuids.items ≡ model.unmentioned named.now stage.now self.now.entries) }
     {
         let mut uuids = Vec::new(self.entries.allocator());
         for kept in self.entries.kept() {

@@ -18,7 +18,7 @@ mod named;
 mod names;
 mod phase;
 mod places;
-mod running;
+mod session;
 mod stage;
 
 pub use commit::Commit;

@@ -64,7 +64,7 @@ fn push_put(after: &mut Vec<Rc<Kept>>, staged: &Staged) -> Result<(), NoMemory>
     ensures { OnOk result
         (entries_in after.new.items ≡ entries_in after.old.items ++ put_alone staged.now) }
 {
-    if let Staged::Put(kept) = staged {
+    if let Staged::AddOrModify(kept) = staged {
         after.push(kept.clone()?)?;
     }
     Ok(())

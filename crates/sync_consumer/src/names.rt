@@ -22,7 +22,8 @@ pub(crate) fn are_clear(
     after: &[Rc<Kept>],
     stage: &[Staged],
 ) -> Result<bool, NoMemory>
-    ensures { IfOk result (λ clear. IsTrue clear → spec.AreClear (puts_of (changes_of stage.now)) (entries_in after.now)) }
+    ensures { IfOk result (λ clear.
+        IsTrue clear → spec.AreClear (puts_of (changes_of stage.now)) (entries_in after.now)) }
 {
     if after.len() > MOST_ENTRIES || u128::from(total_weight(after)) > MOST_WEIGHT {
         return Ok(false);
@@ -58,7 +59,7 @@ fn note<'a>(names: &mut BTreeMap<&'a [u8], u128>, staged: &'a Staged) -> Result<
     ensures own { OnOk result (spec.are_noted names.new (put_alone staged.now) ≡ true) }
     ensures others { OnOk result (spec.Keeps names.old names.new) }
 {
-    if let Staged::Put(kept) = staged {
+    if let Staged::AddOrModify(kept) = staged {
         let _ = names.insert(kept.key(), kept.uuid())?;
     }
     Ok(())

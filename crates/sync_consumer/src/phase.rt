@@ -2,27 +2,26 @@
 
 ghost use Rattle.std.specs.Prelude.{◌≡◌, ◌||◌, ◌&&◌, pos, not, false, cond, None, IfOk};
 ghost use Rattle.std.specs.Ordering.{int_eq};
-ghost use Rattle.sync_model.specs.Message.SyncMessage.{PhaseEnds, Done};
-ghost use Rattle.sync_wire.specs.Hearing.{control_said};
+ghost use Rattle.sync_model.specs.Copy.{taken_info};
+ghost use Rattle.sync_model.specs.Message.SyncMessage.{Done};
+ghost use Rattle.sync_wire.specs.Decoding.{control_said};
 ghost use Rattle.sync_wire.specs.Requesting.{persists};
-ghost use Rattle.sync_consumer.specs.Running.{running_of, copy_with, within, last_changes, refresh_ended, StepsTo, StepsBy};
+ghost use Rattle.sync_consumer.specs.SyncSession.{session_of, copy_with, within, last_changes, refresh_ended, StepsTo, StepsBy};
 ghost use Rattle.sync_consumer.specs.Staging.{changes_of};
 ghost use Rattle.sync_consumer.specs.declared.consumer.Taken.TheVariants.{Stored, Copied, Over};
-ghost use Rattle.sync_consumer.specs.declared.running.Step.TheVariants.{Goes, Ends};
+ghost use Rattle.sync_consumer.specs.declared.session.Step.TheVariants.{Goes, Ends};
 
 use crate::commit::Commit;
 use crate::consumer::Taken;
 use crate::fault::Refusal;
 use crate::held::Held;
-use crate::running::{Running, Step};
+use crate::session::{Step, SyncSession};
 use crate::stage::{Staged, drops_of};
 use ldap_ber::{NoMemory, Octets};
+use ldap_constants::{E_SYNC_REFRESH_REQUIRED, SUCCESS};
 use sync_messages::SyncDone;
 
-/// syncRefreshRequired (RFC 4533, section 2.6): the cookie is of no use.
-const REFRESH_REQUIRED: i64 = 4096;
-
-impl Running {
+impl SyncSession {
     /// A delete phase ends, or else a present phase, and with it the refresh or not.
     pub(crate) fn end_phase(
         &mut self,
@@ -31,7 +30,9 @@ impl Running {
         done: bool,
         cookie: Option<Octets>,
     ) -> Result<Step, Refusal>
-        ensures { StepsBy held.old self.old held.new self.new result (PhaseEnds deletes done cookie) }
+        ensures { StepsTo held.old self.old held.new self.new result
+            (within false held.old self.old
+            (taken_info (copy_with held.old self.old) (session_of self.old) deletes done cookie)) }
     {
         if self.is_misplaced(deletes, done) {
             return Err(Refusal::OutOfPlace);
@@ -40,7 +41,7 @@ impl Running {
             return self.end_refresh(held, deletes, cookie);
         }
         let changes = self.last_changes(held, deletes)?;
-        let _ = self.stage.lay(changes)?;
+        let _ = self.stage.stage_each(changes)?;
         self.ended |= !deletes;
         Ok(Step::Goes(Taken::Staged))
     }
@@ -48,7 +49,9 @@ impl Running {
     /// Whether no such phase ends here: after the refresh none does, a refresh is not done by it
     /// where the search ends with it, and a present phase ends once.
     fn is_misplaced(&self, deletes: bool, done: bool) -> bool
-        ensures { result ≡ (self.now.persisting || ((done && not (persists self.now.mode)) || (not deletes && self.now.ended))) }
+        ensures { result
+            ≡ (self.now.persisting
+            || ((done && not (persists self.now.mode)) || (not deletes && self.now.ended))) }
     {
         self.persisting || (done && !self.persists()) || self.ends_again(deletes)
     }
@@ -67,7 +70,8 @@ impl Running {
         code: i64,
         control: Option<SyncDone>,
     ) -> Result<Step, Refusal>
-        ensures { StepsBy held.old self.old held.new self.new result (Done code (control_said control)) }
+        ensures { StepsBy held.old self.old held.new self.new result
+            (Done code (control_said control)) }
     {
         if self.is_over(code) {
             return Ok(Step::Ends(over(held, code)));
@@ -83,9 +87,9 @@ impl Running {
 
     /// Whether the search is over without the end of a refresh.
     fn is_over(&self, code: i64) -> bool
-        ensures { result ≡ (persists self.now.mode || not (int_eq code (pos 0))) }
+        ensures { result ≡ (persists self.now.mode || not (int_eq code (pos SUCCESS))) }
     {
-        self.persists() || code != 0
+        self.persists() || code != i64::from(SUCCESS)
     }
 
     /// The refresh ends in a delete phase, or else in a present phase, and the search with it where
@@ -97,12 +101,13 @@ impl Running {
         cookie: Option<Octets>,
     ) -> Result<Step, Refusal>
         ensures { StepsTo held.old self.old held.new self.new result
-            (within false held.old self.old (refresh_ended (copy_with held.old self.old) (running_of self.old) deletes cookie)) }
+            (within false held.old self.old
+            (refresh_ended (copy_with held.old self.old) (session_of self.old) deletes cookie)) }
     {
         let changes = self.last_changes(held, deletes)?;
-        let undo = self.stage.lay(changes)?;
+        let undo = self.stage.stage_each(changes)?;
         let has_cookie = cookie.is_some();
-        match held.settle(&mut self.stage, cookie) {
+        match held.commit_stage(&mut self.stage, cookie) {
             Ok(commit) => {
                 self.named.clear();
                 self.ended |= !deletes;
@@ -129,29 +134,32 @@ impl Running {
 
     /// What the end of a phase stages: a delete phase nothing.
     fn last_changes(&self, held: &Held, deletes: bool) -> Result<Vec<Staged>, NoMemory>
-        ensures { IfOk result (λ changes. changes_of changes.items ≡ last_changes held.now.entries (running_of self.now) deletes) }
+        ensures { IfOk result (λ changes.
+            changes_of changes.items
+            ≡ last_changes held.now.entries (session_of self.now) deletes) }
     {
         let alloc = held.entries.allocator();
         if deletes {
             return Ok(Vec::new(alloc));
         }
-        drops_of(alloc, &held.unspoken(&self.named, &self.stage)?)
+        drops_of(alloc, &held.unmentioned(&self.named, &self.stage)?)
     }
 }
 
-/// What is told of a search that is over with this code, which may say that the cookie is of no use.
+/// What is reported of a search that is over with this code, which may say that the cookie is of no use.
 fn over(held: &mut Held, code: i64) -> Taken
-    ensures told { result ≡ Over code }
+    ensures answer_taken { result ≡ Over code }
     ensures entries { held.new.entries ≡ held.old.entries }
-    ensures cookie { held.new.cookie ≡ cond (int_eq code (pos 4096)) None held.old.cookie }
+    ensures cookie { held.new.cookie
+        ≡ cond (int_eq code (pos E_SYNC_REFRESH_REQUIRED)) None held.old.cookie }
 {
-    if code == REFRESH_REQUIRED {
+    if code == i64::from(E_SYNC_REFRESH_REQUIRED) {
         held.cookie = None;
     }
     Taken::Over(code)
 }
 
-/// What is told of the end of a refresh, with or without a cookie.
+/// What is reported of the end of a refresh, with or without a cookie.
 fn took_effect(commit: Commit, has_cookie: bool) -> Taken
     ensures { result ≡ cond has_cookie (Stored commit) (Copied commit) }
 {

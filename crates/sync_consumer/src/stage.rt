@@ -6,7 +6,7 @@ ghost use Rattle.std.specs.Option.{option_copied};
 ghost use Rattle.sync_model.specs.Copy as model;
 ghost use Rattle.sync_model.specs.Within.{is_crowded};
 ghost use Rattle.sync_consumer.specs.Staging as spec;
-ghost use Rattle.sync_consumer.specs.Staging.{change_of, changes_of, rises, laid, undone, IsStage};
+ghost use Rattle.sync_consumer.specs.Staging.{change_of, changes_of, rises, staged_each, undone, IsStage};
 
 use crate::changes::{Load, put_back, set};
 use crate::kept::Kept;
@@ -27,8 +27,8 @@ pub(crate) const MOST_WEIGHT: u128 = 67_108_864;
 /// What is staged of an identity: its entry, or that it has none.
 #[derive(Drop)]
 pub(crate) enum Staged {
-    Put(Rc<Kept>),
-    Gone(u128),
+    AddOrModify(Rc<Kept>),
+    Delete(u128),
 }
 
 impl Staged {
@@ -36,8 +36,8 @@ impl Staged {
         ensures { result ≡ (change_of self.now).0 }
     {
         match self {
-            Staged::Put(kept) => kept.uuid(),
-            Staged::Gone(uuid) => *uuid,
+            Staged::AddOrModify(kept) => kept.uuid(),
+            Staged::Delete(uuid) => *uuid,
         }
     }
 
@@ -46,8 +46,8 @@ impl Staged {
         ensures { IfOk result (λ copy. change_of copy ≡ change_of self.now) }
     {
         match self {
-            Staged::Put(kept) => Ok(Staged::Put(kept.clone()?)),
-            Staged::Gone(uuid) => Ok(Staged::Gone(*uuid)),
+            Staged::AddOrModify(kept) => Ok(Staged::AddOrModify(kept.clone()?)),
+            Staged::Delete(uuid) => Ok(Staged::Delete(*uuid)),
         }
     }
 
@@ -55,8 +55,8 @@ impl Staged {
         ensures { option_copied result ≡ (change_of self.now).1 }
     {
         match self {
-            Staged::Put(kept) => Some(kept.entry()),
-            Staged::Gone(_) => None,
+            Staged::AddOrModify(kept) => Some(kept.entry()),
+            Staged::Delete(_) => None,
         }
     }
 }
@@ -66,7 +66,7 @@ pub(crate) fn put_of(alloc: Global, entry: Entry) -> Result<Vec<Staged>, NoMemor
     ensures { IfOk result (λ changes. changes_of changes.items ≡ (entry.uuid, Some entry) ∷ []) }
 {
     let mut changes = Vec::new(alloc);
-    changes.push(Staged::Put(Kept::shared(alloc, entry)?))?;
+    changes.push(Staged::AddOrModify(Kept::shared(alloc, entry)?))?;
     Ok(changes)
 }
 
@@ -77,7 +77,7 @@ pub(crate) fn drops_of(alloc: Global, uuids: &[u128]) -> Result<Vec<Staged>, NoM
 {
     let mut changes = Vec::new(alloc);
     for uuid in uuids {
-        changes.push(Staged::Gone(*uuid))?;
+        changes.push(Staged::Delete(*uuid))?;
     }
     Ok(changes)
 }
@@ -172,15 +172,17 @@ impl Stage {
 
     /// Whether there is room for the entry, in place of the one that is staged of its identity.
     pub(crate) fn has_room(&self, entry: &Entry) -> bool
-        ensures { result ≡ not (is_crowded (model.puts_of (model.staged entry.now.uuid (Some entry.now) self.now))) }
+        ensures { result
+            ≡ not (is_crowded
+            (model.puts_of (model.staged entry.now.uuid (Some entry.now) self.now))) }
     {
         let load = load_without(&self.changes, &self.load, entry.uuid);
         load.count < MOST_ENTRIES && load.weight + u128::from(entry.attrs.weight()) <= MOST_WEIGHT
     }
 
     /// Stages the changes, or none of them. What was staged before is answered, in their order.
-    pub(crate) fn lay(&mut self, changes: Vec<Staged>) -> Result<Vec<Before>, NoMemory>
-        ensures ok { OnOk result (self.new ≡ laid self.old (changes_of changes.items)) }
+    pub(crate) fn stage_each(&mut self, changes: Vec<Staged>) -> Result<Vec<Before>, NoMemory>
+        ensures ok { OnOk result (self.new ≡ staged_each self.old (changes_of changes.items)) }
         ensures undo { IfOk result (λ undo. undone self.new undo.items ≡ self.old) }
         ensures err { OnErr result (self.new ≡ self.old) }
     {
@@ -232,8 +234,11 @@ fn entry_in(changes: &[Staged], uuid: u128) -> Option<&Entry>
 /// The load of the changes without the entry of the identity.
 fn load_without(changes: &[Staged], load: &Load, uuid: u128) -> Load
     requires { IsStage (changes_of changes.now) load.now.count load.now.weight }
-    ensures count { result.count + spec.count_of (spec.entry_staged (changes_of changes.now) uuid) ≡ load.now.count }
-    ensures weight { result.weight + spec.weight_within (spec.entry_staged (changes_of changes.now) uuid) ≡ load.now.weight }
+    ensures count { result.count + spec.count_of (spec.entry_staged (changes_of changes.now) uuid)
+        ≡ load.now.count }
+    ensures weight { result.weight
+        + spec.weight_within (spec.entry_staged (changes_of changes.now) uuid)
+        ≡ load.now.weight }
 {
     match entry_in(changes, uuid) {
         Some(entry) => Load {

@@ -35,12 +35,12 @@ bytes_of-with_gift (byte ∷ bytes) steps = refl
 -- what a read gives is the next of all that the steps give
 pub Plays-GivesNext : (old new : List Step) (piece : Piece) (buffer : List ℕ)
     → Plays old new piece buffer → GivesNext (Some (bytes_of old)) (Some (bytes_of new)) piece buffer
-Plays-GivesNext [] new piece buffer (told, left) = rw (told, left) refl
-Plays-GivesNext (Give bytes ∷ steps) new piece buffer (told, front, left) = rw (told, left)
+Plays-GivesNext [] new piece buffer (reworded, left) = rw (reworded, left) refl
+Plays-GivesNext (Give bytes ∷ steps) new piece buffer (reworded, prefix, left) = rw (reworded, left)
     (let count = min (length bytes) (length buffer) in
     ap (λ gift. gift ++ bytes_of steps) (sym (take-append-drop count bytes))
     ∙ append_assoc (take count bytes) (drop count bytes) (bytes_of steps)
-    ∙ ap (λ gift. gift ++ (drop count bytes ++ bytes_of steps)) (sym front)
+    ∙ ap (λ gift. gift ++ (drop count bytes ++ bytes_of steps)) (sym prefix)
     ∙ ap (λ rest. take count buffer ++ rest) (sym (bytes_of-with_gift (drop count bytes) steps)))
-Plays-GivesNext (Quiet ∷ steps) new piece buffer (told, left) = rw (told, left) refl
-Plays-GivesNext (Fail ∷ steps) new piece buffer (told, left) = rw (told, left) refl
+Plays-GivesNext (Quiet ∷ steps) new piece buffer (reworded, left) = rw (reworded, left) refl
+Plays-GivesNext (Fail ∷ steps) new piece buffer (reworded, left) = rw (reworded, left) refl

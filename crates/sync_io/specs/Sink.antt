@@ -9,11 +9,11 @@ abbrev pub FitsPiece : Put → List ℕ → Type 0
 FitsPiece (Wrote count) piece = (1 ≤ count) × (count ≤ length piece)
 FitsPiece Failed piece = ⊤
 
--- the front of the piece was appended, or nothing
+-- the prefix of the piece was appended, or nothing
 abbrev pub AppendsPiece : Option (List ℕ) → Option (List ℕ) → Put → List ℕ → Type 0
 AppendsPiece old new (Wrote count) piece = Appends old new (take count piece)
 AppendsPiece old new Failed piece = Keeps old new
 
--- the bytes are a front, which was appended, and a rest
-abbrev pub AppendsFront : Option (List ℕ) → Option (List ℕ) → List ℕ → Type 0
-AppendsFront old new bytes = (front rest : List ℕ) × (bytes ≡ front ++ rest) × Appends old new front
+-- the bytes are a prefix, which was appended, and a rest
+abbrev pub AppendsPrefix : Option (List ℕ) → Option (List ℕ) → List ℕ → Type 0
+AppendsPrefix old new bytes = (prefix rest : List ℕ) × (bytes ≡ prefix ++ rest) × Appends old new prefix

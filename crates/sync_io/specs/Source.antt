@@ -11,7 +11,7 @@ FitsBuffer Quiet buffer = ⊤
 FitsBuffer End buffer = ⊤
 FitsBuffer Failed buffer = ⊤
 
--- the front of the buffer was the next of the bytes left, and any other answer leaves them
+-- the prefix of the buffer was the next of the bytes left, and any other answer leaves them
 abbrev pub GivesNext : Option (List ℕ) → Option (List ℕ) → Piece → List ℕ → Type 0
 GivesNext old new (Got count) buffer = Consumes old new (take count buffer)
 GivesNext old new Quiet buffer = Keeps old new

@@ -1,4 +1,4 @@
-//! A sink that fails where it was told to.
+//! A sink that fails where it was reported to.
 ghost use Rattle.std.specs.Prelude.{◌≡◌, ◌<◌, ◌≤◌, [], Some, IsTrue, not, if◌then◌else◌, length};
 ghost use Rattle.std.specs.Bool.{OnFalse};
 ghost use Rattle.sync_io.specs.Faults.{one_more, Rose};
@@ -49,7 +49,7 @@ impl FaultySink {
         self.sink.bytes()
     }
 
-    /// Counts one more call, and tells whether it is one of those that fail.
+    /// Counts one more call, and reports whether it is one of those that fail.
     fn call_fails(&mut self) -> bool
         ensures fails { result ≡ fails_next self.old }
         ensures calls { self.new.calls ≡ one_more self.old.calls }

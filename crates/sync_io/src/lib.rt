@@ -1,10 +1,10 @@
 //! Where a program's bytes come from and where they go, as traits whose faults are counted: an
-//! answer that tells a failure comes only where the object's own count of faults has risen.
+//! answer that reports a failure comes only where the object's own count of faults has risen.
 //!
 //! - [`Source`] and [`Sink`] are what the program is written against.
 //! - [`Reading`] and [`Writing`] make one of any reader or writer of std.
-//! - [`MemorySource`] and [`MemorySink`] hold their bytes in memory, and so tell them.
-//! - [`FaultySource`] and [`FaultySink`] do too, and fail where they were told to.
+//! - [`MemorySource`] and [`MemorySink`] hold their bytes in memory, and so report them.
+//! - [`FaultySource`] and [`FaultySink`] do too, and fail where they were reported to.
 #![tactic(auto)]
 
 mod faults;

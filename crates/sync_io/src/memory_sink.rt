@@ -7,7 +7,7 @@ use crate::{Put, Sink};
 use std::alloc::Global;
 use std::marker::Model;
 
-/// A sink whose bytes are in memory. Its only faults are those of want of memory.
+/// A sink whose bytes are in memory. Its only faults are those of out of memory.
 #[derive(Drop)]
 pub struct MemorySink {
     bytes: Vec<u8>,

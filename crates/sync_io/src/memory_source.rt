@@ -24,13 +24,14 @@ impl Model for MemorySource {
 }
 
 impl MemorySource {
+    /// Makes a source of these bytes, from the first one on.
     pub fn new(bytes: Octets) -> MemorySource
         ensures { result ≡ bytes }
     {
         MemorySource { bytes, place: 0 }
     }
 
-    /// Moves as many of the bytes as the buffer has room for to its front, and gives their number.
+    /// Moves as many of the bytes as the buffer has room for to its prefix, and gives their number.
     pub(crate) fn fill(&mut self, buffer: &mut [u8]) -> usize
         ensures count { result ≡ min (length self.old) (length buffer.new) }
         ensures bytes { take result buffer.new ≡ take result self.old }

@@ -5,8 +5,8 @@ use crate::faults::count_fault;
 use crate::{Piece, Source};
 use std::io::Read;
 
-/// A source over any reader, as standard input. It counts the reads that fail, and tells the bytes
-/// that the reader tells.
+/// A source over any reader, as standard input. It counts the reads that fail, and reports the bytes
+/// that the reader reports.
 #[derive(Drop)]
 pub struct Reading<R: Read + Drop> {
     pub reader: R,
@@ -14,6 +14,7 @@ pub struct Reading<R: Read + Drop> {
 }
 
 impl<R: Read + Drop> Reading<R> {
+    /// Makes a source over this reader, of which no read has failed yet.
     pub fn new(reader: R) -> Reading<R>
         ensures reader { result.reader ≡ reader }
         ensures faults { result.faults ≡ 0 }

@@ -5,7 +5,7 @@ ghost use Rattle.std.specs.Bool.{OnTrue, OnFalse};
 /// What one write did.
 #[derive(Clone, Copy, Debug, PartialEq, Eq)]
 pub enum Put {
-    /// So many bytes from the front of the piece, one at least, were appended.
+    /// So many bytes from the prefix of the piece, one at least, were appended.
     Wrote(usize),
     /// The write failed, and appended nothing.
     Failed,
@@ -18,7 +18,7 @@ pub trait Sink {
     ghost use Rattle.sync_io.specs.declared.sink.Put.TheVariants.{Failed};
     ghost use Rattle.std.specs.Io.KnownBytes.{Keeps};
 
-    /// The bytes that were written, where the sink tells them.
+    /// The bytes that were written, where the sink reports them.
     ghost bytes_held: { Self → Option (List ℕ) };
 
     /// How many writes and flushes have failed.
@@ -28,7 +28,7 @@ pub trait Sink {
     fn write_faults(&self) -> u64
         ensures { result ≡ write_fault_count self.now };
 
-    /// Appends bytes from the front of the piece.
+    /// Appends bytes from the prefix of the piece.
     fn write(&mut self, piece: &[u8]) -> Put
         requires nonempty { 0 < length piece.now }
 
@@ -49,15 +49,15 @@ pub trait Sink {
 }
 
 ghost use Rattle.sync_io.specs.Faults.{Rose};
-ghost use Rattle.sync_io.specs.Sink.{AppendsFront};
+ghost use Rattle.sync_io.specs.Sink.{AppendsPrefix};
 ghost use Rattle.std.specs.Io.KnownBytes.{Appends};
 
 /// Appends all the bytes, however few the sink takes at a time. It answers false where a write
-/// failed, and then a front of the bytes was appended.
+/// failed, and then a prefix of the bytes was appended.
 pub fn write_whole<K: Sink>(sink: &mut K, bytes: &[u8]) -> bool
     ensures whole { OnTrue result
         (Appends (K.bytes_held sink.old) (K.bytes_held sink.new) bytes.now) }
-    ensures front { AppendsFront (K.bytes_held sink.old) (K.bytes_held sink.new) bytes.now }
+    ensures prefix { AppendsPrefix (K.bytes_held sink.old) (K.bytes_held sink.new) bytes.now }
 
     ensures failed { OnFalse result
         (Rose (K.write_fault_count sink.old) (K.write_fault_count sink.new)) }

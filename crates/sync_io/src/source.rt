@@ -4,7 +4,7 @@ ghost use Rattle.std.specs.Prelude.{◌≡◌, ◌<◌, ◌≤◌, List, ℕ, Op
 /// What one read gave.
 #[derive(Clone, Copy, Debug, PartialEq, Eq)]
 pub enum Piece {
-    /// So many bytes, one at least, at the front of the buffer.
+    /// So many bytes, one at least, at the start of the buffer.
     Got(usize),
     /// No byte came yet, though more may come.
     Quiet,
@@ -21,7 +21,7 @@ pub trait Source {
     ghost use Rattle.sync_io.specs.declared.source.Piece.TheVariants.{Quiet, End, Failed};
     ghost use Rattle.std.specs.Io.KnownBytes.{IsAtEnd};
 
-    /// The bytes that later reads will give, where the source tells them.
+    /// The bytes that later reads will give, where the source reports them.
     ghost bytes_left: { Self → Option (List ℕ) };
 
     /// Whether a read may answer before a byte has come.
@@ -34,7 +34,7 @@ pub trait Source {
     fn read_faults(&self) -> u64
         ensures { result ≡ read_fault_count self.now };
 
-    /// Moves the next bytes to the front of the buffer.
+    /// Moves the next bytes to the prefix of the buffer.
     fn read(&mut self, buffer: &mut [u8]) -> Piece
         requires room { 0 < length buffer.old }
 

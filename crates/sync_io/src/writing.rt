@@ -5,8 +5,8 @@ use crate::faults::count_fault;
 use crate::{Put, Sink};
 use std::io::Write;
 
-/// A sink over any writer, as standard output. It counts the writes and flushes that fail, and tells
-/// the bytes that the writer tells. A write that takes nothing of a piece is a fault too, since
+/// A sink over any writer, as standard output. It counts the writes and flushes that fail, and reports
+/// the bytes that the writer reports. A write that takes nothing of a piece is a fault too, since
 /// trying again might never end.
 #[derive(Drop)]
 pub struct Writing<W: Write + Drop> {
@@ -15,6 +15,7 @@ pub struct Writing<W: Write + Drop> {
 }
 
 impl<W: Write + Drop> Writing<W> {
+    /// Makes a sink over this writer, of which no write has failed yet.
     pub fn new(writer: W) -> Writing<W>
         ensures writer { result.writer ≡ writer }
         ensures faults { result.faults ≡ 0 }

@@ -1,4 +1,4 @@
--- A proper front of a spelling is refused at its first octet.
+-- A proper prefix of a spelling is refused at its first octet.
 use Rattle.std.proofs.Common.{◌≡◌, ◌≢◌, ℕ, Bool, true, false, cond, List, [], ◌++◌, length, Result, Err, refl, ap, ◌∙◌, arith}
 use Rattle.ldap_ber.specs.declared.fault.BerFault.{BerFault}
 use Rattle.ldap_ber.specs.declared.fault.BerKind.TheVariants.{Short}
@@ -23,23 +23,23 @@ abbrev short_at : ℕ → BerFault
 short_at place = record { kind = Short; at = place }
 
 -- the place is the first
-at_front : {X : Type 0} (front : List ℕ) (read : Result X SyncFault) → read ≡ Err (Ber (fault Short (length front) front)) → read ≡ Err (Ber (short_at 0))
-at_front front read h = h ∙ ap (λ (place : ℕ). Err (Ber (short_at place))) (omega arith)
+at_prefix : {X : Type 0} (prefix : List ℕ) (read : Result X SyncFault) → read ≡ Err (Ber (fault Short (length prefix) prefix)) → read ≡ Err (Ber (short_at 0))
+at_prefix prefix read h = h ∙ ap (λ (place : ℕ). Err (Ber (short_at place))) (omega arith)
 
-pub request_cut : (front more : List ℕ) (request : SyncRequest) → RequestForm (front ++ more) request [] → more ≢ [] → request_of front ≡ Err (Ber (short_at 0))
+pub request_cut : (prefix more : List ℕ) (request : SyncRequest) → RequestForm (prefix ++ more) request [] → more ≢ [] → request_of prefix ≡ Err (Ber (short_at 0))
 unfolding RequestForm request_of
-request_cut front more request h some =
-    at_front front _ (rw (sequence_cut Ber 48 48 (both_at mode_at (both_at cookie_at (flag_at false))) (length front) front more h.0 h.2 some) refl)
+request_cut prefix more request h some =
+    at_prefix prefix _ (rw (sequence_cut Ber 48 48 (both_at mode_at (both_at cookie_at (flag_at false))) (length prefix) prefix more h.0 h.2 some) refl)
 
-pub state_cut : (front more : List ℕ) (state : SyncState) → StateForm (front ++ more) state [] → more ≢ [] → state_of front ≡ Err (Ber (short_at 0))
+pub state_cut : (prefix more : List ℕ) (state : SyncState) → StateForm (prefix ++ more) state [] → more ≢ [] → state_of prefix ≡ Err (Ber (short_at 0))
 unfolding StateForm state_of
-state_cut front more state h some =
-    at_front front _ (rw (sequence_cut Ber 48 48 (both_at kind_at (both_at uuid_at cookie_at)) (length front) front more h.0 h.2 some) refl)
+state_cut prefix more state h some =
+    at_prefix prefix _ (rw (sequence_cut Ber 48 48 (both_at kind_at (both_at uuid_at cookie_at)) (length prefix) prefix more h.0 h.2 some) refl)
 
-pub done_cut : (front more : List ℕ) (done : SyncDone) → DoneForm (front ++ more) done [] → more ≢ [] → done_of front ≡ Err (Ber (short_at 0))
+pub done_cut : (prefix more : List ℕ) (done : SyncDone) → DoneForm (prefix ++ more) done [] → more ≢ [] → done_of prefix ≡ Err (Ber (short_at 0))
 unfolding DoneForm done_of
-done_cut front more done h some =
-    at_front front _ (rw (sequence_cut Ber 48 48 (both_at cookie_at (flag_at false)) (length front) front more h.0 h.2 some) refl)
+done_cut prefix more done h some =
+    at_prefix prefix _ (rw (sequence_cut Ber 48 48 (both_at cookie_at (flag_at false)) (length prefix) prefix more h.0 h.2 some) refl)
 
 -- ---- a choice
 
@@ -47,12 +47,12 @@ either_way : {A : Type 0} (test : Bool) (x y z : A) → x ≡ z → y ≡ z → 
 either_way true x y z p q = p
 either_way false x y z p q = q
 
-choice_cut : (tag stop : ℕ) (front more body : List ℕ) → Begins (front ++ more) tag body [] → more ≢ [] → info_at stop front ≡ Err (Ber (fault Short stop front))
-choice_cut tag stop front more body h some =
-    either_way (has_tag 128 front) _ _ _ (rw (octets_cut Ber 128 tag stop front more body h some) refl)
-    (either_way (has_tag 161 front) _ _ _ (rw (sequence_cut Ber 161 tag (both_at cookie_at (flag_at true)) stop front more body h some) refl)
-    (either_way (has_tag 162 front) _ _ _ (rw (sequence_cut Ber 162 tag (both_at cookie_at (flag_at true)) stop front more body h some) refl)
-    (rw (sequence_cut Ber 163 tag (both_at cookie_at (both_at (flag_at false) uuids_at)) stop front more body h some) refl)))
+choice_cut : (tag stop : ℕ) (prefix more body : List ℕ) → Begins (prefix ++ more) tag body [] → more ≢ [] → info_at stop prefix ≡ Err (Ber (fault Short stop prefix))
+choice_cut tag stop prefix more body h some =
+    either_way (has_tag 128 prefix) _ _ _ (rw (octets_cut Ber 128 tag stop prefix more body h some) refl)
+    (either_way (has_tag 161 prefix) _ _ _ (rw (sequence_cut Ber 161 tag (both_at cookie_at (flag_at true)) stop prefix more body h some) refl)
+    (either_way (has_tag 162 prefix) _ _ _ (rw (sequence_cut Ber 162 tag (both_at cookie_at (flag_at true)) stop prefix more body h some) refl)
+    (rw (sequence_cut Ber 163 tag (both_at cookie_at (both_at (flag_at false) uuids_at)) stop prefix more body h some) refl)))
 
 begun : (bytes : List ℕ) (info : SyncInfo) → InfoForm bytes info [] → (tag : ℕ) × (body : List ℕ) × Begins bytes tag body []
 unfolding InfoForm
@@ -61,8 +61,8 @@ begun bytes (RefreshDelete c b) h = (161, h.0, h.2)
 begun bytes (RefreshPresent c b) h = (162, h.0, h.2)
 begun bytes (IdSet c b ids) h = (163, h.0, h.2)
 
-pub info_cut : (front more : List ℕ) (info : SyncInfo) → InfoForm (front ++ more) info [] → more ≢ [] → info_of front ≡ Err (Ber (short_at 0))
+pub info_cut : (prefix more : List ℕ) (info : SyncInfo) → InfoForm (prefix ++ more) info [] → more ≢ [] → info_of prefix ≡ Err (Ber (short_at 0))
 unfolding info_of
-info_cut front more info h some =
-    let b = begun (front ++ more) info h in
-    at_front front _ (rw (choice_cut b.0 (length front) front more b.1 b.2 some) refl)
+info_cut prefix more info h some =
+    let b = begun (prefix ++ more) info h in
+    at_prefix prefix _ (rw (choice_cut b.0 (length prefix) prefix more b.1 b.2 some) refl)

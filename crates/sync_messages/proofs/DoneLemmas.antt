@@ -6,14 +6,14 @@ use Rattle.ldap_ber.specs.Reading.{both_at, sequence_at}
 use Rattle.ldap_ber.specs.Canonical.{element}
 use Rattle.ldap_ber.specs.Writer.{IsSmall}
 use Rattle.ldap_ber.proofs.ExactLemmas.{Exact, both_exact, sequence_exact, made_exact, whole_found, whole_only}
-use Rattle.ldap_ber.proofs.CanonicalLemmas.{Anything, sequence_spelled, made_spelled, whole_spelled, if_written}
+use Rattle.ldap_ber.proofs.CanonicalLemmas.{Anything, sequence_spelled, made_spelled, whole_spelled, if_written, none_next}
 use Rattle.sync_messages.specs.declared.fault.SyncFault.{SyncFault}
 use Rattle.sync_messages.specs.declared.fault.SyncFault.TheVariants.{Ber}
 use Rattle.sync_messages.specs.declared.done.SyncDone.{SyncDone}
 use Rattle.sync_messages.specs.Gives.{Gives}
 use Rattle.sync_messages.specs.Parts.{CookieForm, FlagForm, cookie_at, flag_at, refresh_octets}
 use Rattle.sync_messages.specs.Done.{done_parts, done_with, DoneForm, done_at, done_of, done_octets}
-use Rattle.sync_messages.proofs.PartLemmas.{cookie_exact, flag_exact, refresh_spelled, none_next, if_found, only_this}
+use Rattle.sync_messages.proofs.PartLemmas.{cookie_exact, flag_exact, refresh_spelled, if_found, only_this}
 
 done_exact : Exact DoneForm done_at
 unfolding DoneForm

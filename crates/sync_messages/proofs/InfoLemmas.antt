@@ -10,7 +10,7 @@ use Rattle.ldap_ber.specs.Canonical.{element, flag_octets}
 use Rattle.ldap_ber.specs.Writer.{IsSmall}
 use Rattle.ldap_ber.proofs.Steps.{chosen}
 use Rattle.ldap_ber.proofs.ExactLemmas.{Exact, made_ok, both_exact, sequence_exact, list_exact, whole_found, whole_only}
-use Rattle.ldap_ber.proofs.CanonicalLemmas.{Spelled, Anything, Always, Lacks, octets_spelled, both_spelled, flag_spelled, sequence_spelled, list_spelled, whole_spelled, if_written_soundly}
+use Rattle.ldap_ber.proofs.CanonicalLemmas.{Spelled, Anything, Always, Lacks, octets_spelled, both_spelled, flag_spelled, sequence_spelled, list_spelled, whole_spelled, if_written_soundly, none_next}
 use Rattle.sync_messages.specs.declared.fault.SyncFault.{SyncFault}
 use Rattle.sync_messages.specs.declared.fault.SyncFault.TheVariants.{Ber}
 use Rattle.sync_messages.specs.declared.info.SyncInfo.{SyncInfo}
@@ -19,7 +19,7 @@ use Rattle.sync_messages.specs.Gives.{Gives}
 use Rattle.sync_messages.specs.Parts.{CookieForm, FlagForm, UuidForm, octet_string_at, uuid_at, cookie_octets, uuid_octets, refresh_octets}
 use Rattle.sync_messages.specs.Info.{RefreshForm, SetForm, InfoForm, refresh_at, set_at, deletes_with, presents_with, set_with, info_at, info_of, uuids_octets, info_octets, IsInRange}
 use Rattle.sync_messages.proofs.UuidLemmas.{octet_string_exact, uuid_exact, uuid_shortens, uuid_spelled}
-use Rattle.sync_messages.proofs.PartLemmas.{cookie_exact, flag_exact, cookie_spelled, flag_lacks, refresh_spelled, none_next, if_found, only_this}
+use Rattle.sync_messages.proofs.PartLemmas.{cookie_exact, flag_exact, cookie_spelled, flag_lacks, refresh_spelled, if_found, only_this}
 
 -- ---- read
 

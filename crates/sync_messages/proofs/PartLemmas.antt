@@ -1,11 +1,11 @@
 -- Components of several values: their reading is exact, and their canonical spelling is a spelling; and answers that are what reading gives.
-use Rattle.std.proofs.Common.{◌≡◌, ℕ, Bool, true, false, List, [], ◌++◌, Option, Some, None, Result, Ok, Err, subst, arith}
-use Rattle.std.specs.Prelude.{IfOk, IfSome}
+use Rattle.std.proofs.Common.{◌≡◌, ℕ, Bool, true, false, List, [], ◌++◌, Option, Result, Ok, Err, subst, arith}
+use Rattle.std.specs.Prelude.{IfOk}
 use Rattle.ldap_ber.specs.Form.{Form, OctetString, Integer, Boolean, Both}
 use Rattle.ldap_ber.specs.Reading.{default_at, boolean_at, integer_at}
 use Rattle.ldap_ber.specs.Canonical.{element, flag_octets}
-use Rattle.ldap_ber.proofs.ExactLemmas.{Exact, told_exact, integer_exact, boolean_exact, optional_exact, default_exact}
-use Rattle.ldap_ber.proofs.CanonicalLemmas.{Spelled, Always, Lacks, octets_spelled, optional_spelled, both_spelled, flag_spelled, begins_with}
+use Rattle.ldap_ber.proofs.ExactLemmas.{Exact, reworded_exact, integer_exact, boolean_exact, optional_exact, default_exact}
+use Rattle.ldap_ber.proofs.CanonicalLemmas.{Spelled, Always, Lacks, octets_spelled, optional_spelled, both_spelled, flag_spelled, begins_with, option_sound}
 use Rattle.sync_messages.specs.declared.fault.SyncFault.{SyncFault}
 use Rattle.sync_messages.specs.declared.fault.SyncFault.TheVariants.{Ber}
 use Rattle.sync_messages.specs.Gives.{Gives}
@@ -15,28 +15,21 @@ use Rattle.sync_messages.proofs.UuidLemmas.{octet_string_exact}
 -- ---- read
 
 pub enumerated_exact : Exact (Integer 10) enumerated_at
-enumerated_exact = told_exact Ber (Integer 10) (integer_at 10) (integer_exact 10)
+enumerated_exact = reworded_exact Ber (Integer 10) (integer_at 10) (integer_exact 10)
 
 pub cookie_exact : Exact CookieForm cookie_at
 cookie_exact = optional_exact 4 (OctetString 4) _ (octet_string_exact 4)
 
 pub flag_exact : (usual : Bool) → Exact (FlagForm usual) (flag_at usual)
-flag_exact usual = told_exact Ber (FlagForm usual) (default_at 1 usual (boolean_at 1)) (default_exact 1 usual (Boolean 1) (boolean_at 1) (boolean_exact 1))
+flag_exact usual = reworded_exact Ber (FlagForm usual) (default_at 1 usual (boolean_at 1)) (default_exact 1 usual (Boolean 1) (boolean_at 1) (boolean_exact 1))
 
 -- ---- written
-
-cookie_sound : (cookie : Option (List ℕ)) → IfSome cookie (Always {X = List ℕ})
-cookie_sound None = tt
-cookie_sound (Some octets) = tt
 
 pub cookie_spelled : Spelled CookieForm cookie_octets (Always {X = Option (List ℕ)}) (Lacks 4)
 cookie_spelled = record {
   spells = λ cookie rest small sound after.
-      (optional_spelled 4 (OctetString 4) (element 4) (Always {X = List ℕ}) (octets_spelled 4 (omega arith)) (λ octets more. begins_with 4 octets more)).spells cookie rest small (cookie_sound cookie) after;
+      (optional_spelled 4 (OctetString 4) (element 4) (Always {X = List ℕ}) (octets_spelled 4 (omega arith)) (λ octets more. begins_with 4 octets more)).spells cookie rest small (option_sound cookie) after;
 }
-
-pub none_next : (tag : ℕ) → Lacks tag []
-none_next tag e = cc
 
 -- a flag does not look like a cookie
 pub flag_lacks : (usual value : Bool) (rest : List ℕ) → Lacks 4 rest → Lacks 4 (flag_octets 1 usual value ++ rest)

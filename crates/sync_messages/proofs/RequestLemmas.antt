@@ -10,7 +10,7 @@ use Rattle.ldap_ber.specs.Canonical.{element, integer_octets}
 use Rattle.ldap_ber.specs.Writer.{IsSmall}
 use Rattle.ldap_ber.proofs.Steps.{chosen, ok_is}
 use Rattle.ldap_ber.proofs.ExactLemmas.{Exact, both_exact, meaning_exact, sequence_exact, made_exact, whole_found, whole_only}
-use Rattle.ldap_ber.proofs.CanonicalLemmas.{Spelled, Anything, Always, both_spelled, meaning_spelled, sequence_spelled, made_spelled, whole_spelled, if_written}
+use Rattle.ldap_ber.proofs.CanonicalLemmas.{Spelled, Anything, Always, both_spelled, meaning_spelled, sequence_spelled, made_spelled, whole_spelled, if_written, none_next}
 use Rattle.ldap_ber.proofs.IntegerLemmas.{integer_spelled}
 use Rattle.sync_messages.specs.declared.fault.SyncFault.{SyncFault}
 use Rattle.sync_messages.specs.declared.fault.SyncFault.TheVariants.{Ber}
@@ -20,7 +20,7 @@ use Rattle.sync_messages.specs.declared.request.SyncRequest.{SyncRequest}
 use Rattle.sync_messages.specs.Gives.{Gives}
 use Rattle.sync_messages.specs.Parts.{CookieForm, FlagForm, enumerated_at, cookie_at, flag_at, refresh_octets}
 use Rattle.sync_messages.specs.Request.{mode_number, mode_of, IsMode, ModeForm, mode_at, request_parts, request_with, RequestForm, request_at, request_of, request_octets}
-use Rattle.sync_messages.proofs.PartLemmas.{enumerated_exact, cookie_exact, flag_exact, LacksBoth, refresh_spelled, none_next, if_found, only_this}
+use Rattle.sync_messages.proofs.PartLemmas.{enumerated_exact, cookie_exact, flag_exact, LacksBoth, refresh_spelled, if_found, only_this}
 
 -- ---- the mode
 

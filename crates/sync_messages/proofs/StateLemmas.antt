@@ -10,7 +10,7 @@ use Rattle.ldap_ber.specs.Canonical.{element, integer_octets}
 use Rattle.ldap_ber.specs.Writer.{IsSmall}
 use Rattle.ldap_ber.proofs.Steps.{chosen, ok_is}
 use Rattle.ldap_ber.proofs.ExactLemmas.{Exact, both_exact, meaning_exact, sequence_exact, made_exact, whole_found, whole_only}
-use Rattle.ldap_ber.proofs.CanonicalLemmas.{Spelled, Anything, Always, Lacks, both_spelled, meaning_spelled, sequence_spelled, made_spelled, whole_spelled, if_written_soundly}
+use Rattle.ldap_ber.proofs.CanonicalLemmas.{Spelled, Anything, Always, Lacks, both_spelled, meaning_spelled, sequence_spelled, made_spelled, whole_spelled, if_written_soundly, none_next}
 use Rattle.ldap_ber.proofs.IntegerLemmas.{integer_spelled}
 use Rattle.sync_messages.specs.declared.fault.SyncFault.{SyncFault}
 use Rattle.sync_messages.specs.declared.fault.SyncFault.TheVariants.{Ber}
@@ -21,7 +21,7 @@ use Rattle.sync_messages.specs.Gives.{Gives}
 use Rattle.sync_messages.specs.Parts.{CookieForm, UuidForm, enumerated_at, cookie_at, uuid_at, cookie_octets, uuid_octets}
 use Rattle.sync_messages.specs.State.{kind_number, kind_of, IsKind, KindForm, kind_at, state_parts, state_with, StateForm, state_at, state_of, state_octets}
 use Rattle.sync_messages.proofs.UuidLemmas.{uuid_exact, uuid_spelled}
-use Rattle.sync_messages.proofs.PartLemmas.{enumerated_exact, cookie_exact, cookie_spelled, none_next, if_found, only_this}
+use Rattle.sync_messages.proofs.PartLemmas.{enumerated_exact, cookie_exact, cookie_spelled, if_found, only_this}
 
 -- ---- the state by itself
 

@@ -8,8 +8,8 @@ use Rattle.ldap_ber.specs.Reading.{octets_at, many_at}
 use Rattle.ldap_ber.specs.Canonical.{element}
 use Rattle.ldap_ber.proofs.Steps.{guard_on, ok_is}
 use Rattle.ldap_ber.proofs.SkipLemmas.{Begins-shorter}
-use Rattle.ldap_ber.proofs.ExactLemmas.{Exact, Shortens, told_exact, octets_exact, meaning_exact, advances}
-use Rattle.ldap_ber.proofs.ManyLemmas.{Advances, with_front, many_goes_on, many_fails, many_ended}
+use Rattle.ldap_ber.proofs.ExactLemmas.{Exact, Shortens, reworded_exact, octets_exact, meaning_exact, advances}
+use Rattle.ldap_ber.proofs.ManyLemmas.{Advances, with_prefix, many_goes_on, many_fails, many_ended}
 use Rattle.ldap_ber.proofs.CanonicalLemmas.{Spelled, Anything, Always, octets_spelled, meaning_spelled}
 use Rattle.sync_messages.specs.declared.fault.SyncFault.{SyncFault}
 use Rattle.sync_messages.specs.declared.fault.SyncFault.TheVariants.{Ber, BadUuidLength}
@@ -30,7 +30,7 @@ from_be_bytes-to_be_bytes_16 n fits =
 -- ---- read
 
 pub octet_string_exact : (tag : ℕ) → Exact (OctetString tag) (octet_string_at tag)
-octet_string_exact tag = told_exact Ber (OctetString tag) (octets_at tag) (octets_exact tag)
+octet_string_exact tag = reworded_exact Ber (OctetString tag) (octets_at tag) (octets_exact tag)
 
 uuid_there : (octets : List ℕ) (id : ℕ) → uuid_of octets ≡ Ok id → IsUuid octets id
 uuid_there octets id h =
@@ -51,15 +51,15 @@ uuid_shortens bytes x rest h = Begins-shorter bytes 4 h.0 rest h.1
 uuid_advances : Advances uuid_at
 uuid_advances = advances UuidForm uuid_at uuid_exact uuid_shortens
 
-pub uuids_go_on : (front : List ℕ) (stop : ℕ) (bytes : List ℕ) (x : ℕ) (rest : List ℕ) → 0 < length bytes → uuid_at stop bytes ≡ Ok (x, rest)
-    → with_front (front ++ x ∷ []) (many_at uuid_at stop rest) ≡ with_front front (many_at uuid_at stop bytes)
-uuids_go_on front stop bytes x rest some h = many_goes_on uuid_at uuid_advances front stop bytes x rest some h
+pub uuids_go_on : (prefix : List ℕ) (stop : ℕ) (bytes : List ℕ) (x : ℕ) (rest : List ℕ) → 0 < length bytes → uuid_at stop bytes ≡ Ok (x, rest)
+    → with_prefix (prefix ++ x ∷ []) (many_at uuid_at stop rest) ≡ with_prefix prefix (many_at uuid_at stop bytes)
+uuids_go_on prefix stop bytes x rest some h = many_goes_on uuid_at uuid_advances prefix stop bytes x rest some h
 
-pub uuids_fail : (front : List ℕ) (stop : ℕ) (bytes : List ℕ) (e : SyncFault) → 0 < length bytes → uuid_at stop bytes ≡ Err e → with_front front (many_at uuid_at stop bytes) ≡ Err e
-uuids_fail front stop bytes e some h = many_fails uuid_at uuid_advances front stop bytes e some h
+pub uuids_fail : (prefix : List ℕ) (stop : ℕ) (bytes : List ℕ) (e : SyncFault) → 0 < length bytes → uuid_at stop bytes ≡ Err e → with_prefix prefix (many_at uuid_at stop bytes) ≡ Err e
+uuids_fail prefix stop bytes e some h = many_fails uuid_at uuid_advances prefix stop bytes e some h
 
-pub uuids_end : (front : List ℕ) (stop : ℕ) (bytes : List ℕ) → length bytes ≡ 0 → with_front front (many_at uuid_at stop bytes) ≡ Ok front
-uuids_end front stop bytes none = many_ended uuid_at front stop bytes none
+pub uuids_end : (prefix : List ℕ) (stop : ℕ) (bytes : List ℕ) → length bytes ≡ 0 → with_prefix prefix (many_at uuid_at stop bytes) ≡ Ok prefix
+uuids_end prefix stop bytes none = many_ended uuid_at prefix stop bytes none
 
 -- ---- written
 

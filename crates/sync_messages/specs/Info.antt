@@ -21,9 +21,12 @@ SetForm = Sequence 163 (Both CookieForm (Both (FlagForm false) (ListOf 49 UuidFo
 
 unfoldable pub InfoForm : Form SyncInfo
 InfoForm bytes (NewCookie cookie) rest = OctetString 128 bytes cookie rest
-InfoForm bytes (RefreshDelete cookie refresh_done) rest = RefreshForm 161 bytes (cookie, refresh_done) rest
-InfoForm bytes (RefreshPresent cookie refresh_done) rest = RefreshForm 162 bytes (cookie, refresh_done) rest
-InfoForm bytes (IdSet cookie refresh_deletes ids) rest = SetForm bytes (cookie, (refresh_deletes, ids)) rest
+InfoForm bytes (RefreshDelete cookie refresh_done) rest =
+    RefreshForm 161 bytes (cookie, refresh_done) rest
+InfoForm bytes (RefreshPresent cookie refresh_done) rest =
+    RefreshForm 162 bytes (cookie, refresh_done) rest
+InfoForm bytes (IdSet cookie refresh_deletes ids) rest =
+    SetForm bytes (cookie, (refresh_deletes, ids)) rest
 
 -- ---- how it is read
 
@@ -63,9 +66,12 @@ uuids_octets ids = element 49 (flat_map uuid_octets ids)
 
 unfoldable pub info_octets : SyncInfo → List ℕ
 info_octets (NewCookie cookie) = element 128 cookie
-info_octets (RefreshDelete cookie refresh_done) = element 161 (refresh_octets true (cookie, refresh_done))
-info_octets (RefreshPresent cookie refresh_done) = element 162 (refresh_octets true (cookie, refresh_done))
-info_octets (IdSet cookie refresh_deletes ids) = element 163 (cookie_octets cookie ++ (flag_octets 1 false refresh_deletes ++ uuids_octets ids))
+info_octets (RefreshDelete cookie refresh_done) =
+    element 161 (refresh_octets true (cookie, refresh_done))
+info_octets (RefreshPresent cookie refresh_done) =
+    element 162 (refresh_octets true (cookie, refresh_done))
+info_octets (IdSet cookie refresh_deletes ids) =
+    element 163 (cookie_octets cookie ++ (flag_octets 1 false refresh_deletes ++ uuids_octets ids))
 
 -- each identity has at most sixteen octets
 abbrev pub IsInRange : SyncInfo → Type 0

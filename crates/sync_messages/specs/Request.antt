@@ -41,11 +41,15 @@ unfoldable pub RequestForm : Form SyncRequest
 RequestForm = MadeOf request_parts (Sequence 48 (Both ModeForm (Both CookieForm (FlagForm false))))
 
 abbrev pub request_at : Reading SyncFault SyncRequest
-request_at = made_at request_with (sequence_at Ber 48 (both_at mode_at (both_at cookie_at (flag_at false))))
+request_at =
+    made_at request_with (sequence_at Ber 48 (both_at mode_at (both_at cookie_at (flag_at false))))
 
 -- the value that all of the bytes spell, or the first fault
 unfoldable pub request_of : List ℕ → Result SyncRequest SyncFault
 request_of bytes = whole_at Ber request_at bytes
 
 unfoldable pub request_octets : SyncRequest → List ℕ
-request_octets request = element 48 (element 10 (integer_octets (mode_number request.mode)) ++ refresh_octets false (request.cookie, request.reload_hint))
+request_octets request =
+    element 48
+    (element 10 (integer_octets (mode_number request.mode))
+    ++ refresh_octets false (request.cookie, request.reload_hint))

@@ -52,4 +52,7 @@ unfoldable pub state_of : List ℕ → Result SyncState SyncFault
 state_of bytes = whole_at Ber state_at bytes
 
 unfoldable pub state_octets : SyncState → List ℕ
-state_octets state = element 48 (element 10 (integer_octets (kind_number state.state)) ++ (uuid_octets state.uuid ++ cookie_octets state.cookie))
+state_octets state =
+    element 48
+    (element 10 (integer_octets (kind_number state.state))
+    ++ (uuid_octets state.uuid ++ cookie_octets state.cookie))

@@ -20,14 +20,15 @@ use std::alloc::Global;
 #[derive(Drop)]
 pub struct SyncDone {
     pub cookie: Option<Octets>,
-    /// Whether the refresh told what is deleted, and not what is present.
+    /// Whether the refresh reported what is deleted, and not what is present.
     pub refresh_deletes: bool,
 }
 
 impl SyncDone {
     ghost use Rattle.sync_messages.specs.declared.done.SyncDone.{SyncDone};
 
-    /// Reads the value that all of the bytes spell.
+    /// Reads the value that all of the bytes spell. Where they spell none it is the first fault
+    /// from left to right, or `NoMemory`.
     #[tactic(auto, using(crate::proofs::DoneLemmas::done_found, crate::proofs::DoneLemmas::done_only))]
     pub fn read(alloc: Global, value: &[u8]) -> Result<SyncDone, SyncFault>
         ensures exact { Gives (λ done. done) result (done_of value.now) }

@@ -13,7 +13,7 @@ pub enum SyncFault {
     Ber(BerFault),
     /// A mode has this number.
     BadMode(i64),
-    /// An identity has so many octets and not 16.
+    /// An identity has n octets and not 16.
     BadUuidLength(usize),
     /// A state has this number.
     BadState(i64),

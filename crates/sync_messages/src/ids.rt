@@ -21,6 +21,7 @@ impl Model for IdList {
 }
 
 impl IdList {
+    /// Makes a list without identities.
     pub fn new(alloc: Global) -> IdList
         ensures { result ≡ [] }
     {
@@ -38,6 +39,7 @@ impl IdList {
         Ok(())
     }
 
+    /// Lends the identities, in their order.
     pub fn list(&self) -> &[u128]
         ensures { result.now ≡ self.now }
     {

@@ -47,7 +47,8 @@ pub enum SyncInfo {
 impl SyncInfo {
     ghost use Rattle.sync_messages.specs.declared.info.SyncInfo.{SyncInfo};
 
-    /// Reads the value that all of the bytes spell.
+    /// Reads the value that all of the bytes spell. Where they spell none it is the first fault
+    /// from left to right, or `NoMemory`.
     #[tactic(auto, using(crate::proofs::InfoLemmas::info_found, crate::proofs::InfoLemmas::info_only))]
     pub fn read(alloc: Global, value: &[u8]) -> Result<SyncInfo, SyncFault>
         ensures exact { Gives (λ info. info) result (info_of value.now) }

@@ -12,18 +12,18 @@ ghost use Rattle.sync_messages.specs.State.{StateForm, state_of};
 ghost use Rattle.sync_messages.specs.Done.{DoneForm, done_of};
 ghost use Rattle.sync_messages.specs.Info.{InfoForm, info_of};
 
-/// A proper front of a spelling is refused as short, and never read as another value.
+/// A proper prefix of a spelling is refused as short, and never read as another value.
 pub fn cut_spellings_are_refused()
-    ensures request { (front more : List ℕ) (request : SyncRequest)
-        → RequestForm (front ++ more) request [] → more ≢ []
-        → request_of front ≡ Err (Ber (record { kind = Short; at = 0 })) }
-    ensures state { (front more : List ℕ) (state : SyncState)
-        → StateForm (front ++ more) state [] → more ≢ []
-        → state_of front ≡ Err (Ber (record { kind = Short; at = 0 })) }
-    ensures done { (front more : List ℕ) (done : SyncDone)
-        → DoneForm (front ++ more) done [] → more ≢ []
-        → done_of front ≡ Err (Ber (record { kind = Short; at = 0 })) }
-    ensures info { (front more : List ℕ) (info : SyncInfo)
-        → InfoForm (front ++ more) info [] → more ≢ []
-        → info_of front ≡ Err (Ber (record { kind = Short; at = 0 })) }
+    ensures request { (prefix more : List ℕ) (request : SyncRequest)
+        → RequestForm (prefix ++ more) request [] → more ≢ []
+        → request_of prefix ≡ Err (Ber (record { kind = Short; at = 0 })) }
+    ensures state { (prefix more : List ℕ) (state : SyncState)
+        → StateForm (prefix ++ more) state [] → more ≢ []
+        → state_of prefix ≡ Err (Ber (record { kind = Short; at = 0 })) }
+    ensures done { (prefix more : List ℕ) (done : SyncDone)
+        → DoneForm (prefix ++ more) done [] → more ≢ []
+        → done_of prefix ≡ Err (Ber (record { kind = Short; at = 0 })) }
+    ensures info { (prefix more : List ℕ) (info : SyncInfo)
+        → InfoForm (prefix ++ more) info [] → more ≢ []
+        → info_of prefix ≡ Err (Ber (record { kind = Short; at = 0 })) }
 {}

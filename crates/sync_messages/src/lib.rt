@@ -2,7 +2,7 @@
 //! section 2), as bytes.
 //!
 //! Each is read from the whole of some bytes: in any spelling of its elements, with unknown
-//! elements behind its last known one, and with values written that could be left out. It is
+//! elements after its last known one, and with values written that could be left out. It is
 //! written in its one canonical spelling. The elements of a SET are all known.
 #![tactic(auto)]
 

@@ -1,4 +1,4 @@
-//! Components of several values (RFC 4533, section 2.1), and the cookie with the flag behind it.
+//! Components of several values (RFC 4533, section 2.1), and the cookie with the flag after it.
 //!
 //! ```text
 //! syncUUID ::= OCTET STRING (SIZE(16))

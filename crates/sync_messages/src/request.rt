@@ -41,7 +41,8 @@ pub struct SyncRequest {
 impl SyncRequest {
     ghost use Rattle.sync_messages.specs.declared.request.SyncRequest.{SyncRequest};
 
-    /// Reads the value that all of the bytes spell.
+    /// Reads the value that all of the bytes spell. Where they spell none it is the first fault
+    /// from left to right, or `NoMemory`.
     #[tactic(auto, using(crate::proofs::RequestLemmas::request_found, crate::proofs::RequestLemmas::request_only))]
     pub fn read(alloc: Global, value: &[u8]) -> Result<SyncRequest, SyncFault>
         ensures exact { Gives (λ request. request) result (request_of value.now) }

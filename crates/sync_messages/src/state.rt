@@ -43,7 +43,8 @@ pub struct SyncState {
 impl SyncState {
     ghost use Rattle.sync_messages.specs.declared.state.SyncState.{SyncState};
 
-    /// Reads the value that all of the bytes spell.
+    /// Reads the value that all of the bytes spell. Where they spell none it is the first fault
+    /// from left to right, or `NoMemory`.
     #[tactic(auto, using(crate::proofs::StateLemmas::state_found, crate::proofs::StateLemmas::state_only))]
     pub fn read(alloc: Global, value: &[u8]) -> Result<SyncState, SyncFault>
         ensures exact { Gives (λ state. state) result (state_of value.now) }

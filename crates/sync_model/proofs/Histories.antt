@@ -1,10 +1,8 @@
 -- The states of a directory are in ascending order.
-use Rattle.std.proofs.Common.{◌≡◌, ℕ, ◌+◌, Bool, true, false, cond, nat_eq, List, [], ◌∷◌, take, refl, sym, ◌∙◌, Some, None, Option}
+use Rattle.std.proofs.Common.{◌≡◌, ℕ, ◌+◌, Bool, true, cond, List, [], ◌∷◌, take, refl, ◌∙◌, Some, None, Option}
 use Rattle.std.specs.Prelude.{not}
-use Rattle.std.proofs.lemmas.Bool.{eqb-true}
-use Rattle.schema_rules.specs.declared.attributes.Attribute.{Attribute}
-use Rattle.csn_cookie.specs.Csn.{Stamp}
-use Rattle.dn_names.specs.Names.{TypeAndValue, is_at_or_below, moved_name}
+use Rattle.csn_cookie.specs.Csn.{CsnValue}
+use Rattle.dn_names.specs.Names.{TypeAndValue}
 use Rattle.entry_tree.specs.declared.edit.Edit.{Edit}
 use Rattle.entry_tree.specs.declared.entry.Entry.{Entry}
 use Rattle.entry_tree.specs.declared.op.Op.{Op}
@@ -16,31 +14,23 @@ use Rattle.entry_tree.specs.State.{ascends, is_identified, is_named, entry_named
 use Rattle.entry_tree.proofs.Committing.{ascends_committed}
 use Rattle.entry_tree.proofs.Directory.{ascends_filter}
 use Rattle.entry_tree.proofs.Putting.{ascends_put}
-use Rattle.entry_tree.proofs.Replacing.{ascends_mapped}
+use Rattle.entry_tree.proofs.Replacing.{ascends_mapped, replaced_keeps}
+use Rattle.entry_tree.proofs.Moving.{moved_keeps}
 
-edited_uuid : (e : Entry) (edits : List Edit) (csn : Stamp) (other : Entry) (b : Bool) → nat_eq other.uuid e.uuid ≡ b → (cond b (edited e edits csn) other).uuid ≡ other.uuid
-edited_uuid e edits csn other true here = sym (eqb-true other.uuid e.uuid here)
-edited_uuid e edits csn other false off = refl
-
-ascends-modified : (entries : List Entry) (found : Option Entry) (edits : List Edit) (csn : Stamp) → ascends entries ≡ true → ascends (modified entries found edits csn) ≡ true
+ascends-modified : (entries : List Entry) (found : Option Entry) (edits : List Edit) (csn : CsnValue) → ascends entries ≡ true → ascends (modified entries found edits csn) ≡ true
 ascends-modified entries None edits csn asc = asc
 ascends-modified entries (Some e) edits csn asc =
-    ascends_mapped (λ other. cond (is_identified e.uuid other) (edited e edits csn) other) (λ other. edited_uuid e edits csn other (is_identified e.uuid other) refl) entries ∙ asc
+    ascends_mapped (λ other. cond (is_identified e.uuid other) (edited e edits csn) other) (replaced_keeps e.uuid (edited e edits csn) refl) entries ∙ asc
 
-moved_uuid : (top : Entry) (name : List (List TypeAndValue)) (attrs : List Attribute) (csn : Stamp) (e : Entry) (b : Bool)
-    → (let at : Entry = record { uuid = e.uuid; csn = csn; dn = moved_name e.dn top.dn name; attrs = cond (nat_eq e.uuid top.uuid) attrs e.attrs } in (cond b at e).uuid) ≡ e.uuid
-moved_uuid top name attrs csn e true = refl
-moved_uuid top name attrs csn e false = refl
-
-ascends-renamed : (entries : List Entry) (found : Option Entry) (rdn : List TypeAndValue) (deletes : Bool) (superior : Option (List (List TypeAndValue))) (csn : Stamp)
+ascends-renamed : (entries : List Entry) (found : Option Entry) (rdn : List TypeAndValue) (deletes : Bool) (superior : Option (List (List TypeAndValue))) (csn : CsnValue)
     → ascends entries ≡ true → ascends (renamed entries found rdn deletes superior csn) ≡ true
 ascends-renamed entries None rdn deletes superior csn asc = asc
 ascends-renamed entries (Some top) rdn deletes superior csn asc =
     ascends_mapped (moved top (new_name top rdn superior) (new_attributes top rdn deletes) csn)
-    (λ e. moved_uuid top (new_name top rdn superior) (new_attributes top rdn deletes) csn e (is_at_or_below e.dn top.dn)) entries
+    (moved_keeps top (new_name top rdn superior) (new_attributes top rdn deletes) csn) entries
     ∙ asc
 
-pub ascends-effect : (op : Op) (entries : List Entry) (uuid : ℕ) (csn : Stamp) → ascends entries ≡ true → ascends (effect entries op uuid csn) ≡ true
+pub ascends-effect : (op : Op) (entries : List Entry) (uuid : ℕ) (csn : CsnValue) → ascends entries ≡ true → ascends (effect entries op uuid csn) ≡ true
 ascends-effect (Add name attrs) entries uuid csn asc = ascends_put (record { uuid = uuid; csn = csn; dn = name; attrs = attrs }) entries asc
 ascends-effect (Delete name) entries uuid csn asc = ascends_filter (λ e. not (is_named name e)) entries asc
 ascends-effect (Modify name edits) entries uuid csn asc = ascends-modified entries (entry_named entries name) edits csn asc
@@ -54,5 +44,6 @@ ascends-state_from (write ∷ writes) history entries before asc =
     ascends-state_from writes history (effect entries write.op (identity history (before + 1)) write.csn) (before + 1)
     (ascends-effect write.op entries (identity history (before + 1)) write.csn asc)
 
+-- each state of a directory ascends by identity
 pub ascends-state_of : (history : ℕ) (writes : List Write) (number : ℕ) → ascends (state_of history writes number) ≡ true
 ascends-state_of history writes number = ascends-state_from (take number writes) history [] 0 refl

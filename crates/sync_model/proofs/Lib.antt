@@ -1,16 +1,22 @@
 -- Lemmas of the crate.
 pub mod Examples
+pub mod FewNames
 pub mod Fitting
-pub mod Fronts
+pub mod Prefixes
 pub mod Gather
+pub mod Groups
 pub mod Histories
 pub mod Incremental
 pub mod Keeping
 pub mod Later
+pub mod LaterWrites
 pub mod Limits
 pub mod Maps
+pub mod NextMessages
 pub mod Order
+pub mod Pigeons
 pub mod Refresh
 pub mod Same
+pub mod Stages
 pub mod Steps
 pub mod Taking

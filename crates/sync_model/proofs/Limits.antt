@@ -27,11 +27,13 @@ not_crowded : (entries : List Entry) → IsWithin entries → is_crowded entries
 not_crowded entries within =
     ap (λ b. b || nat_lt most_weight (total_weight entries)) (le-ltb most_entries (length entries) within.few) ∙ le-ltb most_weight (total_weight entries) within.light
 
-option_or-none : {X : Type 0} (one other : Option X) → option_or one other ≡ None → (one ≡ None) × (other ≡ None)
+-- where two together give nothing, neither gives anything
+pub option_or-none : {X : Type 0} (one other : Option X) → option_or one other ≡ None → (one ≡ None) × (other ≡ None)
 option_or-none None other h = (refl, h)
 option_or-none (Some x) other h = let never : ⊥ = cc in absurd never
 
-option_map-none : {X Y : Type 0} (f : X → Y) (found : Option X) → option_map f found ≡ None → found ≡ None
+-- where what is made of something is nothing, there was nothing
+pub option_map-none : {X Y : Type 0} (f : X → Y) (found : Option X) → option_map f found ≡ None → found ≡ None
 option_map-none f None h = refl
 option_map-none f (Some x) h = let never : ⊥ = cc in absurd never
 
@@ -56,6 +58,7 @@ apart_filter test (entry ∷ entries) apart =
     step true none ih = ap (λ found. option_or (option_map (λ (other : Entry). (entry.uuid, other.uuid)) found) (same_named (filter test entries))) none ∙ ih
     step false none ih = ih
 
+-- a part of entries that are within the limits is within them
 pub within_filter : (test : Entry → Bool) (entries : List Entry) → IsWithin entries → IsWithin (filter test entries)
 within_filter test entries within = record {
   few = omega (arith, length-filter_both test (λ e. not (test e)) (λ e. refl) entries, within.few);
@@ -63,6 +66,7 @@ within_filter test entries within = record {
   apart = apart_filter test entries within.apart;
 }
 
+-- entries within the limits are refused by none of them
 pub nothing_against : (entries : List Entry) → IsWithin entries → against entries ≡ None
 nothing_against entries within =
     ap (λ b. cond b (Some StageFull) (option_map (λ (pair : ℕ × ℕ). DuplicateName pair.0 pair.1) (same_named entries))) (not_crowded entries within)
@@ -70,10 +74,12 @@ nothing_against entries within =
 
 -- ---- what is staged is among the entries to come
 
+-- the identities of a stage ascend
 abbrev pub Ordered : Stage → Type 0
 Ordered [] = ⊤
 Ordered (change ∷ stage) = Each (λ (later : ℕ × Option Entry). change.0 < later.0) stage × Ordered stage
 
+-- a change puts what the target has of its identity, or drops it
 abbrev pub IsAmong : List Entry → ℕ → Option Entry → Type 0
 IsAmong target uuid None = ⊤
 IsAmong target uuid (Some entry) = entry_at target uuid ≡ Some entry
@@ -96,7 +102,8 @@ each-weaker : {X : Type 0} (Q R : X → Type 0) (xs : List X) → ((x : X) → Q
 each-weaker Q R [] h each = tt
 each-weaker Q R (x ∷ xs) h each = (h x each.0, each-weaker Q R xs h each.1)
 
-ordered-staged : (stage : Stage) (v : ℕ) (change : Option Entry) → Ordered stage → Ordered (staged v change stage)
+-- a stage in order is so with one change more
+pub ordered-staged : (stage : Stage) (v : ℕ) (change : Option Entry) → Ordered stage → Ordered (staged v change stage)
 ordered-staged [] v change ordered = (tt, tt)
 ordered-staged (s ∷ stage) v change ordered = step (ordered-staged stage v change ordered.1) _ _ refl refl where
   step : Ordered (staged v change stage) → (l q : Bool) → nat_lt v s.0 ≡ l → nat_eq v s.0 ≡ q
@@ -109,16 +116,19 @@ ordered-staged (s ∷ stage) v change ordered = step (ordered-staged stage v cha
       let far : s.0 < v = omega (arith, ltb-false v s.0 less, eqb-false v s.0 same) in
       (each-staged (λ (later : ℕ × Option Entry). s.0 < later.0) stage v change (λ k is. omega (arith, far, is)) ordered.0, ih)
 
+-- a stage fits its target with one more change that does
 pub fits-staged : (target : List Entry) (stage : Stage) (v : ℕ) (change : Option Entry) → IsAmong target v change → Fits target stage → Fits target (staged v change stage)
 fits-staged target stage v change is fits = record {
   ordered = ordered-staged stage v change fits.ordered;
   among = each-staged (λ (c : ℕ × Option Entry). IsAmong target c.0 c.1) stage v change (λ k same. subst (λ u. IsAmong target u change) (sym same) is) fits.among;
 }
 
+-- a stage fits its target with more identities that are dropped
 pub fits-all_dropped : (us : List ℕ) (target : List Entry) (stage : Stage) → Fits target stage → Fits target (all_dropped stage us)
 fits-all_dropped [] target stage fits = fits
 fits-all_dropped (u ∷ us) target stage fits = fits-all_dropped us target (staged u None stage) (fits-staged target stage u None tt fits)
 
+-- the empty stage fits each target
 pub fits-none : (target : List Entry) → Fits target []
 fits-none target = record { ordered = tt; among = tt }
 
@@ -186,6 +196,7 @@ puts_are stage target ascending fits =
         let there : entry_at target u ≡ Some entry = among-slot stage target u (Some entry) fits.among is in
         sym (ap (option_filter test) there ∙ cond-true _ _ _ (ap (λ k. is_put (slot stage k)) (entry_at-uuid target u entry there) ∙ ap is_put is))
 
+-- what a stage puts is within the limits where all of its target is
 pub puts_fit : (stage : Stage) (target : List Entry) → ascends target ≡ true → IsWithin target → Fits target stage → is_crowded (puts_of stage) ≡ false
 puts_fit stage target ascending within fits =
     ap is_crowded (puts_are stage target ascending fits)

@@ -11,6 +11,7 @@ use Rattle.entry_tree.specs.Touched.{identities, joined}
 use Rattle.sync_model.specs.Stream.{among}
 use Rattle.sync_model.specs.Copy.{Stage, slot, staged, all_dropped}
 
+-- what is staged of an identity after one more change
 pub slot-staged : (stage : Stage) (v : ℕ) (change : Option Entry) (u : ℕ) → slot (staged v change stage) u ≡ cond (nat_eq u v) (Some change) (slot stage u)
 slot-staged [] v change u = refl
 slot-staged (s ∷ stage) v change u = grind (arith, nat_tests, slot-staged stage v change u)
@@ -19,10 +20,12 @@ pub among-inserted : (xs : List ℕ) (v u : ℕ) → among u (insert_key nat_cmp
 among-inserted [] v u = refl
 among-inserted (x ∷ xs) v u = grind (arith, nat_tests, among-inserted xs v u)
 
+-- an identity is in a union where it is in one of its parts
 pub among-joined : (ys xs : List ℕ) (u : ℕ) → among u (joined xs ys) ≡ (among u xs || among u ys)
 among-joined [] xs u = grind (arith, nat_tests)
 among-joined (y ∷ ys) xs u = grind (arith, nat_tests, among-joined ys (insert_key nat_cmp xs y) u, among-inserted xs y u)
 
+-- an identity is in two lists together where it is in one of them
 pub among-append : (u : ℕ) (xs ys : List ℕ) → among u (xs ++ ys) ≡ (among u xs || among u ys)
 among-append u [] ys = refl
 among-append u (x ∷ xs) ys = grind (arith, nat_tests, among-append u xs ys)
@@ -32,6 +35,7 @@ pub among-filter : (test : ℕ → Bool) (xs : List ℕ) (u : ℕ) → among u (
 among-filter test [] u = refl
 among-filter test (x ∷ xs) u = grind (arith, nat_tests, among-filter test xs u)
 
+-- an identity is among those of some entries where one of them has it
 pub among-identities : (entries : List Entry) (u : ℕ) → among u (identities entries) ≡ is_some (entry_at entries u)
 among-identities [] u = refl
 among-identities (e ∷ entries) u = grind (arith, nat_tests, among-identities entries u)
@@ -49,6 +53,7 @@ entry_at-uuid (e ∷ entries) u found h = step (nat_eq e.uuid u) refl (entry_at-
   step true here rest k = let same : e ≡ found = cc in ap (λ (x : Entry). x.uuid) (sym same) ∙ eqb-true e.uuid u here
   step false off rest k = rest k
 
+-- what is staged of an identity after some are dropped
 pub slot-all_dropped : (us : List ℕ) (stage : Stage) (u : ℕ) → slot (all_dropped stage us) u ≡ cond (among u us) (Some None) (slot stage u)
 slot-all_dropped [] stage u = refl
 slot-all_dropped (v ∷ us) stage u = grind (arith, nat_tests, slot-all_dropped us (staged v None stage) u, slot-staged stage v None u)

@@ -2,10 +2,11 @@
 use Rattle.std.proofs.Common.{◌≡◌, ℕ, zero, suc, ◌+◌, ◌-◌, ◌≤◌, Bool, true, false, cond, List, [], ◌∷◌, map, refl, sym, ap, ◌∙◌, arith, Some, None, Option, inl, inr, subst}
 use Rattle.std.specs.Prelude.{not, ◌||◌, ◌&&◌, filter, is_some}
 use Rattle.std.proofs.lemmas.Bool.{cases_lt, or_parts}
+use Rattle.std.proofs.Math.Bool.{or-false, or_assoc}
 use Rattle.entry_tree.specs.declared.entry.Entry.{Entry}
 use Rattle.entry_tree.specs.Bytes.{is_one_found}
 use Rattle.entry_tree.specs.State.{entry_at}
-use Rattle.entry_tree.specs.Touched.{identities, joined, touch_at, is_change, touched}
+use Rattle.entry_tree.specs.Touched.{identities, joined, change_at, is_change, touched}
 use Rattle.entry_tree.specs.History.{differing_over}
 use Rattle.sync_model.specs.Stream.{among}
 use Rattle.sync_model.proofs.Maps.{among-joined, among-filter, among-identities}
@@ -13,16 +14,17 @@ use Rattle.sync_model.proofs.Same.{one_found-true}
 
 -- the identities that differ between two states
 abbrev pub differing : List Entry → List Entry → List ℕ
-differing old new = map (λ touch. touch.uuid) (touched old new)
+differing old new = map (λ entry_change. entry_change.uuid) (touched old new)
 
+-- whether two lists of entries have another entry of an identity
 abbrev pub differs : List Entry → List Entry → ℕ → Bool
 differs old new u = not (is_one_found (entry_at old u) (entry_at new u))
 
-uuids_touched : (old new : List Entry) (xs : List ℕ) → map (λ touch. touch.uuid) (filter is_change (map (touch_at old new) xs)) ≡ filter (differs old new) xs
+uuids_touched : (old new : List Entry) (xs : List ℕ) → map (λ entry_change. entry_change.uuid) (filter is_change (map (change_at old new) xs)) ≡ filter (differs old new) xs
 uuids_touched old new [] = refl
 uuids_touched old new (x ∷ xs) = step (differs old new x) (uuids_touched old new xs) where
-  step : (b : Bool) → map (λ touch. touch.uuid) (filter is_change (map (touch_at old new) xs)) ≡ filter (differs old new) xs
-      → map (λ touch. touch.uuid) (cond b (touch_at old new x ∷ filter is_change (map (touch_at old new) xs)) (filter is_change (map (touch_at old new) xs)))
+  step : (b : Bool) → map (λ entry_change. entry_change.uuid) (filter is_change (map (change_at old new) xs)) ≡ filter (differs old new) xs
+      → map (λ entry_change. entry_change.uuid) (cond b (change_at old new x ∷ filter is_change (map (change_at old new) xs)) (filter is_change (map (change_at old new) xs)))
       ≡ cond b (x ∷ filter (differs old new) xs) (filter (differs old new) xs)
   step true ih = ap (λ us. x ∷ us) ih
   step false ih = ih
@@ -31,6 +33,7 @@ uuids_touched old new (x ∷ xs) = step (differs old new x) (uuids_touched old n
 pub differing-filter : (old new : List Entry) → differing old new ≡ filter (differs old new) (joined (identities old) (identities new))
 differing-filter old new = uuids_touched old new (joined (identities old) (identities new))
 
+-- an identity is among those that differ exactly where its entries differ
 pub among-differing : (old new : List Entry) (u : ℕ) → among u (differing old new) ≡ differs old new u
 among-differing old new u =
     ap (among u) (differing-filter old new)
@@ -52,14 +55,17 @@ same_outside old new u h = one_found-true _ _ (not_false _ (sym (among-differing
   not_false true q = refl
   not_false false q = sym q
 
+-- no identity differs over no steps
 pub over_none : (states : ℕ → List Entry) (from : ℕ) → differing_over states from 0 ≡ []
 unfolding differing_over
 over_none states from = refl
 
+-- what differs over one more step differs over those before it or in it
 pub over_more : (states : ℕ → List Entry) (from steps : ℕ) → differing_over states from (suc steps) ≡ joined (differing_over states from steps) (differing (states (from + steps)) (states (from + steps + 1)))
 unfolding differing_over
 over_more states from steps = refl
 
+-- an identity differs over one more step where it does over those before it or in it
 pub among-over_more : (states : ℕ → List Entry) (from steps u : ℕ)
     → among u (differing_over states from (suc steps)) ≡ (among u (differing_over states from steps) || among u (differing (states (from + steps)) (states (from + steps + 1))))
 among-over_more states from steps u =
@@ -86,19 +92,11 @@ steady_within states a b n u least most h =
     let e : a + (n - a) ≡ n = omega arith in
     subst (λ x. entry_at (states x) u ≡ entry_at (states a) u) e (steady (b - a) states a (n - a) u (omega arith) h)
 
-or_nil : (b : Bool) → (b || false) ≡ b
-or_nil true = refl
-or_nil false = refl
-
-or_assoc : (x y z : Bool) → ((x || y) || z) ≡ (x || (y || z))
-or_assoc true y z = refl
-or_assoc false y z = refl
-
 -- what differs over some steps differs over the first of them or over those that follow
 pub over_split : (k : ℕ) (states : ℕ → List Entry) (a j u : ℕ) → among u (differing_over states a (j + k)) ≡ (among u (differing_over states a j) || among u (differing_over states (a + j) k))
 over_split zero states a j u =
     let z : j + 0 ≡ j = omega arith in
-    ap (λ n. among u (differing_over states a n)) z ∙ sym (or_nil (among u (differing_over states a j)))
+    ap (λ n. among u (differing_over states a n)) z ∙ sym (or-false (among u (differing_over states a j)))
     ∙ ap (λ us. among u (differing_over states a j) || among u us) (sym (over_none states (a + j)))
 over_split (suc k) states a j u =
     let z : j + suc k ≡ suc (j + k) = omega arith in

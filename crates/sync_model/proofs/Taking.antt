@@ -6,58 +6,65 @@ use Rattle.std.specs.Ordering.{match_ordering}
 use Rattle.std.specs.declared.cmp.Ordering.TheVariants.{Less, Equal, Greater}
 use Rattle.std.proofs.lemmas.Bool.Decides.{nat_tests}
 use Rattle.std.proofs.lemmas.Bool.{cases_Bool, eqb-true, eq-eqb, cond-false, cond-true, or_parts, or_right, false≢true}
+use Rattle.std.proofs.Math.Bool.{or-false}
 use Rattle.entry_tree.specs.declared.entry.Entry.{Entry}
 use Rattle.entry_tree.specs.State.{ascends, entry_at, is_identified}
 use Rattle.entry_tree.specs.Touched.{identities, joined}
 use Rattle.entry_tree.proofs.Directory.{ascends_filter}
 use Rattle.entry_tree.proofs.Putting.{ascends_put, entry_at_put}
-use Rattle.sync_model.specs.Message.{Cookie, SyncMessage}
-use Rattle.sync_model.specs.Message.SyncMessage.{Put, Gone, Present, IdSet, NewCookie, PhaseEnds, Done, Passed}
+use Rattle.sync_model.specs.Message.{CookieText, SyncMessage}
+use Rattle.sync_model.specs.Message.SyncMessage.{AddOrModify, Delete, Present, IdSet, NewCookie, RefreshDelete, RefreshPresent, Done, Ignored}
 use Rattle.sync_model.specs.Stream.{among}
-use Rattle.sync_model.specs.Copy.{Stage, Running, Copy, Answer, slot, is_put, is_known, staged, all_dropped, put_or_dropped, effected, unspoken, present_ended, named_unless, goes_on, taken_in, taken_by, taken, taken_all}
+use Rattle.sync_model.specs.Copy.{Stage, SyncSession, Copy, Answer, slot, is_put, is_known, staged, all_dropped, put_or_dropped, effected, unmentioned, present_ended, named_unless, goes_on, taken_in, taken_by, taken, taken_all}
 use Rattle.sync_model.proofs.Maps.{slot-staged, slot-all_dropped, among-joined, among-filter, among-identities, entry_at-dropped}
 use Rattle.sync_model.proofs.Gather.{Each, IsPart, EachM, meant, meant_by, each-among}
 
-abbrev pub running_in : ℕ → (persists ended : Bool) → List ℕ → Stage → Running
-running_in id persists ended named stage = record { id = id; persists = persists; persisting = false; ended = ended; named = named; stage = stage }
+-- a search that runs, with these names and this stage
+abbrev pub session_in : ℕ → (persists ended : Bool) → List ℕ → Stage → SyncSession
+session_in id persists ended named stage = record { id = id; persists = persists; persisting = false; ended = ended; named = named; stage = stage }
 
 -- a copy in the refresh
-abbrev pub refreshing : ℕ → List Entry → Option Cookie → (persists ended : Bool) → List ℕ → Stage → Copy
-refreshing id held cookie persists ended named stage = record { held = held; cookie = cookie; running = Some (running_in id persists ended named stage) }
+abbrev pub refreshing : ℕ → List Entry → Option CookieText → (persists ended : Bool) → List ℕ → Stage → Copy
+refreshing id held cookie persists ended named stage = record { held = held; cookie = cookie; session = Some (session_in id persists ended named stage) }
 
 -- what a message of a part names and stages
 abbrev pub named_by : List ℕ → SyncMessage → List ℕ
 named_by named (IdSet d uuids cookie) = cond d named (joined named uuids)
-named_by named (Put adds entry cookie) = named
-named_by named (Gone uuid name cookie) = named
+named_by named (AddOrModify adds entry cookie) = named
+named_by named (Delete uuid name cookie) = named
 named_by named (Present uuid cookie) = named
 named_by named (NewCookie cookie) = named
-named_by named (PhaseEnds d done cookie) = named
+named_by named (RefreshDelete done cookie) = named
+named_by named (RefreshPresent done cookie) = named
 named_by named (Done code control) = named
-named_by named Passed = named
+named_by named Ignored = named
 
+-- the stage after a message
 abbrev pub staged_by : Stage → SyncMessage → Stage
-staged_by stage (Put adds entry cookie) = staged entry.uuid (Some entry) stage
+staged_by stage (AddOrModify adds entry cookie) = staged entry.uuid (Some entry) stage
 staged_by stage (IdSet d uuids cookie) = cond d (all_dropped stage uuids) stage
-staged_by stage (Gone uuid name cookie) = stage
+staged_by stage (Delete uuid name cookie) = stage
 staged_by stage (Present uuid cookie) = stage
 staged_by stage (NewCookie cookie) = stage
-staged_by stage (PhaseEnds d done cookie) = stage
+staged_by stage (RefreshDelete done cookie) = stage
+staged_by stage (RefreshPresent done cookie) = stage
 staged_by stage (Done code control) = stage
-staged_by stage Passed = stage
+staged_by stage Ignored = stage
 
+-- the identities that are named as present after some messages
 abbrev pub names_after : List ℕ → List SyncMessage → List ℕ
 names_after named [] = named
 names_after named (m ∷ ms) = names_after (named_by named m) ms
 
+-- the stage after some messages
 abbrev pub stage_after : Stage → List SyncMessage → Stage
 stage_after stage [] = stage
 stage_after stage (m ∷ ms) = stage_after (staged_by stage m) ms
 
 -- the running search takes a message of its own
-pub taken-own : (copy : Copy) (running : Running) (message : SyncMessage) → copy.running ≡ Some running → taken running.id copy message ≡ taken_in copy running message
-taken-own copy running message h =
-    ap (λ (r : Option Running). taken_by r running.id copy message) h ∙ cond-true (nat_eq running.id running.id) _ _ (eq-eqb running.id running.id refl)
+pub taken-own : (copy : Copy) (session : SyncSession) (message : SyncMessage) → copy.session ≡ Some session → taken session.id copy message ≡ taken_in copy session message
+taken-own copy session message h =
+    ap (λ (r : Option SyncSession). taken_by r session.id copy message) h ∙ cond-true (nat_eq session.id session.id) _ _ (eq-eqb session.id session.id refl)
 
 all_known : (held : List Entry) (stage : Stage) (Q : ℕ → Type 0) (us : List ℕ) → ((u : ℕ) → Q u → is_some (entry_at held u) ≡ true) → Each Q us → find (λ u. not (is_known held stage u)) us ≡ None
 all_known held stage Q [] known a = refl
@@ -66,28 +73,30 @@ all_known held stage Q (u ∷ us) known a =
 
 -- a message of a part in the refresh is no fault, and the entries stay
 pub taken-one : (m : SyncMessage) (deletes : Bool) (P : Entry → Type 0) (Q : ℕ → Type 0)
-    (id : ℕ) (held : List Entry) (cookie : Option Cookie) (persists ended : Bool) (named : List ℕ) (stage : Stage)
+    (id : ℕ) (held : List Entry) (cookie : Option CookieText) (persists ended : Bool) (named : List ℕ) (stage : Stage)
     → IsPart deletes P Q m → (deletes ≡ false → (u : ℕ) → Q u → is_some (entry_at held u) ≡ true)
-    → taken id (refreshing id held cookie persists ended named stage) m ≡ goes_on (refreshing id held cookie persists ended named stage) (running_in id persists ended (named_by named m) (staged_by stage m))
-taken-one (Put adds entry c) deletes P Q id held cookie persists ended named stage a known =
-    taken-own (refreshing id held cookie persists ended named stage) (running_in id persists ended named stage) (Put adds entry c) refl
-    ∙ ap (λ k. taken_in (refreshing id held cookie persists ended named stage) (running_in id persists ended named stage) (Put adds entry k)) a.0
+    → taken id (refreshing id held cookie persists ended named stage) m ≡ goes_on (refreshing id held cookie persists ended named stage) (session_in id persists ended (named_by named m) (staged_by stage m))
+taken-one (AddOrModify adds entry c) deletes P Q id held cookie persists ended named stage a known =
+    taken-own (refreshing id held cookie persists ended named stage) (session_in id persists ended named stage) (AddOrModify adds entry c) refl
+    ∙ ap (λ k. taken_in (refreshing id held cookie persists ended named stage) (session_in id persists ended named stage) (AddOrModify adds entry k)) a.0
 taken-one (IdSet true us c) deletes P Q id held cookie persists ended named stage a known =
-    taken-own (refreshing id held cookie persists ended named stage) (running_in id persists ended named stage) (IdSet true us c) refl
-    ∙ ap (λ k. taken_in (refreshing id held cookie persists ended named stage) (running_in id persists ended named stage) (IdSet true us k)) a.0
+    taken-own (refreshing id held cookie persists ended named stage) (session_in id persists ended named stage) (IdSet true us c) refl
+    ∙ ap (λ k. taken_in (refreshing id held cookie persists ended named stage) (session_in id persists ended named stage) (IdSet true us k)) a.0
 taken-one (IdSet false us c) deletes P Q id held cookie persists ended named stage a known =
-    taken-own (refreshing id held cookie persists ended named stage) (running_in id persists ended named stage) (IdSet false us c) refl
-    ∙ ap (λ found. named_unless found (refreshing id held cookie persists ended named stage) (running_in id persists ended named stage) us)
+    taken-own (refreshing id held cookie persists ended named stage) (session_in id persists ended named stage) (IdSet false us c) refl
+    ∙ ap (λ found. named_unless found (refreshing id held cookie persists ended named stage) (session_in id persists ended named stage) us)
     (all_known held stage Q us (known (sym a.1)) a.2)
-taken-one (Gone u p c) deletes P Q id held cookie persists ended named stage a known = absurd a
+taken-one (Delete u p c) deletes P Q id held cookie persists ended named stage a known = absurd a
 taken-one (Present u c) deletes P Q id held cookie persists ended named stage a known = absurd a
 taken-one (NewCookie c) deletes P Q id held cookie persists ended named stage a known = absurd a
-taken-one (PhaseEnds d done c) deletes P Q id held cookie persists ended named stage a known = absurd a
+taken-one (RefreshDelete done c) deletes P Q id held cookie persists ended named stage a known = absurd a
+taken-one (RefreshPresent done c) deletes P Q id held cookie persists ended named stage a known = absurd a
 taken-one (Done code c) deletes P Q id held cookie persists ended named stage a known = absurd a
-taken-one Passed deletes P Q id held cookie persists ended named stage a known = absurd a
+taken-one Ignored deletes P Q id held cookie persists ended named stage a known = absurd a
 
+-- what a copy makes of messages that put and name entries, with any messages after them
 pub taken-part : (ms : List SyncMessage) (rest : List SyncMessage) (deletes : Bool) (P : Entry → Type 0) (Q : ℕ → Type 0)
-    (id : ℕ) (held : List Entry) (cookie : Option Cookie) (persists ended : Bool) (named : List ℕ) (stage : Stage)
+    (id : ℕ) (held : List Entry) (cookie : Option CookieText) (persists ended : Bool) (named : List ℕ) (stage : Stage)
     → EachM deletes P Q ms → (deletes ≡ false → (u : ℕ) → Q u → is_some (entry_at held u) ≡ true)
     → taken_all id (refreshing id held cookie persists ended named stage) (ms ++ rest)
     ≡ taken_all id (refreshing id held cookie persists ended (names_after named ms) (stage_after stage ms)) rest
@@ -98,13 +107,16 @@ taken-part (m ∷ ms) rest deletes P Q id held cookie persists ended named stage
 
 -- ---- each put stands under its entry's identity
 
+-- a change of an identity puts an entry of that identity, or drops it
 abbrev pub IsOwn : ℕ → Option Entry → Type 0
 IsOwn u None = ⊤
 IsOwn u (Some entry) = entry.uuid ≡ u
 
+-- each change of a stage puts an entry of its own identity, or drops it
 abbrev pub IsKeyed : Stage → Type 0
 IsKeyed stage = Each (λ (change : ℕ × Option Entry). IsOwn change.0 change.1) stage
 
+-- a stage is keyed with one more change that is one of its identity
 pub keyed-staged : (stage : Stage) (v : ℕ) (change : Option Entry) → IsOwn v change → IsKeyed stage → IsKeyed (staged v change stage)
 keyed-staged [] v change own keyed = (own, tt)
 keyed-staged (s ∷ stage) v change own keyed = step (keyed-staged stage v change own keyed.1) _ _ refl refl where
@@ -118,29 +130,33 @@ pub keyed-all_dropped : (us : List ℕ) (stage : Stage) → IsKeyed stage → Is
 keyed-all_dropped [] stage keyed = keyed
 keyed-all_dropped (u ∷ us) stage keyed = keyed-all_dropped us (staged u None stage) (keyed-staged stage u None tt keyed)
 
+-- a stage is keyed after the end of a present phase
 pub keyed-present_ended : (named : List ℕ) (stage : Stage) (held : List Entry) → IsKeyed stage → IsKeyed (present_ended named stage held)
-keyed-present_ended named stage held keyed = keyed-all_dropped (unspoken named stage held) stage keyed
+keyed-present_ended named stage held keyed = keyed-all_dropped (unmentioned named stage held) stage keyed
 
 if_keyed : (b : Bool) (one other : Stage) → IsKeyed one → IsKeyed other → IsKeyed (cond b one other)
 if_keyed true one other h k = h
 if_keyed false one other h k = k
 
 pub keyed-staged_by : (m : SyncMessage) (stage : Stage) → IsKeyed stage → IsKeyed (staged_by stage m)
-keyed-staged_by (Put adds entry c) stage keyed = keyed-staged stage entry.uuid (Some entry) refl keyed
+keyed-staged_by (AddOrModify adds entry c) stage keyed = keyed-staged stage entry.uuid (Some entry) refl keyed
 keyed-staged_by (IdSet d us c) stage keyed = if_keyed d (all_dropped stage us) stage (keyed-all_dropped us stage keyed) keyed
-keyed-staged_by (Gone u p c) stage keyed = keyed
+keyed-staged_by (Delete u p c) stage keyed = keyed
 keyed-staged_by (Present u c) stage keyed = keyed
 keyed-staged_by (NewCookie c) stage keyed = keyed
-keyed-staged_by (PhaseEnds d done c) stage keyed = keyed
+keyed-staged_by (RefreshDelete done c) stage keyed = keyed
+keyed-staged_by (RefreshPresent done c) stage keyed = keyed
 keyed-staged_by (Done code c) stage keyed = keyed
-keyed-staged_by Passed stage keyed = keyed
+keyed-staged_by Ignored stage keyed = keyed
 
+-- a stage is keyed after messages
 pub keyed-stage_after : (ms : List SyncMessage) (stage : Stage) → IsKeyed stage → IsKeyed (stage_after stage ms)
 keyed-stage_after [] stage keyed = keyed
 keyed-stage_after (m ∷ ms) stage keyed = keyed-stage_after ms (staged_by stage m) (keyed-staged_by m stage keyed)
 
 -- ---- at one identity
 
+-- entries ascend after a stage took effect on them
 pub ascends-effected : (stage : Stage) (held : List Entry) → ascends held ≡ true → ascends (effected held stage) ≡ true
 ascends-effected [] held asc = asc
 ascends-effected (s ∷ stage) held asc = step s.1 (ascends-effected stage held asc) where
@@ -148,6 +164,7 @@ ascends-effected (s ∷ stage) held asc = step s.1 (ascends-effected stage held 
   step None ih = ascends_filter (λ entry. not (is_identified s.0 entry)) (effected held stage) ih
   step (Some entry) ih = ascends_put entry (effected held stage) ih
 
+-- what an identity has after a stage took effect: what is staged of it, else what it had
 pub at-effected : (stage : Stage) (held : List Entry) (u : ℕ) → ascends held ≡ true → IsKeyed stage → entry_at (effected held stage) u ≡ unwrap_or (slot stage u) (entry_at held u)
 at-effected [] held u asc keyed = refl
 at-effected (s ∷ stage) held u asc keyed = step s.1 keyed.0 (at-effected stage held u asc keyed.1) (ascends-effected stage held asc) where
@@ -159,7 +176,7 @@ at-effected (s ∷ stage) held u asc keyed = step s.1 keyed.0 (at-effected stage
 pub slot-present_ended : (named : List ℕ) (stage : Stage) (held : List Entry) (u : ℕ)
     → slot (present_ended named stage held) u ≡ cond (is_some (entry_at held u) && not (among u named || is_put (slot stage u))) (Some None) (slot stage u)
 slot-present_ended named stage held u =
-    slot-all_dropped (unspoken named stage held) stage u
+    slot-all_dropped (unmentioned named stage held) stage u
     ∙ ap (λ b. cond b (Some None) (slot stage u))
     (among-filter (λ v. not (among v named || is_put (slot stage v))) (identities held) u ∙ ap (λ b. b && not (among u named || is_put (slot stage u))) (among-identities held u))
 
@@ -204,7 +221,7 @@ module _ (deletes : Bool) (P : Entry → Type 0) (Q : ℕ → Type 0) (held : Li
   }
 
   fine_one : (m : SyncMessage) (named : List ℕ) (stage : Stage) → Right deletes P Q held t u → IsPart deletes P Q m → Fine held t named stage u → Fine held t (named_by named m) (staged_by stage m) u
-  fine_one (Put adds entry c) named stage r a f = elim (cases_Bool (nat_eq u entry.uuid)) [
+  fine_one (AddOrModify adds entry c) named stage r a f = elim (cases_Bool (nat_eq u entry.uuid)) [
     | inl here ↦ staged_fine held t named _ u (put_here stage entry r a.1 here)
     | inr off ↦ same_fine held t named stage _ u (put_off stage entry off) f
   ]
@@ -213,12 +230,13 @@ module _ (deletes : Bool) (P : Entry → Type 0) (Q : ℕ → Type 0) (held : Li
     | inr off ↦ same_fine held t named stage _ u (dropped_off stage us off) f
   ]
   fine_one (IdSet false us c) named stage r a f = more_names named us stage f
-  fine_one (Gone v p c) named stage r a f = absurd a
+  fine_one (Delete v p c) named stage r a f = absurd a
   fine_one (Present v c) named stage r a f = absurd a
   fine_one (NewCookie c) named stage r a f = absurd a
-  fine_one (PhaseEnds d done c) named stage r a f = absurd a
+  fine_one (RefreshDelete done c) named stage r a f = absurd a
+  fine_one (RefreshPresent done c) named stage r a f = absurd a
   fine_one (Done code c) named stage r a f = absurd a
-  fine_one Passed named stage r a f = absurd a
+  fine_one Ignored named stage r a f = absurd a
 
   pub fine_stays : (ms : List SyncMessage) (named : List ℕ) (stage : Stage) → Right deletes P Q held t u → EachM deletes P Q ms → Fine held t named stage u → Fine held t (names_after named ms) (stage_after stage ms) u
   fine_stays [] named stage r a f = f
@@ -226,44 +244,44 @@ module _ (deletes : Bool) (P : Entry → Type 0) (Q : ℕ → Type 0) (held : Li
 
   -- a message that speaks of u makes its slot fine
   fine_said : (m : SyncMessage) (named : List ℕ) (stage : Stage) → Right deletes P Q held t u → IsPart deletes P Q m → slot stage u ≡ None → meant_by u m ≡ true → Fine held t (named_by named m) (staged_by stage m) u
-  fine_said (Put adds entry c) named stage r a clear here = staged_fine held t named _ u (put_here stage entry r a.1 here)
+  fine_said (AddOrModify adds entry c) named stage r a clear here = staged_fine held t named _ u (put_here stage entry r a.1 here)
   fine_said (IdSet true us c) named stage r a clear here = staged_fine held t named _ u (dropped_here stage us r (sym a.1) a.2 here)
   fine_said (IdSet false us c) named stage r a clear here = record {
     outcome = ap (λ x. unwrap_or x (entry_at held u)) clear ∙ r.kept (sym a.1) (each-among Q us u a.2 here);
     marked = inr (among-joined us named u ∙ or_right _ _ here);
   }
-  fine_said (Gone v p c) named stage r a clear here = absurd a
+  fine_said (Delete v p c) named stage r a clear here = absurd a
   fine_said (Present v c) named stage r a clear here = absurd a
   fine_said (NewCookie c) named stage r a clear here = absurd a
-  fine_said (PhaseEnds d done c) named stage r a clear here = absurd a
+  fine_said (RefreshDelete done c) named stage r a clear here = absurd a
+  fine_said (RefreshPresent done c) named stage r a clear here = absurd a
   fine_said (Done code c) named stage r a clear here = absurd a
-  fine_said Passed named stage r a clear here = absurd a
+  fine_said Ignored named stage r a clear here = absurd a
 
   -- one that does not leaves the slot and the names as they are there
   stage_kept : (m : SyncMessage) (stage : Stage) → IsPart deletes P Q m → meant_by u m ≡ false → slot (staged_by stage m) u ≡ slot stage u
-  stage_kept (Put adds entry c) stage a off = put_off stage entry off
+  stage_kept (AddOrModify adds entry c) stage a off = put_off stage entry off
   stage_kept (IdSet true us c) stage a off = dropped_off stage us off
   stage_kept (IdSet false us c) stage a off = refl
-  stage_kept (Gone v p c) stage a off = absurd a
+  stage_kept (Delete v p c) stage a off = absurd a
   stage_kept (Present v c) stage a off = absurd a
   stage_kept (NewCookie c) stage a off = absurd a
-  stage_kept (PhaseEnds d done c) stage a off = absurd a
+  stage_kept (RefreshDelete done c) stage a off = absurd a
+  stage_kept (RefreshPresent done c) stage a off = absurd a
   stage_kept (Done code c) stage a off = absurd a
-  stage_kept Passed stage a off = absurd a
+  stage_kept Ignored stage a off = absurd a
 
   names_kept : (m : SyncMessage) (named : List ℕ) → IsPart deletes P Q m → meant_by u m ≡ false → among u (named_by named m) ≡ among u named
-  names_kept (Put adds entry c) named a off = refl
+  names_kept (AddOrModify adds entry c) named a off = refl
   names_kept (IdSet true us c) named a off = refl
-  names_kept (IdSet false us c) named a off = among-joined us named u ∙ ap (λ b. among u named || b) off ∙ or_nil (among u named) where
-    or_nil : (b : Bool) → (b || false) ≡ b
-    or_nil true = refl
-    or_nil false = refl
-  names_kept (Gone v p c) named a off = absurd a
+  names_kept (IdSet false us c) named a off = among-joined us named u ∙ ap (λ b. among u named || b) off ∙ or-false (among u named)
+  names_kept (Delete v p c) named a off = absurd a
   names_kept (Present v c) named a off = absurd a
   names_kept (NewCookie c) named a off = absurd a
-  names_kept (PhaseEnds d done c) named a off = absurd a
+  names_kept (RefreshDelete done c) named a off = absurd a
+  names_kept (RefreshPresent done c) named a off = absurd a
   names_kept (Done code c) named a off = absurd a
-  names_kept Passed named a off = absurd a
+  names_kept Ignored named a off = absurd a
 
   -- what is said of u once makes its slot fine
   pub fine_once : (ms : List SyncMessage) (named : List ℕ) (stage : Stage) → Right deletes P Q held t u → EachM deletes P Q ms → slot stage u ≡ None → meant u ms ≡ true → Fine held t (names_after named ms) (stage_after stage ms) u
@@ -280,6 +298,7 @@ module _ (deletes : Bool) (P : Entry → Type 0) (Q : ℕ → Type 0) (held : Li
       let p = or_parts (meant_by u m) (meant u ms) h in
       stage_untouched ms (staged_by stage m) a.1 p.1 ∙ stage_kept m stage a.0 p.0
 
+  -- messages that are not about an identity do not name it
   pub names_untouched : (ms : List SyncMessage) (named : List ℕ) → EachM deletes P Q ms → meant u ms ≡ false → among u (names_after named ms) ≡ among u named
   names_untouched [] named a h = refl
   names_untouched (m ∷ ms) named a h =
@@ -289,16 +308,18 @@ module _ (deletes : Bool) (P : Entry → Type 0) (Q : ℕ → Type 0) (held : Li
 -- in a delete phase what is said of u once is staged, whatever was staged before
 module _ (P : Entry → Type 0) (Q : ℕ → Type 0) (held : List Entry) (t : Option Entry) (u : ℕ) where
   last_said : (m : SyncMessage) (stage : Stage) → Right true P Q held t u → IsPart true P Q m → meant_by u m ≡ true → slot (staged_by stage m) u ≡ Some t
-  last_said (Put adds entry c) stage r a here = put_here true P Q held t u stage entry r a.1 here
+  last_said (AddOrModify adds entry c) stage r a here = put_here true P Q held t u stage entry r a.1 here
   last_said (IdSet true us c) stage r a here = dropped_here true P Q held t u stage us r refl a.2 here
   last_said (IdSet false us c) stage r a here = absurd (false≢true a.1)
-  last_said (Gone v p c) stage r a here = absurd a
+  last_said (Delete v p c) stage r a here = absurd a
   last_said (Present v c) stage r a here = absurd a
   last_said (NewCookie c) stage r a here = absurd a
-  last_said (PhaseEnds d done c) stage r a here = absurd a
+  last_said (RefreshDelete done c) stage r a here = absurd a
+  last_said (RefreshPresent done c) stage r a here = absurd a
   last_said (Done code c) stage r a here = absurd a
-  last_said Passed stage r a here = absurd a
+  last_said Ignored stage r a here = absurd a
 
+  -- what is staged of an identity at the end of a delete phase is what it is to have
   pub staged_last : (ms : List SyncMessage) (stage : Stage) → Right true P Q held t u → EachM true P Q ms → (meant u ms ≡ true) ⊎ (slot stage u ≡ Some t) → slot (stage_after stage ms) u ≡ Some t
   staged_last [] stage r a (inl h) = absurd (false≢true h)
   staged_last [] stage r a (inr h) = h

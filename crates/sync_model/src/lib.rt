@@ -2,8 +2,8 @@
 //! There is no code here but the functions that carry the laws.
 #![tactic(auto)]
 
-ghost use Rattle.sync_model.specs.Law.{HistoriesAscend, RefreshEnds, LaterEnds, FrontShows, FrontFits};
-ghost use Rattle.sync_model.specs.Incremental.{IncrementalRefresh, LaterTold};
+ghost use Rattle.sync_model.specs.Law.{HistoriesAscend, RefreshEnds, LaterEnds, PrefixShows, PrefixFits};
+ghost use Rattle.sync_model.specs.Incremental.{IncrementalRefresh, LaterNotified};
 ghost use Rattle.sync_model.specs.Keeping.{TakingKeeps};
 ghost use Rattle.sync_model.specs.Examples.{EmptyIsEnded, AddedIsSent, DeletedIsNamed, DeletedIsWalked, KeptIsNamed, MessagesAreAnswered};
 
@@ -26,13 +26,13 @@ pub fn later_ends()
 
 /// Wherever the messages of a search are cut off, a copy has what it had before the search, or the content after some
 /// number of writes, not fewer than those at the search's acceptance, with that number's cookie.
-pub fn front_shows()
-    ensures { FrontShows }
+pub fn prefix_shows()
+    ensures { PrefixShows }
 {}
 
 /// What a directory that keeps within its limits sends in one piece meets no limit of a copy, wherever it is cut off.
-pub fn front_fits()
-    ensures { FrontFits }
+pub fn prefix_fits()
+    ensures { PrefixFits }
 {}
 
 /// A refresh from a cookie sends an entry whole only where a write after those of that cookie, and up to those of the
@@ -43,12 +43,12 @@ pub fn incremental_refresh()
 
 /// Each message of a later write is about one identity that the write changed in what is selected, and each of these
 /// has its one message, in ascending order.
-pub fn later_told()
-    ensures { LaterTold }
+pub fn later_notified()
+    ensures { LaterNotified }
 {}
 
-/// A message changes the entries only where the stage takes effect, and the cookie only with it or where code 4096 says
-/// that it is of no use; after a refused message both are as before and no search runs.
+/// A message changes the entries only where the stage takes effect, and the cookie only with it or where
+/// e-syncRefreshRequired says that it is of no use; after a refused message both are as before and no search runs.
 pub fn taking_keeps()
     ensures { TakingKeeps }
 {}

@@ -1,6 +1,7 @@
--- The answer to a search that is asked for, by what is against it.
+-- The answer to a search that is asked for, by what rejects it.
 use Rattle.std.proofs.Common.{◌≡◌, ◌≢◌, ℕ, Bool, true, false, cond, List, length, Some, None, refl, ap, ◌∙◌}
 use Rattle.std.specs.Prelude.{Ok}
+use Rattle.ldap_constants.specs.declared.result_codes.TheConstants.{PROTOCOL_ERROR, ADMIN_LIMIT_EXCEEDED, NO_SUCH_OBJECT}
 use Rattle.dn_names.specs.Names.{is_at_or_below}
 use Rattle.sync_messages.specs.Gives.{Fails}
 use Rattle.sync_messages.specs.Request.{request_of}
@@ -19,7 +20,7 @@ Searches = List (ℕ × SearchState)
 -- ---- the control's value
 
 pub value_refused : (d : DirectoryState) (es : Searches) (ask : SyncSearch) (fault : SyncFault) → fault ≢ faults.NoMemory → Fails fault (request_of ask.control)
-    → answer_to d es ask ≡ Refused 2
+    → answer_to d es ask ≡ Refused PROTOCOL_ERROR
 value_refused d es ask (faults.Ber fault) other h = ap (answer_to_request d es ask) h
 value_refused d es ask (faults.BadMode number) other h = ap (answer_to_request d es ask) h
 value_refused d es ask (faults.BadUuidLength count) other h = ap (answer_to_request d es ask) h
@@ -33,15 +34,15 @@ value_read d es ask request h = ap (answer_to_request d es ask) h
 -- ---- the base, the numbers and the request
 
 base_outside : (d : DirectoryState) (es : Searches) (ask : SyncSearch) (request : SyncRequest) (b : Bool) → is_at_or_below ask.spec.base d.suffix ≡ b
-    → answer_to_request d es ask (Ok request) ≡ cond b (numbered d request (free_number es)) (Refused 32)
-base_outside d es ask request b h = ap (λ inside. cond inside (numbered d request (free_number es)) (Refused 32)) h
+    → answer_to_request d es ask (Ok request) ≡ cond b (numbered d request (free_number es)) (Refused NO_SUCH_OBJECT)
+base_outside d es ask request b h = ap (λ inside. cond inside (numbered d request (free_number es)) (Refused NO_SUCH_OBJECT)) h
 
 pub outside : (d : DirectoryState) (es : Searches) (ask : SyncSearch) (request : SyncRequest) → is_at_or_below ask.spec.base d.suffix ≡ false
-    → answer_to_request d es ask (Ok request) ≡ Refused 32
+    → answer_to_request d es ask (Ok request) ≡ Refused NO_SUCH_OBJECT
 outside d es ask request h = base_outside d es ask request false h
 
 pub crowded : (d : DirectoryState) (es : Searches) (ask : SyncSearch) (request : SyncRequest) → is_at_or_below ask.spec.base d.suffix ≡ true → free_number es ≡ None
-    → answer_to_request d es ask (Ok request) ≡ Refused 11
+    → answer_to_request d es ask (Ok request) ≡ Refused ADMIN_LIMIT_EXCEEDED
 crowded d es ask request h none = base_outside d es ask request true h ∙ ap (numbered d request) none
 
 pub opposed : (d : DirectoryState) (es : Searches) (ask : SyncSearch) (request : SyncRequest) (number code : ℕ) → is_at_or_below ask.spec.base d.suffix ≡ true

@@ -1,4 +1,4 @@
--- A commit by what is against it.
+-- A commit by what rejects it.
 use Rattle.std.proofs.Common.{◌≡◌, ℕ, true, false, List, Option, Some, None, refl}
 use Rattle.std.specs.Prelude.{option_map}
 use Rattle.entry_tree.specs.declared.entry.Entry.{Entry}
@@ -25,7 +25,7 @@ pub commit_case : (P : ProviderState → Type 0) (p : ProviderState) (op : Op) (
 commit_case P p op now None before after = after
 commit_case P p op now (Some fault) before after = before
 
--- nothing is against it where nothing is against it at the directory
+-- nothing rejects it where nothing rejects it at the directory
 none_of : (refusal : Option causes.CommitFault) → option_map fault_of refusal ≡ None → refusal ≡ None
 none_of None is = refl
 none_of (Some fault) is = let never : ⊥ = cc in absurd never

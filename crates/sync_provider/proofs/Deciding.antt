@@ -20,8 +20,8 @@ use Rattle.refresh_present.specs.Item as items
 use Rattle.refresh_present.specs.Present as presents
 use Rattle.refresh_delete.specs.Delete as deletes
 use Rattle.csn_cookie.specs.Cookie.{cookie_text}
-use Rattle.sync_model.specs.Stream.{Session, Start, among, is_covered, decided, decide, gathered, end_of}
-use Rattle.sync_model.specs.Stream.Start.{Blank, Covered, Uncovered}
+use Rattle.sync_model.specs.Stream.{SyncOperation, Start, among, is_delete_phase, decided, decide, gathered, end_of}
+use Rattle.sync_model.specs.Stream.Start.{InitialContent, DeletePhase, PresentPhase}
 use Rattle.sync_model.proofs.Gather.{Each}
 use Rattle.sync_model.proofs.Histories.{ascends-state_of}
 use Rattle.sync_model.proofs.Order.{entry_at-filter}
@@ -32,11 +32,11 @@ use Rattle.directory_writes.specs.Starting.{IsServed}
 use Rattle.sync_provider.specs.Refreshing.{all_identities, walked, item_of, item_at, planned, sends, said_all}
 use Rattle.sync_provider.specs.Search.{cookie_after, session_of, messages_of, refresh_from}
 use Rattle.directory_writes.specs.Touches.{last_touch}
-use Rattle.sync_provider.specs.declared.parts.Part.{Part}
+use Rattle.sync_provider.specs.declared.refresh_item.RefreshItem.{RefreshItem}
 use Rattle.directory_writes.proofs.Keyed.{less_cmp}
 use Rattle.sync_provider.proofs.Refreshes.{decided_all, refresh_from-is}
-use Rattle.directory_writes.proofs.Told.{last-tells}
-use Rattle.directory_writes.proofs.Writes.{state_now, stamp_now}
+use Rattle.directory_writes.proofs.Notified.{last-shows}
+use Rattle.directory_writes.proofs.Writes.{state_now, csn_now}
 
 -- ---- identities in ascending order
 
@@ -70,22 +70,22 @@ all_sorted d =
     (ap ascends (sym (state_now d d.writes [] (append-nil d.writes))) ∙ ascends-state_of d.history d.writes (length d.writes))
 
 -- each of these is among them
-abbrev Told : List ℕ → List ℕ → Type 0
-Told all us = Each (λ u. among u all ≡ true) us
+abbrev Delivery : List ℕ → List ℕ → Type 0
+Delivery all us = Each (λ u. among u all ≡ true) us
 
-each_weaker : (u : ℕ) (all us : List ℕ) → Told all us → Told (u ∷ all) us
+each_weaker : (u : ℕ) (all us : List ℕ) → Delivery all us → Delivery (u ∷ all) us
 each_weaker u all [] each = tt
 each_weaker u all (v ∷ us) each = (or_right (nat_eq v u) (among v all) each.0, each_weaker u all us each.1)
 
-each_itself : (us : List ℕ) → Told us us
+each_itself : (us : List ℕ) → Delivery us us
 each_itself [] = tt
 each_itself (u ∷ us) = (ap (λ b. b || among u us) (eq-eqb u u refl), each_weaker u us us (each_itself us))
 
 -- ---- one identity
 
 module _ (persists : Bool) (d : DirectoryState) (search : Search) where
-  abbrev session : Session
-  session = session_of persists d.sid d.history search d.writes
+  abbrev operation : SyncOperation
+  operation = session_of persists d.sid d.history search d.writes
 
   blank_said : (u : ℕ) (found : Option Entry) → entry_at (entries_of d) u ≡ found → (more : List decision.Decision)
       → said_all (entries_of d) (cons_option (presents.decided None (item_of d search u found)) more)
@@ -125,7 +125,7 @@ module _ (persists : Bool) (d : DirectoryState) (search : Search) where
   -- an identity that was touched since has a later number
   late : (a u : ℕ) → a ≤ length d.writes → among u (touched_over d.history d.writes a (length d.writes)) ≡ true → (found : Option Entry)
       → nat_lt a (item_of d search u found).touched ≡ true
-  late a u le here (Some e) = last-tells (length d.writes) (state_of d.history d.writes) a u le ∙ here
+  late a u le here (Some e) = last-shows (length d.writes) (state_of d.history d.writes) a u le ∙ here
   late a u le here None = elim (cases_lt a (length d.writes)) [
     | inl less ↦ lt-ltb a (length d.writes) less
     | inr past ↦ (let none : length d.writes - a ≡ 0 = omega (arith, past) in
@@ -143,43 +143,43 @@ module _ (persists : Bool) (d : DirectoryState) (search : Search) where
   found_in : (u : ℕ) → option_filter (is_selected search) (entry_at (entries_of d) u) ≡ entry_at (select search (state_of d.history d.writes (length d.writes))) u
   found_in u = sym (entry_at-filter (is_selected search) (entries_of d) u sorted) ∙ ap (λ xs. entry_at (select search xs) u) (sym now)
 
-  all_blank : (us : List ℕ) → said_all (entries_of d) (presents.planned None (map (item_at d search) us)) ≡ flat_map (decide session Blank (length d.writes)) us
+  all_blank : (us : List ℕ) → said_all (entries_of d) (presents.planned None (map (item_at d search) us)) ≡ flat_map (decide operation InitialContent (length d.writes)) us
   all_blank [] = refl
   all_blank (u ∷ us) =
       blank_said u (entry_at (entries_of d) u) refl (presents.planned None (map (item_at d search) us))
       ∙ (λ i. decided false true u (found_in u i) ++ all_blank us i)
 
   all_present : (a : ℕ) → a ≤ length d.writes → (us : List ℕ)
-      → said_all (entries_of d) (presents.planned (Some a) (map (item_at d search) us)) ≡ flat_map (decide session (Uncovered a) (length d.writes)) us
+      → said_all (entries_of d) (presents.planned (Some a) (map (item_at d search) us)) ≡ flat_map (decide operation (PresentPhase a) (length d.writes)) us
   all_present a le [] = refl
   all_present a le (u ∷ us) =
       present_said a u (entry_at (entries_of d) u) refl (presents.planned (Some a) (map (item_at d search) us))
-      ∙ (λ i. decided false (last-tells (length d.writes) (state_of d.history d.writes) a u le i) u (found_in u i) ++ all_present a le us i)
+      ∙ (λ i. decided false (last-shows (length d.writes) (state_of d.history d.writes) a u le i) u (found_in u i) ++ all_present a le us i)
 
-  all_deleted : (a : ℕ) → a ≤ length d.writes → (us : List ℕ) → Told (touched_over d.history d.writes a (length d.writes)) us
-      → said_all (entries_of d) (deletes.planned a (map (item_at d search) us)) ≡ flat_map (decide session (Covered a) (length d.writes)) us
+  all_deleted : (a : ℕ) → a ≤ length d.writes → (us : List ℕ) → Delivery (touched_over d.history d.writes a (length d.writes)) us
+      → said_all (entries_of d) (deletes.planned a (map (item_at d search) us)) ≡ flat_map (decide operation (DeletePhase a) (length d.writes)) us
   all_deleted a le [] each = refl
   all_deleted a le (u ∷ us) each =
       delete_said a u (entry_at (entries_of d) u) refl (late a u le each.0 (entry_at (entries_of d) u)) (deletes.planned a (map (item_at d search) us))
       ∙ (λ i. decided true true u (found_in u i) ++ all_deleted a le us each.1 i)
 
   decisions-are : (start : Start) → IsServed d start
-      → said_all (entries_of d) (planned start (map (item_at d search) (walked d start))) ≡ decided_all session start (length d.writes)
-  decisions-are Blank served =
-      all_blank (all_identities d) ∙ ap (λ xs. flat_map (decide session Blank (length d.writes)) (identities xs)) (sym now)
-  decisions-are (Covered a) served =
+      → said_all (entries_of d) (planned start (map (item_at d search) (walked d start))) ≡ decided_all operation start (length d.writes)
+  decisions-are InitialContent served =
+      all_blank (all_identities d) ∙ ap (λ xs. flat_map (decide operation InitialContent (length d.writes)) (identities xs)) (sym now)
+  decisions-are (DeletePhase a) served =
       all_deleted a served.1 (touched_over d.history d.writes a (length d.writes)) (each_itself (touched_over d.history d.writes a (length d.writes)))
-  decisions-are (Uncovered a) served =
-      all_present a served (all_identities d) ∙ ap (λ xs. flat_map (decide session (Uncovered a) (length d.writes)) (identities xs)) (sym now)
+  decisions-are (PresentPhase a) served =
+      all_present a served (all_identities d) ∙ ap (λ xs. flat_map (decide operation (PresentPhase a) (length d.writes)) (identities xs)) (sym now)
 
   cookie : cookie_of d ≡ cookie_after d.sid d.history d.writes (length d.writes)
-  cookie = ap (λ csn. cookie_text (cookie_at d.sid d.history csn)) (sym (stamp_now d d.writes [] (append-nil d.writes)))
+  cookie = ap (λ csn. cookie_text (cookie_at d.sid d.history csn)) (sym (csn_now d d.writes [] (append-nil d.writes)))
 
   -- the parts that the code makes are the Stream's refresh
-  pub refresh_is : (start : Start) (parts : List Part) → IsServed d start
+  pub refresh_is : (start : Start) (parts : List RefreshItem) → IsServed d start
       → AreOf (said_all (entries_of d) (planned start (map (item_at d search) (walked d start)))) parts
-      → messages_of persists (is_covered start) parts (cookie_of d) ≡ refresh_from (session_of persists d.sid d.history search d.writes) start (length d.writes)
+      → messages_of persists (is_delete_phase start) parts (cookie_of d) ≡ refresh_from (session_of persists d.sid d.history search d.writes) start (length d.writes)
   refresh_is start parts served made =
-      ap (λ ms. ms ++ end_of persists (is_covered start) (cookie_of d) ∷ []) (made (is_covered start))
-      ∙ (λ i. gathered (is_covered start) (decisions-are start served i) ++ end_of persists (is_covered start) (cookie i) ∷ [])
-      ∙ sym (refresh_from-is session start (length d.writes))
+      ap (λ ms. ms ++ end_of persists (is_delete_phase start) (cookie_of d) ∷ []) (made (is_delete_phase start))
+      ∙ (λ i. gathered (is_delete_phase start) (decisions-are start served i) ++ end_of persists (is_delete_phase start) (cookie i) ∷ [])
+      ∙ sym (refresh_from-is operation start (length d.writes))

@@ -14,17 +14,17 @@ use Rattle.dn_names.proofs.SortedLists.{In, Below, Sorted, sorted-insert, same_m
 use Rattle.dn_names.specs.Writing.{name_text}
 use Rattle.entry_tree.specs.declared.entry.Entry.{Entry}
 use Rattle.entry_tree.specs.declared.op.Write.{Write}
-use Rattle.entry_tree.specs.declared.touched.Touch.{Touch}
+use Rattle.entry_tree.specs.declared.touched.EntryChange.{EntryChange}
 use Rattle.entry_tree.specs.Bytes.{is_one_entry, is_one_found}
 use Rattle.entry_tree.specs.History.{state_of}
 use Rattle.entry_tree.specs.Selection.{Search, select, is_selected}
 use Rattle.entry_tree.specs.State.{ascends, entry_at}
-use Rattle.entry_tree.specs.Touched.{identities, joined, touch_at, is_change, touched}
+use Rattle.entry_tree.specs.Touched.{identities, joined, change_at, is_change, touched}
 use Rattle.entry_tree.proofs.Directory.{ascends_filter}
 use Rattle.entry_tree.proofs.Identities.{above}
-use Rattle.sync_model.specs.Message.{Cookie, SyncMessage}
-use Rattle.sync_model.specs.Message.SyncMessage.{Put, Gone}
-use Rattle.sync_model.specs.Stream.{among, told, told_all}
+use Rattle.sync_model.specs.Message.{CookieText, SyncMessage}
+use Rattle.sync_model.specs.Message.SyncMessage.{AddOrModify, Delete}
+use Rattle.sync_model.specs.Stream.{among, notified, notified_all}
 use Rattle.sync_model.proofs.Gather.{Each}
 use Rattle.sync_model.proofs.Histories.{ascends-state_of}
 use Rattle.sync_model.proofs.Later.{IsStep, each-touched}
@@ -32,12 +32,12 @@ use Rattle.sync_model.proofs.Maps.{among-joined, among-filter, among-identities}
 use Rattle.sync_model.proofs.Order.{entry_at-filter}
 use Rattle.sync_model.proofs.Same.{one_entry-true, one_found-same}
 use Rattle.sync_model.proofs.Steps.{differs}
-use Rattle.directory_writes.specs.Directory.{DirectoryState, cookie_at, entries_of, entries_after, last_stamp, with_write}
+use Rattle.directory_writes.specs.Directory.{DirectoryState, cookie_at, entries_of, entries_after, last_csn, with_write}
 use Rattle.directory_writes.proofs.Keyed.{less_cmp, at-is}
-use Rattle.directory_writes.proofs.Writes.{state_now, stamp_now, last_stamp-push}
+use Rattle.directory_writes.proofs.Writes.{state_now, csn_now, last_csn-push}
 use Rattle.sync_provider.specs.Queueing.{group_of}
 use Rattle.sync_provider.specs.Search.{SearchState}
-use Rattle.sync_provider.specs.Staging.{chosen, told_of_touch, told_of_touches, with_cookie, last_with_cookie, messages_for}
+use Rattle.sync_provider.specs.Staging.{chosen, notified_of_change, notified_of_changes, with_cookie, last_with_cookie, messages_for}
 
 -- ---- lists of identities in ascending order
 
@@ -94,28 +94,28 @@ same_list xs ys one other same =
 
 -- ---- one identity
 
-split_one : (f : Touch → List SyncMessage) (b : Bool) (t : Touch) (ts : List Touch) → flat_map f (cond b (t ∷ ts) ts) ≡ cond b (f t) [] ++ flat_map f ts
+split_one : (f : EntryChange → List SyncMessage) (b : Bool) (t : EntryChange) (ts : List EntryChange) → flat_map f (cond b (t ∷ ts) ts) ≡ cond b (f t) [] ++ flat_map f ts
 split_one f true t ts = refl
 split_one f false t ts = refl
 
 -- what is said of a change between two states is what is said of the change between what is selected from them
 one_said : (spec : Search) (u : ℕ) (was now : Option Entry)
-    → cond (not (is_one_found was now)) (told None u (chosen spec was) (chosen spec now)) []
-    ≡ cond (not (is_one_found (chosen spec was) (chosen spec now))) (told None u (chosen spec was) (chosen spec now)) []
+    → cond (not (is_one_found was now)) (notified None u (chosen spec was) (chosen spec now)) []
+    ≡ cond (not (is_one_found (chosen spec was) (chosen spec now))) (notified None u (chosen spec was) (chosen spec now)) []
 one_said spec u None None = refl
 one_said spec u (Some a) None = step (is_selected spec a) where
-  step : (b : Bool) → told None u (cond b (Some a) None) None
-      ≡ cond (not (is_one_found (cond b (Some a) None) None)) (told None u (cond b (Some a) None) None) []
+  step : (b : Bool) → notified None u (cond b (Some a) None) None
+      ≡ cond (not (is_one_found (cond b (Some a) None) None)) (notified None u (cond b (Some a) None) None) []
   step true = refl
   step false = refl
 one_said spec u None (Some b) = step (is_selected spec b) where
-  step : (c : Bool) → told None u None (cond c (Some b) None)
-      ≡ cond (not (is_one_found None (cond c (Some b) None))) (told None u None (cond c (Some b) None)) []
+  step : (c : Bool) → notified None u None (cond c (Some b) None)
+      ≡ cond (not (is_one_found None (cond c (Some b) None))) (notified None u None (cond c (Some b) None)) []
   step true = refl
   step false = refl
 one_said spec u (Some a) (Some b) = by (is_one_entry a b) refl where
   said : Bool → Bool → List SyncMessage
-  said p q = told None u (cond p (Some a) None) (cond q (Some b) None)
+  said p q = notified None u (cond p (Some a) None) (cond q (Some b) None)
 
   differ : (p q : Bool) → is_one_entry a b ≡ false → said p q ≡ cond (not (is_one_found (cond p (Some a) None) (cond q (Some b) None))) (said p q) []
   differ true true off = ap (λ c. cond (not c) (said true true) []) (sym off)
@@ -127,16 +127,16 @@ one_said spec u (Some a) (Some b) = by (is_one_entry a b) refl where
   alike same = ap (λ c. is_one_found (chosen spec (Some a)) (chosen spec (Some c))) (sym same) ∙ one_found-same (chosen spec (Some a))
 
   by : (c : Bool) → is_one_entry a b ≡ c
-      → cond (not c) (told None u (chosen spec (Some a)) (chosen spec (Some b))) []
-      ≡ cond (not (is_one_found (chosen spec (Some a)) (chosen spec (Some b)))) (told None u (chosen spec (Some a)) (chosen spec (Some b))) []
-  by true here = sym (ap (λ c. cond (not c) (told None u (chosen spec (Some a)) (chosen spec (Some b))) []) (alike (one_entry-true a b here)))
+      → cond (not c) (notified None u (chosen spec (Some a)) (chosen spec (Some b))) []
+      ≡ cond (not (is_one_found (chosen spec (Some a)) (chosen spec (Some b)))) (notified None u (chosen spec (Some a)) (chosen spec (Some b))) []
+  by true here = sym (ap (λ c. cond (not c) (notified None u (chosen spec (Some a)) (chosen spec (Some b))) []) (alike (one_entry-true a b here)))
   by false off = differ (is_selected spec a) (is_selected spec b) off
 
 -- ---- all identities
 
 -- what a touch says by itself
-abbrev plain : Touch → List SyncMessage
-plain touch = told None touch.uuid touch.was touch.now
+abbrev plain : EntryChange → List SyncMessage
+plain entry_change = notified None entry_change.uuid entry_change.before entry_change.after
 
 chosen-filter : (spec : Search) (found : Option Entry) → option_filter (is_selected spec) found ≡ chosen spec found
 chosen-filter spec None = refl
@@ -155,13 +155,13 @@ module _ (spec : Search) (old new : List Entry) (asc_old : ascends old ≡ true)
   chosen_new : (u : ℕ) → chosen spec (entry_at new u) ≡ entry_at kept_new u
   chosen_new u = sym (entry_at-filter (is_selected spec) new u asc_new ∙ chosen-filter spec (entry_at new u))
 
-  said_alike : (us : List ℕ) → flat_map (told_of_touch spec) (filter is_change (map (touch_at old new) us)) ≡ flat_map plain (filter is_change (map (touch_at kept_old kept_new) us))
+  said_alike : (us : List ℕ) → flat_map (notified_of_change spec) (filter is_change (map (change_at old new) us)) ≡ flat_map plain (filter is_change (map (change_at kept_old kept_new) us))
   said_alike [] = refl
   said_alike (u ∷ us) =
-      split_one (told_of_touch spec) (is_change (touch_at old new u)) (touch_at old new u) (filter is_change (map (touch_at old new) us))
-      ∙ ap (λ ms. ms ++ flat_map (told_of_touch spec) (filter is_change (map (touch_at old new) us))) (one_said spec u (entry_at old u) (entry_at new u))
-      ∙ (λ i. cond (not (is_one_found (chosen_old u i) (chosen_new u i))) (told None u (chosen_old u i) (chosen_new u i)) [] ++ said_alike us i)
-      ∙ sym (split_one plain (is_change (touch_at kept_old kept_new u)) (touch_at kept_old kept_new u) (filter is_change (map (touch_at kept_old kept_new) us)))
+      split_one (notified_of_change spec) (is_change (change_at old new u)) (change_at old new u) (filter is_change (map (change_at old new) us))
+      ∙ ap (λ ms. ms ++ flat_map (notified_of_change spec) (filter is_change (map (change_at old new) us))) (one_said spec u (entry_at old u) (entry_at new u))
+      ∙ (λ i. cond (not (is_one_found (chosen_old u i) (chosen_new u i))) (notified None u (chosen_old u i) (chosen_new u i)) [] ++ said_alike us i)
+      ∙ sym (split_one plain (is_change (change_at kept_old kept_new u)) (change_at kept_old kept_new u) (filter is_change (map (change_at kept_old kept_new) us)))
 
   -- the identities of the states, and those of what is selected from them
   abbrev all_uuids : List ℕ
@@ -208,65 +208,65 @@ module _ (spec : Search) (old new : List Entry) (asc_old : ascends old ≡ true)
       (sorted-filter (differs kept_old kept_new) kept_uuids (sorted-joined (identities kept_new) (identities kept_old) (sorted-identities kept_old asc_kept)))
       (λ u. among_all u ∙ sym (among_kept u))
 
-  changes-filter : (us : List ℕ) → filter is_change (map (touch_at kept_old kept_new) us) ≡ map (touch_at kept_old kept_new) (filter (differs kept_old kept_new) us)
+  changes-filter : (us : List ℕ) → filter is_change (map (change_at kept_old kept_new) us) ≡ map (change_at kept_old kept_new) (filter (differs kept_old kept_new) us)
   changes-filter [] = refl
   changes-filter (u ∷ us) = step (differs kept_old kept_new u) (changes-filter us) where
-    step : (b : Bool) → filter is_change (map (touch_at kept_old kept_new) us) ≡ map (touch_at kept_old kept_new) (filter (differs kept_old kept_new) us)
-        → cond b (touch_at kept_old kept_new u ∷ filter is_change (map (touch_at kept_old kept_new) us)) (filter is_change (map (touch_at kept_old kept_new) us))
-        ≡ map (touch_at kept_old kept_new) (cond b (u ∷ filter (differs kept_old kept_new) us) (filter (differs kept_old kept_new) us))
-    step true ih = ap (λ ts. touch_at kept_old kept_new u ∷ ts) ih
+    step : (b : Bool) → filter is_change (map (change_at kept_old kept_new) us) ≡ map (change_at kept_old kept_new) (filter (differs kept_old kept_new) us)
+        → cond b (change_at kept_old kept_new u ∷ filter is_change (map (change_at kept_old kept_new) us)) (filter is_change (map (change_at kept_old kept_new) us))
+        ≡ map (change_at kept_old kept_new) (cond b (u ∷ filter (differs kept_old kept_new) us) (filter (differs kept_old kept_new) us))
+    step true ih = ap (λ ts. change_at kept_old kept_new u ∷ ts) ih
     step false ih = ih
 
-  touches_are : ascends kept_old ≡ true → filter is_change (map (touch_at kept_old kept_new) all_uuids) ≡ touched kept_old kept_new
+  touches_are : ascends kept_old ≡ true → filter is_change (map (change_at kept_old kept_new) all_uuids) ≡ touched kept_old kept_new
   touches_are asc_kept =
-      changes-filter all_uuids ∙ ap (map (touch_at kept_old kept_new)) (same_uuids asc_kept) ∙ sym (changes-filter kept_uuids)
+      changes-filter all_uuids ∙ ap (map (change_at kept_old kept_new)) (same_uuids asc_kept) ∙ sym (changes-filter kept_uuids)
 
-  pub said_of_kept : ascends kept_old ≡ true → told_of_touches spec (touched old new) ≡ flat_map plain (touched kept_old kept_new)
+  pub said_of_kept : ascends kept_old ≡ true → notified_of_changes spec (touched old new) ≡ flat_map plain (touched kept_old kept_new)
   said_of_kept asc_kept = said_alike all_uuids ∙ ap (flat_map plain) (touches_are asc_kept)
 
 -- ---- the cookie
 
--- a change is told by one message, with a cookie and without
-record ToldAs (cookie : Cookie) (touch : Touch) : Type 0 where
+-- a change is reported by one message, with a cookie and without
+record NotifiedAs (cookie : CookieText) (entry_change : EntryChange) : Type 0 where
   message : SyncMessage
-  plainly : plain touch ≡ message ∷ []
-  marked : told (Some cookie) touch.uuid touch.was touch.now ≡ with_cookie cookie message ∷ []
+  plainly : plain entry_change ≡ message ∷ []
+  marked : notified (Some cookie) entry_change.uuid entry_change.before entry_change.after ≡ with_cookie cookie message ∷ []
 
-told_as : (cookie : Cookie) (touch : Touch) → is_change touch ≡ true → ToldAs cookie touch
-told_as cookie touch change = step touch.was touch.now refl refl change where
-  step : (was now : Option Entry) → touch.was ≡ was → touch.now ≡ now → not (is_one_found was now) ≡ true → ToldAs cookie touch
+notified_as : (cookie : CookieText) (entry_change : EntryChange) → is_change entry_change ≡ true → NotifiedAs cookie entry_change
+notified_as cookie entry_change change = step entry_change.before entry_change.after refl refl change where
+  step : (was now : Option Entry) → entry_change.before ≡ was → entry_change.after ≡ now → not (is_one_found was now) ≡ true → NotifiedAs cookie entry_change
   step None None before after is = absurd (false≢true is)
   step (Some was) None before after is = record {
-    message = Gone touch.uuid (name_text was.dn) None;
-    plainly = λ i. told None touch.uuid (before i) (after i);
-    marked = λ i. told (Some cookie) touch.uuid (before i) (after i);
+    message = Delete entry_change.uuid (name_text was.dn) None;
+    plainly = λ i. notified None entry_change.uuid (before i) (after i);
+    marked = λ i. notified (Some cookie) entry_change.uuid (before i) (after i);
   }
   step None (Some now) before after is = record {
-    message = Put true now None;
-    plainly = λ i. told None touch.uuid (before i) (after i);
-    marked = λ i. told (Some cookie) touch.uuid (before i) (after i);
+    message = AddOrModify true now None;
+    plainly = λ i. notified None entry_change.uuid (before i) (after i);
+    marked = λ i. notified (Some cookie) entry_change.uuid (before i) (after i);
   }
   step (Some was) (Some now) before after is = record {
-    message = Put false now None;
-    plainly = λ i. told None touch.uuid (before i) (after i);
-    marked = λ i. told (Some cookie) touch.uuid (before i) (after i);
+    message = AddOrModify false now None;
+    plainly = λ i. notified None entry_change.uuid (before i) (after i);
+    marked = λ i. notified (Some cookie) entry_change.uuid (before i) (after i);
   }
 
-last_more : (cookie : Cookie) (m n : SyncMessage) (xs ns : List SyncMessage) → xs ≡ n ∷ ns → last_with_cookie cookie (m ∷ xs) ≡ m ∷ last_with_cookie cookie xs
+last_more : (cookie : CookieText) (m n : SyncMessage) (xs ns : List SyncMessage) → xs ≡ n ∷ ns → last_with_cookie cookie (m ∷ xs) ≡ m ∷ last_with_cookie cookie xs
 last_more cookie m n xs ns is = ap (λ l. last_with_cookie cookie (m ∷ l)) is ∙ ap (λ l. m ∷ last_with_cookie cookie l) (sym is)
 
-last_told : (touches : List Touch) (cookie : Cookie) → Each IsStep touches → last_with_cookie cookie (flat_map plain touches) ≡ told_all cookie touches
-last_told [] cookie steps = refl
-last_told (t ∷ []) cookie steps =
-    let one : ToldAs cookie t = told_as cookie t steps.0.change in
+last_notified : (entry_changes : List EntryChange) (cookie : CookieText) → Each IsStep entry_changes → last_with_cookie cookie (flat_map plain entry_changes) ≡ notified_all cookie entry_changes
+last_notified [] cookie steps = refl
+last_notified (t ∷ []) cookie steps =
+    let one : NotifiedAs cookie t = notified_as cookie t steps.0.change in
     ap (λ ms. last_with_cookie cookie (ms ++ [])) one.plainly ∙ sym one.marked
-last_told (t ∷ u ∷ touches) cookie steps =
-    let one : ToldAs cookie t = told_as cookie t steps.0.change in
-    let two : ToldAs cookie u = told_as cookie u steps.1.0.change in
-    ap (λ ms. last_with_cookie cookie (ms ++ flat_map plain (u ∷ touches))) one.plainly
-    ∙ last_more cookie one.message two.message (flat_map plain (u ∷ touches)) (flat_map plain touches) (ap (λ ms. ms ++ flat_map plain touches) two.plainly)
-    ∙ ap (λ ms. one.message ∷ ms) (last_told (u ∷ touches) cookie steps.1)
-    ∙ ap (λ ms. ms ++ told_all cookie (u ∷ touches)) (sym one.plainly)
+last_notified (t ∷ u ∷ entry_changes) cookie steps =
+    let one : NotifiedAs cookie t = notified_as cookie t steps.0.change in
+    let two : NotifiedAs cookie u = notified_as cookie u steps.1.0.change in
+    ap (λ ms. last_with_cookie cookie (ms ++ flat_map plain (u ∷ entry_changes))) one.plainly
+    ∙ last_more cookie one.message two.message (flat_map plain (u ∷ entry_changes)) (flat_map plain entry_changes) (ap (λ ms. ms ++ flat_map plain entry_changes) two.plainly)
+    ∙ ap (λ ms. one.message ∷ ms) (last_notified (u ∷ entry_changes) cookie steps.1)
+    ∙ ap (λ ms. ms ++ notified_all cookie (u ∷ entry_changes)) (sym one.plainly)
 
 -- ---- a write of a directory
 
@@ -277,8 +277,8 @@ pub group_is : (d : DirectoryState) (s : SearchState) (w : Write)
     → messages_for s.spec (touched (entries_of d) (entries_after d.history (d.writes ++ w ∷ []))) (cookie_text (cookie_at d.sid d.history w.csn)) ≡ group_of d s w
 group_is d s w =
     ap (last_with_cookie cookie) (said_of_kept s.spec old new (ascends_now d) (ascends_now after) (ascends_filter (is_selected s.spec) old (ascends_now d)))
-    ∙ last_told (touched (select s.spec old) (select s.spec new)) cookie (each-touched (select s.spec old) (select s.spec new))
-    ∙ (λ i. told_all (cookie_is i) (touched (select s.spec (old_is i)) (select s.spec (new_is i))))
+    ∙ last_notified (touched (select s.spec old) (select s.spec new)) cookie (each-touched (select s.spec old) (select s.spec new))
+    ∙ (λ i. notified_all (cookie_is i) (touched (select s.spec (old_is i)) (select s.spec (new_is i))))
   where
     after : DirectoryState
     after = with_write d w
@@ -289,7 +289,7 @@ group_is d s w =
     new : List Entry
     new = entries_after d.history (d.writes ++ w ∷ [])
 
-    cookie : Cookie
+    cookie : CookieText
     cookie = cookie_text (cookie_at d.sid d.history w.csn)
 
     long : length (d.writes ++ w ∷ []) ≡ length d.writes + 1
@@ -301,9 +301,9 @@ group_is d s w =
     new_is : new ≡ state_of d.history (d.writes ++ w ∷ []) (length d.writes + 1)
     new_is = sym (state_now after (d.writes ++ w ∷ []) [] (append-nil (d.writes ++ w ∷ []))) ∙ ap (state_of d.history (d.writes ++ w ∷ [])) long
 
-    cookie_is : cookie ≡ cookie_text (cookie_at d.sid d.history (last_stamp (start d.sid) (take (length d.writes + 1) (d.writes ++ w ∷ []))))
+    cookie_is : cookie ≡ cookie_text (cookie_at d.sid d.history (last_csn (start d.sid) (take (length d.writes + 1) (d.writes ++ w ∷ []))))
     cookie_is =
         ap (λ csn. cookie_text (cookie_at d.sid d.history csn))
-        (sym (last_stamp-push (start d.sid) d.writes w)
-        ∙ sym (stamp_now after (d.writes ++ w ∷ []) [] (append-nil (d.writes ++ w ∷ [])))
-        ∙ ap (λ n. last_stamp (start d.sid) (take n (d.writes ++ w ∷ []))) long)
+        (sym (last_csn-push (start d.sid) d.writes w)
+        ∙ sym (csn_now after (d.writes ++ w ∷ []) [] (append-nil (d.writes ++ w ∷ [])))
+        ∙ ap (λ n. last_csn (start d.sid) (take n (d.writes ++ w ∷ []))) long)

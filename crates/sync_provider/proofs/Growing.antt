@@ -7,21 +7,22 @@ use Rattle.std.proofs.lemmas.Map.Made.{lookup-map_values}
 use Rattle.entry_tree.specs.declared.op.Op.TheVariants.{Commit}
 use Rattle.entry_tree.specs.declared.op.Write.{Write}
 use Rattle.entry_tree.specs.declared.entry.Entry.{Entry}
-use Rattle.sync_model.specs.Message.{Cookie, SyncMessage}
-use Rattle.sync_model.specs.Message.SyncMessage.{Put, Gone, Present, IdSet, NewCookie, PhaseEnds, Done, Passed}
-use Rattle.sync_model.specs.Stream.{Session, Decision, group, later, told, told_all, gathered, end_of, is_covered, content_after}
-use Rattle.sync_model.specs.Stream.Decision.{Sends, Names}
-use Rattle.sync_model.proofs.Gather.{Each, EachD, IsPart, each-append, each-gathered}
-use Rattle.entry_tree.specs.declared.touched.Touch.{Touch}
+use Rattle.sync_model.specs.Message.{CookieText, SyncMessage}
+use Rattle.sync_model.specs.Message.SyncMessage.{AddOrModify, Delete, Present, IdSet, NewCookie, RefreshDelete, RefreshPresent, Done, Ignored}
+use Rattle.sync_model.specs.Stream.{SyncOperation, Start, WalkDecision, group, later, notified, notified_all, gathered, end_of, is_delete_phase, content_after}
+use Rattle.sync_model.proofs.Gather.{Each, IsPart, each-append, each-gathered}
+use Rattle.sync_model.proofs.LaterWrites.{each_weaker}
+use Rattle.sync_model.proofs.NextMessages.{any_decision}
+use Rattle.entry_tree.specs.declared.touched.EntryChange.{EntryChange}
 use Rattle.entry_tree.specs.Touched.{touched}
 use Rattle.directory_writes.specs.Directory.{DirectoryState, judged, with_write, with_judged}
 use Rattle.sync_provider.specs.HandingOut.{search_at}
 use Rattle.sync_provider.specs.Law.{BeginsWith, session_at, refresh_of, later_of}
 use Rattle.sync_provider.specs.Committing.{commit_refusal}
-use Rattle.sync_provider.specs.Machine.{ProviderState, Call, each_informed, judged_by, called, run}
-use Rattle.sync_provider.specs.Machine.Call.{Writes, Commits, Accepts, HandsOut, Drops, SetsLogLimit, SetsQueueLimit}
+use Rattle.sync_provider.specs.Machine.{ProviderState, ProviderCall, each_informed, judged_by, called, run}
+use Rattle.sync_provider.specs.Machine.ProviderCall.{Writes, Commits, Accepts, HandsOut, Drops, SetsLogLimit, SetsQueueLimit}
 use Rattle.sync_provider.specs.Queueing.{group_of, informed}
-use Rattle.sync_provider.specs.Search.{SearchState, is_end}
+use Rattle.sync_provider.specs.Search.{SearchState, refresh_from, is_end}
 use Rattle.sync_provider.proofs.Commits.{commit_case}
 use Rattle.sync_provider.proofs.Refreshes.{decided_all, refresh_from-is, group-longer}
 
@@ -34,7 +35,7 @@ judged_begins : (d : DirectoryState) (outcome : Result Write ℕ) (writes : List
 judged_begins d (Ok w) writes begins = begins_before d w writes begins
 judged_begins d (Err code) writes begins = begins
 
-called_begins : (p : ProviderState) (call : Call) (writes : List Write) → BeginsWith (called p call).directory writes → BeginsWith p.directory writes
+called_begins : (p : ProviderState) (call : ProviderCall) (writes : List Write) → BeginsWith (called p call).directory writes → BeginsWith p.directory writes
 called_begins p (Writes op now) writes begins = judged_begins p.directory (judged_by p.kind p.directory op now) writes begins
 called_begins p (Commits puts drops now) writes begins =
     commit_case (λ q. BeginsWith q.directory writes → BeginsWith p.directory writes) p (Commit puts drops) now (commit_refusal p.kind p.directory puts drops now)
@@ -45,7 +46,7 @@ called_begins p (Drops number) writes begins = begins
 called_begins p (SetsLogLimit limit) writes begins = begins
 called_begins p (SetsQueueLimit limit) writes begins = begins
 
-pub run_begins : (calls : List Call) (p : ProviderState) (writes : List Write) → BeginsWith (run p calls).directory writes → BeginsWith p.directory writes
+pub run_begins : (calls : List ProviderCall) (p : ProviderState) (writes : List Write) → BeginsWith (run p calls).directory writes → BeginsWith p.directory writes
 run_begins [] p writes begins = begins
 run_begins (call ∷ calls) p writes begins = called_begins p call writes (run_begins calls (called p call) writes begins)
 
@@ -104,59 +105,62 @@ informed_at limit d w es number s found =
 abbrev pub GoesOn : SyncMessage → Type 0
 GoesOn m = is_end m ≡ false
 
-each-weaker : {X : Type 0} (P Q : X → Type 0) (xs : List X) → ((x : X) → P x → Q x) → Each P xs → Each Q xs
-each-weaker P Q [] h each = tt
-each-weaker P Q (x ∷ xs) h each = (h x each.0, each-weaker P Q xs h each.1)
-
-any_decisions : (ds : List Decision) → EachD (λ entry. Unit {0}) (λ uuid. Unit {0}) ds
-any_decisions [] = tt
-any_decisions (Sends entry ∷ ds) = (tt, any_decisions ds)
-any_decisions (Names uuid ∷ ds) = (tt, any_decisions ds)
-
-part_goes : (deletes : Bool) (m : SyncMessage) → IsPart deletes (λ entry. Unit {0}) (λ uuid. Unit {0}) m → GoesOn m
-part_goes deletes (Put adds entry cookie) is = refl
+-- an entry and a set of names are no end
+pub part_goes : (deletes : Bool) (m : SyncMessage) → IsPart deletes (λ entry. Unit {0}) (λ uuid. Unit {0}) m → GoesOn m
+part_goes deletes (AddOrModify adds entry cookie) is = refl
 part_goes deletes (IdSet d uuids cookie) is = refl
-part_goes deletes (Gone uuid name cookie) is = absurd is
+part_goes deletes (Delete uuid name cookie) is = absurd is
 part_goes deletes (Present uuid cookie) is = absurd is
 part_goes deletes (NewCookie cookie) is = absurd is
-part_goes deletes (PhaseEnds d done cookie) is = absurd is
+part_goes deletes (RefreshDelete done cookie) is = absurd is
+part_goes deletes (RefreshPresent done cookie) is = absurd is
 part_goes deletes (Done code control) is = absurd is
-part_goes deletes Passed is = absurd is
+part_goes deletes Ignored is = absurd is
 
-pub refresh_goes : (d : DirectoryState) (s : SearchState) (writes : List Write) → s.persists ≡ true → Each GoesOn (refresh_of d s writes)
-refresh_goes d s writes goes =
-    subst (Each GoesOn) (sym (refresh_from-is (session_at d s writes) s.start s.accepted))
-    (each-append GoesOn (gathered deletes decisions) (end_with s.persists ∷ [])
-    (each-weaker (IsPart deletes (λ entry. Unit {0}) (λ uuid. Unit {0})) GoesOn (gathered deletes decisions) (part_goes deletes)
-    (each-gathered deletes (λ entry. Unit {0}) (λ uuid. Unit {0}) decisions (any_decisions decisions)))
-    (ap (λ b. is_end (end_with b)) goes, tt))
+-- nor is the end of the refresh of a search that goes on after it
+end_goes : (deletes : Bool) (cookie : CookieText) → GoesOn (end_of true deletes cookie)
+end_goes true cookie = refl
+end_goes false cookie = refl
+
+-- nor is any message of that refresh
+pub refresh_from-goes : (operation : SyncOperation) (start : Start) (count : ℕ) → operation.persists ≡ true → Each GoesOn (refresh_from operation start count)
+refresh_from-goes operation start count goes =
+    subst (Each GoesOn) (sym (refresh_from-is operation start count))
+    (each-append GoesOn (gathered deletes decisions) (end_with operation.persists ∷ [])
+    (each_weaker (IsPart deletes (λ entry. Unit {0}) (λ uuid. Unit {0})) GoesOn (gathered deletes decisions) (part_goes deletes)
+    (each-gathered deletes (λ entry. Unit {0}) (λ uuid. Unit {0}) decisions (any_decision decisions)))
+    (ap (λ b. is_end (end_with b)) goes ∙ end_goes deletes (operation.cookies count), tt))
   where
     deletes : Bool
-    deletes = is_covered s.start
+    deletes = is_delete_phase start
 
-    decisions : List Decision
-    decisions = decided_all (session_at d s writes) s.start s.accepted
+    decisions : List WalkDecision
+    decisions = decided_all operation start count
 
     end_with : Bool → SyncMessage
-    end_with b = end_of b deletes ((session_at d s writes).cookies s.accepted)
+    end_with b = end_of b deletes (operation.cookies count)
 
-told_goes : (cookie : Option Cookie) (uuid : ℕ) (was now : Option Entry) → Each GoesOn (told cookie uuid was now)
-told_goes cookie uuid None None = tt
-told_goes cookie uuid (Some was) None = (refl, tt)
-told_goes cookie uuid None (Some now) = (refl, tt)
-told_goes cookie uuid (Some was) (Some now) = (refl, tt)
+pub refresh_goes : (d : DirectoryState) (s : SearchState) (writes : List Write) → s.persists ≡ true → Each GoesOn (refresh_of d s writes)
+refresh_goes d s writes goes = refresh_from-goes (session_at d s writes) s.start s.accepted goes
 
-told_all_goes : (touches : List Touch) (cookie : Cookie) → Each GoesOn (told_all cookie touches)
-told_all_goes [] cookie = tt
-told_all_goes (t ∷ []) cookie = told_goes (Some cookie) t.uuid t.was t.now
-told_all_goes (t ∷ u ∷ touches) cookie =
-    each-append GoesOn (told None t.uuid t.was t.now) (told_all cookie (u ∷ touches)) (told_goes None t.uuid t.was t.now) (told_all_goes (u ∷ touches) cookie)
+notified_goes : (cookie : Option CookieText) (uuid : ℕ) (was now : Option Entry) → Each GoesOn (notified cookie uuid was now)
+notified_goes cookie uuid None None = tt
+notified_goes cookie uuid (Some was) None = (refl, tt)
+notified_goes cookie uuid None (Some now) = (refl, tt)
+notified_goes cookie uuid (Some was) (Some now) = (refl, tt)
 
-later_all_go : (count : ℕ) (session : Session) (from : ℕ) → Each GoesOn (later session from count)
-later_all_go zero session from = tt
-later_all_go (suc count) session from =
-    each-append GoesOn (later session from count) (group session (from + count)) (later_all_go count session from)
-    (told_all_goes (touched (content_after session (from + count)) (content_after session (from + count + 1))) (session.cookies (from + count + 1)))
+notified_all_goes : (entry_changes : List EntryChange) (cookie : CookieText) → Each GoesOn (notified_all cookie entry_changes)
+notified_all_goes [] cookie = tt
+notified_all_goes (t ∷ []) cookie = notified_goes (Some cookie) t.uuid t.before t.after
+notified_all_goes (t ∷ u ∷ entry_changes) cookie =
+    each-append GoesOn (notified None t.uuid t.before t.after) (notified_all cookie (u ∷ entry_changes)) (notified_goes None t.uuid t.before t.after) (notified_all_goes (u ∷ entry_changes) cookie)
+
+-- nor is one of later writes
+pub later_all_go : (count : ℕ) (operation : SyncOperation) (from : ℕ) → Each GoesOn (later operation from count)
+later_all_go zero operation from = tt
+later_all_go (suc count) operation from =
+    each-append GoesOn (later operation from count) (group operation (from + count)) (later_all_go count operation from)
+    (notified_all_goes (touched (content_after operation (from + count)) (content_after operation (from + count + 1))) (operation.cookies (from + count + 1)))
 
 pub laters_go : (d : DirectoryState) (s : SearchState) (count : ℕ) (writes : List Write) → Each GoesOn (later_of d s count writes)
 laters_go d s count writes = by s.persists where

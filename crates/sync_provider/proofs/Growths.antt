@@ -9,7 +9,7 @@ use Rattle.std.proofs.lemmas.List.{append-nil}
 use Rattle.entry_tree.specs.declared.op.Op.TheVariants.{Commit}
 use Rattle.entry_tree.specs.declared.op.Write.{Write}
 use Rattle.directory_writes.specs.Directory.{DirectoryState, judged}
-use Rattle.directory_writes.specs.Moment.{Moment, IsMomentOf, back_at}
+use Rattle.directory_writes.specs.Snapshot.{Snapshot, IsSnapshotOf, back_at}
 use Rattle.sync_provider.specs.Committing.{commit_refusal, Opposes}
 use Rattle.sync_provider.specs.Growing.{HasGrown}
 use Rattle.sync_provider.specs.Machine.{ProviderState, after_judged, committed, committed_each, refusal_of_each}
@@ -62,7 +62,7 @@ committed_grown p commit now =
 
 -- ---- one after another
 
--- what these commits leave, and what is against them, is what those that are left make of where they go on
+-- what these commits leave, and what rejects them, is what those that are left make of where they go on
 pub record GoesOn (now : ℕ) (first p : ProviderState) (commits left : List StagedCommit) : Type 0 where
   pub grown : HasGrown first p
   pub leaves : committed_each first commits now ≡ committed_each p left now
@@ -89,7 +89,7 @@ next_commit now first p after commits k commit low is none done so_far =
           ∙ ap (λ q. refusal_of_each q (drop (suc k) commits) now) (sym done);
     }
 
--- what is against one that is not refused before is against them all
+-- what rejects one that is not refused before rejects them all
 pub refused_all : (now : ℕ) (first p : ProviderState) (commits : List StagedCommit) (k : ℕ) (commit : StagedCommit) (found : CommitFault) → k < length commits → commit ≡ get_or commits k commit
     → Opposes (commit_refusal p.kind p.directory commit.puts commit.drops now) found
     → GoesOn now first p commits (drop k commits) → Opposes (refusal_of_each first commits now) found
@@ -112,20 +112,20 @@ refused_all now first p commits k commit found low is refused so_far = by found 
 -- ---- the way back
 
 -- a directory that only got writes, back at its moment
-back_is : (old new : DirectoryState) (moment : Moment) (later : List Write) → IsMomentOf old moment → new.suffix ≡ old.suffix → new.sid ≡ old.sid → new.history ≡ old.history → new.writes ≡ old.writes ++ later
-    → back_at moment new ≡ old
-back_is old new moment later is suffix sid history writes =
-    let cut : take moment.count new.writes ≡ old.writes = ap (λ n. take n new.writes) is.counted ∙ ap (take (length old.writes)) writes ∙ take-append_seam old.writes later in
+back_is : (old new : DirectoryState) (snapshot : Snapshot) (later : List Write) → IsSnapshotOf old snapshot → new.suffix ≡ old.suffix → new.sid ≡ old.sid → new.history ≡ old.history → new.writes ≡ old.writes ++ later
+    → back_at snapshot new ≡ old
+back_is old new snapshot later is suffix sid history writes =
+    let cut : take snapshot.count new.writes ≡ old.writes = ap (λ n. take n new.writes) is.counted ∙ ap (take (length old.writes)) writes ∙ take-append_seam old.writes later in
     λ i. record { suffix = suffix i; sid = sid i; history = history i; writes = cut i; log = is.same_log i }
 
-pub back_moment : (old new : ProviderState) (moment : Moment) → IsMomentOf old.directory moment → HasGrown old new → IsMomentOf (back_at moment new.directory) moment
-back_moment old new moment is grown =
-    subst (λ (d : DirectoryState). IsMomentOf d moment)
-    (sym (back_is old.directory new.directory moment grown.later is grown.suffix grown.sid grown.history grown.writes)) is
+pub back_snapshot : (old new : ProviderState) (snapshot : Snapshot) → IsSnapshotOf old.directory snapshot → HasGrown old new → IsSnapshotOf (back_at snapshot new.directory) snapshot
+back_snapshot old new snapshot is grown =
+    subst (λ (d : DirectoryState). IsSnapshotOf d snapshot)
+    (sym (back_is old.directory new.directory snapshot grown.later is grown.suffix grown.sid grown.history grown.writes)) is
 
 -- a provider, back as it stood
-pub back_whole : (old new : ProviderState) (moment : Moment) (searches : List (ℕ × SearchState)) → IsMomentOf old.directory moment → searches ≡ old.searches → HasGrown old new
-    → record new { directory = back_at moment new.directory; searches = searches } ≡ old
-back_whole old new moment searches is opens grown =
-    let directory = back_is old.directory new.directory moment grown.later is grown.suffix grown.sid grown.history grown.writes in
+pub back_whole : (old new : ProviderState) (snapshot : Snapshot) (searches : List (ℕ × SearchState)) → IsSnapshotOf old.directory snapshot → searches ≡ old.searches → HasGrown old new
+    → record new { directory = back_at snapshot new.directory; searches = searches } ≡ old
+back_whole old new snapshot searches is opens grown =
+    let directory = back_is old.directory new.directory snapshot grown.later is grown.suffix grown.sid grown.history grown.writes in
     λ i. record { kind = grown.kind i; directory = directory i; searches = opens i; queue_limit = grown.queue_limit i }

@@ -11,8 +11,8 @@ use Rattle.std.specs.declared.cmp.Ordering.TheVariants.{Less, Equal, Greater}
 use Rattle.std.proofs.lemmas.Bool.{and_parts, or_parts}
 use Rattle.std.proofs.lemmas.Map.Made.{lookup-map_values, keys_of-map_values}
 use Rattle.entry_tree.specs.declared.op.Write.{Write}
-use Rattle.entry_tree.specs.declared.touched.Touch.{Touch}
-use Rattle.sync_model.specs.Message.{Cookie, SyncMessage}
+use Rattle.entry_tree.specs.declared.touched.EntryChange.{EntryChange}
+use Rattle.sync_model.specs.Message.{CookieText, SyncMessage}
 use Rattle.directory_writes.specs.Directory.{DirectoryState}
 use Rattle.directory_writes.proofs.Keyed.{kept_at, closed_at, put_on}
 use Rattle.sync_provider.specs.HandingOut.{search_at, turn_of_pending, turn_of_found, turn_at}
@@ -77,13 +77,13 @@ held_keys es = keys_of-map_values (λ held. held.search) es
 
 -- ---- after a change of each
 
-pub record AreTried (touches : List Touch) (cookie : Cookie) (old new : Held) : Type 0 where
+pub record AreTried (entry_changes : List EntryChange) (cookie : CookieText) (old new : Held) : Type 0 where
   pub searches : searches_of new ≡ searches_of old
-  pub staged : list_all (λ held. is_some held.staged) (values_of new) ≡ true → AreStaged touches cookie new
+  pub staged : list_all (λ held. is_some held.staged) (values_of new) ≡ true → AreStaged entry_changes cookie new
 
-tried_one : (touches : List Touch) (cookie : Cookie) (k : ℕ) (old new : HeldSearch) (olds news : Held) → IsTried touches cookie old new → AreTried touches cookie olds news
-    → AreTried touches cookie ((k, old) ∷ olds) ((k, new) ∷ news)
-tried_one touches cookie k old new olds news one rest = record {
+tried_one : (entry_changes : List EntryChange) (cookie : CookieText) (k : ℕ) (old new : HeldSearch) (olds news : Held) → IsTried entry_changes cookie old new → AreTried entry_changes cookie olds news
+    → AreTried entry_changes cookie ((k, old) ∷ olds) ((k, new) ∷ news)
+tried_one entry_changes cookie k old new olds news one rest = record {
   searches = (λ i. (k, one.search i) ∷ rest.searches i);
   staged = λ each.
       let parts = and_parts (is_some new.staged) (list_all (λ held. is_some held.staged) (values_of news)) each in
@@ -93,19 +93,19 @@ tried_one touches cookie k old new olds news one rest = record {
     never : (found : Option (List SyncMessage)) → found ≡ None → is_some found ≡ true → ⊥
     never found none some = let far : is_some found ≡ false = ap is_some none in cc
 
-    made : (new.staged ≡ Some (staged_for old.search touches cookie)) ⊎ (new.staged ≡ None) → is_some new.staged ≡ true → new.staged ≡ Some (staged_for new.search touches cookie)
-    made (inl is) some = is ∙ ap (λ s. Some (staged_for s touches cookie)) (sym one.search)
+    made : (new.staged ≡ Some (staged_for old.search entry_changes cookie)) ⊎ (new.staged ≡ None) → is_some new.staged ≡ true → new.staged ≡ Some (staged_for new.search entry_changes cookie)
+    made (inl is) some = is ∙ ap (λ s. Some (staged_for s entry_changes cookie)) (sym one.search)
     made (inr none) some = absurd (never new.staged none some)
 
-pub all_tried : {F : Type 0} (T : F → ℕ → HeldSearch → Bool → HeldSearch → F → Type 0) (f : F) (touches : List Touch) (cookie : Cookie)
-    → ((k : ℕ) (old : HeldSearch) (b : Bool) (new : HeldSearch) (g : F) → T f k old b new g → (b ≡ true) × (IsTried touches cookie old new) × (g ≡ f))
-    → (es kept : Held) → RetainsPairs T f es kept → AreTried touches cookie es kept
-all_tried T f touches cookie each [] kept is = subst (AreTried touches cookie []) (sym is) (record { searches = refl; staged = λ none. tt })
-all_tried T f touches cookie each (e ∷ es) kept (b, new, g, rest, call, later, is) =
+pub all_tried : {F : Type 0} (T : F → ℕ → HeldSearch → Bool → HeldSearch → F → Type 0) (f : F) (entry_changes : List EntryChange) (cookie : CookieText)
+    → ((k : ℕ) (old : HeldSearch) (b : Bool) (new : HeldSearch) (g : F) → T f k old b new g → (b ≡ true) × (IsTried entry_changes cookie old new) × (g ≡ f))
+    → (es kept : Held) → RetainsPairs T f es kept → AreTried entry_changes cookie es kept
+all_tried T f entry_changes cookie each [] kept is = subst (AreTried entry_changes cookie []) (sym is) (record { searches = refl; staged = λ none. tt })
+all_tried T f entry_changes cookie each (e ∷ es) kept (b, new, g, rest, call, later, is) =
     let one = each e.0 e.1 b new g call in
     let all : kept ≡ (e.0, new) ∷ rest = is ∙ ap (λ c. cond c ((e.0, new) ∷ rest) rest) one.0 in
-    subst (AreTried touches cookie (e ∷ es)) (sym all)
-    (tried_one touches cookie e.0 e.1 new es rest one.1 (all_tried T f touches cookie each es rest (subst (λ h. RetainsPairs T h es rest) one.2 later)))
+    subst (AreTried entry_changes cookie (e ∷ es)) (sym all)
+    (tried_one entry_changes cookie e.0 e.1 new es rest one.1 (all_tried T f entry_changes cookie each es rest (subst (λ h. RetainsPairs T h es rest) one.2 later)))
 
 pub all_pushed : {F : Type 0} (T : F → ℕ → HeldSearch → Bool → HeldSearch → F → Type 0) (f : F) (limit : ℕ)
     → ((k : ℕ) (old : HeldSearch) (b : Bool) (new : HeldSearch) (g : F) → T f k old b new g → (b ≡ true) × (new.search ≡ pushed_staged limit old.staged old.search) × (g ≡ f))
@@ -119,7 +119,7 @@ all_pushed T f limit each (e ∷ es) kept (b, new, g, rest, call, later, is) =
 
 -- ---- tests of all
 
--- a write is told to none
+-- a write is reported to none
 pub none_informed : (es : Held) (limit : ℕ) (d : DirectoryState) (w : Write) → list_any (λ held. is_queueing held.search) (values_of es) ≡ false
     → each_informed limit d w (searches_of es) ≡ searches_of es
 none_informed [] limit d w none = refl
@@ -130,20 +130,20 @@ none_informed (e ∷ es) limit d w none =
     let rest : each_informed limit d w (searches_of es) ≡ searches_of es = none_informed es limit d w parts.1 in
     λ i. (e.0, here i) ∷ rest i
 
--- what was staged for a write is what the write is told by
-pub pushed_informed : (limit : ℕ) (d : DirectoryState) (w : Write) (s : SearchState) (touches : List Touch) (cookie : Cookie) → messages_for s.spec touches cookie ≡ group_of d s w
-    → pushed_staged limit (Some (staged_for s touches cookie)) s ≡ informed limit d w s
-pushed_informed limit d w s touches cookie is = by (is_queueing s) where
-  by : (b : Bool) → pushed limit (cond b (messages_for s.spec touches cookie) []) s ≡ cond b (pushed limit (group_of d s w) s) s
+-- what was staged for a write is what the write is reported by
+pub pushed_informed : (limit : ℕ) (d : DirectoryState) (w : Write) (s : SearchState) (entry_changes : List EntryChange) (cookie : CookieText) → messages_for s.spec entry_changes cookie ≡ group_of d s w
+    → pushed_staged limit (Some (staged_for s entry_changes cookie)) s ≡ informed limit d w s
+pushed_informed limit d w s entry_changes cookie is = by (is_queueing s) where
+  by : (b : Bool) → pushed limit (cond b (messages_for s.spec entry_changes cookie) []) s ≡ cond b (pushed limit (group_of d s w) s) s
   by true = ap (λ ms. pushed limit ms s) is
   by false = refl
 
-pub all_informed : (es : Held) (limit : ℕ) (d : DirectoryState) (w : Write) (touches : List Touch) (cookie : Cookie)
-    → ((s : SearchState) → messages_for s.spec touches cookie ≡ group_of d s w) → AreStaged touches cookie es
+pub all_informed : (es : Held) (limit : ℕ) (d : DirectoryState) (w : Write) (entry_changes : List EntryChange) (cookie : CookieText)
+    → ((s : SearchState) → messages_for s.spec entry_changes cookie ≡ group_of d s w) → AreStaged entry_changes cookie es
     → each_pushed limit es ≡ each_informed limit d w (searches_of es)
-all_informed [] limit d w touches cookie is each = refl
-all_informed (e ∷ es) limit d w touches cookie is each =
+all_informed [] limit d w entry_changes cookie is each = refl
+all_informed (e ∷ es) limit d w entry_changes cookie is each =
     let here : pushed_staged limit e.1.staged e.1.search ≡ informed limit d w e.1.search =
-    ap (λ staged. pushed_staged limit staged e.1.search) each.0 ∙ pushed_informed limit d w e.1.search touches cookie (is e.1.search) in
-    let rest : each_pushed limit es ≡ each_informed limit d w (searches_of es) = all_informed es limit d w touches cookie is each.1 in
+    ap (λ staged. pushed_staged limit staged e.1.search) each.0 ∙ pushed_informed limit d w e.1.search entry_changes cookie (is e.1.search) in
+    let rest : each_pushed limit es ≡ each_informed limit d w (searches_of es) = all_informed es limit d w entry_changes cookie is each.1 in
     λ i. (e.0, here i) ∷ rest i

@@ -18,20 +18,21 @@ use Rattle.sync_messages.specs.declared.request.SyncRequest.{SyncRequest}
 use Rattle.sync_model.specs.Incremental.{number_of, sent_entry}
 use Rattle.sync_model.specs.Message.{SyncMessage}
 use Rattle.sync_model.specs.Stream.{Start, among, walk}
-use Rattle.sync_model.specs.Stream.Start.{Covered, Uncovered}
+use Rattle.sync_model.specs.Stream.Start.{DeletePhase, PresentPhase}
 use Rattle.sync_model.proofs.Histories.{ascends-state_of}
 use Rattle.sync_model.proofs.Incremental.{refresh_sent}
 use Rattle.directory_writes.specs.Starting.{is_ours, prefix_of, asked_prefix, start_at}
 use Rattle.sync_provider.specs.Accepting.{start_of_read, start_of_ask, persists_of_ask, answer_to}
-use Rattle.directory_writes.specs.Directory.{DirectoryState, stamps}
-use Rattle.sync_provider.specs.Law.{refresh_of, later_of, Told, told, all_told, Tells, asked, SendsWhatWasTouched}
-use Rattle.sync_provider.specs.Machine.{ProviderState, Call, accepted}
+use Rattle.directory_writes.specs.Directory.{DirectoryState, csns}
+use Rattle.sync_provider.specs.Law.{refresh_of, later_of, Delivery, delivered, all_delivered, Delivers, asked, SendsWhatWasTouched}
+use Rattle.sync_provider.specs.Machine.{ProviderState, ProviderCall, accepted}
 use Rattle.sync_provider.specs.Search.{SearchState, session_of, whole_walk, refresh_from, busy_end}
 use Rattle.sync_provider.specs.declared.searches.Accepted.TheVariants.{Opened}
 use Rattle.sync_provider.specs.declared.searches.SyncSearch.{SyncSearch}
 use Rattle.sync_provider.proofs.Kept.{opened_free}
-use Rattle.sync_provider.proofs.Streams.{tells_its_stream}
-use Rattle.directory_writes.proofs.Stamps.{upto_low}
+use Rattle.sync_model.proofs.Groups.{heads}
+use Rattle.sync_provider.proofs.Streams.{delivers_its_stream}
+use Rattle.directory_writes.proofs.Csns.{upto_low}
 
 -- ---- a search begins with no more writes than there are
 
@@ -43,8 +44,8 @@ prefix_low d None number is = absurd (never is) where
   never : None ≡ Some number → ⊥
   never q = cc
 prefix_low d (Some cookie) number is = step (is_ours d cookie) is where
-  step : (b : Bool) → cond b (Some (upto (stamps d.writes) cookie.csn)) None ≡ Some number → number ≤ length d.writes
-  step true same = let here : upto (stamps d.writes) cookie.csn ≡ number = cc in omega (arith, here, upto_low d.writes cookie.csn)
+  step : (b : Bool) → cond b (Some (upto (csns d.writes) cookie.csn)) None ≡ Some number → number ≤ length d.writes
+  step true same = let here : upto (csns d.writes) cookie.csn ≡ number = cc in omega (arith, here, upto_low d.writes cookie.csn)
   step false same = let never : ⊥ = cc in absurd never
 
 pub asked_low : (d : DirectoryState) (text : Option (List ℕ)) → IsLow d (asked_prefix d text)
@@ -55,7 +56,7 @@ asked_low d (Some text) number is = prefix_low d (cookie_of_text text) number is
 start_number : (d : DirectoryState) (prefix : Option ℕ) → number_of (start_at d prefix) ≡ prefix
 start_number d None = refl
 start_number d (Some number) = step (covers number d.log) where
-  step : (b : Bool) → number_of (cond b (Covered number) (Uncovered number)) ≡ Some number
+  step : (b : Bool) → number_of (cond b (DeletePhase number) (PresentPhase number)) ≡ Some number
   step true = refl
   step false = refl
 
@@ -75,7 +76,7 @@ sent_from persists sid history spec start count prefix writes is low =
     (whole_walk (session_of persists sid history spec writes) start count) is low
     (record { cut = append-nil (walk (session_of persists sid history spec writes) start count); rises = (omega arith, tt) })
 
--- ---- as much of what is told
+-- ---- as much of what is reported
 
 -- the entries that some messages send whole
 abbrev Sends : (Entry → Type 0) → List SyncMessage → Type 0
@@ -97,43 +98,40 @@ take_none : (n : ℕ) → take {A = SyncMessage} n [] ≡ []
 take_none zero = refl
 take_none (suc n) = refl
 
-heads : (x m : SyncMessage) (xs ms : List SyncMessage) → x ∷ xs ≡ m ∷ ms → x ≡ m
-heads x m xs ms e = cc
-
 tails : (x m : SyncMessage) (xs ms : List SyncMessage) → x ∷ xs ≡ m ∷ ms → xs ≡ ms
 tails x m xs ms e = cc
 
--- a refresh of which a front is told, and then the end with the code busy
-cut_sends : (P : Entry → Type 0) (refresh front left later : List SyncMessage) → front ++ left ≡ refresh ++ later → Sends P refresh
-    → Sends P (take (length refresh) (front ++ busy_end ∷ []))
-cut_sends P [] front left later split sends = All-nil P
+-- a refresh of which a prefix is reported, and then the end with the code busy
+cut_sends : (P : Entry → Type 0) (refresh prefix left later : List SyncMessage) → prefix ++ left ≡ refresh ++ later → Sends P refresh
+    → Sends P (take (length refresh) (prefix ++ busy_end ∷ []))
+cut_sends P [] prefix left later split sends = All-nil P
 cut_sends P (m ∷ refresh) [] left later split sends = subst (λ ms. Sends P (busy_end ∷ ms)) (sym (take_none (length refresh))) (All-nil P)
-cut_sends P (m ∷ refresh) (x ∷ front) left later split sends =
-    let first : x ≡ m = heads x m (front ++ left) (refresh ++ later) split in
-    let rest : front ++ left ≡ refresh ++ later = tails x m (front ++ left) (refresh ++ later) split in
-    subst (λ y. Sends P (y ∷ take (length refresh) (front ++ busy_end ∷ []))) (sym first)
-    (more_sends P m (take (length refresh) (front ++ busy_end ∷ [])) refresh sends (cut_sends P refresh front left later rest))
+cut_sends P (m ∷ refresh) (x ∷ prefix) left later split sends =
+    let first : x ≡ m = heads x m (prefix ++ left) (refresh ++ later) split in
+    let rest : prefix ++ left ≡ refresh ++ later = tails x m (prefix ++ left) (refresh ++ later) split in
+    subst (λ y. Sends P (y ∷ take (length refresh) (prefix ++ busy_end ∷ []))) (sym first)
+    (more_sends P m (take (length refresh) (prefix ++ busy_end ∷ [])) refresh sends (cut_sends P refresh prefix left later rest))
 
-told_sends : (P : Entry → Type 0) (over : Bool) (messages refresh later : List SyncMessage) → Tells over messages (refresh ++ later) → Sends P refresh
+notified_sends : (P : Entry → Type 0) (over : Bool) (messages refresh later : List SyncMessage) → Delivers over messages (refresh ++ later) → Sends P refresh
     → Sends P (take (length refresh) messages)
-told_sends P false messages refresh later tells sends = subst (Sends P) (sym (ap (take (length refresh)) tells ∙ take_all refresh later)) sends
-told_sends P true messages refresh later tells sends =
-    subst (λ ms. Sends P (take (length refresh) ms)) (sym tells.is) (cut_sends P refresh tells.front tells.left later tells.split sends)
+notified_sends P false messages refresh later shows sends = subst (Sends P) (sym (ap (take (length refresh)) shows ∙ take_all refresh later)) sends
+notified_sends P true messages refresh later shows sends =
+    subst (λ ms. Sends P (take (length refresh) ms)) (sym shows.is) (cut_sends P refresh shows.prefix shows.left later shows.split sends)
 
-pub sends_what_was_touched : (p : ProviderState) (ask : SyncSearch) (number count : ℕ) (calls : List Call) → answer_to p.directory p.searches ask ≡ Opened number count
+pub sends_what_was_touched : (p : ProviderState) (ask : SyncSearch) (number count : ℕ) (calls : List ProviderCall) → answer_to p.directory p.searches ask ≡ Opened number count
     → SendsWhatWasTouched p ask number count calls
 sends_what_was_touched p ask number count calls answered writes begins prefix is =
-    told_sends (λ (entry : Entry). among entry.uuid (touched_over p.directory.history writes prefix count) ≡ true) t.over (all_told t)
+    notified_sends (λ (entry : Entry). among entry.uuid (touched_over p.directory.history writes prefix count) ≡ true) t.over (all_delivered t)
     (refresh_of p.directory s writes) (later_of p.directory s t.writes writes)
-    (tells_its_stream p ask number count calls answered writes begins)
+    (delivers_its_stream p ask number count calls answered writes begins)
     (subst (λ n. Sends (λ (entry : Entry). among entry.uuid (touched_over p.directory.history writes prefix n) ≡ true) (refresh_of p.directory s writes)) (sym counted)
     (sent_from (persists_of_ask ask) p.directory.sid p.directory.history (search_of ask.spec) (start_of_ask p.directory ask) (length p.directory.writes) prefix writes is (ask_low p.directory ask prefix is)))
   where
     s : SearchState
     s = asked p ask
 
-    t : Told
-    t = told number (accepted p ask) calls
+    t : Delivery
+    t = delivered number (accepted p ask) calls
 
     counted : count ≡ length p.directory.writes
     counted = (opened_free p.directory p.searches ask number count answered).counted

@@ -13,8 +13,8 @@ use Rattle.directory_writes.proofs.Commits.{plain_fits, commit_open}
 use Rattle.directory_writes.proofs.Judged.{HasAccepted, HasRisen, judged_accepted, judged_rises, IsSameDirectory, judged_same}
 use Rattle.sync_provider.specs.Law.{is_sound_call}
 use Rattle.sync_provider.specs.Committing.{commit_refusal}
-use Rattle.sync_provider.specs.Machine.{ProviderState, Call, judged_by, after_commit, committed, called, run}
-use Rattle.sync_provider.specs.Machine.Call.{Writes, Commits, Accepts, HandsOut, Drops, SetsLogLimit, SetsQueueLimit}
+use Rattle.sync_provider.specs.Machine.{ProviderState, ProviderCall, judged_by, after_commit, committed, called, run}
+use Rattle.sync_provider.specs.Machine.ProviderCall.{Writes, Commits, Accepts, HandsOut, Drops, SetsLogLimit, SetsQueueLimit}
 use Rattle.sync_provider.specs.declared.provider.Kind.{Kind}
 use Rattle.sync_provider.specs.declared.provider.Kind.TheVariants.{Root, Replica}
 use Rattle.sync_provider.specs.declared.writing.CommitFault.{CommitFault}
@@ -47,7 +47,7 @@ commit_accepted p puts drops now sound light each = by (commit_refusal p.kind p.
 
 -- ---- all calls
 
-called_accepted : (p : ProviderState) (call : Call) → is_sound_call call ≡ true → HasAccepted p.directory → HasAccepted (called p call).directory
+called_accepted : (p : ProviderState) (call : ProviderCall) → is_sound_call call ≡ true → HasAccepted p.directory → HasAccepted (called p call).directory
 called_accepted p (Writes op now) sound each =
     let parts = and_parts (is_sound_op op) (not (is_commit op)) sound in
     asked_accepted p.kind p.directory op now parts.0 (not-true (is_commit op) parts.1) each
@@ -60,7 +60,7 @@ called_accepted p (Drops number) sound each = each
 called_accepted p (SetsLogLimit limit) sound each = each
 called_accepted p (SetsQueueLimit limit) sound each = each
 
-called_rises : (p : ProviderState) (call : Call) → HasRisen p.directory → HasRisen (called p call).directory
+called_rises : (p : ProviderState) (call : ProviderCall) → HasRisen p.directory → HasRisen (called p call).directory
 called_rises p (Writes op now) rise = asked_rises p.kind p.directory op now rise
 called_rises p (Commits puts drops now) rise =
     commit_case (λ q. HasRisen q.directory) p (Commit puts drops) now (commit_refusal p.kind p.directory puts drops now) rise
@@ -71,19 +71,19 @@ called_rises p (Drops number) rise = rise
 called_rises p (SetsLogLimit limit) rise = rise
 called_rises p (SetsQueueLimit limit) rise = rise
 
-pub run_accepted : (calls : List Call) (p : ProviderState) → list_all is_sound_call calls ≡ true → HasAccepted p.directory → HasAccepted (run p calls).directory
+pub run_accepted : (calls : List ProviderCall) (p : ProviderState) → list_all is_sound_call calls ≡ true → HasAccepted p.directory → HasAccepted (run p calls).directory
 run_accepted [] p sound each = each
 run_accepted (call ∷ calls) p sound each =
     let parts = and_parts (is_sound_call call) (list_all is_sound_call calls) sound in
     run_accepted calls (called p call) parts.1 (called_accepted p call parts.0 each)
 
-pub run_rises : (calls : List Call) (p : ProviderState) → HasRisen p.directory → HasRisen (run p calls).directory
+pub run_rises : (calls : List ProviderCall) (p : ProviderState) → HasRisen p.directory → HasRisen (run p calls).directory
 run_rises [] p rise = rise
 run_rises (call ∷ calls) p rise = run_rises calls (called p call) (called_rises p call rise)
 
 -- ---- what no call changes
 
-called_same : (p : ProviderState) (call : Call) → IsSameDirectory p.directory (called p call).directory
+called_same : (p : ProviderState) (call : ProviderCall) → IsSameDirectory p.directory (called p call).directory
 called_same p (Writes op now) = judged_same p.directory (judged_by p.kind p.directory op now)
 called_same p (Commits puts drops now) =
     commit_case (λ q. IsSameDirectory p.directory q.directory) p (Commit puts drops) now (commit_refusal p.kind p.directory puts drops now)
@@ -94,7 +94,7 @@ called_same p (Drops number) = record { suffix = refl; sid = refl; history = ref
 called_same p (SetsLogLimit limit) = record { suffix = refl; sid = refl; history = refl }
 called_same p (SetsQueueLimit limit) = record { suffix = refl; sid = refl; history = refl }
 
-pub run_same : (calls : List Call) (p : ProviderState) → IsSameDirectory p.directory (run p calls).directory
+pub run_same : (calls : List ProviderCall) (p : ProviderState) → IsSameDirectory p.directory (run p calls).directory
 run_same [] p = record { suffix = refl; sid = refl; history = refl }
 run_same (call ∷ calls) p =
     let first = called_same p call in

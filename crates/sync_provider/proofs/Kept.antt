@@ -3,12 +3,13 @@ use Rattle.std.proofs.Common.{◌≡◌, ◌≢◌, ℕ, Bool, true, false, cond
 use Rattle.std.specs.Prelude.{Result, Ok, Err, not, is_some}
 use Rattle.std.specs.List.{find}
 use Rattle.std.proofs.lemmas.Bool.{false≢true, true≢false}
+use Rattle.ldap_constants.specs.declared.result_codes.TheConstants.{PROTOCOL_ERROR, ADMIN_LIMIT_EXCEEDED, NO_SUCH_OBJECT}
 use Rattle.dn_names.specs.Names.{is_at_or_below}
 use Rattle.sync_messages.specs.Request.{request_of}
 use Rattle.sync_messages.specs.declared.fault.SyncFault.{SyncFault}
 use Rattle.sync_messages.specs.declared.request.SyncRequest.{SyncRequest}
 use Rattle.sync_model.specs.Message.{SyncMessage}
-use Rattle.sync_model.specs.Message.SyncMessage.{Put, Gone, Present, IdSet, NewCookie, PhaseEnds, Done, Passed}
+use Rattle.sync_model.specs.Message.SyncMessage.{AddOrModify, Delete, Present, IdSet, NewCookie, RefreshDelete, RefreshPresent, Done, Ignored}
 use Rattle.sync_wire.specs.Sending.{sent}
 use Rattle.directory_writes.specs.Directory.{DirectoryState}
 use Rattle.directory_writes.proofs.Keyed.{opened-same, opened-other, closed-other, put_on-same, put_on-other}
@@ -48,8 +49,10 @@ pub record IsFree (d : DirectoryState) (es : List (ℕ × SearchState)) (number 
   pub free : search_at es number ≡ None
   pub counted : count ≡ length d.writes
 
-pub opened_free : (d : DirectoryState) (es : List (ℕ × SearchState)) (ask : SyncSearch) (number count : ℕ) → answer_to d es ask ≡ Opened number count → IsFree d es number count
-opened_free d es ask number count = by_request (request_of ask.control)
+-- where a request is answered so, beside whether the base is in the directory
+pub request_free : (d : DirectoryState) (es : List (ℕ × SearchState)) (request : SyncRequest) (number count : ℕ) (within : Bool)
+    → cond within (numbered d request (free_number es)) (Refused NO_SUCH_OBJECT) ≡ Opened number count → IsFree d es number count
+request_free d es request number count within = by_base within
   where
     refused : (code : ℕ) → Refused code ≡ Opened number count → ⊥
     refused code e = cc
@@ -67,17 +70,23 @@ opened_free d es ask number count = by_request (request_of ask.control)
     }
     by_code n is (Some code) e = absurd (refused code e)
 
-    by_number : (request : SyncRequest) (n : Option ℕ) → free_number es ≡ n → numbered d request n ≡ Opened number count → IsFree d es number count
-    by_number request None is e = absurd (refused 11 e)
-    by_number request (Some n) is e = by_code n is (request_code d request) e
+    by_number : (n : Option ℕ) → free_number es ≡ n → numbered d request n ≡ Opened number count → IsFree d es number count
+    by_number None is e = absurd (refused ADMIN_LIMIT_EXCEEDED e)
+    by_number (Some n) is e = by_code n is (request_code d request) e
 
-    by_base : (request : SyncRequest) (b : Bool) → cond b (numbered d request (free_number es)) (Refused 32) ≡ Opened number count → IsFree d es number count
-    by_base request true e = by_number request (free_number es) refl e
-    by_base request false e = absurd (refused 32 e)
+    by_base : (b : Bool) → cond b (numbered d request (free_number es)) (Refused NO_SUCH_OBJECT) ≡ Opened number count → IsFree d es number count
+    by_base true e = by_number (free_number es) refl e
+    by_base false e = absurd (refused NO_SUCH_OBJECT e)
+
+pub opened_free : (d : DirectoryState) (es : List (ℕ × SearchState)) (ask : SyncSearch) (number count : ℕ) → answer_to d es ask ≡ Opened number count → IsFree d es number count
+opened_free d es ask number count = by_request (request_of ask.control)
+  where
+    refused : Refused PROTOCOL_ERROR ≡ Opened number count → ⊥
+    refused e = cc
 
     by_request : (read : Result SyncRequest SyncFault) → answer_to_request d es ask read ≡ Opened number count → IsFree d es number count
-    by_request (Err fault) e = absurd (refused 2 e)
-    by_request (Ok request) e = by_base request (is_at_or_below ask.spec.base d.suffix) e
+    by_request (Err fault) e = absurd (refused e)
+    by_request (Ok request) e = request_free d es request number count (is_at_or_below ask.spec.base d.suffix) e
 
 -- ---- a search while other calls are made
 
@@ -106,14 +115,15 @@ turn_other es k q Unknown far = refl
 -- ---- its own turn
 
 pub hands : (id : ℕ) (m : SyncMessage) → is_end m ≡ false → turn_of_message id m ≡ Hands (sent id m)
-hands id (Put adds entry cookie) h = refl
-hands id (Gone uuid name cookie) h = refl
+hands id (AddOrModify adds entry cookie) h = refl
+hands id (Delete uuid name cookie) h = refl
 hands id (Present uuid cookie) h = refl
 hands id (IdSet deletes uuids cookie) h = refl
 hands id (NewCookie cookie) h = refl
-hands id (PhaseEnds deletes done cookie) h = refl
+hands id (RefreshDelete done cookie) h = refl
+hands id (RefreshPresent done cookie) h = refl
 hands id (Done code control) h = absurd (true≢false h)
-hands id Passed h = refl
+hands id Ignored h = refl
 
 -- where nothing is pending
 pub waiting_turn : (es : List (ℕ × SearchState)) (number : ℕ) (s : SearchState) → search_at es number ≡ Some s → pending s ≡ []

@@ -8,14 +8,14 @@ use Rattle.entry_tree.specs.History.{state_of, touched_over}
 use Rattle.session_log.proofs.Covering.{IsLogOf-trimmed}
 use Rattle.sync_model.specs.Stream.{among}
 use Rattle.directory_writes.specs.Directory.{DirectoryState, judged, with_judged}
-use Rattle.sync_provider.specs.Law.{BeginsWith, LogTells, NumberTells}
+use Rattle.sync_provider.specs.Law.{BeginsWith, LogShows, NumberShows}
 use Rattle.sync_provider.specs.Committing.{commit_refusal}
-use Rattle.sync_provider.specs.Machine.{ProviderState, Call, judged_by, called, run}
-use Rattle.sync_provider.specs.Machine.Call.{Writes, Commits, Accepts, HandsOut, Drops, SetsLogLimit, SetsQueueLimit}
+use Rattle.sync_provider.specs.Machine.{ProviderState, ProviderCall, judged_by, called, run}
+use Rattle.sync_provider.specs.Machine.ProviderCall.{Writes, Commits, Accepts, HandsOut, Drops, SetsLogLimit, SetsQueueLimit}
 use Rattle.directory_writes.specs.Touches.{all_notes, IsLogged}
 use Rattle.directory_writes.proofs.Pushed.{logged-push}
 use Rattle.sync_provider.proofs.Commits.{commit_case}
-use Rattle.directory_writes.proofs.Told.{agree-longer, over-agree_upto, log-tells, floor-low, last-tells}
+use Rattle.directory_writes.proofs.Notified.{agree-longer, over-agree_upto, log-shows, floor-low, last-shows}
 
 abbrev HasLogged : DirectoryState → Type 0
 HasLogged d = IsLogged d.history d.writes d.log
@@ -24,7 +24,7 @@ judged_logged : (d : DirectoryState) (outcome : Result Write ℕ) → HasLogged 
 judged_logged d (Ok w) is = logged-push d.history d.writes w d.log is
 judged_logged d (Err code) is = is
 
-called_logged : (p : ProviderState) (call : Call) → HasLogged p.directory → HasLogged (called p call).directory
+called_logged : (p : ProviderState) (call : ProviderCall) → HasLogged p.directory → HasLogged (called p call).directory
 called_logged p (Writes op now) is = judged_logged p.directory (judged_by p.kind p.directory op now) is
 called_logged p (Commits puts drops now) is =
     commit_case (λ q. HasLogged q.directory) p (Commit puts drops) now (commit_refusal p.kind p.directory puts drops now) is
@@ -36,7 +36,7 @@ called_logged p (SetsLogLimit limit) is =
     IsLogOf-trimmed (all_notes (state_of p.directory.history p.directory.writes) (length p.directory.writes)) p.directory.log limit is
 called_logged p (SetsQueueLimit limit) is = is
 
-pub run_logged : (calls : List Call) (p : ProviderState) → HasLogged p.directory → HasLogged (run p calls).directory
+pub run_logged : (calls : List ProviderCall) (p : ProviderState) → HasLogged p.directory → HasLogged (run p calls).directory
 run_logged [] p is = is
 run_logged (call ∷ calls) p is = run_logged calls (called p call) (called_logged p call is)
 
@@ -47,15 +47,15 @@ over_longer d writes begins number =
     ap (λ ws. touched_over d.history ws number (length d.writes)) (sym begins.1)
     ∙ over-agree_upto (state_of d.history (d.writes ++ begins.0)) (state_of d.history d.writes) number (length d.writes) (agree-longer d.history d.writes begins.0)
 
-pub tells_of_log : (d : DirectoryState) → HasLogged d → LogTells d
-tells_of_log d is = (
+pub shows_of_log : (d : DirectoryState) → HasLogged d → LogShows d
+shows_of_log d is = (
   λ writes begins number covered within.
-      log-tells (state_of d.history d.writes) (length d.writes) d.log number is (leb-true d.log.floor number covered)
+      log-shows (state_of d.history d.writes) (length d.writes) d.log number is (leb-true d.log.floor number covered)
       ∙ sym (over_longer d writes begins number),
   le-leb d.log.floor (length d.writes) (floor-low (state_of d.history d.writes) (length d.writes) d.log is),
 )
 
-pub tells_of_numbers : (d : DirectoryState) → NumberTells d
-tells_of_numbers d writes begins number uuid within =
-    last-tells (length d.writes) (state_of d.history d.writes) number uuid within
+pub shows_of_numbers : (d : DirectoryState) → NumberShows d
+shows_of_numbers d writes begins number uuid within =
+    last-shows (length d.writes) (state_of d.history d.writes) number uuid within
     ∙ ap (among uuid) (sym (over_longer d writes begins number))

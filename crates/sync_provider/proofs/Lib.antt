@@ -1,5 +1,7 @@
 -- Lemmas of the crate.
+pub mod Advanced
 pub mod Asking
+pub mod Coming
 pub mod Commits
 pub mod Copying
 pub mod Deciding
@@ -9,19 +11,25 @@ pub mod Growing
 pub mod Growths
 pub mod Held
 pub mod Incrementally
+pub mod Informed
 pub mod Judged
 pub mod Kept
 pub mod Known
+pub mod Longer
 pub mod Looking
 pub mod Numbers
 pub mod Overflows
+pub mod Past
 pub mod Places
+pub mod RefreshTaken
 pub mod Refreshes
 pub mod Refusals
 pub mod Returns
 pub mod Rooted
 pub mod Saying
 pub mod Sets
+pub mod StreamTurns
 pub mod Streams
-pub mod Told
+pub mod Delivery
 pub mod Turns
+pub mod Whereabouts

@@ -10,15 +10,16 @@ use Rattle.sync_model.specs.Law.{is_nil}
 use Rattle.sync_model.specs.Message.{SyncMessage}
 use Rattle.sync_model.specs.Stream.{group, later}
 use Rattle.sync_model.proofs.Gather.{Each}
+use Rattle.sync_model.proofs.Groups.{each_one}
 use Rattle.directory_writes.specs.Directory.{DirectoryState, judged, with_write}
 use Rattle.directory_writes.proofs.Keyed.{closed-other}
 use Rattle.sync_provider.specs.Accepting.{answer_to, start_of_ask, persists_of_ask}
 use Rattle.sync_provider.specs.HandingOut.{turn_at, search_at, without_first, closed, after_turn}
-use Rattle.sync_provider.specs.Law.{BeginsWith, refresh_of, later_of, stream_of, IsAtItsPlace, IsPlaced, Told, pending_of, pending_at, over_of, told_now, first_told, told, asked, Tally, items_of, is_too_much, after_write, after_commit, after_hand_out, is_over_after}
+use Rattle.sync_provider.specs.Law.{BeginsWith, refresh_of, later_of, stream_of, IsAtItsPlace, IsPlaced, Delivery, pending_of, pending_at, over_of, delivered_now, first_delivered, delivered, asked, Tally, items_of, is_too_much, after_write, after_commit, after_hand_out, is_over_after}
 use Rattle.sync_provider.specs.Committing.{commit_refusal}
-use Rattle.sync_provider.specs.Machine.{ProviderState, Call, after_judged, judged_by, after_commit as provider_after, accepted, called}
+use Rattle.sync_provider.specs.Machine.{ProviderState, ProviderCall, after_judged, judged_by, after_commit as provider_after, accepted, called}
 use Rattle.sync_provider.specs.declared.writing.CommitFault.{CommitFault}
-use Rattle.sync_provider.specs.Machine.Call.{Writes, Commits, Accepts, HandsOut, Drops, SetsLogLimit, SetsQueueLimit}
+use Rattle.sync_provider.specs.Machine.ProviderCall.{Writes, Commits, Accepts, HandsOut, Drops, SetsLogLimit, SetsQueueLimit}
 use Rattle.sync_provider.specs.Queueing.{is_full, group_of, overflowed, pushed, informed}
 use Rattle.sync_provider.specs.Search.{SearchState, session_of, refresh_from, busy_end, pending, advanced, is_end}
 use Rattle.sync_provider.specs.declared.searches.Accepted.TheVariants.{Opened}
@@ -26,7 +27,9 @@ use Rattle.sync_provider.specs.declared.searches.SyncSearch.{SyncSearch}
 use Rattle.sync_provider.proofs.Growing.{GoesOn, begins_before, later_grows, informed_at, refresh_goes, laters_go}
 use Rattle.sync_provider.proofs.Kept.{answered_other, turn_other, waiting_turn, next_turn, asked_at}
 use Rattle.sync_provider.proofs.Places.{stays_place, pushed_place, next_rest, next_due, opening_place}
-use Rattle.sync_provider.proofs.Streams.{not_over, pending_open}
+use Rattle.sync_provider.proofs.Informed.{pending_open}
+use Rattle.sync_model.proofs.Groups.{heads}
+use Rattle.sync_provider.proofs.Streams.{not_over}
 
 -- ---- a search and its count
 
@@ -185,9 +188,6 @@ module _ (s0 : SearchState) (limit : ℕ) (d : DirectoryState) (w : Write) (s : 
 some_first : (m : SyncMessage) (ms : List SyncMessage) → m ∷ ms ≡ [] → ⊥
 some_first m ms e = cc
 
-heads : (x m : SyncMessage) (xs ms : List SyncMessage) → x ∷ xs ≡ m ∷ ms → x ≡ m
-heads x m xs ms e = cc
-
 -- each of them, and the one at this place
 each_at : (x : SyncMessage) (before more : List SyncMessage) → Each GoesOn (before ++ x ∷ more) → GoesOn x
 each_at x [] more each = each.0
@@ -274,10 +274,10 @@ module _ (s0 : SearchState) (p : ProviderState) (s : SearchState) (t : Tally) (s
       by_lists : s.persists ≡ true → (rest due : List SyncMessage) → s.rest ≡ rest → s.due ≡ due → is_end m ≡ false
       by_lists goes (x ∷ rest) due is_rest is_due =
           sym (ap is_end (heads x m (rest ++ s.due) ms (sym (ap (λ l. l ++ s.due) is_rest) ∙ sym (pending_open s off) ∙ first)))
-          ∙ each_at x now.handed rest (subst (Each GoesOn) (sym (now.place.rest d.writes (itself d)) ∙ ap (λ l. now.handed ++ l) is_rest) (refresh_goes d s d.writes goes))
+          ∙ each_one GoesOn now.handed rest x (subst (Each GoesOn) (sym (now.place.rest d.writes (itself d)) ∙ ap (λ l. now.handed ++ l) is_rest) (refresh_goes d s d.writes goes))
       by_lists goes [] (x ∷ due) is_rest is_due =
           sym (ap is_end (heads x m due ms ((λ i. sym is_rest i ++ sym is_due i) ∙ sym (pending_open s off) ∙ first)))
-          ∙ each_at x now.handed_later due (subst (Each GoesOn) (sym (now.place.due d.writes (itself d)) ∙ ap (λ l. now.handed_later ++ l) is_due) (laters_go d s (length d.writes) d.writes))
+          ∙ each_one GoesOn now.handed_later due x (subst (Each GoesOn) (sym (now.place.due d.writes (itself d)) ∙ ap (λ l. now.handed_later ++ l) is_due) (laters_go d s (length d.writes) d.writes))
       by_lists goes [] [] is_rest is_due = absurd (some_first m ms (sym first ∙ pending_open s off ∙ (λ i. is_rest i ++ is_due i)))
 
       by : (b : Bool) → s0.persists ≡ b → s0.persists ≡ false
@@ -300,7 +300,7 @@ commit_stays s0 p t over op now None is why = write_stays s0 p t over (judged p.
 commit_stays s0 p t over op now (Some fault) is why = is
 
 -- nor does any call
-pub stays_over : (calls : List Call) (number : ℕ) (s0 : SearchState) (p : ProviderState) (t : Tally) (over : Bool) → t.over ≡ over → (over ≡ true) ⊎ (s0.persists ≡ false)
+pub stays_over : (calls : List ProviderCall) (number : ℕ) (s0 : SearchState) (p : ProviderState) (t : Tally) (over : Bool) → t.over ≡ over → (over ≡ true) ⊎ (s0.persists ≡ false)
     → is_over_after number s0 p t calls ≡ over
 stays_over [] number s0 p t over is why = is
 stays_over (Writes op now ∷ calls) number s0 p t over is why =
@@ -330,29 +330,29 @@ stays_over (Drops other ∷ calls) number s0 p t over is why = by (stays_over ca
 
 -- ---- all calls
 
--- what is told is over where it is by the count
-abbrev IsOverAlike : ℕ → SearchState → ProviderState → Tally → List Call → Type 0
-IsOverAlike number s0 p t calls = (told number p calls).over ≡ is_over_after number s0 p t calls
+-- what is reported is over where it is by the count
+abbrev IsOverAlike : ℕ → SearchState → ProviderState → Tally → List ProviderCall → Type 0
+IsOverAlike number s0 p t calls = (delivered number p calls).over ≡ is_over_after number s0 p t calls
 
 -- so it is from a provider with the search on
-abbrev AlikeFrom : ℕ → SearchState → List Call → Type 0
+abbrev AlikeFrom : ℕ → SearchState → List ProviderCall → Type 0
 AlikeFrom number s0 calls =
     (p : ProviderState) (s : SearchState) (t : Tally) → search_at p.searches number ≡ Some s → Matches s0 p.directory s t → IsOverAlike number s0 p t calls
 
-judged_alike : (number : ℕ) (s0 : SearchState) (calls : List Call) (p : ProviderState) (outcome : Result Write ℕ) → AlikeFrom number s0 calls → (s : SearchState) (t : Tally)
+judged_alike : (number : ℕ) (s0 : SearchState) (calls : List ProviderCall) (p : ProviderState) (outcome : Result Write ℕ) → AlikeFrom number s0 calls → (s : SearchState) (t : Tally)
     → search_at p.searches number ≡ Some s → Matches s0 p.directory s t → IsOverAlike number s0 (after_judged p outcome) (after_write p s0 outcome t) calls
 judged_alike number s0 calls p (Ok w) rest s t found same =
     rest (after_judged p (Ok w)) (informed p.queue_limit p.directory w s) (after_write p s0 (Ok w) t) (informed_at p.queue_limit p.directory w p.searches number s found)
     (informed_match s0 p.queue_limit p.directory w s t same)
 judged_alike number s0 calls p (Err code) rest s t found same = rest (after_judged p (Err code)) s t found same
 
-commit_alike : (number : ℕ) (s0 : SearchState) (calls : List Call) (p : ProviderState) (op : Op) (now : ℕ) (refusal : Option CommitFault) → AlikeFrom number s0 calls
+commit_alike : (number : ℕ) (s0 : SearchState) (calls : List ProviderCall) (p : ProviderState) (op : Op) (now : ℕ) (refusal : Option CommitFault) → AlikeFrom number s0 calls
     → (s : SearchState) (t : Tally) → search_at p.searches number ≡ Some s → Matches s0 p.directory s t
     → IsOverAlike number s0 (provider_after p op now refusal) (after_commit p s0 op now refusal t) calls
 commit_alike number s0 calls p op now None rest s t found same = judged_alike number s0 calls p (judged p.directory op now) rest s t found same
 commit_alike number s0 calls p op now (Some fault) rest s t found same = rest p s t found same
 
-pub over_alike : (calls : List Call) (number : ℕ) (s0 : SearchState) (p : ProviderState) (s : SearchState) (t : Tally)
+pub over_alike : (calls : List ProviderCall) (number : ℕ) (s0 : SearchState) (p : ProviderState) (s : SearchState) (t : Tally)
     → search_at p.searches number ≡ Some s → Matches s0 p.directory s t → IsOverAlike number s0 p t calls
 over_alike [] number s0 p s t found same = ap over_of found ∙ sym same.over
 over_alike (Writes op now ∷ calls) number s0 p s t found same =
@@ -385,11 +385,11 @@ over_alike (HandsOut other ∷ calls) number s0 p s t found same = by (over_alik
     after : ProviderState
     after = called p (HandsOut other)
 
-    later_told : Told
-    later_told = told number after calls
+    later_notified : Delivery
+    later_notified = delivered number after calls
 
-    Rest : Type 0
-    Rest = (r : SearchState) (u : Tally) → search_at after.searches number ≡ Some r → Matches s0 after.directory r u → later_told.over ≡ is_over_after number s0 after u calls
+    PendingRefresh : Type 0
+    PendingRefresh = (r : SearchState) (u : Tally) → search_at after.searches number ≡ Some r → Matches s0 after.directory r u → later_notified.over ≡ is_over_after number s0 after u calls
 
     own : (r : SearchState) → other ≡ number → search_at (after_turn p.searches number (turn_at p.searches number)) number ≡ Some r → search_at after.searches number ≡ Some r
     own r here is = subst (λ k. search_at (after_turn p.searches k (turn_at p.searches k)) number ≡ Some r) (sym here) is
@@ -412,37 +412,37 @@ over_alike (HandsOut other ∷ calls) number s0 p s t found same = by (over_alik
         why true on = inl on
         why false off = inr (ends_stay s0 p s t same m ms is end off)
 
-    first : Rest → other ≡ number → (ms : List SyncMessage) → pending s ≡ ms
-        → (first_told p number ms later_told).over ≡ is_over_after number s0 after (after_hand_out p s0 t) calls
+    first : PendingRefresh → other ≡ number → (ms : List SyncMessage) → pending s ≡ ms
+        → (first_delivered p number ms later_notified).over ≡ is_over_after number s0 after (after_hand_out p s0 t) calls
     first rest here [] none = rest s (after_hand_out p s0 t) (own s here (waiting_turn p.searches number s found none)) (waits_match s0 p s t same none)
     first rest here (m ∷ ms) is = ends (is_end m) refl
       where
         ends : (b : Bool) → is_end m ≡ b
-            → (cond {A = Told} b (told_now p number (m ∷ []) ms) (record later_told { handed = m ∷ later_told.handed })).over ≡ is_over_after number s0 after (after_hand_out p s0 t) calls
+            → (cond {A = Delivery} b (delivered_now p number (m ∷ []) ms) (record later_notified { handed = m ∷ later_notified.handed })).over ≡ is_over_after number s0 after (after_hand_out p s0 t) calls
         ends true end = over_found ∙ ended m ms is end s.over refl
         ends false goes =
             rest (without_first s) (after_hand_out p s0 t) (own (without_first s) here (next_turn p.searches number s m ms found is goes)) (next_match s0 p s t same m ms is goes)
 
-    by : Rest → (b : Bool) → nat_eq other number ≡ b
-        → (cond {A = Told} b (first_told p number (pending_at p number) later_told) later_told).over ≡ is_over_after number s0 after (cond b (after_hand_out p s0 t) t) calls
+    by : PendingRefresh → (b : Bool) → nat_eq other number ≡ b
+        → (cond {A = Delivery} b (first_delivered p number (pending_at p number) later_notified) later_notified).over ≡ is_over_after number s0 after (cond b (after_hand_out p s0 t) t) calls
     by rest true here =
-        ap (λ o. (first_told p number (pending_of o) later_told).over) found ∙ first rest (eqb-true other number here) (pending s) refl
+        ap (λ o. (first_delivered p number (pending_of o) later_notified).over) found ∙ first rest (eqb-true other number here) (pending s) refl
     by rest false apart =
         rest s t (turn_other p.searches other number (turn_at p.searches other) (λ here. false≢true (sym apart ∙ eq-eqb other number (sym here))) ∙ found) same
 over_alike (Drops other ∷ calls) number s0 p s t found same = by (over_alike calls number s0 (called p (Drops other)) s t) (nat_eq other number) refl
   where
-    later_told : Told
-    later_told = told number (called p (Drops other)) calls
+    later_notified : Delivery
+    later_notified = delivered number (called p (Drops other)) calls
 
-    by : (search_at (closed p.searches other) number ≡ Some s → Matches s0 p.directory s t → later_told.over ≡ is_over_after number s0 (called p (Drops other)) t calls)
+    by : (search_at (closed p.searches other) number ≡ Some s → Matches s0 p.directory s t → later_notified.over ≡ is_over_after number s0 (called p (Drops other)) t calls)
         → (b : Bool) → nat_eq other number ≡ b
-        → (cond {A = Told} b (told_now p number [] (pending_at p number)) later_told).over ≡ cond b t.over (is_over_after number s0 (called p (Drops other)) t calls)
+        → (cond {A = Delivery} b (delivered_now p number [] (pending_at p number)) later_notified).over ≡ cond b t.over (is_over_after number s0 (called p (Drops other)) t calls)
     by rest true here = ap over_of found ∙ sym same.over
     by rest false apart = rest (closed-other p.searches other number (λ here. false≢true (sym apart ∙ eq-eqb other number (sym here))) ∙ found) same
 
 -- ---- from its acceptance on
 
-pub overflows_exactly : (p : ProviderState) (ask : SyncSearch) (number count : ℕ) (calls : List Call) → answer_to p.directory p.searches ask ≡ Opened number count
+pub overflows_exactly : (p : ProviderState) (ask : SyncSearch) (number count : ℕ) (calls : List ProviderCall) → answer_to p.directory p.searches ask ≡ Opened number count
     → IsOverAlike number (asked p ask) (accepted p ask) (record { handed = 0; over = false }) calls
 overflows_exactly p ask number count calls answered =
     over_alike calls number (asked p ask) (accepted p ask) (asked p ask) (record { handed = 0; over = false }) (asked_at p ask number count answered) (record {

@@ -15,8 +15,8 @@ use Rattle.sync_provider.specs.HandingOut.{Turn, turn_at, search_at, without_fir
 use Rattle.sync_provider.specs.HandingOut.Turn.{Hands, Closes, Waits, Unknown}
 use Rattle.sync_provider.specs.Law.{BeginsWith, later_of, IsAtItsPlace, IsPlaced, KeepsItsPlace, EachSearch}
 use Rattle.sync_provider.specs.Committing.{commit_refusal}
-use Rattle.sync_provider.specs.Machine.{ProviderState, Call, each_informed, searches_after, judged_by, called, run}
-use Rattle.sync_provider.specs.Machine.Call.{Writes, Commits, Accepts, HandsOut, Drops, SetsLogLimit, SetsQueueLimit}
+use Rattle.sync_provider.specs.Machine.{ProviderState, ProviderCall, each_informed, searches_after, judged_by, called, run}
+use Rattle.sync_provider.specs.Machine.ProviderCall.{Writes, Commits, Accepts, HandsOut, Drops, SetsLogLimit, SetsQueueLimit}
 use Rattle.sync_provider.specs.Queueing.{is_full, group_of, overflowed, pushed, informed}
 use Rattle.sync_provider.specs.Search.{SearchState, opening, advanced}
 use Rattle.sync_provider.specs.declared.searches.Accepted.{Accepted}
@@ -190,7 +190,7 @@ limited_place d limit s keeps = λ off. record {
   place = record { within = (keeps off).place.within; rest = (keeps off).place.rest; due = (keeps off).place.due; ordered = (keeps off).place.ordered };
 }
 
-called_places : (p : ProviderState) (call : Call) → EachSearch (KeepsItsPlace p.directory) p.searches → EachSearch (KeepsItsPlace (called p call).directory) (called p call).searches
+called_places : (p : ProviderState) (call : ProviderCall) → EachSearch (KeepsItsPlace p.directory) p.searches → EachSearch (KeepsItsPlace (called p call).directory) (called p call).searches
 called_places p (Writes op now) each = judged_places p (judged_by p.kind p.directory op now) each
 called_places p (Commits puts drops now) each =
     commit_case (λ q. EachSearch (KeepsItsPlace q.directory) q.searches) p (Commit puts drops) now (commit_refusal p.kind p.directory puts drops now) each
@@ -202,6 +202,6 @@ called_places p (SetsLogLimit limit) each =
     each-weaker (KeepsItsPlace p.directory) (KeepsItsPlace (with_log_limit p.directory limit)) p.searches (limited_place p.directory limit) each
 called_places p (SetsQueueLimit limit) each = each
 
-pub run_places : (calls : List Call) (p : ProviderState) → EachSearch (KeepsItsPlace p.directory) p.searches → EachSearch (KeepsItsPlace (run p calls).directory) (run p calls).searches
+pub run_places : (calls : List ProviderCall) (p : ProviderState) → EachSearch (KeepsItsPlace p.directory) p.searches → EachSearch (KeepsItsPlace (run p calls).directory) (run p calls).searches
 run_places [] p each = each
 run_places (call ∷ calls) p each = run_places calls (called p call) (called_places p call each)

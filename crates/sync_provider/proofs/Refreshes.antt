@@ -10,60 +10,60 @@ use Rattle.entry_tree.specs.History.{state_of, differing_over}
 use Rattle.entry_tree.specs.Selection.{Search, select}
 use Rattle.entry_tree.specs.State.{entry_at}
 use Rattle.entry_tree.specs.Touched.{identities, touched}
-use Rattle.sync_model.specs.Message.{Cookie, SyncMessage}
-use Rattle.sync_model.specs.Stream.{Session, Start, Decision, among, content_after, is_covered, walk, is_sent, decided, decide, gathered, end_of, after_walk, late_uuids, told_all, group}
-use Rattle.sync_model.specs.Stream.Start.{Blank, Covered, Uncovered}
+use Rattle.sync_model.specs.Message.{CookieText, SyncMessage}
+use Rattle.sync_model.specs.Stream.{SyncOperation, Start, WalkDecision, among, content_after, is_delete_phase, walk, is_sent, decided, decide, gathered, end_of, after_walk, late_uuids, notified_all, group}
+use Rattle.sync_model.specs.Stream.Start.{InitialContent, DeletePhase, PresentPhase}
 use Rattle.sync_model.proofs.Steps.{over_none}
-use Rattle.directory_writes.specs.Directory.{cookie_at, last_stamp}
+use Rattle.directory_writes.specs.Directory.{cookie_at, last_csn}
 use Rattle.sync_provider.specs.Search.{cookie_after, session_of, refresh_from}
-use Rattle.directory_writes.proofs.Told.{Agree, agree-longer, over-agree_upto}
+use Rattle.directory_writes.proofs.Notified.{Agree, agree-longer, over-agree_upto}
 
-no_late : (session : Session) (count : ℕ) → late_uuids session count count ≡ []
-no_late session count =
+no_late : (operation : SyncOperation) (count : ℕ) → late_uuids operation count count ≡ []
+no_late operation count =
     let none : count - count ≡ 0 = omega arith in
-    ap (differing_over (λ number. content_after session number) count) none ∙ over_none (λ number. content_after session number) count
+    ap (differing_over (λ number. content_after operation number) count) none ∙ over_none (λ number. content_after operation number) count
 
 -- what is decided of the walk, and the end
-abbrev pub decided_all : Session → Start → ℕ → List Decision
-decided_all session start count = flat_map (decide session start count) (walk session start count)
+abbrev pub decided_all : SyncOperation → Start → ℕ → List WalkDecision
+decided_all operation start count = flat_map (decide operation start count) (walk operation start count)
 
-abbrev pub told_of : Session → Start → ℕ → List Decision → List SyncMessage
-told_of session start count decisions = gathered (is_covered start) decisions ++ end_of session.persists (is_covered start) (session.cookies count) ∷ []
+abbrev pub notified_of : SyncOperation → Start → ℕ → List WalkDecision → List SyncMessage
+notified_of operation start count decisions = gathered (is_delete_phase start) decisions ++ end_of operation.persists (is_delete_phase start) (operation.cookies count) ∷ []
 
-pub refresh_from-is : (session : Session) (start : Start) (count : ℕ) → refresh_from session start count ≡ told_of session start count (decided_all session start count)
-refresh_from-is session start count =
-    ap (λ late. gathered (is_covered start) (decided_all session start count ++ []) ++ after_walk session (is_covered start) count late) (no_late session count)
-    ∙ ap (told_of session start count) (append-nil (decided_all session start count))
+pub refresh_from-is : (operation : SyncOperation) (start : Start) (count : ℕ) → refresh_from operation start count ≡ notified_of operation start count (decided_all operation start count)
+refresh_from-is operation start count =
+    ap (λ late. gathered (is_delete_phase start) (decided_all operation start count ++ []) ++ after_walk operation (is_delete_phase start) count late) (no_late operation count)
+    ∙ ap (notified_of operation start count) (append-nil (decided_all operation start count))
 
 -- ---- two histories that agree
 
-module _ (persists : Bool) (spec : Search) (f g : ℕ → List Entry) (c d : ℕ → Cookie) (count : ℕ) (same : Agree f g count) (cookie : c count ≡ d count) where
-  abbrev one : Session
+module _ (persists : Bool) (spec : Search) (f g : ℕ → List Entry) (c d : ℕ → CookieText) (count : ℕ) (same : Agree f g count) (cookie : c count ≡ d count) where
+  abbrev one : SyncOperation
   one = record { persists = persists; selection = spec; states = f; cookies = c }
 
-  abbrev other : Session
+  abbrev other : SyncOperation
   other = record { persists = persists; selection = spec; states = g; cookies = d }
 
   now : f count ≡ g count
   now = same count (omega arith)
 
   walks : (start : Start) → walk one start count ≡ walk other start count
-  walks Blank = ap identities now
-  walks (Covered a) = over-agree_upto f g a count same
-  walks (Uncovered a) = ap identities now
+  walks InitialContent = ap identities now
+  walks (DeletePhase a) = over-agree_upto f g a count same
+  walks (PresentPhase a) = ap identities now
 
   sent : (start : Start) (u : ℕ) → is_sent one start count u ≡ is_sent other start count u
-  sent Blank u = refl
-  sent (Covered a) u = refl
-  sent (Uncovered a) u = ap (among u) (over-agree_upto f g a count same)
+  sent InitialContent u = refl
+  sent (DeletePhase a) u = refl
+  sent (PresentPhase a) u = ap (among u) (over-agree_upto f g a count same)
 
   decides : (start : Start) → decided_all one start count ≡ decided_all other start count
-  decides start i = flat_map (λ u. decided (is_covered start) (sent start u i) u (entry_at (select spec (now i)) u)) (walks start i)
+  decides start i = flat_map (λ u. decided (is_delete_phase start) (sent start u i) u (entry_at (select spec (now i)) u)) (walks start i)
 
   pub refresh-agrees : (start : Start) → refresh_from one start count ≡ refresh_from other start count
   refresh-agrees start =
       refresh_from-is one start count
-      ∙ (λ i. gathered (is_covered start) (decides start i) ++ end_of persists (is_covered start) (cookie i) ∷ [])
+      ∙ (λ i. gathered (is_delete_phase start) (decides start i) ++ end_of persists (is_delete_phase start) (cookie i) ∷ [])
       ∙ sym (refresh_from-is other start count)
 
   -- what a write before that number sends
@@ -72,14 +72,14 @@ module _ (persists : Bool) (spec : Search) (f g : ℕ → List Entry) (c d : ℕ
       let was : f before ≡ g before = same before (omega (arith, next)) in
       let cookies : c (before + 1) ≡ d (before + 1) = ap c next ∙ cookie ∙ sym (ap d next) in
       let is : f (before + 1) ≡ g (before + 1) = ap f next ∙ now ∙ sym (ap g next) in
-      λ i. told_all (cookies i) (touched (select spec (was i)) (select spec (is i)))
+      λ i. notified_all (cookies i) (touched (select spec (was i)) (select spec (is i)))
 
 -- a longer history has the same cookies
 cookie-longer : (sid history : ℕ) (writes more : List Write) → cookie_after sid history (writes ++ more) (length writes) ≡ cookie_after sid history writes (length writes)
 cookie-longer sid history writes more =
-    ap (λ ws. cookie_text (cookie_at sid history (last_stamp (start sid) ws))) (take-append-le (length writes) writes more (omega arith))
+    ap (λ ws. cookie_text (cookie_at sid history (last_csn (start sid) ws))) (take-append-le (length writes) writes more (omega arith))
 
--- and tells the same
+-- and reports the same
 pub refresh-longer : (persists : Bool) (sid history : ℕ) (spec : Search) (start_at : Start) (writes more whole : List Write) → writes ++ more ≡ whole
     → refresh_from (session_of persists sid history spec whole) start_at (length writes) ≡ refresh_from (session_of persists sid history spec writes) start_at (length writes)
 refresh-longer persists sid history spec start_at writes more whole is =

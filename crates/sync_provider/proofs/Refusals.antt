@@ -2,6 +2,7 @@
 use Rattle.std.proofs.Common.{◌≡◌, ◌≢◌, ℕ, true, false, cond, List, [], ◌∷◌, ◌++◌, Some, None, refl, ap, sym, subst, ◌∙◌, inl, inr, ◌⊎◌, arith, nat_eq, eqb-true, eq-eqb}
 use Rattle.std.specs.Prelude.{Bool, flat_map, Result, Ok, Err}
 use Rattle.std.proofs.lemmas.Bool.{cases_eq, false≢true}
+use Rattle.ldap_constants.specs.declared.result_codes.TheConstants.{SUCCESS, OTHER}
 use Rattle.entry_tree.specs.declared.entry.Entry.{Entry}
 use Rattle.entry_tree.specs.declared.op.Op.{Op}
 use Rattle.entry_tree.specs.declared.op.Write.{Write}
@@ -10,8 +11,8 @@ use Rattle.sync_provider.specs.Accepting as accepting
 use Rattle.sync_provider.specs.HandingOut as handing
 use Rattle.sync_provider.specs.Answering.{WriteLeaves, AcceptLeaves, HandOutLeaves, Answered, Leaves, Leads, calls_of, calls_of_accepted, calls_of_handed}
 use Rattle.sync_provider.specs.Answering.Answered.{Wrote, Committed, CommittedEach, Accepts, HandedOut, Dropped, LimitedLog, LimitedQueue}
-use Rattle.sync_provider.specs.Machine.{ProviderState, Call, after_judged, judged_by, wrote, run}
-use Rattle.sync_provider.specs.Machine.{Call as calls}
+use Rattle.sync_provider.specs.Machine.{ProviderState, ProviderCall, after_judged, judged_by, wrote, run}
+use Rattle.sync_provider.specs.Machine.{ProviderCall as calls}
 use Rattle.sync_provider.specs.declared.handed.Handed.{Handed}
 use Rattle.sync_provider.specs.declared.handed.Handed.TheVariants as handed
 use Rattle.sync_provider.specs.declared.searches.Accepted.{Accepted}
@@ -22,23 +23,23 @@ use Rattle.sync_provider.proofs.Returns.{run_append}
 
 -- ---- a write
 
--- an operation with another code than 0 changes nothing
-judged_none : (p : ProviderState) (outcome : Result Write ℕ) → (code_of_judged outcome ≡ 0 → ⊥) → after_judged p outcome ≡ p
+-- an operation with another code than success changes nothing
+judged_none : (p : ProviderState) (outcome : Result Write ℕ) → (code_of_judged outcome ≡ SUCCESS → ⊥) → after_judged p outcome ≡ p
 judged_none p (Ok write) far = absurd (far refl)
 judged_none p (Err code) far = refl
 
 write_counts : (old new : ProviderState) (op : Op) (now : ℕ) (reply : Reply) → WriteLeaves old op now reply new → new ≡ run old (calls_of (Wrote op now reply))
-write_counts old new op now reply is = by (nat_eq reply.code 0) refl
+write_counts old new op now reply is = by (nat_eq reply.code SUCCESS) refl
   where
-    none : (reply.code ≡ 0 → ⊥) → (reply.code ≡ 80) ⊎ (reply.code ≡ 80 → ⊥) → new ≡ old
+    none : (reply.code ≡ SUCCESS → ⊥) → (reply.code ≡ OTHER) ⊎ (reply.code ≡ OTHER → ⊥) → new ≡ old
     none some (inl code) = is.err code
     none some (inr far) = is.state far ∙ judged_none old (judged_by old.kind old.directory op now) (λ nought. some (is.code far ∙ nought))
 
-    by : (b : Bool) → nat_eq reply.code 0 ≡ b → new ≡ run old (cond b (calls.Writes op now ∷ []) [])
+    by : (b : Bool) → nat_eq reply.code SUCCESS ≡ b → new ≡ run old (cond b (calls.Writes op now ∷ []) [])
     by true nought =
-        let code : reply.code ≡ 0 = eqb-true reply.code 0 nought in
+        let code : reply.code ≡ SUCCESS = eqb-true reply.code SUCCESS nought in
         is.state (λ full. let never : ⊥ = omega (arith, code, full) in never)
-    by false some = none (λ nought. false≢true (sym some ∙ eq-eqb reply.code 0 nought)) (cases_eq reply.code 80)
+    by false some = none (λ nought. false≢true (sym some ∙ eq-eqb reply.code SUCCESS nought)) (cases_eq reply.code OTHER)
 
 -- ---- a search that is asked for
 

@@ -6,15 +6,15 @@ use Rattle.std.proofs.lemmas.List.{append-nil, length_push}
 use Rattle.entry_tree.specs.declared.op.Op.{Op}
 use Rattle.entry_tree.specs.declared.op.Op.TheVariants.{Commit}
 use Rattle.entry_tree.specs.declared.op.Write.{Write}
-use Rattle.directory_writes.specs.Directory.{DirectoryState, judged, cookie_at, stamp_of}
+use Rattle.directory_writes.specs.Directory.{DirectoryState, judged, cookie_at, last_csn_of}
 use Rattle.sync_provider.specs.Committing.{commit_refusal}
-use Rattle.sync_provider.specs.Machine.{ProviderState, Call, after_judged, judged_by, called, run}
-use Rattle.sync_provider.specs.Machine.Call.{Writes, Commits, Accepts, HandsOut, Drops, SetsLogLimit, SetsQueueLimit}
-use Rattle.sync_provider.specs.Returning.{SearchesMoment, moment_of, HasNoWriteSince, Step, returned, stepped, stepped_all, IsOpenTo, MayStep, MayStepAll, limits_of, limits_of_step, calls_at, counted, counted_all}
+use Rattle.sync_provider.specs.Machine.{ProviderState, ProviderCall, after_judged, judged_by, called, run}
+use Rattle.sync_provider.specs.Machine.ProviderCall.{Writes, Commits, Accepts, HandsOut, Drops, SetsLogLimit, SetsQueueLimit}
+use Rattle.sync_provider.specs.Returning.{SearchesSnapshot, snapshot_of, HasNoWriteSince, Step, returned, stepped, stepped_all, IsOpenTo, MayStep, MayStepAll, limits_of, limits_of_step, calls_at, counted, counted_all}
 use Rattle.sync_provider.specs.Returning.Step.{Calls, Returns}
 use Rattle.sync_provider.proofs.Commits.{commit_case}
 
-pub run_append : (p : ProviderState) (one two : List Call) → run p (one ++ two) ≡ run (run p one) two
+pub run_append : (p : ProviderState) (one two : List ProviderCall) → run p (one ++ two) ≡ run (run p one) two
 run_append p [] two = refl
 run_append p (call ∷ one) two = run_append (called p call) one two
 
@@ -43,15 +43,15 @@ judged_steady p (Err code) = still_itself p
 
 -- ---- a moment, as it stands in the calls that would count after a return to it
 
-pub record Stands (first p before : ProviderState) (calls : List Call) : Type 0 where
+pub record Stands (first p before : ProviderState) (calls : List ProviderCall) : Type 0 where
   pub low : length before.directory.writes ≤ length p.directory.writes
   pub back : length before.directory.writes ≡ length p.directory.writes → record p { searches = before.searches } ≡ run first calls
 
-stands_itself : (first p : ProviderState) (calls : List Call) → p ≡ run first calls → Stands first p p calls
+stands_itself : (first p : ProviderState) (calls : List ProviderCall) → p ≡ run first calls → Stands first p p calls
 stands_itself first p calls is = record { low = omega arith; back = λ same. is }
 
 -- it stands after a call that sets no limit
-stands_steady : (first p before after : ProviderState) (calls : List Call) → IsSteady p after → Stands first p before calls → Stands first after before (calls ++ [])
+stands_steady : (first p before after : ProviderState) (calls : List ProviderCall) → IsSteady p after → Stands first p before calls → Stands first after before (calls ++ [])
 stands_steady first p before after calls steady is = record {
   low = omega (arith, steady.low, is.low);
   back = λ same.
@@ -64,7 +64,7 @@ stands_steady first p before after calls steady is = record {
 }
 
 -- and after each call
-stands_call : (first p before : ProviderState) (calls : List Call) (call : Call) → Stands first p before calls → Stands first (called p call) before (calls ++ limits_of call)
+stands_call : (first p before : ProviderState) (calls : List ProviderCall) (call : ProviderCall) → Stands first p before calls → Stands first (called p call) before (calls ++ limits_of call)
 stands_call first p before calls (Writes op now) is = stands_steady first p before (called p (Writes op now)) calls (judged_steady p (judged_by p.kind p.directory op now)) is
 stands_call first p before calls (Commits puts drops now) is =
     let steady : IsSteady p (called p (Commits puts drops now)) =
@@ -87,47 +87,47 @@ stands_call first p before calls (SetsQueueLimit limit) is = record {
 
 -- ---- each moment
 
-abbrev pub EachStands : (first p : ProviderState) → List ProviderState → List (List Call) → Type 0
+abbrev pub EachStands : (first p : ProviderState) → List ProviderState → List (List ProviderCall) → Type 0
 EachStands first p [] [] = ⊤
 EachStands first p [] (calls ∷ counts) = ⊥
-EachStands first p (before ∷ moments) [] = ⊥
-EachStands first p (before ∷ moments) (calls ∷ counts) = Stands first p before calls × EachStands first p moments counts
+EachStands first p (before ∷ snapshots) [] = ⊥
+EachStands first p (before ∷ snapshots) (calls ∷ counts) = Stands first p before calls × EachStands first p snapshots counts
 
 each_stands : (first p after : ProviderState) (step : Step)
-    → ((before : ProviderState) (calls : List Call) → Stands first p before calls → Stands first after before (calls ++ limits_of_step step))
-    → (moments : List ProviderState) (counts : List (List Call)) → EachStands first p moments counts
-    → EachStands first after moments (map (λ kept. kept ++ limits_of_step step) counts)
+    → ((before : ProviderState) (calls : List ProviderCall) → Stands first p before calls → Stands first after before (calls ++ limits_of_step step))
+    → (snapshots : List ProviderState) (counts : List (List ProviderCall)) → EachStands first p snapshots counts
+    → EachStands first after snapshots (map (λ kept. kept ++ limits_of_step step) counts)
 each_stands first p after step one [] [] each = tt
 each_stands first p after step one [] (calls ∷ counts) each = absurd each
-each_stands first p after step one (before ∷ moments) [] each = absurd each
-each_stands first p after step one (before ∷ moments) (calls ∷ counts) each = (one before calls each.0, each_stands first p after step one moments counts each.1)
+each_stands first p after step one (before ∷ snapshots) [] each = absurd each
+each_stands first p after step one (before ∷ snapshots) (calls ∷ counts) each = (one before calls each.0, each_stands first p after step one snapshots counts each.1)
 
 -- a return to a moment leaves the calls that count there
-returns_at : (first p : ProviderState) (moments : List ProviderState) (counts : List (List Call)) (ago : ℕ) → EachStands first p moments counts → IsOpenTo p (slice_get moments ago)
-    → returned p (slice_get moments ago) ≡ run first (calls_at (slice_get counts ago))
+returns_at : (first p : ProviderState) (snapshots : List ProviderState) (counts : List (List ProviderCall)) (ago : ℕ) → EachStands first p snapshots counts → IsOpenTo p (slice_get snapshots ago)
+    → returned p (slice_get snapshots ago) ≡ run first (calls_at (slice_get counts ago))
 returns_at first p [] counts ago each may = absurd may
-returns_at first p (before ∷ moments) [] ago each may = absurd each
-returns_at first p (before ∷ moments) (calls ∷ counts) zero each may = each.0.back may.counted
-returns_at first p (before ∷ moments) (calls ∷ counts) (suc ago) each may = returns_at first p moments counts ago each.1 may
+returns_at first p (before ∷ snapshots) [] ago each may = absurd each
+returns_at first p (before ∷ snapshots) (calls ∷ counts) zero each may = each.0.back may.counted
+returns_at first p (before ∷ snapshots) (calls ∷ counts) (suc ago) each may = returns_at first p snapshots counts ago each.1 may
 
 -- ---- each step
 
-step_stands : (first p : ProviderState) (moments : List ProviderState) (step : Step) (before : ProviderState) (calls : List Call) → Stands first p before calls
-    → Stands first (stepped moments p step) before (calls ++ limits_of_step step)
-step_stands first p moments (Calls call) before calls is = stands_call first p before calls call is
-step_stands first p moments (Returns ago) before calls is = by (slice_get moments ago)
+step_stands : (first p : ProviderState) (snapshots : List ProviderState) (step : Step) (before : ProviderState) (calls : List ProviderCall) → Stands first p before calls
+    → Stands first (stepped snapshots p step) before (calls ++ limits_of_step step)
+step_stands first p snapshots (Calls call) before calls is = stands_call first p before calls call is
+step_stands first p snapshots (Returns ago) before calls is = by (slice_get snapshots ago)
   where
     by : (found : Option ProviderState) → Stands first (returned p found) before (calls ++ [])
     by None = stands_steady first p before p calls (still_itself p) is
     by (Some earlier) =
         stands_steady first p before (record p { searches = earlier.searches }) calls (record { low = omega arith; still = λ same. refl; kind = refl; queue_limit = refl }) is
 
-step_counts : (first p : ProviderState) (moments : List ProviderState) (counts : List (List Call)) (calls : List Call) (step : Step) → p ≡ run first calls → EachStands first p moments counts
-    → MayStep moments p step → stepped moments p step ≡ run first (counted counts calls step)
-step_counts first p moments counts calls (Calls call) is each may = ap (λ q. called q call) is ∙ sym (run_append first calls (call ∷ []))
-step_counts first p moments counts calls (Returns ago) is each may = returns_at first p moments counts ago each may
+step_counts : (first p : ProviderState) (snapshots : List ProviderState) (counts : List (List ProviderCall)) (calls : List ProviderCall) (step : Step) → p ≡ run first calls → EachStands first p snapshots counts
+    → MayStep snapshots p step → stepped snapshots p step ≡ run first (counted counts calls step)
+step_counts first p snapshots counts calls (Calls call) is each may = ap (λ q. called q call) is ∙ sym (run_append first calls (call ∷ []))
+step_counts first p snapshots counts calls (Returns ago) is each may = returns_at first p snapshots counts ago each may
 
-all_count : (first : ProviderState) (steps : List Step) (before : List ProviderState) (counts : List (List Call)) (p : ProviderState) (calls : List Call) → p ≡ run first calls
+all_count : (first : ProviderState) (steps : List Step) (before : List ProviderState) (counts : List (List ProviderCall)) (p : ProviderState) (calls : List ProviderCall) → p ≡ run first calls
     → EachStands first p before counts → MayStepAll before p steps → stepped_all before p steps ≡ run first (counted_all counts calls steps)
 all_count first [] before counts p calls is each may = is
 all_count first (step ∷ steps) before counts p calls is each may =
@@ -142,9 +142,9 @@ returns_count p steps may = all_count p steps [] [] p [] refl tt may
 -- ---- the moment of now
 
 -- where the directory is that of a moment, no write came since
-pub no_write_came : (p : ProviderState) (d : DirectoryState) (moment : SearchesMoment) → moment ≡ moment_of p → d ≡ p.directory → HasNoWriteSince d moment
-no_write_came p d moment is same = record {
+pub no_write_came : (p : ProviderState) (d : DirectoryState) (snapshot : SearchesSnapshot) → snapshot ≡ snapshot_of p → d ≡ p.directory → HasNoWriteSince d snapshot
+no_write_came p d snapshot is same = record {
   suffix = ap (λ m. m.suffix) is ∙ ap (λ e. e.suffix) (sym same);
   counted = ap (λ m. m.writes) is ∙ ap (λ e. length e.writes) (sym same);
-  same = ap (λ m. m.cookie) is ∙ ap (λ e. cookie_at e.sid e.history (stamp_of e)) (sym same);
+  same = ap (λ m. m.cookie) is ∙ ap (λ e. cookie_at e.sid e.history (last_csn_of e)) (sym same);
 }

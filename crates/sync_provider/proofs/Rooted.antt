@@ -16,7 +16,7 @@ use Rattle.sync_provider.specs.declared.writing.CommitFault.{CommitFault}
 use Rattle.sync_provider.specs.declared.writing.CommitFault.TheVariants.{NotAReplica}
 use Rattle.sync_provider.proofs.Growths.{committed_grown}
 
--- that it is none is against each commit of a root
+-- that it is none rejects each commit of a root
 pub root_refuses : (p : ProviderState) (commits : List StagedCommit) (now : ℕ) → p.kind ≡ Root → 0 < length commits → refusal_of_each p commits now ≡ Some NotAReplica
 root_refuses p [] now is some = let never : ⊥ = omega (arith, some) in absurd never
 root_refuses p (commit ∷ commits) now is some =

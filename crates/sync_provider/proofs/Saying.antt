@@ -5,69 +5,69 @@ use Rattle.std.proofs.lemmas.Bool.{cases_lt, false≢true, true≢false}
 use Rattle.std.proofs.lemmas.List.Sums.{sum_by-cons}
 use Rattle.entry_tree.specs.declared.entry.Entry.{Entry}
 use Rattle.entry_tree.specs.Selection.{Search, is_selected}
-use Rattle.sync_model.specs.Message.{Cookie, SyncMessage}
-use Rattle.sync_model.specs.Stream.{told}
+use Rattle.sync_model.specs.Message.{CookieText, SyncMessage}
+use Rattle.sync_model.specs.Stream.{notified}
 use Rattle.sync_provider.specs.Queueing.{message_weight}
 use Rattle.sync_provider.specs.Search.{is_end}
 use Rattle.sync_provider.specs.Staging.{message_of_change, messages_of_change, change_to, change_from, chosen, with_cookie, last_with_cookie, counted_weight}
-use Rattle.sync_provider.specs.declared.change.Change.{Change}
-use Rattle.sync_provider.specs.declared.change.Change.TheVariants.{Entered, Stayed, Left}
+use Rattle.sync_provider.specs.declared.content_change.ContentChange.{ContentChange}
+use Rattle.sync_provider.specs.declared.content_change.ContentChange.TheVariants.{Added, Modified, Deleted}
 
 -- ---- one touch
 
 -- an entry that is selected now
 pub said_still : (search : Search) (uuid : ℕ) (was : Option Entry) (entry : Entry) (was_in : Bool) → is_some (chosen search was) ≡ was_in → is_some (chosen search (Some entry)) ≡ true
-    → messages_of_change (Some (change_to was_in entry)) ≡ told None uuid (chosen search was) (chosen search (Some entry))
+    → messages_of_change (Some (change_to was_in entry)) ≡ notified None uuid (chosen search was) (chosen search (Some entry))
 said_still search uuid was entry was_in before now = by (is_selected search entry) refl
   where
-    found : (o : Option Entry) → is_some o ≡ was_in → messages_of_change (Some (change_to was_in entry)) ≡ told None uuid o (Some entry)
+    found : (o : Option Entry) → is_some o ≡ was_in → messages_of_change (Some (change_to was_in entry)) ≡ notified None uuid o (Some entry)
     found None is = ap (λ b. messages_of_change (Some (change_to b entry))) (sym is)
     found (Some e) is = ap (λ b. messages_of_change (Some (change_to b entry))) (sym is)
 
-    by : (b : Bool) → is_selected search entry ≡ b → messages_of_change (Some (change_to was_in entry)) ≡ told None uuid (chosen search was) (chosen search (Some entry))
-    by true on = found (chosen search was) before ∙ ap (λ c. told None uuid (chosen search was) (cond c (Some entry) None)) (sym on)
+    by : (b : Bool) → is_selected search entry ≡ b → messages_of_change (Some (change_to was_in entry)) ≡ notified None uuid (chosen search was) (chosen search (Some entry))
+    by true on = found (chosen search was) before ∙ ap (λ c. notified None uuid (chosen search was) (cond c (Some entry) None)) (sym on)
     by false off = absurd (false≢true (sym (ap (λ c. is_some (cond c (Some entry) None)) off) ∙ now))
 
 -- none is selected now
 pub said_left : (search : Search) (uuid : ℕ) (was now : Option Entry) (was_in : Bool) → is_some (chosen search was) ≡ was_in → is_some (chosen search now) ≡ false
-    → messages_of_change (change_from was_in uuid was) ≡ told None uuid (chosen search was) (chosen search now)
+    → messages_of_change (change_from was_in uuid was) ≡ notified None uuid (chosen search was) (chosen search now)
 said_left search uuid was now was_in before after = by was before ∙ none (chosen search now) after
   where
-    none : (o : Option Entry) → is_some o ≡ false → told None uuid (chosen search was) None ≡ told None uuid (chosen search was) o
+    none : (o : Option Entry) → is_some o ≡ false → notified None uuid (chosen search was) None ≡ notified None uuid (chosen search was) o
     none None is = refl
     none (Some e) is = absurd (true≢false is)
 
-    by : (found : Option Entry) → is_some (chosen search found) ≡ was_in → messages_of_change (change_from was_in uuid found) ≡ told None uuid (chosen search found) None
+    by : (found : Option Entry) → is_some (chosen search found) ≡ was_in → messages_of_change (change_from was_in uuid found) ≡ notified None uuid (chosen search found) None
     by None is = refl
     by (Some e) is = step (is_selected search e) is
       where
-        step : (b : Bool) → is_some (cond b (Some e) None) ≡ was_in → messages_of_change (cond was_in (Some (Left uuid e.dn)) None) ≡ told None uuid (cond b (Some e) None) None
-        step true on = ap (λ c. messages_of_change (cond c (Some (Left uuid e.dn)) None)) (sym on)
-        step false off = ap (λ c. messages_of_change (cond c (Some (Left uuid e.dn)) None)) (sym off)
+        step : (b : Bool) → is_some (cond b (Some e) None) ≡ was_in → messages_of_change (cond was_in (Some (Deleted uuid e.dn)) None) ≡ notified None uuid (cond b (Some e) None) None
+        step true on = ap (λ c. messages_of_change (cond c (Some (Deleted uuid e.dn)) None)) (sym on)
+        step false off = ap (λ c. messages_of_change (cond c (Some (Deleted uuid e.dn)) None)) (sym off)
 
 -- ---- the cookie
 
-pub last_push : (cookie : Cookie) (messages : List SyncMessage) (last : SyncMessage) → last_with_cookie cookie (messages ++ last ∷ []) ≡ messages ++ with_cookie cookie last ∷ []
+pub last_push : (cookie : CookieText) (messages : List SyncMessage) (last : SyncMessage) → last_with_cookie cookie (messages ++ last ∷ []) ≡ messages ++ with_cookie cookie last ∷ []
 last_push cookie [] last = refl
 last_push cookie (m ∷ []) last = refl
 last_push cookie (m ∷ n ∷ ms) last = ap (λ l. m ∷ l) (last_push cookie (n ∷ ms) last)
 
-pub change_marked : (change : Change) (cookie : Cookie) (old : Option Cookie) → with_cookie cookie (message_of_change change old) ≡ message_of_change change (Some cookie)
-change_marked (Entered entry) cookie old = refl
-change_marked (Stayed entry) cookie old = refl
-change_marked (Left uuid name) cookie old = refl
+pub change_marked : (change : ContentChange) (cookie : CookieText) (old : Option CookieText) → with_cookie cookie (message_of_change change old) ≡ message_of_change change (Some cookie)
+change_marked (Added entry) cookie old = refl
+change_marked (Modified entry) cookie old = refl
+change_marked (Deleted uuid name) cookie old = refl
 
 -- the search goes on after it
-pub change_goes : (change : Change) (cookie : Option Cookie) → is_end (message_of_change change cookie) ≡ false
-change_goes (Entered entry) cookie = refl
-change_goes (Stayed entry) cookie = refl
-change_goes (Left uuid name) cookie = refl
+pub change_goes : (change : ContentChange) (cookie : Option CookieText) → is_end (message_of_change change cookie) ≡ false
+change_goes (Added entry) cookie = refl
+change_goes (Modified entry) cookie = refl
+change_goes (Deleted uuid name) cookie = refl
 
 -- a cookie weighs nothing
-pub change_weight : (change : Change) (cookie : Option Cookie) → counted_weight (message_of_change change cookie) ≡ counted_weight (message_of_change change None)
-change_weight (Entered entry) cookie = refl
-change_weight (Stayed entry) cookie = refl
-change_weight (Left uuid name) cookie = refl
+pub change_weight : (change : ContentChange) (cookie : Option CookieText) → counted_weight (message_of_change change cookie) ≡ counted_weight (message_of_change change None)
+change_weight (Added entry) cookie = refl
+change_weight (Modified entry) cookie = refl
+change_weight (Deleted uuid name) cookie = refl
 
 -- ---- weights as they are counted
 

@@ -4,19 +4,19 @@ use Rattle.std.proofs.lemmas.Bool.{lt-ltb, le-ltb}
 use Rattle.std.proofs.lemmas.List.{append-nil, map-append}
 use Rattle.entry_tree.specs.declared.entry.Entry.{Entry}
 use Rattle.sync_model.specs.Message.{SyncMessage}
-use Rattle.sync_model.specs.Message.SyncMessage.{Put, IdSet}
-use Rattle.sync_model.specs.Stream.{Decision, most_names, whole, left_over}
-use Rattle.sync_model.specs.Stream.Decision.{Sends, Names}
+use Rattle.sync_model.specs.Message.SyncMessage.{AddOrModify, IdSet}
+use Rattle.sync_model.specs.Stream.{WalkDecision, most_names, whole, left_over}
+use Rattle.sync_model.specs.Stream.WalkDecision.{Sends, Names}
 use Rattle.sync_provider.specs.Gathering.{Gathered, Gathers}
 use Rattle.sync_provider.specs.Search.{message_of}
-use Rattle.sync_provider.specs.declared.parts.Part.{Part}
-use Rattle.sync_provider.specs.declared.parts.Part.TheVariants as part
+use Rattle.sync_provider.specs.declared.refresh_item.RefreshItem.{RefreshItem}
+use Rattle.sync_provider.specs.declared.refresh_item.RefreshItem.TheVariants as part
 
 -- ---- more decisions
 
-whole-append : (ds more : List Decision) (deletes : Bool) (names : List ℕ) → whole deletes names (ds ++ more) ≡ whole deletes names ds ++ whole deletes (left_over names ds) more
+whole-append : (ds more : List WalkDecision) (deletes : Bool) (names : List ℕ) → whole deletes names (ds ++ more) ≡ whole deletes names ds ++ whole deletes (left_over names ds) more
 whole-append [] more deletes names = refl
-whole-append (Sends entry ∷ ds) more deletes names = ap (λ ms. Put true entry None ∷ ms) (whole-append ds more deletes names)
+whole-append (Sends entry ∷ ds) more deletes names = ap (λ ms. AddOrModify true entry None ∷ ms) (whole-append ds more deletes names)
 whole-append (Names uuid ∷ ds) more deletes names =
     step (nat_lt (length names + 1) most_names) (whole-append ds more deletes (names ++ uuid ∷ [])) (whole-append ds more deletes [])
   where
@@ -28,7 +28,7 @@ whole-append (Names uuid ∷ ds) more deletes names =
     step true longer fresh = longer
     step false longer fresh = ap (λ ms. IdSet deletes (names ++ uuid ∷ []) None ∷ ms) fresh
 
-left_over-append : (ds more : List Decision) (names : List ℕ) → left_over names (ds ++ more) ≡ left_over (left_over names ds) more
+left_over-append : (ds more : List WalkDecision) (names : List ℕ) → left_over names (ds ++ more) ≡ left_over (left_over names ds) more
 left_over-append [] more names = refl
 left_over-append (Sends entry ∷ ds) more names = left_over-append ds more names
 left_over-append (Names uuid ∷ ds) more names =
@@ -41,11 +41,11 @@ left_over-append (Names uuid ∷ ds) more names =
     step false longer fresh = fresh
 
 -- the messages of more parts
-abbrev messages : Bool → List Part → List SyncMessage
+abbrev messages : Bool → List RefreshItem → List SyncMessage
 messages deletes parts = map (message_of deletes) parts
 
 -- what is gathered, with these messages and these names of one decision more
-gathers_by : (old new : Gathered) (more : List Decision) (parts : List Part) → new.parts ≡ old.parts ++ parts
+gathers_by : (old new : Gathered) (more : List WalkDecision) (parts : List RefreshItem) → new.parts ≡ old.parts ++ parts
     → ((deletes : Bool) → messages deletes parts ≡ whole deletes old.names more) → new.names ≡ left_over old.names more → Gathers more old new
 gathers_by old new more parts grown are names decisions is = record {
   parts = λ deletes.

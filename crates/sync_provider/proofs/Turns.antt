@@ -8,9 +8,10 @@ use Rattle.std.proofs.lemmas.Bool.Decides.{nat_tests}
 use Rattle.std.proofs.lemmas.List.{drop_more, at_drop_all}
 use Rattle.std.proofs.lemmas.Map.Steps.{set_value_same}
 use Rattle.std.proofs.lemmas.Option.{slice_get_within, get_or_from_slice_get}
+use Rattle.ldap_constants.specs.declared.result_codes.TheConstants.{SUCCESS, BUSY}
 use Rattle.sync_model.specs.Law.{is_nil}
-use Rattle.sync_model.specs.Message.{Cookie, SyncMessage}
-use Rattle.sync_model.specs.Message.SyncMessage.{Put, Gone, Present, IdSet, NewCookie, PhaseEnds, Done, Passed}
+use Rattle.sync_model.specs.Message.{CookieText, SyncMessage}
+use Rattle.sync_model.specs.Message.SyncMessage.{AddOrModify, Delete, Present, IdSet, NewCookie, RefreshDelete, RefreshPresent, Done, Ignored}
 use Rattle.sync_model.specs.Stream.{end_of}
 use Rattle.sync_wire.specs.Sending.{sent}
 use Rattle.directory_writes.proofs.Keyed.{kept_at, closed_at, put_on}
@@ -18,21 +19,21 @@ use Rattle.sync_provider.specs.HandingOut.{Turn, turn_of_message, turn_of_pendin
 use Rattle.sync_provider.specs.HandingOut.Turn.{Hands, Closes, Waits, Unknown}
 use Rattle.sync_provider.specs.Search.{SearchState, busy_end, pending, advanced, is_end, message_of, messages_of, first_of}
 use Rattle.sync_provider.specs.Staging.{HeldSearch, searches_of}
-use Rattle.sync_provider.specs.declared.parts.Part.{Part}
-use Rattle.sync_provider.specs.declared.parts.Part.TheVariants as part
+use Rattle.sync_provider.specs.declared.refresh_item.RefreshItem.{RefreshItem}
+use Rattle.sync_provider.specs.declared.refresh_item.RefreshItem.TheVariants as part
 use Rattle.sync_provider.proofs.Kept.{hands}
 use Rattle.sync_provider.proofs.Held.{search_found, turn_found, held_closed, held_put}
 
 -- ---- what is left of a refresh
 
-pub first_part : (persists deletes : Bool) (parts : List Part) (handed : ℕ) (p : Part) (cookie : Cookie) → slice_get parts handed ≡ Some p
+pub first_part : (persists deletes : Bool) (parts : List RefreshItem) (handed : ℕ) (p : RefreshItem) (cookie : CookieText) → slice_get parts handed ≡ Some p
     → first_of persists deletes (drop handed parts) cookie ≡ message_of deletes p
 first_part persists deletes parts handed p cookie at =
     ap (λ ps. first_of persists deletes ps cookie)
     (drop_more parts handed p (slice_get_within parts handed p at)
     ∙ ap (λ first. first ∷ drop (handed + 1) parts) (get_or_from_slice_get parts handed p p at))
 
-pub first_end : (persists deletes : Bool) (parts : List Part) (handed : ℕ) (cookie : Cookie) → length parts ≤ handed
+pub first_end : (persists deletes : Bool) (parts : List RefreshItem) (handed : ℕ) (cookie : CookieText) → length parts ≤ handed
     → first_of persists deletes (drop handed parts) cookie ≡ end_of persists deletes cookie
 first_end persists deletes parts handed cookie all = at_drop_all (λ ps. first_of persists deletes ps cookie) parts handed all
 
@@ -41,38 +42,42 @@ first_end persists deletes parts handed cookie all = at_drop_all (λ ps. first_o
 abbrev turn_now : SearchState → Turn
 turn_now s = turn_of_pending s.id (pending s)
 
-pub over_turn : (s : SearchState) → s.over ≡ true → turn_of_pending s.id (pending s) ≡ Closes (pos 51) (sent s.id (Done (pos 51) None))
+pub over_turn : (s : SearchState) → s.over ≡ true → turn_of_pending s.id (pending s) ≡ Closes (pos BUSY) (sent s.id (Done (pos BUSY) None))
 over_turn s on = ap (λ o. turn_of_pending s.id (cond o (busy_end ∷ []) (s.rest ++ s.due))) on
 
 turn_of_rest : (s : SearchState) (rest : List SyncMessage) → s.over ≡ false → s.rest ≡ rest → turn_now s ≡ turn_of_pending s.id (rest ++ s.due)
 turn_of_rest s rest off is = λ i. turn_of_pending s.id (cond (off i) (busy_end ∷ []) (is i ++ s.due))
 
-part_hands : (id : ℕ) (deletes : Bool) (p : Part) → turn_of_message id (message_of deletes p) ≡ Hands (sent id (message_of deletes p))
+part_hands : (id : ℕ) (deletes : Bool) (p : RefreshItem) → turn_of_message id (message_of deletes p) ≡ Hands (sent id (message_of deletes p))
 part_hands id deletes (part.Whole entry) = refl
 part_hands id deletes (part.Names uuids) = refl
 
-pub part_turn : (s : SearchState) (persists deletes : Bool) (parts : List Part) (cookie : Cookie) → s.over ≡ false → s.rest ≡ messages_of persists deletes parts cookie → is_nil parts ≡ false
+pub part_turn : (s : SearchState) (persists deletes : Bool) (parts : List RefreshItem) (cookie : CookieText) → s.over ≡ false → s.rest ≡ messages_of persists deletes parts cookie → is_nil parts ≡ false
     → turn_of_pending s.id (pending s) ≡ Hands (sent s.id (first_of persists deletes parts cookie))
 part_turn s persists deletes [] cookie off is some = absurd (true≢false some)
 part_turn s persists deletes (p ∷ parts) cookie off is some = turn_of_rest s (messages_of persists deletes (p ∷ parts) cookie) off is ∙ part_hands s.id deletes p
 
-pub part_state : (s : SearchState) (persists deletes : Bool) (parts : List Part) (cookie : Cookie) → s.rest ≡ messages_of persists deletes parts cookie → is_nil parts ≡ false
+pub part_state : (s : SearchState) (persists deletes : Bool) (parts : List RefreshItem) (cookie : CookieText) → s.rest ≡ messages_of persists deletes parts cookie → is_nil parts ≡ false
     → without_first s ≡ record s { rest = messages_of persists deletes (drop 1 parts) cookie }
 part_state s persists deletes [] cookie is some = absurd (true≢false some)
 part_state s persists deletes (p ∷ parts) cookie is some = ap (λ rest. advanced s rest s.due) is
 
-pub end_turn : (s : SearchState) (deletes : Bool) (parts : List Part) (cookie : Cookie) → s.over ≡ false → s.rest ≡ messages_of true deletes parts cookie → is_nil parts ≡ true
+pub end_hands : (id : ℕ) (deletes : Bool) (cookie : CookieText) → turn_of_message id (end_of true deletes cookie) ≡ Hands (sent id (end_of true deletes cookie))
+end_hands id true cookie = refl
+end_hands id false cookie = refl
+
+pub end_turn : (s : SearchState) (deletes : Bool) (parts : List RefreshItem) (cookie : CookieText) → s.over ≡ false → s.rest ≡ messages_of true deletes parts cookie → is_nil parts ≡ true
     → turn_of_pending s.id (pending s) ≡ Hands (sent s.id (first_of true deletes parts cookie))
-end_turn s deletes [] cookie off is none = turn_of_rest s (messages_of true deletes [] cookie) off is
+end_turn s deletes [] cookie off is none = turn_of_rest s (messages_of true deletes [] cookie) off is ∙ end_hands s.id deletes cookie
 end_turn s deletes (p ∷ parts) cookie off is none = absurd (false≢true none)
 
-pub end_state : (s : SearchState) (persists deletes : Bool) (parts : List Part) (cookie : Cookie) → s.rest ≡ messages_of persists deletes parts cookie → is_nil parts ≡ true
+pub end_state : (s : SearchState) (persists deletes : Bool) (parts : List RefreshItem) (cookie : CookieText) → s.rest ≡ messages_of persists deletes parts cookie → is_nil parts ≡ true
     → without_first s ≡ record s { rest = [] }
 end_state s persists deletes [] cookie is none = ap (λ rest. advanced s rest s.due) is
 end_state s persists deletes (p ∷ parts) cookie is none = absurd (false≢true none)
 
-pub last_turn : (s : SearchState) (deletes : Bool) (parts : List Part) (cookie : Cookie) → s.over ≡ false → s.rest ≡ messages_of false deletes parts cookie → is_nil parts ≡ true
-    → turn_of_pending s.id (pending s) ≡ Closes (pos 0) (sent s.id (first_of false deletes parts cookie))
+pub last_turn : (s : SearchState) (deletes : Bool) (parts : List RefreshItem) (cookie : CookieText) → s.over ≡ false → s.rest ≡ messages_of false deletes parts cookie → is_nil parts ≡ true
+    → turn_of_pending s.id (pending s) ≡ Closes (pos SUCCESS) (sent s.id (first_of false deletes parts cookie))
 last_turn s deletes [] cookie off is none = turn_of_rest s (messages_of false deletes [] cookie) off is
 last_turn s deletes (p ∷ parts) cookie off is none = absurd (false≢true none)
 
@@ -106,19 +111,20 @@ none_turn s off none first = turn_of_rest s [] off none ∙ by s.due refl
 -- ---- where a message is pending there is one to write
 
 message_there : (id : ℕ) (m : SyncMessage) → has_message (turn_of_message id m) ≡ true
-message_there id (Put adds entry cookie) = refl
-message_there id (Gone uuid name cookie) = refl
+message_there id (AddOrModify adds entry cookie) = refl
+message_there id (Delete uuid name cookie) = refl
 message_there id (Present uuid cookie) = refl
 message_there id (IdSet deletes uuids cookie) = refl
 message_there id (NewCookie cookie) = refl
-message_there id (PhaseEnds deletes done cookie) = refl
+message_there id (RefreshDelete done cookie) = refl
+message_there id (RefreshPresent done cookie) = refl
 message_there id (Done code control) = refl
-message_there id Passed = refl
+message_there id Ignored = refl
 
 pub over_has_message : (s : SearchState) → s.over ≡ true → has_message (turn_of_pending s.id (pending s)) ≡ true
 over_has_message s on = ap has_message (over_turn s on)
 
-pub rest_has_message : (s : SearchState) (persists deletes : Bool) (parts : List Part) (cookie : Cookie) → s.over ≡ false → s.rest ≡ messages_of persists deletes parts cookie
+pub rest_has_message : (s : SearchState) (persists deletes : Bool) (parts : List RefreshItem) (cookie : CookieText) → s.over ≡ false → s.rest ≡ messages_of persists deletes parts cookie
     → has_message (turn_of_pending s.id (pending s)) ≡ true
 rest_has_message s persists deletes [] cookie off is =
     ap has_message (turn_of_rest s (messages_of persists deletes [] cookie) off is) ∙ message_there s.id (end_of persists deletes cookie)

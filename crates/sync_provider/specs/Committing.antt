@@ -15,13 +15,14 @@ fault_of (cause.DuplicateName one other) = DuplicateName one other
 fault_of (cause.LimitReached limit) = LimitReached limit
 fault_of cause.NoMemory = NoMemory
 
--- what is against a commit of these entries and dropped identities: at a root that it is none, else what the directory has
--- against it
+-- what rejects a commit of these entries and dropped identities: at a root that it is none, else
+-- what the directory has against it
 abbrev pub commit_refusal : Kind → DirectoryState → List Entry → List ℕ → ℕ → Option CommitFault
 commit_refusal Root d puts drops now = Some NotAReplica
-commit_refusal Replica d puts drops now = option_map fault_of (directory.commit_refusal d puts drops now)
+commit_refusal Replica d puts drops now =
+    option_map fault_of (directory.commit_refusal d puts drops now)
 
--- a fault tells what is against a commit; want of memory tells nothing
+-- a fault reports what rejects a commit; out of memory reports nothing
 abbrev pub Opposes : Option CommitFault → CommitFault → Type 0
 Opposes refusal (DuplicateName one other) = refusal ≡ Some (DuplicateName one other)
 Opposes refusal (LimitReached limit) = refusal ≡ Some (LimitReached limit)

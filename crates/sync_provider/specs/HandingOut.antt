@@ -5,7 +5,7 @@ use Rattle.std.specs.Map.{lookup, remove_entry, set_value}
 use Rattle.std.specs.BTreeMap.{is_at}
 use Rattle.ldap_messages.specs.Whole.{Whole, whole_of}
 use Rattle.sync_model.specs.Message.{SyncMessage}
-use Rattle.sync_model.specs.Message.SyncMessage.{Put, Gone, Present, IdSet, NewCookie, PhaseEnds, Done, Passed}
+use Rattle.sync_model.specs.Message.SyncMessage.{AddOrModify, Delete, Present, IdSet, NewCookie, RefreshDelete, RefreshPresent, Done, Ignored}
 use Rattle.sync_wire.specs.Sending.{sent}
 use Rattle.sync_provider.specs.Search.{SearchState, pending, advanced}
 use Rattle.sync_provider.specs.declared.handed.Handed.{Handed}
@@ -23,14 +23,15 @@ pub data Turn : Type 0 where
   Unknown : Turn
 
 abbrev pub turn_of_message : ℕ → SyncMessage → Turn
-turn_of_message id (Put adds entry cookie) = Hands (sent id (Put adds entry cookie))
-turn_of_message id (Gone uuid name cookie) = Hands (sent id (Gone uuid name cookie))
+turn_of_message id (AddOrModify adds entry cookie) = Hands (sent id (AddOrModify adds entry cookie))
+turn_of_message id (Delete uuid name cookie) = Hands (sent id (Delete uuid name cookie))
 turn_of_message id (Present uuid cookie) = Hands (sent id (Present uuid cookie))
 turn_of_message id (IdSet deletes uuids cookie) = Hands (sent id (IdSet deletes uuids cookie))
 turn_of_message id (NewCookie cookie) = Hands (sent id (NewCookie cookie))
-turn_of_message id (PhaseEnds deletes done cookie) = Hands (sent id (PhaseEnds deletes done cookie))
+turn_of_message id (RefreshDelete done cookie) = Hands (sent id (RefreshDelete done cookie))
+turn_of_message id (RefreshPresent done cookie) = Hands (sent id (RefreshPresent done cookie))
 turn_of_message id (Done code control) = Closes code (sent id (Done code control))
-turn_of_message id Passed = Hands (sent id Passed)
+turn_of_message id Ignored = Hands (sent id Ignored)
 
 -- the message that is pending first is handed out
 abbrev pub turn_of_pending : ℕ → List SyncMessage → Turn
@@ -55,7 +56,7 @@ has_message (Closes code message) = true
 has_message Waits = false
 has_message Unknown = false
 
--- what a call answered; want of memory is no turn
+-- what a call answered; out of memory is no turn
 abbrev pub turn_of : Handed → Option Turn
 turn_of (handed.Message message) = Some (Hands (whole_of message))
 turn_of (handed.Ended code message) = Some (Closes (pos code) (whole_of message))

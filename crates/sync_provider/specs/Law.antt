@@ -1,5 +1,5 @@
--- What holds of a provider over every list of calls: its writes, what it knows of what they touched, and what its
--- searches hand out (RFC 4533, sections 3.3 and 3.4).
+-- What holds of a provider over every list of calls: its writes, what it knows of what they
+-- touched, and what its searches hand out (RFC 4533, sections 3.3 and 3.4).
 use Rattle.std.specs.Prelude.{◌≡◌, ◌≤◌, ◌⊎◌, ⊤, ℕ, ◌+◌, ◌-◌, Bool, true, false, cond, not, ◌&&◌, ◌||◌, nat_eq, nat_lt, List, [], ◌∷◌, ◌++◌, length, take, drop, Option, Some, None, Result, Ok, Err, All, filter_map}
 use Rattle.std.specs.List.{list_all}
 use Rattle.csn_cookie.specs.Csn.{start, upto}
@@ -15,13 +15,13 @@ use Rattle.session_log.specs.Log.{covers, since}
 use Rattle.sync_model.specs.Incremental.{number_of, sent_entry}
 use Rattle.sync_model.specs.Message.{SyncMessage}
 use Rattle.sync_model.specs.Law.{is_nil}
-use Rattle.sync_model.specs.Stream.{Session, among, later, stream}
+use Rattle.sync_model.specs.Stream.{SyncOperation, among, later, stream}
 use Rattle.sync_provider.specs.Accepting.{answer_to, start_of_ask, persists_of_ask}
 use Rattle.sync_provider.specs.Committing.{commit_refusal}
-use Rattle.directory_writes.specs.Directory.{DirectoryState, last_stamp, stamps, judged, with_write, AreAccepted}
+use Rattle.directory_writes.specs.Directory.{DirectoryState, last_csn, csns, judged, with_write, AreAccepted}
 use Rattle.sync_provider.specs.HandingOut.{search_at}
-use Rattle.sync_provider.specs.Machine.{ProviderState, Call, fresh, judged_by, accepted, called, run}
-use Rattle.sync_provider.specs.Machine.Call.{Writes, Commits, Accepts, HandsOut, Drops, SetsLogLimit, SetsQueueLimit}
+use Rattle.sync_provider.specs.Machine.{ProviderState, ProviderCall, fresh, judged_by, accepted, called, run}
+use Rattle.sync_provider.specs.Machine.ProviderCall.{Writes, Commits, Accepts, HandsOut, Drops, SetsLogLimit, SetsQueueLimit}
 use Rattle.sync_provider.specs.Queueing.{is_full, group_of}
 use Rattle.sync_provider.specs.Search.{SearchState, session_of, whole_walk, refresh_from, opening, busy_end, pending, is_end}
 use Rattle.directory_writes.specs.Touches.{last_touch}
@@ -33,7 +33,7 @@ use Rattle.sync_provider.specs.declared.writing.CommitFault.{CommitFault}
 -- ---- the writes
 
 -- a write that a client may ask for, a commit of entries that a directory may have, or another call
-abbrev pub is_sound_call : Call → Bool
+abbrev pub is_sound_call : ProviderCall → Bool
 is_sound_call (Writes op now) = is_sound_op op && not (is_commit op)
 is_sound_call (Commits puts drops now) = list_all is_sound_put puts && list_all is_light puts
 is_sound_call (Accepts ask) = true
@@ -45,17 +45,22 @@ is_sound_call (SetsQueueLimit limit) = true
 -- after every list of sound calls, each kept write was accepted on the entries before it
 abbrev pub WritesWereAccepted : Type 0
 WritesWereAccepted =
-    (suffix : List (List TypeAndValue)) (sid history : ℕ) (kind : Kind) (calls : List Call) → list_all is_sound_call calls ≡ true
+    (suffix : List (List TypeAndValue)) (sid history : ℕ) (kind : Kind) (calls : List ProviderCall)
+    → list_all is_sound_call calls ≡ true
     → AreAccepted suffix history (run (fresh suffix sid history kind) calls).directory.writes
 
--- so many stamps are not above that of the write of that number, or above the one before all where the number is 0
+-- n CSNs are not above that of the write of that number, or above the one before all
+-- where the number is 0
 abbrev pub NamesItsPrefix : ℕ → List Write → Type 0
-NamesItsPrefix sid writes = (number : ℕ) → number ≤ length writes → upto (stamps writes) (last_stamp (start sid) (take number writes)) ≡ number
+NamesItsPrefix sid writes =
+    (number : ℕ) → number ≤ length writes
+    → upto (csns writes) (last_csn (start sid) (take number writes)) ≡ number
 
--- after every list of calls, the stamp in the cookie of a content tells how many writes led to it
+-- after every list of calls, the CSN in the cookie of a content reports how many writes led to it
 abbrev pub CookiesNameTheirPrefix : Type 0
 CookiesNameTheirPrefix =
-    (suffix : List (List TypeAndValue)) (sid history : ℕ) (kind : Kind) (calls : List Call) → NamesItsPrefix sid (run (fresh suffix sid history kind) calls).directory.writes
+    (suffix : List (List TypeAndValue)) (sid history : ℕ) (kind : Kind) (calls : List ProviderCall)
+    → NamesItsPrefix sid (run (fresh suffix sid history kind) calls).directory.writes
 
 -- ---- what the writes touched
 
@@ -63,56 +68,69 @@ CookiesNameTheirPrefix =
 abbrev pub BeginsWith : DirectoryState → List Write → Type 0
 BeginsWith d writes = (more : List Write) × (d.writes ++ more ≡ writes)
 
--- above its floor the log tells exactly the identities that the writes since a number touched, ascending and each
--- once; and it covers the number of all writes
-abbrev pub LogTells : DirectoryState → Type 0
-LogTells d =
-    ((writes : List Write) → BeginsWith d writes → (number : ℕ) → covers number d.log ≡ true → number ≤ length d.writes
+-- above its floor the log reports exactly the identities that the writes since a number touched,
+-- ascending and each once; and it covers the number of all writes
+abbrev pub LogShows : DirectoryState → Type 0
+LogShows d =
+    ((writes : List Write) → BeginsWith d writes → (number : ℕ) → covers number d.log ≡ true
+    → number ≤ length d.writes
     → since number d.log ≡ touched_over d.history writes number (length d.writes))
     × (covers (length d.writes) d.log ≡ true)
 
 -- after every list of calls
-abbrev pub LogsTellWhatWasTouched : Type 0
-LogsTellWhatWasTouched = (suffix : List (List TypeAndValue)) (sid history : ℕ) (kind : Kind) (calls : List Call) → LogTells (run (fresh suffix sid history kind) calls).directory
+abbrev pub LogsShowWhatWasTouched : Type 0
+LogsShowWhatWasTouched =
+    (suffix : List (List TypeAndValue)) (sid history : ℕ) (kind : Kind) (calls : List ProviderCall)
+    → LogShows (run (fresh suffix sid history kind) calls).directory
 
--- the number of an identity's last touch is above a number exactly where the writes since then touched it
-abbrev pub NumberTells : DirectoryState → Type 0
-NumberTells d =
+-- the number of an identity's last touch is above a number exactly where the writes
+-- since then touched it
+abbrev pub NumberShows : DirectoryState → Type 0
+NumberShows d =
     (writes : List Write) → BeginsWith d writes → (number uuid : ℕ) → number ≤ length d.writes
     → nat_lt number (last_touch (state_of d.history d.writes) (length d.writes) uuid)
     ≡ among uuid (touched_over d.history writes number (length d.writes))
 
 -- after every list of calls
-abbrev pub NumbersTellWhatWasTouched : Type 0
-NumbersTellWhatWasTouched = (suffix : List (List TypeAndValue)) (sid history : ℕ) (kind : Kind) (calls : List Call) → NumberTells (run (fresh suffix sid history kind) calls).directory
+abbrev pub NumbersShowWhatWasTouched : Type 0
+NumbersShowWhatWasTouched =
+    (suffix : List (List TypeAndValue)) (sid history : ℕ) (kind : Kind) (calls : List ProviderCall)
+    → NumberShows (run (fresh suffix sid history kind) calls).directory
 
 -- ---- the Stream of a search
 
--- a search as it was opened on a directory with this number and this history, over writes that begin with those then
-abbrev pub session_at : DirectoryState → SearchState → List Write → Session
+-- a search as it was opened on a directory with this number and this history, over writes that
+-- begin with those then
+abbrev pub session_at : DirectoryState → SearchState → List Write → SyncOperation
 session_at d s writes = session_of s.persists d.sid d.history s.spec writes
 
 -- its refresh
 abbrev pub refresh_of : DirectoryState → SearchState → List Write → List SyncMessage
 refresh_of d s writes = refresh_from (session_at d s writes) s.start s.accepted
 
--- what the writes after its acceptance send to it, up to so many writes
+-- what the writes after its acceptance send to it, up to n writes
 abbrev pub later_of : DirectoryState → SearchState → (count : ℕ) → List Write → List SyncMessage
-later_of d s count writes = cond s.persists (later (session_at d s writes) s.accepted (count - s.accepted)) []
+later_of d s count writes =
+    cond s.persists (later (session_at d s writes) s.accepted (count - s.accepted)) []
 
--- all its messages, up to so many writes
+-- all its messages, up to n writes
 abbrev pub stream_of : DirectoryState → SearchState → (count : ℕ) → List Write → List SyncMessage
 stream_of d s count writes =
-    stream (session_at d s writes) s.start s.accepted (whole_walk (session_at d s writes) s.start s.accepted) (count - s.accepted)
+    stream (session_at d s writes) s.start s.accepted
+    (whole_walk (session_at d s writes) s.start s.accepted) (count - s.accepted)
 
 -- ---- what holds of each open search
 
--- these messages of its refresh, and these of what the writes up to now send, were handed out, and the rest is pending,
--- over each history that begins with these writes; and nothing later was handed out before all of the refresh
-pub record IsAtItsPlace (d : DirectoryState) (s : SearchState) (handed handed_later : List SyncMessage) : Type 0 where
+-- these messages of its refresh, and these of what the writes up to now send, were handed out, and
+-- the rest is pending, over each history that begins with these writes; and nothing later was
+-- handed out before all of the refresh
+pub record IsAtItsPlace
+    (d : DirectoryState) (s : SearchState) (handed handed_later : List SyncMessage) : Type 0 where
   pub within : s.accepted ≤ length d.writes
   pub rest : (writes : List Write) → BeginsWith d writes → handed ++ s.rest ≡ refresh_of d s writes
-  pub due : (writes : List Write) → BeginsWith d writes → handed_later ++ s.due ≡ later_of d s (length d.writes) writes
+  pub due :
+      (writes : List Write) → BeginsWith d writes
+      → handed_later ++ s.due ≡ later_of d s (length d.writes) writes
   pub ordered : (s.rest ≡ []) ⊎ (handed_later ≡ [])
 
 pub record IsPlaced (d : DirectoryState) (s : SearchState) : Type 0 where
@@ -131,13 +149,15 @@ EachSearch P (search ∷ searches) = P search.1 × EachSearch P searches
 -- after every list of calls, each open search is at its place in its Stream
 abbrev pub SearchesKeepTheirPlace : Type 0
 SearchesKeepTheirPlace =
-    (suffix : List (List TypeAndValue)) (sid history : ℕ) (kind : Kind) (calls : List Call)
-    → EachSearch (KeepsItsPlace (run (fresh suffix sid history kind) calls).directory) (run (fresh suffix sid history kind) calls).searches
+    (suffix : List (List TypeAndValue)) (sid history : ℕ) (kind : Kind) (calls : List ProviderCall)
+    → EachSearch (KeepsItsPlace (run (fresh suffix sid history kind) calls).directory)
+    (run (fresh suffix sid history kind) calls).searches
 
 -- ---- what one search hands out over the calls after its acceptance
 
--- what was handed out up to a moment; and then, what is pending, whether a write was too much, and the number of writes
-pub record Told : Type 0 where
+-- what was handed out up to a moment; and then, what is pending, whether a write was too much, and
+-- the number of writes
+pub record Delivery : Type 0 where
   pub handed : List SyncMessage
   pub pending : List SyncMessage
   pub over : Bool
@@ -155,62 +175,83 @@ over_of None = false
 over_of (Some s) = s.over
 
 -- nothing was handed out, and so much is pending
-abbrev pub told_now : ProviderState → ℕ → (handed pending : List SyncMessage) → Told
-told_now p number handed pending =
-    record { handed = handed; pending = pending; over = over_of (search_at p.searches number); writes = length p.directory.writes }
+abbrev pub delivered_now : ProviderState → ℕ → (handed pending : List SyncMessage) → Delivery
+delivered_now p number handed pending =
+    record {
+      handed = handed;
+      pending = pending;
+      over = over_of (search_at p.searches number);
+      writes = length p.directory.writes;
+    }
 
 -- the first message is handed out, then what follows; after an end nothing follows
-abbrev pub first_told : ProviderState → ℕ → List SyncMessage → Told → Told
-first_told p number [] later = later
-first_told p number (message ∷ rest) later =
-    cond (is_end message) (told_now p number (message ∷ []) rest) (record later { handed = message ∷ later.handed })
+abbrev pub first_delivered : ProviderState → ℕ → List SyncMessage → Delivery → Delivery
+first_delivered p number [] later = later
+first_delivered p number (message ∷ rest) later =
+    cond (is_end message) (delivered_now p number (message ∷ []) rest)
+    (record later { handed = message ∷ later.handed })
 
--- what the search with this number tells over these calls, up to its end or to where it is dropped
-abbrev pub told : ℕ → ProviderState → List Call → Told
-told number p [] = told_now p number [] (pending_at p number)
-told number p (Writes op now ∷ calls) = told number (called p (Writes op now)) calls
-told number p (Commits puts drops now ∷ calls) = told number (called p (Commits puts drops now)) calls
-told number p (Accepts ask ∷ calls) = told number (called p (Accepts ask)) calls
-told number p (SetsLogLimit limit ∷ calls) = told number (called p (SetsLogLimit limit)) calls
-told number p (SetsQueueLimit limit ∷ calls) = told number (called p (SetsQueueLimit limit)) calls
-told number p (HandsOut other ∷ calls) =
-    cond (nat_eq other number) (first_told p number (pending_at p number) (told number (called p (HandsOut other)) calls))
-    (told number (called p (HandsOut other)) calls)
-told number p (Drops other ∷ calls) =
-    cond (nat_eq other number) (told_now p number [] (pending_at p number)) (told number (called p (Drops other)) calls)
+-- what the search with this number reports over these calls, up to its end or
+-- to where it is dropped
+abbrev pub delivered : ℕ → ProviderState → List ProviderCall → Delivery
+delivered number p [] = delivered_now p number [] (pending_at p number)
+delivered number p (Writes op now ∷ calls) = delivered number (called p (Writes op now)) calls
+delivered number p (Commits puts drops now ∷ calls) =
+    delivered number (called p (Commits puts drops now)) calls
+delivered number p (Accepts ask ∷ calls) = delivered number (called p (Accepts ask)) calls
+delivered number p (SetsLogLimit limit ∷ calls) =
+    delivered number (called p (SetsLogLimit limit)) calls
+delivered number p (SetsQueueLimit limit ∷ calls) =
+    delivered number (called p (SetsQueueLimit limit)) calls
+delivered number p (HandsOut other ∷ calls) =
+    cond (nat_eq other number)
+    (first_delivered p number (pending_at p number)
+    (delivered number (called p (HandsOut other)) calls))
+    (delivered number (called p (HandsOut other)) calls)
+delivered number p (Drops other ∷ calls) =
+    cond (nat_eq other number) (delivered_now p number [] (pending_at p number))
+    (delivered number (called p (Drops other)) calls)
 
--- all that a search tells, up to its end or to where it is dropped or looked at
-abbrev pub all_told : Told → List SyncMessage
-all_told t = t.handed ++ t.pending
+-- all that a search reports, up to its end or to where it is dropped or looked at
+abbrev pub all_delivered : Delivery → List SyncMessage
+all_delivered t = t.handed ++ t.pending
 
--- a front of these messages, and then the end with the code busy
+-- a prefix of these messages, and then the end with the code busy
 pub record IsCutShort (messages stream : List SyncMessage) : Type 0 where
-  pub front : List SyncMessage
+  pub prefix : List SyncMessage
   pub left : List SyncMessage
-  pub split : front ++ left ≡ stream
-  pub is : messages ≡ front ++ busy_end ∷ []
+  pub split : prefix ++ left ≡ stream
+  pub is : messages ≡ prefix ++ busy_end ∷ []
 
 -- all of its Stream up to those writes, unless a write was too much
-abbrev pub Tells : (over : Bool) → (messages stream : List SyncMessage) → Type 0
-Tells false messages stream = messages ≡ stream
-Tells true messages stream = IsCutShort messages stream
+abbrev pub Delivers : (over : Bool) → (messages stream : List SyncMessage) → Type 0
+Delivers false messages stream = messages ≡ stream
+Delivers true messages stream = IsCutShort messages stream
 
 -- the search that is opened where this is asked for
 abbrev pub asked : ProviderState → SyncSearch → SearchState
-asked p ask = opening p.directory ask.id (search_of ask.spec) (start_of_ask p.directory ask) (persists_of_ask ask)
+asked p ask =
+    opening p.directory ask.id (search_of ask.spec) (start_of_ask p.directory ask)
+    (persists_of_ask ask)
 
--- what a search that is accepted here hands out, followed by what is pending, is its Stream, or is cut short
-abbrev pub TellsItsStream : ProviderState → SyncSearch → ℕ → List Call → Type 0
-TellsItsStream p ask number calls =
+-- what a search that is accepted here hands out, followed by what is pending, is its
+-- Stream, or is cut short
+abbrev pub DeliversItsStream : ProviderState → SyncSearch → ℕ → List ProviderCall → Type 0
+DeliversItsStream p ask number calls =
     (writes : List Write) → BeginsWith (run (accepted p ask) calls).directory writes
-    → Tells (told number (accepted p ask) calls).over (all_told (told number (accepted p ask) calls))
-    (stream_of p.directory (asked p ask) (told number (accepted p ask) calls).writes writes)
+    → Delivers (delivered number (accepted p ask) calls).over
+    (all_delivered (delivered number (accepted p ask) calls))
+    (stream_of p.directory (asked p ask) (delivered number (accepted p ask) calls).writes writes)
 
-abbrev pub SearchesTellTheirStreams : Type 0
-SearchesTellTheirStreams =
-    (suffix : List (List TypeAndValue)) (sid history : ℕ) (kind : Kind) (before after : List Call) (ask : SyncSearch) (number count : ℕ)
-    → answer_to (run (fresh suffix sid history kind) before).directory (run (fresh suffix sid history kind) before).searches ask ≡ Opened number count
-    → TellsItsStream (run (fresh suffix sid history kind) before) ask number after
+abbrev pub SearchesDeliverTheirStreams : Type 0
+SearchesDeliverTheirStreams =
+    (suffix : List (List TypeAndValue)) (sid history : ℕ) (kind : Kind)
+    (before after : List ProviderCall)
+    (ask : SyncSearch) (number count : ℕ)
+    → answer_to (run (fresh suffix sid history kind) before).directory
+    (run (fresh suffix sid history kind) before).searches ask
+    ≡ Opened number count
+    → DeliversItsStream (run (fresh suffix sid history kind) before) ask number after
 
 -- ---- when a write is too much, by the writes and a count of what was handed out
 
@@ -221,18 +262,22 @@ pub record Tally : Type 0 where
 
 -- the messages of later writes that are not handed out: those of the refresh are handed out first
 abbrev pub items_of : DirectoryState → SearchState → (handed : ℕ) → List SyncMessage
-items_of d s handed = drop (handed - length (refresh_of d s d.writes)) (later_of d s (length d.writes) d.writes)
+items_of d s handed =
+    drop (handed - length (refresh_of d s d.writes)) (later_of d s (length d.writes) d.writes)
 
 -- a write that sends something, after which the items are more, or heavier, than they may be
 abbrev pub is_too_much : ℕ → DirectoryState → SearchState → Write → (handed : ℕ) → Bool
-is_too_much limit d s write handed = not (is_nil (group_of d s write)) && is_full limit (items_of (with_write d write) s handed)
+is_too_much limit d s write handed =
+    not (is_nil (group_of d s write)) && is_full limit (items_of (with_write d write) s handed)
 
 abbrev pub after_write : ProviderState → SearchState → Result Write ℕ → Tally → Tally
 after_write p s (Err code) t = t
 after_write p s (Ok write) t =
-    record t { over = t.over || (s.persists && is_too_much p.queue_limit p.directory s write t.handed) }
+    record t {
+      over = t.over || (s.persists && is_too_much p.queue_limit p.directory s write t.handed);
+    }
 
--- a commit is a write where nothing is against it
+-- a commit is a write where nothing rejects it
 abbrev pub after_commit : ProviderState → SearchState → Op → ℕ → Option CommitFault → Tally → Tally
 after_commit p s op now None t = after_write p s (judged p.directory op now) t
 after_commit p s op now (Some fault) t = t
@@ -240,55 +285,76 @@ after_commit p s op now (Some fault) t = t
 -- one message more, where one is left
 abbrev pub after_hand_out : ProviderState → SearchState → Tally → Tally
 after_hand_out p s t =
-    cond (not t.over && nat_lt t.handed (length (stream_of p.directory s (length p.directory.writes) p.directory.writes)))
+    cond
+    (not t.over
+    && nat_lt t.handed
+    (length (stream_of p.directory s (length p.directory.writes) p.directory.writes)))
     (record t { handed = t.handed + 1 }) t
 
--- whether over these calls a write is too much for the search with this number, before it is dropped. Of the provider
--- this looks at the writes and the queue limit alone
-abbrev pub is_over_after : ℕ → SearchState → ProviderState → Tally → List Call → Bool
+-- whether over these calls a write is too much for the search with this number, before it is
+-- dropped. Of the provider this looks at the writes and the queue limit alone
+abbrev pub is_over_after : ℕ → SearchState → ProviderState → Tally → List ProviderCall → Bool
 is_over_after number s p t [] = t.over
 is_over_after number s p t (Writes op now ∷ calls) =
-    is_over_after number s (called p (Writes op now)) (after_write p s (judged_by p.kind p.directory op now) t) calls
+    is_over_after number s (called p (Writes op now))
+    (after_write p s (judged_by p.kind p.directory op now) t) calls
 is_over_after number s p t (Commits puts drops now ∷ calls) =
     is_over_after number s (called p (Commits puts drops now))
-    (after_commit p s (Commit puts drops) now (commit_refusal p.kind p.directory puts drops now) t) calls
-is_over_after number s p t (Accepts ask ∷ calls) = is_over_after number s (called p (Accepts ask)) t calls
-is_over_after number s p t (SetsLogLimit limit ∷ calls) = is_over_after number s (called p (SetsLogLimit limit)) t calls
-is_over_after number s p t (SetsQueueLimit limit ∷ calls) = is_over_after number s (called p (SetsQueueLimit limit)) t calls
+    (after_commit p s (Commit puts drops) now (commit_refusal p.kind p.directory puts drops now) t)
+    calls
+is_over_after number s p t (Accepts ask ∷ calls) =
+    is_over_after number s (called p (Accepts ask)) t calls
+is_over_after number s p t (SetsLogLimit limit ∷ calls) =
+    is_over_after number s (called p (SetsLogLimit limit)) t calls
+is_over_after number s p t (SetsQueueLimit limit ∷ calls) =
+    is_over_after number s (called p (SetsQueueLimit limit)) t calls
 is_over_after number s p t (HandsOut other ∷ calls) =
-    is_over_after number s (called p (HandsOut other)) (cond (nat_eq other number) (after_hand_out p s t) t) calls
+    is_over_after number s (called p (HandsOut other))
+    (cond (nat_eq other number) (after_hand_out p s t) t) calls
 is_over_after number s p t (Drops other ∷ calls) =
     cond (nat_eq other number) t.over (is_over_after number s (called p (Drops other)) t calls)
 
--- over every list of calls, a search ends with the code busy exactly where a write is too much for it
+-- over every list of calls, a search ends with the code busy exactly where a
+-- write is too much for it
 abbrev pub QueuesOverflowExactly : Type 0
 QueuesOverflowExactly =
-    (suffix : List (List TypeAndValue)) (sid history : ℕ) (kind : Kind) (before after : List Call) (ask : SyncSearch) (number count : ℕ)
-    → answer_to (run (fresh suffix sid history kind) before).directory (run (fresh suffix sid history kind) before).searches ask ≡ Opened number count
-    → (told number (accepted (run (fresh suffix sid history kind) before) ask) after).over
-    ≡ is_over_after number (asked (run (fresh suffix sid history kind) before) ask) (accepted (run (fresh suffix sid history kind) before) ask)
+    (suffix : List (List TypeAndValue)) (sid history : ℕ) (kind : Kind)
+    (before after : List ProviderCall)
+    (ask : SyncSearch) (number count : ℕ)
+    → answer_to (run (fresh suffix sid history kind) before).directory
+    (run (fresh suffix sid history kind) before).searches ask
+    ≡ Opened number count
+    → (delivered number (accepted (run (fresh suffix sid history kind) before) ask) after).over
+    ≡ is_over_after number (asked (run (fresh suffix sid history kind) before) ask)
+    (accepted (run (fresh suffix sid history kind) before) ask)
     (record { handed = 0; over = false }) after
 
 -- ---- what is sent from a cookie
 
--- what a search tells of its refresh: as many messages as that has, or all that it tells
-abbrev pub refresh_told : ProviderState → SyncSearch → ℕ → List Call → List Write → List SyncMessage
-refresh_told p ask number calls writes =
-    take (length (refresh_of p.directory (asked p ask) writes)) (all_told (told number (accepted p ask) calls))
+-- what a search reports of its refresh: as many messages as that has, or all that it reports
+abbrev pub refresh_delivered :
+    ProviderState → SyncSearch → ℕ → List ProviderCall → List Write → List SyncMessage
+refresh_delivered p ask number calls writes =
+    take (length (refresh_of p.directory (asked p ask) writes))
+    (all_delivered (delivered number (accepted p ask) calls))
 
--- from a servable cookie a refresh sends an entry whole only where the writes after those of the cookie, up to the
--- number of the search's acceptance, touched its identity
-abbrev pub SendsWhatWasTouched : ProviderState → SyncSearch → ℕ → ℕ → List Call → Type 0
+-- from a servable cookie a refresh sends an entry whole only where the writes after those of the
+-- cookie, up to the number of the search's acceptance, touched its identity
+abbrev pub SendsWhatWasTouched : ProviderState → SyncSearch → ℕ → ℕ → List ProviderCall → Type 0
 SendsWhatWasTouched p ask number count calls =
     (writes : List Write) → BeginsWith (run (accepted p ask) calls).directory writes
     → (prefix : ℕ) → number_of (start_of_ask p.directory ask) ≡ Some prefix
     → All (λ entry. among entry.uuid (touched_over p.directory.history writes prefix count) ≡ true)
-    (filter_map sent_entry (refresh_told p ask number calls writes))
+    (filter_map sent_entry (refresh_delivered p ask number calls writes))
 
--- after every list of calls, and whatever is called later; the refresh ends with the cookie of the number of the
--- acceptance
+-- after every list of calls, and whatever is called later; the refresh ends with the cookie of the
+-- number of the acceptance
 abbrev pub RefreshesAreIncremental : Type 0
 RefreshesAreIncremental =
-    (suffix : List (List TypeAndValue)) (sid history : ℕ) (kind : Kind) (before after : List Call) (ask : SyncSearch) (number count : ℕ)
-    → answer_to (run (fresh suffix sid history kind) before).directory (run (fresh suffix sid history kind) before).searches ask ≡ Opened number count
+    (suffix : List (List TypeAndValue)) (sid history : ℕ) (kind : Kind)
+    (before after : List ProviderCall)
+    (ask : SyncSearch) (number count : ℕ)
+    → answer_to (run (fresh suffix sid history kind) before).directory
+    (run (fresh suffix sid history kind) before).searches ask
+    ≡ Opened number count
     → SendsWhatWasTouched (run (fresh suffix sid history kind) before) ask number count after

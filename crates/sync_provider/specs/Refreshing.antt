@@ -11,9 +11,9 @@ use Rattle.refresh_present.specs.declared.decision.Decision as decision
 use Rattle.refresh_present.specs.declared.decision.Decision.TheVariants.{Send, Present, Delete}
 use Rattle.refresh_present.specs.Present as presents
 use Rattle.refresh_delete.specs.Delete as deletes
-use Rattle.sync_model.specs.Stream.{Start, Decision}
-use Rattle.sync_model.specs.Stream.Decision.{Sends, Names}
-use Rattle.sync_model.specs.Stream.Start.{Blank, Covered, Uncovered}
+use Rattle.sync_model.specs.Stream.{Start, WalkDecision}
+use Rattle.sync_model.specs.Stream.WalkDecision.{Sends, Names}
+use Rattle.sync_model.specs.Stream.Start.{InitialContent, DeletePhase, PresentPhase}
 use Rattle.directory_writes.specs.Directory.{DirectoryState, entries_of}
 use Rattle.directory_writes.specs.Touches.{last_touch}
 
@@ -22,35 +22,39 @@ all_identities d = identities (entries_of d)
 
 -- the identities that a refresh goes through
 abbrev pub walked : DirectoryState → Start → List ℕ
-walked d Blank = all_identities d
-walked d (Covered number) = touched_over d.history d.writes number (length d.writes)
-walked d (Uncovered number) = all_identities d
+walked d InitialContent = all_identities d
+walked d (DeletePhase number) = touched_over d.history d.writes number (length d.writes)
+walked d (PresentPhase number) = all_identities d
 
--- what is known of an identity: the number of its last touch, or of the last write where it has no entry any more, and
--- whether its entry is selected
+-- what is known of an identity: the number of its last touch, or of the last write where it has no
+-- entry any more, and whether its entry is selected
 abbrev pub item_of : DirectoryState → Search → ℕ → Option Entry → Item
 item_of d search uuid None = record { uuid = uuid; touched = length d.writes; selected = false }
 item_of d search uuid (Some entry) =
-    record { uuid = uuid; touched = last_touch (state_of d.history d.writes) (length d.writes) uuid; selected = is_selected search entry }
+    record {
+      uuid = uuid;
+      touched = last_touch (state_of d.history d.writes) (length d.writes) uuid;
+      selected = is_selected search entry;
+    }
 
 abbrev pub item_at : DirectoryState → Search → ℕ → Item
 item_at d search uuid = item_of d search uuid (entry_at (entries_of d) uuid)
 
 -- the decisions of the phase
 abbrev pub planned : Start → List Item → List decision.Decision
-planned Blank items = presents.planned None items
-planned (Covered number) items = deletes.planned number items
-planned (Uncovered number) items = presents.planned (Some number) items
+planned InitialContent items = presents.planned None items
+planned (DeletePhase number) items = deletes.planned number items
+planned (PresentPhase number) items = presents.planned (Some number) items
 
 -- what a decision says: the entry of its identity, where there is one, or its name
-abbrev pub sends : Option Entry → List Decision
+abbrev pub sends : Option Entry → List WalkDecision
 sends None = []
 sends (Some entry) = Sends entry ∷ []
 
-abbrev pub said : List Entry → decision.Decision → List Decision
+abbrev pub said : List Entry → decision.Decision → List WalkDecision
 said entries (Send uuid) = sends (entry_at entries uuid)
 said entries (Present uuid) = Names uuid ∷ []
 said entries (Delete uuid) = Names uuid ∷ []
 
-abbrev pub said_all : List Entry → List decision.Decision → List Decision
+abbrev pub said_all : List Entry → List decision.Decision → List WalkDecision
 said_all entries decisions = flat_map (said entries) decisions

@@ -3,40 +3,42 @@ use Rattle.std.specs.Prelude.{◌≡◌, ⊤, ℕ, List, [], ◌∷◌, ◌++◌
 use Rattle.std.specs.List.{slice_get}
 use Rattle.csn_cookie.specs.declared.cookie.Cookie.{Cookie}
 use Rattle.dn_names.specs.Names.{TypeAndValue}
-use Rattle.directory_writes.specs.Directory.{DirectoryState, cookie_at, stamp_of}
-use Rattle.sync_provider.specs.Machine.{ProviderState, Call, called, run}
-use Rattle.sync_provider.specs.Machine.Call.{Writes, Commits, Accepts, HandsOut, Drops, SetsLogLimit, SetsQueueLimit}
+use Rattle.directory_writes.specs.Directory.{DirectoryState, cookie_at, last_csn_of}
+use Rattle.sync_provider.specs.Machine.{ProviderState, ProviderCall, called, run}
+use Rattle.sync_provider.specs.Machine.ProviderCall.{Writes, Commits, Accepts, HandsOut, Drops, SetsLogLimit, SetsQueueLimit}
 use Rattle.sync_provider.specs.Search.{SearchState}
 
 -- ---- a moment
 
--- the open searches of a moment, with the suffix, the number of writes and the cookie of the content then
-pub record SearchesMoment : Type 0 where
+-- the open searches of a moment, with the suffix, the number of writes and the
+-- cookie of the content then
+pub record SearchesSnapshot : Type 0 where
   pub suffix : List (List TypeAndValue)
   pub writes : ℕ
   pub cookie : Cookie
   pub searches : List (ℕ × SearchState)
 
--- the suffix, the number of writes and the cookie of a moment are those of now: where no two directories have one number and
--- one history, it is a moment of this one, since which no write came
-pub record HasNoWriteSince (d : DirectoryState) (moment : SearchesMoment) : Type 0 where
-  pub suffix : moment.suffix ≡ d.suffix
-  pub counted : moment.writes ≡ length d.writes
-  pub same : moment.cookie ≡ cookie_at d.sid d.history (stamp_of d)
+-- the suffix, the number of writes and the cookie of a moment are those of now: where
+-- no two directories have one number and one history, it is a moment of this one,
+-- since which no write came
+pub record HasNoWriteSince (d : DirectoryState) (snapshot : SearchesSnapshot) : Type 0 where
+  pub suffix : snapshot.suffix ≡ d.suffix
+  pub counted : snapshot.writes ≡ length d.writes
+  pub same : snapshot.cookie ≡ cookie_at d.sid d.history (last_csn_of d)
 
-abbrev pub moment_of : ProviderState → SearchesMoment
-moment_of p = record {
+abbrev pub snapshot_of : ProviderState → SearchesSnapshot
+snapshot_of p = record {
   suffix = p.directory.suffix;
   writes = length p.directory.writes;
-  cookie = cookie_at p.directory.sid p.directory.history (stamp_of p.directory);
+  cookie = cookie_at p.directory.sid p.directory.history (last_csn_of p.directory);
   searches = p.searches;
 }
 
 -- ---- calls with returns
 
--- a call, or a return to the searches of the moment so many steps ago
+-- a call, or a return to the searches of the moment n steps ago
 pub data Step : Type 0 where
-  Calls : (call : Call) → Step
+  Calls : (call : ProviderCall) → Step
   Returns : (ago : ℕ) → Step
 
 -- the provider with the searches of a moment
@@ -46,8 +48,8 @@ returned p (Some before) = record p { searches = before.searches }
 
 -- the provider after a step, by itself at each moment so far, the last of which comes first
 abbrev pub stepped : List ProviderState → ProviderState → Step → ProviderState
-stepped moments p (Calls call) = called p call
-stepped moments p (Returns ago) = returned p (slice_get moments ago)
+stepped snapshots p (Calls call) = called p call
+stepped snapshots p (Returns ago) = returned p (slice_get snapshots ago)
 
 -- the provider after steps, by itself at the moments before
 abbrev pub stepped_all : List ProviderState → ProviderState → List Step → ProviderState
@@ -57,21 +59,22 @@ stepped_all before p (step ∷ steps) = stepped_all (p ∷ before) (stepped (p �
 -- there is such a moment, and no write came since
 abbrev pub IsOpenTo : ProviderState → Option ProviderState → Type 0
 IsOpenTo p None = ⊥
-IsOpenTo p (Some before) = HasNoWriteSince p.directory (moment_of before)
+IsOpenTo p (Some before) = HasNoWriteSince p.directory (snapshot_of before)
 
 abbrev pub MayStep : List ProviderState → ProviderState → Step → Type 0
-MayStep moments p (Calls call) = ⊤
-MayStep moments p (Returns ago) = IsOpenTo p (slice_get moments ago)
+MayStep snapshots p (Calls call) = ⊤
+MayStep snapshots p (Returns ago) = IsOpenTo p (slice_get snapshots ago)
 
 -- each return is to a moment since which no write came
 abbrev pub MayStepAll : List ProviderState → ProviderState → List Step → Type 0
 MayStepAll before p [] = ⊤
-MayStepAll before p (step ∷ steps) = MayStep (p ∷ before) p step × MayStepAll (p ∷ before) (stepped (p ∷ before) p step) steps
+MayStepAll before p (step ∷ steps) =
+    MayStep (p ∷ before) p step × MayStepAll (p ∷ before) (stepped (p ∷ before) p step) steps
 
 -- ---- the calls that count
 
 -- the change of a limit, which no return takes back
-abbrev pub limits_of : Call → List Call
+abbrev pub limits_of : ProviderCall → List ProviderCall
 limits_of (Writes op now) = []
 limits_of (Commits puts drops now) = []
 limits_of (Accepts ask) = []
@@ -80,26 +83,31 @@ limits_of (Drops number) = []
 limits_of (SetsLogLimit limit) = SetsLogLimit limit ∷ []
 limits_of (SetsQueueLimit limit) = SetsQueueLimit limit ∷ []
 
-abbrev pub limits_of_step : Step → List Call
+abbrev pub limits_of_step : Step → List ProviderCall
 limits_of_step (Calls call) = limits_of call
 limits_of_step (Returns ago) = []
 
-abbrev pub calls_at : Option (List Call) → List Call
+abbrev pub calls_at : Option (List ProviderCall) → List ProviderCall
 calls_at None = []
 calls_at (Some calls) = calls
 
--- the calls that count after a step, by those that would count after a return to each moment so far, the last of which comes
--- first
-abbrev pub counted : List (List Call) → List Call → Step → List Call
-counted moments calls (Calls call) = calls ++ call ∷ []
-counted moments calls (Returns ago) = calls_at (slice_get moments ago)
+-- the calls that count after a step, by those that would count after a return to each moment so
+-- far, the last of which comes first
+abbrev pub counted : List (List ProviderCall) → List ProviderCall → Step → List ProviderCall
+counted snapshots calls (Calls call) = calls ++ call ∷ []
+counted snapshots calls (Returns ago) = calls_at (slice_get snapshots ago)
 
--- the calls that count after steps: a return to a moment leaves those that counted then, and each change of a limit since
-abbrev pub counted_all : List (List Call) → List Call → List Step → List Call
+-- the calls that count after steps: a return to a moment leaves those that counted then, and each
+-- change of a limit since
+abbrev pub counted_all :
+    List (List ProviderCall) → List ProviderCall → List Step → List ProviderCall
 counted_all before calls [] = calls
 counted_all before calls (step ∷ steps) =
-    counted_all (map (λ kept. kept ++ limits_of_step step) (calls ∷ before)) (counted (calls ∷ before) calls step) steps
+    counted_all (map (λ kept. kept ++ limits_of_step step) (calls ∷ before))
+    (counted (calls ∷ before) calls step) steps
 
 -- over every list of calls with returns, the provider is as after the calls that count alone
 abbrev pub ReturnsCountAsNone : Type 0
-ReturnsCountAsNone = (p : ProviderState) (steps : List Step) → MayStepAll [] p steps → stepped_all [] p steps ≡ run p (counted_all [] [] steps)
+ReturnsCountAsNone =
+    (p : ProviderState) (steps : List Step) → MayStepAll [] p steps
+    → stepped_all [] p steps ≡ run p (counted_all [] [] steps)

@@ -1,42 +1,52 @@
 -- A search that is open (RFC 4533, sections 3.3 and 3.4).
 use Rattle.std.specs.Prelude.{ℕ, ◌<◌, ◌≤◌, pos, Bool, true, false, cond, List, [], ◌∷◌, ◌++◌, length, map, take, Option, Some, None}
+use Rattle.ldap_constants.specs.declared.result_codes.TheConstants.{BUSY}
 use Rattle.csn_cookie.specs.Csn.{start}
 use Rattle.csn_cookie.specs.Cookie.{cookie_text}
 use Rattle.csn_cookie.specs.declared.cookie.Cookie as cookies
 use Rattle.entry_tree.specs.declared.op.Write.{Write}
 use Rattle.entry_tree.specs.History.{state_of}
 use Rattle.entry_tree.specs.Selection.{Search}
-use Rattle.sync_model.specs.Message.{Cookie, SyncMessage}
-use Rattle.sync_model.specs.Message.SyncMessage.{Put, Gone, Present, IdSet, NewCookie, PhaseEnds, Done, Passed}
-use Rattle.sync_model.specs.Stream.{Session, Start, Piece, walk, refresh, end_of}
-use Rattle.directory_writes.specs.Directory.{DirectoryState, cookie_at, last_stamp}
-use Rattle.sync_provider.specs.declared.parts.Part.{Part}
-use Rattle.sync_provider.specs.declared.parts.Part.TheVariants as part
+use Rattle.sync_model.specs.Message.{CookieText, SyncMessage}
+use Rattle.sync_model.specs.Message.SyncMessage.{AddOrModify, Delete, Present, IdSet, NewCookie, RefreshDelete, RefreshPresent, Done, Ignored}
+use Rattle.sync_model.specs.Stream.{SyncOperation, Start, RefreshPiece, walk, refresh, end_of}
+use Rattle.directory_writes.specs.Directory.{DirectoryState, cookie_at, last_csn}
+use Rattle.sync_provider.specs.declared.refresh_item.RefreshItem.{RefreshItem}
+use Rattle.sync_provider.specs.declared.refresh_item.RefreshItem.TheVariants as part
 
 -- ---- the messages that it is to send
 
--- the cookie of the content after so many of the writes of a directory
-abbrev pub cookie_after : ℕ → ℕ → List Write → ℕ → Cookie
-cookie_after sid history writes count = cookie_text (cookie_at sid history (last_stamp (start sid) (take count writes)))
+-- the cookie of the content after n of the writes of a directory
+abbrev pub cookie_after : ℕ → ℕ → List Write → ℕ → CookieText
+cookie_after sid history writes count =
+    cookie_text (cookie_at sid history (last_csn (start sid) (take count writes)))
 
--- a search over these writes, which goes on after its refresh (refreshAndPersist) or ends with it (refreshOnly)
-abbrev pub session_of : (persists : Bool) → ℕ → ℕ → Search → List Write → Session
+-- a search over these writes, which goes on after its refresh (refreshAndPersist) or ends
+-- with it (refreshOnly)
+abbrev pub session_of : (persists : Bool) → ℕ → ℕ → Search → List Write → SyncOperation
 session_of persists sid history spec writes =
-    record { persists = persists; selection = spec; states = state_of history writes; cookies = cookie_after sid history writes }
+    record {
+      persists = persists;
+      selection = spec;
+      states = state_of history writes;
+      cookies = cookie_after sid history writes;
+    }
 
 -- its walk in one piece, at its acceptance
-abbrev pub whole_walk : Session → Start → ℕ → List Piece
-whole_walk session start count = record { uuids = walk session start count; mark = count } ∷ []
+abbrev pub whole_walk : SyncOperation → Start → ℕ → List RefreshPiece
+whole_walk operation start count = record { uuids = walk operation start count; mark = count } ∷ []
 
--- its refresh where it is accepted after so many writes
-abbrev pub refresh_from : Session → Start → ℕ → List SyncMessage
-refresh_from session start count = refresh session start count (whole_walk session start count)
+-- its refresh where it is accepted after n writes
+abbrev pub refresh_from : SyncOperation → Start → ℕ → List SyncMessage
+refresh_from operation start count =
+    refresh operation start count (whole_walk operation start count)
 
 -- ---- a search
 
--- the message ID of its messages, its specification, where it begins, how many writes the directory had at its
--- acceptance, and whether it goes on after its refresh; what is not handed out yet of its refresh, and of the messages
--- of later writes; and whether a write did not fit, after which nothing more is sent but the end
+-- the message ID of its messages, its specification, where it begins, how many writes the directory
+-- had at its acceptance, and whether it goes on after its refresh; what is not handed out yet of
+-- its refresh, and of the messages of later writes; and whether a write did not fit, after which
+-- nothing more is sent but the end
 pub record SearchState : Type 0 where
   pub id : ℕ
   pub spec : Search
@@ -62,7 +72,7 @@ opening d id spec start persists = record {
 
 -- the end with the code busy (RFC 4511, appendix A.2)
 abbrev pub busy_end : SyncMessage
-busy_end = Done (pos 51) None
+busy_end = Done (pos BUSY) None
 
 -- what is handed out next, in order: the refresh, then the later writes
 abbrev pub pending : SearchState → List SyncMessage
@@ -70,14 +80,15 @@ pending s = cond s.over (busy_end ∷ []) (s.rest ++ s.due)
 
 -- SearchResultDone ends a search
 abbrev pub is_end : SyncMessage → Bool
-is_end (Put adds entry cookie) = false
-is_end (Gone uuid name cookie) = false
+is_end (AddOrModify adds entry cookie) = false
+is_end (Delete uuid name cookie) = false
 is_end (Present uuid cookie) = false
 is_end (IdSet deletes uuids cookie) = false
 is_end (NewCookie cookie) = false
-is_end (PhaseEnds deletes done cookie) = false
+is_end (RefreshDelete done cookie) = false
+is_end (RefreshPresent done cookie) = false
 is_end (Done code control) = true
-is_end Passed = false
+is_end Ignored = false
 
 -- without the first message of these, which was handed out
 abbrev pub advanced : SearchState → (rest due : List SyncMessage) → SearchState
@@ -88,31 +99,34 @@ advanced s [] [] = s
 -- ---- the parts that it is kept by
 
 -- entries are sent whole, and names go in sets
-abbrev pub message_of : Bool → Part → SyncMessage
-message_of deletes (part.Whole entry) = Put true entry None
+abbrev pub message_of : Bool → RefreshItem → SyncMessage
+message_of deletes (part.Whole entry) = AddOrModify true entry None
 message_of deletes (part.Names uuids) = IdSet deletes uuids None
 
 -- the messages of these parts, and the end
-abbrev pub messages_of : (persists deletes : Bool) → List Part → Cookie → List SyncMessage
-messages_of persists deletes parts cookie = map (message_of deletes) parts ++ end_of persists deletes cookie ∷ []
+abbrev pub messages_of :
+    (persists deletes : Bool) → List RefreshItem → CookieText → List SyncMessage
+messages_of persists deletes parts cookie =
+    map (message_of deletes) parts ++ end_of persists deletes cookie ∷ []
 
 -- the first of them
-abbrev pub first_of : (persists deletes : Bool) → List Part → Cookie → SyncMessage
+abbrev pub first_of : (persists deletes : Bool) → List RefreshItem → CookieText → SyncMessage
 first_of persists deletes [] cookie = end_of persists deletes cookie
 first_of persists deletes (part ∷ parts) cookie = message_of deletes part
 
 -- what is left of a refresh: parts, and the cookie of its end
 pub record Remaining : Type 0 where
-  pub parts : List Part
-  pub cookie : Cookie
+  pub parts : List RefreshItem
+  pub cookie : CookieText
 
 -- nothing is left after the end
 abbrev pub remaining_messages : (persists deletes : Bool) → Option Remaining → List SyncMessage
 remaining_messages persists deletes None = []
-remaining_messages persists deletes (Some left) = messages_of persists deletes left.parts left.cookie
+remaining_messages persists deletes (Some left) =
+    messages_of persists deletes left.parts left.cookie
 
 -- how many of the parts were handed out, and the cookie of the end
-pub record IsOpen (parts : List Part) (handed : ℕ) (cookie : cookies.Cookie) : Type 0 where
+pub record IsOpen (parts : List RefreshItem) (handed : ℕ) (cookie : cookies.Cookie) : Type 0 where
   pub within : handed ≤ length parts
   pub rid : cookie.rid < 1000
   pub sid : cookie.sid < 4096

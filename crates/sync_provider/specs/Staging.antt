@@ -1,4 +1,4 @@
--- How a write is told to the open searches before it is accepted (RFC 4533, section 3.4).
+-- How a write is reported to the open searches before it is accepted (RFC 4533, section 3.4).
 use Rattle.std.specs.Prelude.{ℕ, ◌≡◌, ◌<◌, ◌≤◌, ◌⊎◌, ⊤, ◌-◌, ◌^◌, Bool, true, false, min, cond, List, [], ◌∷◌, ◌++◌, length, map, flat_map, Option, Some, None, Ok, IfSome}
 use Rattle.csn_cookie.specs.Cookie.{cookie_text}
 use Rattle.csn_cookie.specs.declared.cookie.Cookie as cookies
@@ -6,38 +6,38 @@ use Rattle.dn_names.specs.Writing.{name_text}
 use Rattle.entry_tree.specs.declared.entry.Entry.{Entry}
 use Rattle.entry_tree.specs.declared.op.Op.{Op}
 use Rattle.entry_tree.specs.declared.op.Write.{Write}
-use Rattle.entry_tree.specs.declared.touched.Touch.{Touch}
+use Rattle.entry_tree.specs.declared.touched.EntryChange.{EntryChange}
 use Rattle.entry_tree.specs.Selection.{Search, is_selected}
 use Rattle.entry_tree.specs.Touched.{touched}
-use Rattle.sync_model.specs.Message.{Cookie, SyncMessage}
-use Rattle.sync_model.specs.Message.SyncMessage.{Put, Gone, Present, IdSet, NewCookie, PhaseEnds, Done, Passed}
-use Rattle.sync_model.specs.Stream.{told}
+use Rattle.sync_model.specs.Message.{CookieText, SyncMessage}
+use Rattle.sync_model.specs.Message.SyncMessage.{AddOrModify, Delete, Present, IdSet, NewCookie, RefreshDelete, RefreshPresent, Done, Ignored}
+use Rattle.sync_model.specs.Stream.{notified}
 use Rattle.directory_writes.specs.Directory.{DirectoryState, cookie_at, entries_of, entries_after, judged}
 use Rattle.sync_provider.specs.Queueing.{message_weight, is_queueing, pushed}
 use Rattle.sync_provider.specs.Search.{SearchState}
-use Rattle.sync_provider.specs.declared.change.Change.{Change}
-use Rattle.sync_provider.specs.declared.change.Change.TheVariants.{Entered, Stayed, Left}
+use Rattle.sync_provider.specs.declared.content_change.ContentChange.{ContentChange}
+use Rattle.sync_provider.specs.declared.content_change.ContentChange.TheVariants.{Added, Modified, Deleted}
 
 -- ---- the messages of a write
 
-abbrev pub message_of_change : Change → Option Cookie → SyncMessage
-message_of_change (Entered entry) cookie = Put true entry cookie
-message_of_change (Stayed entry) cookie = Put false entry cookie
-message_of_change (Left uuid name) cookie = Gone uuid (name_text name) cookie
+abbrev pub message_of_change : ContentChange → Option CookieText → SyncMessage
+message_of_change (Added entry) cookie = AddOrModify true entry cookie
+message_of_change (Modified entry) cookie = AddOrModify false entry cookie
+message_of_change (Deleted uuid name) cookie = Delete uuid (name_text name) cookie
 
-abbrev pub messages_of_change : Option Change → List SyncMessage
+abbrev pub messages_of_change : Option ContentChange → List SyncMessage
 messages_of_change None = []
 messages_of_change (Some change) = message_of_change change None ∷ []
 
 -- an entry that is selected now, by whether it was before
-abbrev pub change_to : (was_in : Bool) → Entry → Change
-change_to true entry = Stayed entry
-change_to false entry = Entered entry
+abbrev pub change_to : (was_in : Bool) → Entry → ContentChange
+change_to true entry = Modified entry
+change_to false entry = Added entry
 
 -- the end of what was there, where it was selected
-abbrev pub change_from : (was_in : Bool) → ℕ → Option Entry → Option Change
+abbrev pub change_from : (was_in : Bool) → ℕ → Option Entry → Option ContentChange
 change_from was_in uuid None = None
-change_from was_in uuid (Some was) = cond was_in (Some (Left uuid was.dn)) None
+change_from was_in uuid (Some was) = cond was_in (Some (Deleted uuid was.dn)) None
 
 -- an entry, where there is one and it is selected
 abbrev pub chosen : Search → Option Entry → Option Entry
@@ -45,38 +45,45 @@ chosen search None = None
 chosen search (Some entry) = cond (is_selected search entry) (Some entry) None
 
 -- what a touch says to a search, without a cookie
-abbrev pub told_of_touch : Search → Touch → List SyncMessage
-told_of_touch search touch = told None touch.uuid (chosen search touch.was) (chosen search touch.now)
+abbrev pub notified_of_change : Search → EntryChange → List SyncMessage
+notified_of_change search entry_change =
+    notified None entry_change.uuid (chosen search entry_change.before)
+    (chosen search entry_change.after)
 
-abbrev pub told_of_touches : Search → List Touch → List SyncMessage
-told_of_touches search touches = flat_map (told_of_touch search) touches
+abbrev pub notified_of_changes : Search → List EntryChange → List SyncMessage
+notified_of_changes search entry_changes = flat_map (notified_of_change search) entry_changes
 
-abbrev pub with_cookie : Cookie → SyncMessage → SyncMessage
-with_cookie cookie (Put adds entry old) = Put adds entry (Some cookie)
-with_cookie cookie (Gone uuid name old) = Gone uuid name (Some cookie)
+abbrev pub with_cookie : CookieText → SyncMessage → SyncMessage
+with_cookie cookie (AddOrModify adds entry old) = AddOrModify adds entry (Some cookie)
+with_cookie cookie (Delete uuid name old) = Delete uuid name (Some cookie)
 with_cookie cookie (Present uuid old) = Present uuid (Some cookie)
 with_cookie cookie (IdSet deletes uuids old) = IdSet deletes uuids (Some cookie)
 with_cookie cookie (NewCookie old) = NewCookie cookie
-with_cookie cookie (PhaseEnds deletes done old) = PhaseEnds deletes done (Some cookie)
+with_cookie cookie (RefreshDelete done old) = RefreshDelete done (Some cookie)
+with_cookie cookie (RefreshPresent done old) = RefreshPresent done (Some cookie)
 with_cookie cookie (Done code control) = Done code control
-with_cookie cookie Passed = Passed
+with_cookie cookie Ignored = Ignored
 
 -- the last of these messages gets the cookie
-abbrev pub last_with_cookie : Cookie → List SyncMessage → List SyncMessage
+abbrev pub last_with_cookie : CookieText → List SyncMessage → List SyncMessage
 last_with_cookie cookie [] = []
 last_with_cookie cookie (message ∷ []) = with_cookie cookie message ∷ []
-last_with_cookie cookie (message ∷ next ∷ messages) = message ∷ last_with_cookie cookie (next ∷ messages)
+last_with_cookie cookie (message ∷ next ∷ messages) =
+    message ∷ last_with_cookie cookie (next ∷ messages)
 
 -- what a write with these touches and this cookie sends to a search
-abbrev pub messages_for : Search → List Touch → Cookie → List SyncMessage
-messages_for search touches cookie = last_with_cookie cookie (told_of_touches search touches)
+abbrev pub messages_for : Search → List EntryChange → CookieText → List SyncMessage
+messages_for search entry_changes cookie =
+    last_with_cookie cookie (notified_of_changes search entry_changes)
 
 -- a weight as it is counted: the greatest number stands for all above it
 abbrev pub counted_weight : SyncMessage → ℕ
 counted_weight message = min (message_weight message) (2 ^ 64 - 1)
 
--- a message that is kept: its cookie has a text, and its weight is that of the message, to which a cookie adds nothing
-pub record IsLater (change : Change) (cookie : Option cookies.Cookie) (weight : ℕ) : Type 0 where
+-- a message that is kept: its cookie has a text, and its weight is that of the message, to which a
+-- cookie adds nothing
+pub record IsLater
+    (change : ContentChange) (cookie : Option cookies.Cookie) (weight : ℕ) : Type 0 where
   pub rid : IfSome cookie (λ c. c.rid < 1000)
   pub sid : IfSome cookie (λ c. c.sid < 4096)
   pub weighed : weight ≡ counted_weight (message_of_change change None)
@@ -87,7 +94,8 @@ pub record IsLater (change : Change) (cookie : Option cookies.Cookie) (weight : 
 abbrev pub HasRoom : ℕ → Option (List SyncMessage) → Type 0
 HasRoom spare staged = IfSome staged (λ messages. length messages ≤ spare)
 
--- a search, and beside it the messages of a write that is not accepted yet, where they are made. They are not pending
+-- a search, and beside it the messages of a write that is not accepted yet, where they are made.
+-- They are not pending
 pub record HeldSearch : Type 0 where
   pub search : SearchState
   pub staged : Option (List SyncMessage)
@@ -95,31 +103,41 @@ pub record HeldSearch : Type 0 where
 abbrev pub searches_of : List (ℕ × HeldSearch) → List (ℕ × SearchState)
 searches_of held = map (λ kept. (kept.0, kept.1.search)) held
 
-abbrev pub staged_for : SearchState → List Touch → Cookie → List SyncMessage
-staged_for s touches cookie = cond (is_queueing s) (messages_for s.spec touches cookie) []
+abbrev pub staged_for : SearchState → List EntryChange → CookieText → List SyncMessage
+staged_for s entry_changes cookie =
+    cond (is_queueing s) (messages_for s.spec entry_changes cookie) []
 
--- what is left of a search where its messages of a write are to be made: the search itself, and all of them, or none
--- where memory ran out
-pub record IsTried (touches : List Touch) (cookie : Cookie) (old new : HeldSearch) : Type 0 where
+-- what is left of a search where its messages of a write are to be made: the search itself, and all
+-- of them, or none where memory ran out
+pub record IsTried
+    (entry_changes : List EntryChange) (cookie : CookieText) (old new : HeldSearch) : Type 0 where
   pub search : new.search ≡ old.search
-  pub staged : (new.staged ≡ Some (staged_for old.search touches cookie)) ⊎ (new.staged ≡ None)
+  pub staged :
+      (new.staged ≡ Some (staged_for old.search entry_changes cookie)) ⊎ (new.staged ≡ None)
 
 -- the messages of the write are made for each
-abbrev pub AreStaged : List Touch → Cookie → List (ℕ × HeldSearch) → Type 0
-AreStaged touches cookie [] = ⊤
-AreStaged touches cookie (kept ∷ held) = (kept.1.staged ≡ Some (staged_for kept.1.search touches cookie)) × AreStaged touches cookie held
+abbrev pub AreStaged : List EntryChange → CookieText → List (ℕ × HeldSearch) → Type 0
+AreStaged entry_changes cookie [] = ⊤
+AreStaged entry_changes cookie (kept ∷ held) =
+    (kept.1.staged ≡ Some (staged_for kept.1.search entry_changes cookie))
+    × AreStaged entry_changes cookie held
 
--- the operation is accepted where memory suffices, and the messages of the write that it then is are made
-pub record IsToldAhead (d : DirectoryState) (op : Op) (now : ℕ) (held : List (ℕ × HeldSearch)) : Type 0 where
+-- the operation is accepted where memory suffices, and the messages of the write
+-- that it then is are made
+pub record IsNotifiedAhead
+    (d : DirectoryState) (op : Op) (now : ℕ) (held : List (ℕ × HeldSearch)) : Type 0 where
   pub write : Write
   pub accepted : judged d op now ≡ Ok write
-  pub staged : AreStaged (touched (entries_of d) (entries_after d.history (d.writes ++ write ∷ []))) (cookie_text (cookie_at d.sid d.history write.csn)) held
+  pub staged :
+      AreStaged (touched (entries_of d) (entries_after d.history (d.writes ++ write ∷ [])))
+      (cookie_text (cookie_at d.sid d.history write.csn)) held
 
--- what was staged is put behind what is due
+-- what was staged is put after what is due
 abbrev pub pushed_staged : ℕ → Option (List SyncMessage) → SearchState → SearchState
 pushed_staged limit None s = s
 pushed_staged limit (Some messages) s = pushed limit messages s
 
 -- each search after that
 abbrev pub each_pushed : ℕ → List (ℕ × HeldSearch) → List (ℕ × SearchState)
-each_pushed limit held = map (λ kept. (kept.0, pushed_staged limit kept.1.staged kept.1.search)) held
+each_pushed limit held =
+    map (λ kept. (kept.0, pushed_staged limit kept.1.staged kept.1.search)) held

@@ -2,7 +2,7 @@
 
 ghost use Rattle.std.specs.Prelude.{◌≡◌, ◌<◌, ◌+◌, ◌↔◌, true, length, None, IfOk, IfErr, OnOk, OnErr, IsErrOf};
 ghost use Rattle.std.specs.List.{list_all};
-ghost use Rattle.directory_writes.specs.Moment.{IsMomentOf, back_at};
+ghost use Rattle.directory_writes.specs.Snapshot.{IsSnapshotOf, back_at};
 ghost use Rattle.entry_tree.specs.Fitting.{is_light};
 ghost use Rattle.entry_tree.specs.Sound.{is_sound_put};
 ghost use Rattle.sync_provider.specs.Answering.{CommitsLeave};
@@ -16,7 +16,7 @@ use crate::NoMemory;
 use crate::open_search::{OpenSearch, discard};
 use crate::provider::{Kind, Provider};
 use crate::writing::CommitFault;
-use directory_writes::DirectoryMoment;
+use directory_writes::DirectorySnapshot;
 use entry_tree::EntryList;
 use std::collections::BTreeMap;
 use sync_messages::IdList;
@@ -33,18 +33,22 @@ impl Provider {
     /// Adds one write for each of these commits, in their order, where the clock shows `now`, as
     /// `commit` does: all of them or none. Each is judged on what the ones before it left. The answer
     /// is the number of accepted writes after them, or the first cause against one of them, which
-    /// leaves all as it was. A root with a commit to make is told so, whether there is memory or not.
+    /// leaves all as it was. A root with a commit to make is reported so, whether there is memory or not.
     #[tactic(auto, using(crate::proofs::Rooted::root_refuses, crate::proofs::Rooted::only_root))]
     pub fn commit_each(&mut self, commits: Vec<StagedCommit>, now: u64) -> Result<u64, CommitFault>
-        requires sound { list_all (λ commit. list_all is_sound_put commit.puts) commits.items ≡ true }
+        requires sound { list_all (λ commit. list_all is_sound_put commit.puts) commits.items
+            ≡ true }
         requires light { list_all (λ commit. list_all is_light commit.puts) commits.items ≡ true }
         ensures accepted { OnOk result (machine.refusal_of_each self.old commits.items now ≡ None) }
-        ensures refused { IfErr result (Opposes (machine.refusal_of_each self.old commits.items now)) }
+        ensures refused { IfErr result
+            (Opposes (machine.refusal_of_each self.old commits.items now)) }
         ensures state { OnOk result (self.new ≡ machine.committed_each self.old commits.items now) }
         ensures err { OnErr result (self.new ≡ self.old) }
-        ensures root { IsErrOf result faults.NotAReplica ↔ (self.old.kind ≡ Kind.Root) × (0 < length commits.items) }
+        ensures root { IsErrOf result faults.NotAReplica
+            ↔ (self.old.kind ≡ Kind.Root) × (0 < length commits.items) }
         ensures number { IfOk result (λ number. number ≡ length self.new.directory.writes) }
-        ensures count { IfOk result (λ number. number ≡ length self.old.directory.writes + length commits.items) }
+        ensures count { IfOk result (λ number.
+            number ≡ length self.old.directory.writes + length commits.items) }
         ensures leaves { CommitsLeave self.old commits.items now result self.new }
     {
         match self.kind {
@@ -57,18 +61,21 @@ impl Provider {
     }
 
     /// The same where the kind of the provider has nothing against it.
-    #[tactic(auto, using(crate::proofs::Growths::back_moment, crate::proofs::Growths::back_whole))]
+    #[tactic(auto, using(crate::proofs::Growths::back_snapshot, crate::proofs::Growths::back_whole))]
     fn commit_all(&mut self, commits: Vec<StagedCommit>, now: u64) -> Result<u64, CommitFault>
-        requires sound { list_all (λ commit. list_all is_sound_put commit.puts) commits.items ≡ true }
+        requires sound { list_all (λ commit. list_all is_sound_put commit.puts) commits.items
+            ≡ true }
         requires light { list_all (λ commit. list_all is_light commit.puts) commits.items ≡ true }
         ensures accepted { OnOk result (machine.refusal_of_each self.old commits.items now ≡ None) }
-        ensures refused { IfErr result (Opposes (machine.refusal_of_each self.old commits.items now)) }
+        ensures refused { IfErr result
+            (Opposes (machine.refusal_of_each self.old commits.items now)) }
         ensures state { OnOk result (self.new ≡ machine.committed_each self.old commits.items now) }
         ensures err { OnErr result (self.new ≡ self.old) }
         ensures number { IfOk result (λ number. number ≡ length self.new.directory.writes) }
-        ensures count { IfOk result (λ number. number ≡ length self.old.directory.writes + length commits.items) }
+        ensures count { IfOk result (λ number.
+            number ≡ length self.old.directory.writes + length commits.items) }
     {
-        let Ok(before) = self.moment() else {
+        let Ok(before) = self.snapshot() else {
             discard(commits);
             return Err(CommitFault::NoMemory);
         };
@@ -78,7 +85,7 @@ impl Provider {
                 Ok(self.writes())
             }
             Err(fault) => {
-                self.return_to_moment(before);
+                self.return_to_snapshot(before);
                 Err(fault)
             }
         }
@@ -87,13 +94,17 @@ impl Provider {
     /// Commits these one after another. A refusal can come in their midst.
     #[tactic(auto, using(crate::proofs::Growths::grown_itself))]
     fn commit_in_turn(&mut self, commits: Vec<StagedCommit>, now: u64) -> Result<(), CommitFault>
-        requires sound { list_all (λ commit. list_all is_sound_put commit.puts) commits.items ≡ true }
+        requires sound { list_all (λ commit. list_all is_sound_put commit.puts) commits.items
+            ≡ true }
         requires light { list_all (λ commit. list_all is_light commit.puts) commits.items ≡ true }
         ensures accepted { OnOk result (machine.refusal_of_each self.old commits.items now ≡ None) }
-        ensures refused { IfErr result (Opposes (machine.refusal_of_each self.old commits.items now)) }
+        ensures refused { IfErr result
+            (Opposes (machine.refusal_of_each self.old commits.items now)) }
         ensures state { OnOk result (self.new ≡ machine.committed_each self.old commits.items now) }
         ensures grown { HasGrown self.old self.new }
-        ensures count { OnOk result (length self.new.directory.writes ≡ length self.old.directory.writes + length commits.items) }
+        ensures count { OnOk result
+            (length self.new.directory.writes
+            ≡ length self.old.directory.writes + length commits.items) }
     {
         for staged in commits {
             self.commit(staged.puts, staged.drops, now)?;
@@ -102,32 +113,34 @@ impl Provider {
     }
 
     /// This moment.
-    fn moment(&self) -> Result<ProviderMoment, NoMemory>
-        ensures directory { IfOk result (λ moment. IsMomentOf self.now.directory moment.directory) }
-        ensures searches { IfOk result (λ moment. searches_of moment.searches.entries ≡ self.now.searches) }
+    fn snapshot(&self) -> Result<ProviderSnapshot, NoMemory>
+        ensures directory { IfOk result (λ snapshot.
+            IsSnapshotOf self.now.directory snapshot.directory) }
+        ensures searches { IfOk result (λ snapshot.
+            searches_of snapshot.searches.entries ≡ self.now.searches) }
     {
-        Ok(ProviderMoment {
-            directory: self.directory.moment()?,
+        Ok(ProviderSnapshot {
+            directory: self.directory.snapshot()?,
             searches: self.copy_of_searches()?,
         })
     }
 
     /// Returns to a moment since which the directory got writes alone.
-    fn return_to_moment(&mut self, moment: ProviderMoment)
-        requires { IsMomentOf (back_at moment.directory self.old.directory) moment.directory }
+    fn return_to_snapshot(&mut self, snapshot: ProviderSnapshot)
+        requires { IsSnapshotOf (back_at snapshot.directory self.old.directory) snapshot.directory }
         ensures { self.new ≡ record self.old {
-          directory = back_at moment.directory self.old.directory;
-          searches = searches_of moment.searches.entries;
+          directory = back_at snapshot.directory self.old.directory;
+          searches = searches_of snapshot.searches.entries;
         } }
     {
-        self.directory.return_to_moment(moment.directory);
-        self.searches = moment.searches;
+        self.directory.return_to_snapshot(snapshot.directory);
+        self.searches = snapshot.searches;
     }
 }
 
 /// A provider's directory and its searches at one moment.
 #[derive(Drop)]
-struct ProviderMoment {
-    directory: DirectoryMoment,
+struct ProviderSnapshot {
+    directory: DirectorySnapshot,
     searches: BTreeMap<u64, OpenSearch>,
 }

@@ -3,12 +3,12 @@
 ghost use Rattle.sync_provider.specs.Answering.{RefusalsCountAsNone};
 ghost use Rattle.sync_provider.specs.Law.{
   CookiesNameTheirPrefix,
-  LogsTellWhatWasTouched,
-  NumbersTellWhatWasTouched,
+  LogsShowWhatWasTouched,
+  NumbersShowWhatWasTouched,
   QueuesOverflowExactly,
   RefreshesAreIncremental,
   SearchesKeepTheirPlace,
-  SearchesTellTheirStreams,
+  SearchesDeliverTheirStreams,
   WritesWereAccepted,
 };
 ghost use Rattle.sync_provider.specs.Returning.{ReturnsCountAsNone};
@@ -19,22 +19,22 @@ pub fn writes_were_accepted()
     ensures { WritesWereAccepted }
 {}
 
-/// After every list of calls, as many stamps are not greater than that of a content's cookie as
+/// After every list of calls, as many CSNs are not greater than that of a content's cookie as
 /// writes led to the content.
 pub fn cookies_name_their_prefix()
     ensures { CookiesNameTheirPrefix }
 {}
 
-/// After every list of calls, where the session log covers a number of writes it tells exactly the
+/// After every list of calls, where the session log covers a number of writes it reports exactly the
 /// identities whose entries the writes since then touched; and it covers the number of all writes.
-pub fn logs_tell_what_was_touched()
-    ensures { LogsTellWhatWasTouched }
+pub fn logs_show_what_was_touched()
+    ensures { LogsShowWhatWasTouched }
 {}
 
 /// After every list of calls, the number of an identity's last touch is above a number exactly
 /// where the writes since then touched it.
-pub fn numbers_tell_what_was_touched()
-    ensures { NumbersTellWhatWasTouched }
+pub fn numbers_show_what_was_touched()
+    ensures { NumbersShowWhatWasTouched }
 {}
 
 /// After every list of calls, what is pending of each open search is an end of its refresh and then an
@@ -46,9 +46,9 @@ pub fn searches_keep_their_place()
 
 /// Over every list of calls, what a search handed out, followed by what was pending when it ended,
 /// was dropped or is looked at, is its Stream up to the writes at that moment; or, where a write was
-/// too much for it, a front of that and then the end with the code busy.
-pub fn searches_tell_their_streams()
-    ensures { SearchesTellTheirStreams }
+/// too much for it, a prefix of that and then the end with the code busy.
+pub fn searches_deliver_their_streams()
+    ensures { SearchesDeliverTheirStreams }
 {}
 
 /// Over every list of calls, a search ends with the code busy exactly where a write sends it
@@ -73,7 +73,7 @@ pub fn returns_count_as_none()
 {}
 
 /// Over every list of calls, whatever they answered, the provider is as after those alone that were
-/// not refused. Want of memory is such a refusal. What a call may leave by its answer is what its
+/// not refused. Out of memory is such a refusal. What a call may leave by its answer is what its
 /// clause `leaves` promises.
 pub fn refusals_count_as_none()
     ensures { RefusalsCountAsNone }

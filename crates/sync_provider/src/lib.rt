@@ -2,11 +2,11 @@
 //! on it (RFC 4533, section 3, the server's part).
 //!
 //! The directory of a root has the writes of clients. That of a replica has commits of what it took
-//! from the provider that it follows; each of them is one write, and is told to its own searches.
+//! from the provider that it follows; each of them is one write, and is reported to its own searches.
 //!
 //! Each search begins with a refresh, whose end carries the cookie of the content. Without a cookie
 //! every entry that its specification selects is sent whole. With a cookie of the directory only
-//! what was touched since then is sent. The rest is a delete phase, where the session log tells what
+//! what was touched since then is sent. The rest is a delete phase, where the session log reports what
 //! was touched, and else a present phase.
 //!
 //! In the mode refreshOnly the search is over then. In the mode refreshAndPersist it goes on: each
@@ -15,30 +15,30 @@
 //! messages, or too heavy ones, ends with the code busy.
 #![tactic(auto)]
 
-mod change;
 mod committing;
+mod content_change;
 mod gathering;
 mod handed;
-mod later;
 mod laws;
+mod notifying;
 mod open_search;
 mod open_searches;
-mod parts;
+mod pending_refresh;
+mod persist_message;
 mod provider;
+mod refresh_item;
 mod refreshing;
-mod rest;
 mod searches;
 mod selecting;
 mod staging;
-mod telling;
 mod writing;
 
 pub use committing::StagedCommit;
 pub use handed::Handed;
 pub use laws::{
-    cookies_name_their_prefix, logs_tell_what_was_touched, numbers_tell_what_was_touched,
+    cookies_name_their_prefix, logs_show_what_was_touched, numbers_show_what_was_touched,
     queues_overflow_exactly, refreshes_are_incremental, refusals_count_as_none,
-    returns_count_as_none, searches_keep_their_place, searches_tell_their_streams,
+    returns_count_as_none, searches_deliver_their_streams, searches_keep_their_place,
     writes_were_accepted,
 };
 pub use ldap_ber::NoMemory;

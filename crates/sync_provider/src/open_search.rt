@@ -4,28 +4,26 @@ ghost use Rattle.std.specs.Prelude.{◌≡◌, ◌<◌, [], false, true, is_some
 ghost use Rattle.csn_cookie.specs.Cookie.{cookie_text};
 ghost use Rattle.directory_writes.specs.Starting.{start_of};
 ghost use Rattle.entry_tree.specs.Selection.{search_of};
-ghost use Rattle.sync_model.specs.Stream.{is_covered};
+ghost use Rattle.sync_model.specs.Stream.{is_delete_phase};
 ghost use Rattle.sync_provider.specs.HandingOut.{turn_of, turn_of_pending, has_message, after_own_turn};
 ghost use Rattle.sync_provider.specs.Queueing.{is_queueing};
 ghost use Rattle.sync_provider.specs.Search.{pending, messages_of};
 ghost use Rattle.sync_provider.specs.Staging.{staged_for, pushed_staged, IsTried};
 
 use crate::handed::Handed;
-use crate::later::Later;
-use crate::parts::Part;
-use crate::rest::Rest;
-use crate::telling::messages_for;
+use crate::notifying::messages_for;
+use crate::pending_refresh::PendingRefresh;
+use crate::persist_message::PersistMessage;
+use crate::refresh_item::RefreshItem;
 use csn_cookie::Cookie;
 use directory_writes::Start;
-use entry_tree::{Spec, Touch};
+use entry_tree::{EntryChange, Spec};
 use ldap_ber::NoMemory;
+use ldap_constants::{BUSY, SUCCESS};
 use persist_queues::SearchQueue;
 use std::alloc::{AllocError, Global};
 use std::marker::Model;
 use sync_wire::done_message;
-
-/// busy (RFC 4511, appendix A.2): a write did not fit into the queue of its search.
-const BUSY: u32 = 51;
 
 /// A search that is open: the messages of its refresh, as they were decided at its acceptance, and
 /// those of later writes, as far as they were not handed out.
@@ -41,11 +39,11 @@ pub struct OpenSearch {
     /// Whether it goes on after its refresh.
     persists: bool,
     /// None after the end of the refresh.
-    rest: Option<Rest>,
-    queue: SearchQueue<Later>,
+    rest: Option<PendingRefresh>,
+    queue: SearchQueue<PersistMessage>,
     /// The messages of a write that is not accepted yet, where they are made. The queue has room
     /// for them.
-    staged: Option<Vec<Later>>,
+    staged: Option<Vec<PersistMessage>>,
     /// Whether a write did not fit. Then nothing is kept, and only the end is sent.
     over: bool,
 }
@@ -56,7 +54,7 @@ impl Model for OpenSearch {
     ghost use Rattle.directory_writes.specs.Starting.{start_of};
     ghost use Rattle.entry_tree.specs.FilterCode.{tree_code};
     ghost use Rattle.entry_tree.specs.Selection.{search_of};
-    ghost use Rattle.sync_model.specs.Stream.{is_covered};
+    ghost use Rattle.sync_model.specs.Stream.{is_delete_phase};
     ghost use Rattle.sync_provider.specs.Search.{remaining_messages};
     ghost use Rattle.sync_provider.specs.Staging.{HeldSearch, HasRoom};
 
@@ -71,14 +69,15 @@ impl Model for OpenSearch {
         start = start_of s.start;
         accepted = s.accepted;
         persists = s.persists;
-        rest = remaining_messages s.persists (is_covered (start_of s.start)) s.rest;
+        rest = remaining_messages s.persists (is_delete_phase (start_of s.start)) s.rest;
         due = s.queue.items;
         over = s.over;
       };
       staged = option_map (λ messages. messages.items) s.staged;
     } };
 
-    ghost invariant = { λ s. HasRoom s.queue.spare (option_map (λ messages. messages.items) s.staged) };
+    ghost invariant = { λ s.
+        HasRoom s.queue.spare (option_map (λ messages. messages.items) s.staged) };
 }
 
 /// What a search asks for: the message ID that numbers its messages, its specification, where it
@@ -92,13 +91,13 @@ pub(crate) struct Asked {
 }
 
 impl OpenSearch {
-    /// A search that is accepted after so many writes, with these parts before the end of its
+    /// A search that is accepted after n writes, with these parts before the end of its
     /// refresh, which has this cookie.
     pub(crate) fn new(
         alloc: Global,
         asked: Asked,
         accepted: u64,
-        parts: Vec<Part>,
+        parts: Vec<RefreshItem>,
         cookie: Cookie,
     ) -> OpenSearch
         requires rid { cookie.rid < 1000 }
@@ -109,7 +108,8 @@ impl OpenSearch {
           start = start_of asked.start;
           accepted = accepted;
           persists = asked.persists;
-          rest = messages_of asked.persists (is_covered (start_of asked.start)) parts.items (cookie_text cookie);
+          rest = messages_of asked.persists (is_delete_phase (start_of asked.start)) parts.items
+              (cookie_text cookie);
           due = [];
           over = false;
         } }
@@ -122,7 +122,7 @@ impl OpenSearch {
             start: asked.start,
             accepted,
             persists: asked.persists,
-            rest: Some(Rest::new(parts, cookie)),
+            rest: Some(PendingRefresh::new(parts, cookie)),
             queue: SearchQueue::new(alloc, 0),
             staged: None,
             over: false,
@@ -133,7 +133,7 @@ impl OpenSearch {
     pub(crate) fn copy(&self) -> Result<OpenSearch, NoMemory>
         ensures search { IfOk result (λ copy. copy.search ≡ self.now.search) }
     {
-        let rest = copy_of_rest(self.alloc, &self.rest)?;
+        let rest = copy_of_rest(&self.rest)?;
         let queue = copy_of_queue(self.alloc, &self.queue)?;
         let spec = copy_of(&self.spec)?;
         Ok(OpenSearch {
@@ -150,7 +150,7 @@ impl OpenSearch {
         })
     }
 
-    /// Whether later writes are told to it.
+    /// Whether later writes are reported to it.
     pub(crate) fn is_queueing(&self) -> bool
         ensures { result ≡ is_queueing self.now.search }
     {
@@ -176,7 +176,7 @@ impl OpenSearch {
             return self.hand_out_later();
         };
         let deletes = self.start.deletes();
-        let Ok(message) = rest.message(self.alloc, self.id, self.persists, deletes) else {
+        let Ok(message) = rest.message(self.id, self.persists, deletes) else {
             return Handed::NoMemory;
         };
         if !rest.is_end() {
@@ -187,7 +187,7 @@ impl OpenSearch {
             discard(self.rest.take());
             return Handed::Message(message);
         }
-        Handed::Ended(0, message)
+        Handed::Ended(SUCCESS, message)
     }
 
     /// The first message of later writes, once the refresh is handed out.
@@ -204,7 +204,7 @@ impl OpenSearch {
         let Some(later) = self.queue.get(0) else {
             return Handed::Nothing;
         };
-        let Ok(message) = later.message(self.alloc, self.id) else {
+        let Ok(message) = later.message(self.id) else {
             return Handed::NoMemory;
         };
         let _ = self.queue.pop();
@@ -213,7 +213,7 @@ impl OpenSearch {
 
     /// Makes the messages that a write sends, and the room for them in the queue. They are not
     /// pending before the write is accepted.
-    pub(crate) fn stage(&mut self, touched: &[Touch], cookie: Cookie) -> Result<(), NoMemory>
+    pub(crate) fn stage(&mut self, touched: &[EntryChange], cookie: Cookie) -> Result<(), NoMemory>
         requires rid { cookie.rid < 1000 }
         requires sid { cookie.sid < 4096 }
         ensures { IsTried touched.now (cookie_text cookie) self.old self.new }
@@ -226,7 +226,11 @@ impl OpenSearch {
     }
 
     /// The messages that a write sends it.
-    fn messages_of(&self, touched: &[Touch], cookie: Cookie) -> Result<Vec<Later>, NoMemory>
+    fn messages_of(
+        &self,
+        touched: &[EntryChange],
+        cookie: Cookie,
+    ) -> Result<Vec<PersistMessage>, NoMemory>
         requires rid { cookie.rid < 1000 }
         requires sid { cookie.sid < 4096 }
         ensures { IfOk result (λ messages.
@@ -246,7 +250,7 @@ impl OpenSearch {
         self.staged.is_some()
     }
 
-    /// Puts what was staged behind what is due, of which there may be so much, or else ends the
+    /// Puts what was staged after what is due, of which there may be so much, or else ends the
     /// search. It takes no memory.
     #[tactic(auto, using(crate::proofs::Filling::pushed_none, crate::proofs::Filling::pushed_over, crate::proofs::Filling::pushed_in))]
     pub(crate) fn push_staged(&mut self, limit: u64)
@@ -267,12 +271,12 @@ impl OpenSearch {
     }
 }
 
-fn copy_of_rest(alloc: Global, rest: &Option<Rest>) -> Result<Option<Rest>, NoMemory>
+fn copy_of_rest(rest: &Option<PendingRefresh>) -> Result<Option<PendingRefresh>, NoMemory>
     ensures { IfOk result (λ copy. copy ≡ rest.now) }
 {
     match rest {
         None => Ok(None),
-        Some(rest) => Ok(Some(rest.copy(alloc)?)),
+        Some(rest) => Ok(Some(rest.copy()?)),
     }
 }
 
@@ -291,7 +295,10 @@ pub(crate) fn discard<T: Drop>(_value: T) {}
 
 /// The same messages in a queue of their own.
 #[tactic(auto, using(crate::proofs::Copying::taken_next))]
-fn copy_of_queue(alloc: Global, queue: &SearchQueue<Later>) -> Result<SearchQueue<Later>, NoMemory>
+fn copy_of_queue(
+    alloc: Global,
+    queue: &SearchQueue<PersistMessage>,
+) -> Result<SearchQueue<PersistMessage>, NoMemory>
     ensures { IfOk result (λ copy. copy.items ≡ queue.now.items) }
 {
     let mut items = Vec::new(alloc);

@@ -1,7 +1,7 @@
 //! The open searches of a provider at one moment.
 
 ghost use Rattle.std.specs.Prelude.{◌≡◌, IfOk};
-ghost use Rattle.sync_provider.specs.Returning.{moment_of, HasNoWriteSince};
+ghost use Rattle.sync_provider.specs.Returning.{snapshot_of, HasNoWriteSince};
 ghost use Rattle.sync_provider.specs.Staging.{searches_of};
 
 use crate::NoMemory;
@@ -25,10 +25,10 @@ pub struct OpenSearches {
 impl Model for OpenSearches {
     ghost use Rattle.std.specs.Coded.{codes};
     ghost use Rattle.entry_tree.specs.FilterCode.{tree_code};
-    ghost use Rattle.sync_provider.specs.Returning.{SearchesMoment};
+    ghost use Rattle.sync_provider.specs.Returning.{SearchesSnapshot};
     ghost use Rattle.sync_provider.specs.Staging.{searches_of};
 
-    ghost Value = { SearchesMoment };
+    ghost Value = { SearchesSnapshot };
 
     ghost coded = { Prim.hlevel (codes, tree_code) };
 
@@ -43,7 +43,7 @@ impl Model for OpenSearches {
 impl Provider {
     /// The searches that are open now, for a later return to this moment.
     pub fn open_searches(&self) -> Result<OpenSearches, NoMemory>
-        ensures { IfOk result (λ moment. moment ≡ moment_of self.now) }
+        ensures { IfOk result (λ snapshot. snapshot ≡ snapshot_of self.now) }
     {
         Ok(OpenSearches {
             suffix: self.suffix().copy()?,
@@ -68,10 +68,10 @@ impl Provider {
     /// Returns to the searches of a moment with the suffix, the number of writes and the cookie of
     /// now, so one of this provider since which no write came, where no two providers have one
     /// number and one history. All else stays as it is.
-    pub fn return_to(&mut self, moment: OpenSearches)
-        requires { HasNoWriteSince self.old.directory moment }
-        ensures { self.new ≡ record self.old { searches = moment.searches } }
+    pub fn return_to(&mut self, snapshot: OpenSearches)
+        requires { HasNoWriteSince self.old.directory snapshot }
+        ensures { self.new ≡ record self.old { searches = snapshot.searches } }
     {
-        self.searches = moment.by_number;
+        self.searches = snapshot.by_number;
     }
 }

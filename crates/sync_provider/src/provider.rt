@@ -1,7 +1,7 @@
 //! A directory with the searches that are open on it.
 
 ghost use Rattle.std.specs.Prelude.{◌≡◌, ◌≤◌, ◌-◌, ◌<◌, ◌^◌, true, length, slice_get, is_some, Some, IfOk, IfSome};
-ghost use Rattle.csn_cookie.specs.Csn as csns;
+ghost use Rattle.csn_cookie.specs.Csn as csn_specs;
 ghost use Rattle.directory_writes.specs.Directory as directory;
 ghost use Rattle.sync_provider.specs.Answering.{HandOutLeaves, DropLeaves};
 ghost use Rattle.sync_provider.specs.HandingOut as handing;
@@ -60,8 +60,8 @@ impl Model for Provider {
 }
 
 impl Provider {
-    /// A directory without writes and searches. Its number, which its stamps carry, is below 4096;
-    /// its history is what tells its cookies from those of another directory.
+    /// A directory without writes and searches. Its number, which its CSNs carry, is below 4096;
+    /// its history is what reports its cookies from those of another directory.
     pub fn new(
         alloc: Global,
         suffix: Dn,
@@ -124,7 +124,7 @@ impl Provider {
         was_open
     }
 
-    /// The session log keeps so many notes from now on: of each write, one for each entry that it
+    /// The session log keeps n notes from now on: of each write, one for each entry that it
     /// touched. It takes no memory.
     pub fn set_log_limit(&mut self, limit: u64)
         ensures { self.new ≡ machine.log_limited self.old limit }
@@ -132,7 +132,7 @@ impl Provider {
         self.directory.set_log_limit(limit);
     }
 
-    /// From the next write on, each search may have so many messages of later writes pending. What
+    /// From the next write on, each search may have n messages of later writes pending. What
     /// is pending stays.
     pub fn set_queue_limit(&mut self, limit: u64)
         ensures { self.new ≡ machine.queue_limited self.old limit }
@@ -140,6 +140,8 @@ impl Provider {
         self.queue_limit = limit;
     }
 
+    /// Lends the suffix, which names the naming context (RFC 4512, section 5.1): each entry that a
+    /// client adds is named at or below it. That of a replica is empty.
     pub fn suffix(&self) -> &Dn
         ensures { result.now ≡ self.now.directory.suffix }
     {
@@ -147,13 +149,13 @@ impl Provider {
     }
 
     /// How many writes were accepted. Each was sound, had nothing against it on the entries before
-    /// it, and has a stamp above those before it.
+    /// it, and has a CSN above those before it.
     pub fn writes(&self) -> u64
         ensures value { result ≡ length self.now.directory.writes }
         ensures small { result < 2 ^ 63 }
         ensures accepted { directory.AreAccepted
             self.now.directory.suffix self.now.directory.history self.now.directory.writes }
-        ensures rises { directory.StampsRise self.now.directory.sid self.now.directory.writes }
+        ensures rises { directory.CsnsRise self.now.directory.sid self.now.directory.writes }
     {
         self.directory.accepted().len() as u64
     }
@@ -174,13 +176,14 @@ impl Provider {
         self.directory.tree()
     }
 
-    /// How many accepted writes have a stamp that is not greater than this one.
+    /// How many accepted writes have a CSN that is not greater than this one.
     pub fn upto(&self, csn: Csn) -> u64
-        ensures { result ≡ csns.upto (directory.stamps self.now.directory.writes) csn }
+        ensures { result ≡ csn_specs.upto (directory.csns self.now.directory.writes) csn }
     {
         self.directory.upto(csn)
     }
 
+    /// Gives the number that reports the cookies of this directory from those of another one.
     pub fn history(&self) -> u128
         ensures { result ≡ self.now.directory.history }
     {

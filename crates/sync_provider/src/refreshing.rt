@@ -5,7 +5,7 @@ ghost use Rattle.std.specs.List.Sorted.{IsStrictlySortedBy};
 ghost use Rattle.std.specs.Ordering.{nat_cmp};
 ghost use Rattle.entry_tree.specs.Selection.{search_of};
 ghost use Rattle.refresh_present.specs.Item.{identities as item_identities};
-ghost use Rattle.sync_model.specs.Stream.{is_covered};
+ghost use Rattle.sync_model.specs.Stream.{is_delete_phase};
 ghost use Rattle.directory_writes.specs.Directory.{cookie_of, entries_of};
 ghost use Rattle.sync_provider.specs.Gathering.{Gathers, AreOf};
 ghost use Rattle.sync_provider.specs.Refreshing as refreshing;
@@ -14,7 +14,7 @@ ghost use Rattle.sync_provider.specs.Search.{messages_of, session_of, refresh_fr
 
 use crate::NoMemory;
 use crate::gathering::Gathering;
-use crate::parts::Part;
+use crate::refresh_item::RefreshItem;
 use crate::selecting::selects;
 use directory_writes::{Directory, Start};
 use entry_tree::Spec;
@@ -22,18 +22,21 @@ use refresh_present::{Decision, Item};
 use std::alloc::Global;
 
 /// The messages of a refresh of what is wanted, but for its end. In a delete phase only the
-/// entries are looked at that the log tells.
+/// entries are looked at that the log reports.
 #[tactic(auto, using(crate::proofs::Deciding::items_sorted))]
 pub(crate) fn refresh(
     alloc: Global,
     directory: &Directory,
     spec: &Spec,
     start: Start,
-) -> Result<Vec<Part>, NoMemory>
+) -> Result<Vec<RefreshItem>, NoMemory>
     requires { IsServed directory.now (start_of start) }
-    ensures { IfOk result (λ parts. (persists : Bool) → messages_of persists (is_covered (start_of start)) parts.items (cookie_of directory.now)
+    ensures { IfOk result (λ parts. (persists : Bool)
+        → messages_of persists (is_delete_phase (start_of start)) parts.items
+        (cookie_of directory.now)
         ≡ refresh_from
-        (session_of persists directory.now.sid directory.now.history (search_of spec.now) directory.now.writes)
+        (session_of persists directory.now.sid directory.now.history (search_of spec.now)
+        directory.now.writes)
         (start_of start) (length directory.now.writes)) }
 {
     let uuids = walk(alloc, directory, start)?;
@@ -46,12 +49,13 @@ pub(crate) fn refresh(
 /// else all, in ascending order.
 fn walk(alloc: Global, directory: &Directory, start: Start) -> Result<Vec<u128>, NoMemory>
     requires { IsServed directory.now (start_of start) }
-    ensures exact { IfOk result (λ uuids. uuids.items ≡ refreshing.walked directory.now (start_of start)) }
+    ensures exact { IfOk result (λ uuids.
+        uuids.items ≡ refreshing.walked directory.now (start_of start)) }
     ensures ascends { IfOk result (λ uuids. IsStrictlySortedBy nat_cmp uuids.items) }
 {
     match start {
-        Start::Covered(number) => directory.touched_since(number),
-        Start::Blank | Start::Uncovered(_) => identities(alloc, directory),
+        Start::DeletePhase(number) => directory.touched_since(number),
+        Start::InitialContent | Start::PresentPhase(_) => identities(alloc, directory),
     }
 }
 
@@ -88,7 +92,8 @@ fn items(
 /// What is known of the identity. Where it has no entry any more, the number of the last write
 /// stands for that of its last touch.
 fn item(alloc: Global, directory: &Directory, spec: &Spec, uuid: u128) -> Result<Item, NoMemory>
-    ensures { IfOk result (λ item. item ≡ refreshing.item_at directory.now (search_of spec.now) uuid) }
+    ensures { IfOk result (λ item.
+        item ≡ refreshing.item_at directory.now (search_of spec.now) uuid) }
 {
     match directory.tree().get(uuid) {
         None => Ok(Item {
@@ -109,33 +114,34 @@ fn gather(
     alloc: Global,
     directory: &Directory,
     decisions: &[Decision],
-) -> Result<Vec<Part>, NoMemory>
+) -> Result<Vec<RefreshItem>, NoMemory>
     ensures { IfOk result (λ parts.
         AreOf (refreshing.said_all (entries_of directory.now) decisions.now) parts.items) }
 {
     let mut gathering = Gathering::new(alloc);
     for decision in decisions {
-        gather_one(alloc, directory, &mut gathering, *decision)?;
+        gather_one(directory, &mut gathering, *decision)?;
     }
     gathering.finish()
 }
 
-/// What one decision says comes behind what is gathered.
+/// What one decision says comes after what is gathered.
 #[tactic(auto, using(crate::proofs::Sets::gathers_nothing))]
 fn gather_one(
-    alloc: Global,
     directory: &Directory,
     gathering: &mut Gathering,
     decision: Decision,
 ) -> Result<(), NoMemory>
-    ensures { OnOk result (Gathers (refreshing.said (entries_of directory.now) decision) gathering.old gathering.new) }
+    ensures { OnOk result
+        (Gathers (refreshing.said (entries_of directory.now) decision)
+        gathering.old gathering.new) }
 {
     match decision {
         Decision::Send(uuid) => match directory.tree().get(uuid) {
             None => Ok(()),
             Some(entry) => gathering.send(entry.copy()?),
         },
-        Decision::Present(uuid) | Decision::Delete(uuid) => gathering.name(alloc, uuid),
+        Decision::Present(uuid) | Decision::Delete(uuid) => gathering.name(uuid),
     }
 }
 
@@ -145,8 +151,8 @@ fn plan(alloc: Global, start: Start, items: &[Item]) -> Result<Vec<Decision>, No
     ensures { IfOk result (λ plan. plan.items ≡ refreshing.planned (start_of start) items.now) }
 {
     match start {
-        Start::Blank => refresh_present::plan(alloc, items, None),
-        Start::Uncovered(number) => refresh_present::plan(alloc, items, Some(number)),
-        Start::Covered(number) => refresh_delete::plan(alloc, items, number),
+        Start::InitialContent => refresh_present::plan(alloc, items, None),
+        Start::PresentPhase(number) => refresh_present::plan(alloc, items, Some(number)),
+        Start::DeletePhase(number) => refresh_delete::plan(alloc, items, number),
     }
 }

@@ -17,19 +17,13 @@ use crate::open_search::{Asked, OpenSearch, discard};
 use crate::provider::Provider;
 use crate::refreshing::refresh;
 use csn_cookie::is_blank;
-use directory_writes::{ADMIN_LIMIT_EXCEEDED, Start};
+use directory_writes::Start;
 use entry_tree::Spec;
 use ldap_ber::{NoMemory, Octets};
+use ldap_constants::{
+    ADMIN_LIMIT_EXCEEDED, E_SYNC_REFRESH_REQUIRED, NO_SUCH_OBJECT, PROTOCOL_ERROR,
+};
 use sync_messages::{Mode, SyncFault, SyncRequest};
-
-/// protocolError: the control's value is outside its grammar.
-const PROTOCOL_ERROR: u32 = 2;
-
-/// noSuchObject: the base lies outside the suffix.
-const NO_SUCH_OBJECT: u32 = 32;
-
-/// e-syncRefreshRequired: the cookie cannot be served.
-const REFRESH_REQUIRED: u32 = 4096;
 
 /// The greatest number of a search, and so the most searches that are open at once.
 const MOST_SEARCHES: u64 = 64;
@@ -44,7 +38,7 @@ pub struct SyncSearch {
     pub control: Octets,
 }
 
-/// What a search that nothing is against gets: its number, and where it begins.
+/// What a search that nothing rejects gets: its number, and where it begins.
 #[derive(Drop)]
 struct Admitted {
     number: u64,
@@ -56,20 +50,19 @@ struct Admitted {
 pub enum Accepted {
     /// The search's number, and how many writes the directory has.
     Opened(u64, u64),
-    /// The result code that is against it.
+    /// The result code that rejects it.
     Refused(u32),
     NoMemory,
 }
 
 impl Provider {
-    /// Opens a search under the smallest free number, or tells the first of the codes against it:
-    /// protocolError (2) for a control's value outside its grammar, noSuchObject (32) for a base
-    /// outside the suffix, adminLimitExceeded (11) where the 64 numbers are all in use, and
-    /// e-syncRefreshRequired (4096) for a cookie that is neither blank nor servable, from a client
-    /// that does not ask to reload then. A search in the mode refreshAndPersist goes on after its
-    /// refresh.
+    /// Opens a search under the smallest free number, or reports the first of the codes against it:
+    /// protocolError for a control's value outside its grammar, noSuchObject for a base outside the
+    /// suffix, adminLimitExceeded where the 64 numbers are all in use, and e-syncRefreshRequired for
+    /// a cookie that is neither blank nor servable, from a client that does not ask to reload then. A
+    /// search in the mode refreshAndPersist goes on after its refresh.
     ///
-    /// A cookie is servable where it is of the directory's history and its stamp is not above the
+    /// A cookie is servable where it is of the directory's history and its CSN is not above the
     /// last one. The search then begins with the content after the writes that it names.
     #[tactic(auto, using(crate::proofs::Asking::value_refused, crate::proofs::Asking::value_read))]
     pub fn accept(&mut self, ask: SyncSearch) -> Accepted
@@ -96,7 +89,8 @@ impl Provider {
     fn accept_request(&mut self, request: &SyncRequest, ask: SyncSearch) -> Accepted
         requires { request_of ask.control ≡ Ok request.now }
         ensures answer { accepting.Answers result
-            (accepting.answer_to_request self.old.directory self.old.searches ask (Ok request.now)) }
+            (accepting.answer_to_request self.old.directory self.old.searches ask
+            (Ok request.now)) }
         ensures state { self.new ≡ record self.old {
           searches = accepting.after_answer self.old.directory self.old.searches ask result;
         } }
@@ -121,14 +115,20 @@ impl Provider {
         }
     }
 
-    /// The number that a search gets and where it begins, or the first code that is against it.
+    /// The number that a search gets and where it begins, or the first code that rejects it.
     #[tactic(auto, using(crate::proofs::Asking::outside, crate::proofs::Asking::crowded, crate::proofs::Asking::opposed, crate::proofs::Asking::admitted))]
     fn admitted(&self, request: &SyncRequest, ask: &SyncSearch) -> Result<Admitted, u32>
-        ensures answer { IfOk result (λ found. accepting.answer_to_request self.now.directory self.now.searches ask.now (Ok request.now)
+        ensures answer { IfOk result (λ found.
+            accepting.answer_to_request self.now.directory self.now.searches ask.now
+            (Ok request.now)
             ≡ Opened found.number (length self.now.directory.writes)) }
-        ensures start { IfOk result (λ found. start_of found.start ≡ accepting.start_of_request self.now.directory request.now) }
+        ensures start { IfOk result (λ found.
+            start_of found.start ≡ accepting.start_of_request self.now.directory request.now) }
         ensures served { IfOk result (λ found. IsServed self.now.directory (start_of found.start)) }
-        ensures code { IfErr result (λ code. accepting.answer_to_request self.now.directory self.now.searches ask.now (Ok request.now) ≡ Refused code) }
+        ensures code { IfErr result (λ code.
+            accepting.answer_to_request self.now.directory self.now.searches ask.now
+            (Ok request.now)
+            ≡ Refused code) }
     {
         if !ask.spec.base.is_at_or_below(self.directory.suffix()) {
             return Err(NO_SUCH_OBJECT);
@@ -151,7 +151,8 @@ impl Provider {
         ensures writes { IfOk result (λ writes. writes ≡ length self.old.directory.writes) }
         ensures ok { OnOk result (self.new ≡ record self.old {
           searches = insert_entry nat_cmp self.old.searches number
-              (opening self.old.directory asked.id (search_of asked.spec) (start_of asked.start) asked.persists);
+              (opening self.old.directory asked.id (search_of asked.spec)
+              (start_of asked.start) asked.persists);
         }) }
         ensures err { OnErr result (self.new ≡ self.old) }
     {
@@ -184,12 +185,12 @@ impl Provider {
     }
 }
 
-/// The code that is against what a control asks for, by whether its cookie is servable.
+/// The code that rejects what a control asks for, by whether its cookie is servable.
 fn code_of(request: &SyncRequest, servable: bool) -> Option<u32>
     ensures { result ≡ accepting.code_by servable request.now }
 {
     if asks_with_cookie(request) && !servable && !request.reload_hint {
-        return Some(REFRESH_REQUIRED);
+        return Some(E_SYNC_REFRESH_REQUIRED);
     }
     None
 }

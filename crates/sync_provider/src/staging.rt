@@ -1,4 +1,4 @@
-//! How a write is told to all open searches, or to none (RFC 4533, section 3.4).
+//! How a write is reported to all open searches, or to none (RFC 4533, section 3.4).
 //!
 //! First the messages of the write are made for each search, and the room for them in its queue.
 //! That may fail, and nothing is seen of it. Once the write is accepted they are moved into the
@@ -12,17 +12,17 @@ ghost use Rattle.directory_writes.specs.Directory.{entries_of, judged, Refuses};
 ghost use Rattle.entry_tree.specs.Fitting.{fits};
 ghost use Rattle.entry_tree.specs.Sound.{is_sound_op};
 ghost use Rattle.sync_provider.specs.Queueing.{is_queueing};
-ghost use Rattle.sync_provider.specs.Staging.{searches_of, each_pushed, AreStaged, IsToldAhead};
+ghost use Rattle.sync_provider.specs.Staging.{searches_of, each_pushed, AreStaged, IsNotifiedAhead};
 
 use crate::NoMemory;
 use crate::open_search::{OpenSearch, discard};
 use csn_cookie::Cookie;
 use directory_writes::Directory;
-use entry_tree::{Op, OpFault, Touch};
+use entry_tree::{EntryChange, Op, OpFault};
 use std::alloc::AllocError;
 use std::collections::BTreeMap;
 
-/// Makes the messages of the write that this operation would be, or tells the code that is against
+/// Makes the messages of the write that this operation would be, or reports the code that rejects
 /// it.
 pub(crate) fn stage_write(
     searches: &mut BTreeMap<u64, OpenSearch>,
@@ -33,7 +33,7 @@ pub(crate) fn stage_write(
     requires sound { is_sound_op op.now ≡ true }
     requires fits { fits (entries_of directory.now) op.now ≡ true }
     ensures searches { searches_of searches.new.entries ≡ searches_of searches.old.entries }
-    ensures staged { OnOk result (IsToldAhead directory.now op.now now searches.new.entries) }
+    ensures staged { OnOk result (IsNotifiedAhead directory.now op.now now searches.new.entries) }
     ensures refused { IfErr result (Refuses (judged directory.now op.now now)) }
 {
     let preview = directory.preview(op, now)?;
@@ -52,7 +52,7 @@ pub(crate) fn stage_write(
 /// Makes the messages of a write with these touches and this cookie.
 fn stage_each(
     searches: &mut BTreeMap<u64, OpenSearch>,
-    touched: &[Touch],
+    touched: &[EntryChange],
     cookie: Cookie,
 ) -> Result<(), NoMemory>
     requires rid { cookie.rid < 1000 }
@@ -78,14 +78,14 @@ fn are_staged(searches: &BTreeMap<u64, OpenSearch>) -> bool
     searches.values().all(|search| search.is_staged())
 }
 
-/// Whether writes are told to any search.
+/// Whether writes are reported to any search.
 pub(crate) fn any_queueing(searches: &BTreeMap<u64, OpenSearch>) -> bool
     ensures { result ≡ list_any (λ held. is_queueing held.search) (values_of searches.now.entries) }
 {
     searches.values().any(|search| search.is_queueing())
 }
 
-/// Puts what was made into the queues, each of which may hold so many messages.
+/// Puts what was made into the queues, each of which may hold n messages.
 pub(crate) fn push_each(searches: &mut BTreeMap<u64, OpenSearch>, limit: u64)
     ensures { searches_of searches.new.entries ≡ each_pushed limit searches.old.entries }
 {

@@ -17,19 +17,15 @@ use crate::open_search::discard;
 use crate::provider::{Kind, Provider};
 use crate::staging::{any_queueing, push_each, stage_write};
 use entry_tree::{EntryList, Op, OpFault};
+use ldap_constants::{OTHER, UNWILLING_TO_PERFORM};
 use std::alloc::AllocError;
 use sync_messages::IdList;
-
-/// unwillingToPerform (RFC 4511, appendix A.1): a replica takes no writes of clients.
-const UNWILLING_TO_PERFORM: u32 = 53;
-
-/// other (RFC 4511, appendix A.1): memory ran out.
-const OTHER: u32 = 80;
 
 /// The answer to a write.
 #[derive(Clone, Copy, Debug, PartialEq, Eq)]
 pub struct Reply {
-    /// 0 where the write was accepted, 53 at a replica, and 80 where memory ran out.
+    /// success where the write was accepted, unwillingToPerform at a replica, and other where memory
+    /// ran out.
     pub code: u32,
     /// How many writes are accepted after it.
     pub number: u64,
@@ -63,15 +59,15 @@ impl From<directory_writes::CommitFault> for CommitFault {
 
 impl Provider {
     /// Applies a write of a client where the clock shows `now`, in microseconds from the first
-    /// moment of 1970 on, and tells it to the searches that go on and whose content it changes. A
+    /// moment of 1970 on, and reports it to the searches that go on and whose content it changes. A
     /// write that is not accepted leaves all as it was. A replica accepts none.
-    #[tactic(auto, using(crate::proofs::Told::unwritten_all))]
+    #[tactic(auto, using(crate::proofs::Delivery::unwritten_all))]
     pub fn write(&mut self, op: Op, now: u64) -> Reply
         requires sound { is_sound_op op ≡ true }
         requires asked { is_commit op ≡ false }
-        ensures code { result.code ≢ 80 → result.code ≡ machine.write_code self.old op now }
-        ensures state { result.code ≢ 80 → self.new ≡ machine.wrote self.old op now }
-        ensures err { result.code ≡ 80 → self.new ≡ self.old }
+        ensures code { result.code ≢ OTHER → result.code ≡ machine.write_code self.old op now }
+        ensures state { result.code ≢ OTHER → self.new ≡ machine.wrote self.old op now }
+        ensures err { result.code ≡ OTHER → self.new ≡ self.old }
         ensures number { result.number ≡ length self.new.directory.writes }
         ensures leaves { WriteLeaves self.old op now result self.new }
     {
@@ -95,7 +91,7 @@ impl Provider {
         ensures err { OnErr result (self.new ≡ self.old) }
     {
         match self.kind {
-            Kind::Root => self.write_and_tell(op, now),
+            Kind::Root => self.write_and_notify(op, now),
             Kind::Replica => {
                 discard(op);
                 Ok(UNWILLING_TO_PERFORM)
@@ -104,14 +100,16 @@ impl Provider {
     }
 
     /// Adds one write that puts these entries, each in the place of one of its identity, and drops
-    /// these identities, where the clock shows `now`. It is told as a client's write is. The answer
-    /// is the number of accepted writes after it. The entries keep their stamps; the write has a
-    /// stamp of this directory. A commit that is refused leaves all as it was.
+    /// these identities, where the clock shows `now`. It is reported as a client's write is. The answer
+    /// is the number of accepted writes after it. The entries keep their CSNs; the write has a
+    /// CSN of this directory. A commit that is refused leaves all as it was.
     pub fn commit(&mut self, puts: EntryList, drops: IdList, now: u64) -> Result<u64, CommitFault>
         requires sound { list_all is_sound_put puts ≡ true }
         requires light { list_all is_light puts ≡ true }
-        ensures accepted { OnOk result (commit_refusal self.old.kind self.old.directory puts drops now ≡ None) }
-        ensures refused { IfErr result (Opposes (commit_refusal self.old.kind self.old.directory puts drops now)) }
+        ensures accepted { OnOk result
+            (commit_refusal self.old.kind self.old.directory puts drops now ≡ None) }
+        ensures refused { IfErr result
+            (Opposes (commit_refusal self.old.kind self.old.directory puts drops now)) }
         ensures root { IsErrOf result faults.NotAReplica ↔ self.old.kind ≡ Kind.Root }
         ensures state { OnOk result (self.new ≡ machine.committed self.old puts drops now) }
         ensures err { OnErr result (self.new ≡ self.old) }
@@ -134,8 +132,10 @@ impl Provider {
     ) -> Result<u64, directory_writes::CommitFault>
         requires sound { list_all is_sound_put puts ≡ true }
         requires light { list_all is_light puts ≡ true }
-        ensures accepted { OnOk result (commits.commit_refusal self.old.directory puts drops now ≡ None) }
-        ensures refused { IfErr result (commits.Opposes (commits.commit_refusal self.old.directory puts drops now)) }
+        ensures accepted { OnOk result
+            (commits.commit_refusal self.old.directory puts drops now ≡ None) }
+        ensures refused { IfErr result
+            (commits.Opposes (commits.commit_refusal self.old.directory puts drops now)) }
         ensures state { OnOk result (self.new ≡ machine.after_judged self.old
             (directory.judged self.old.directory (Op.Commit puts drops) now)) }
         ensures err { OnErr result (self.new ≡ self.old) }
@@ -143,17 +143,19 @@ impl Provider {
         ensures one { IfOk result (λ number. number ≡ length self.old.directory.writes + 1) }
     {
         self.directory.check_commit(puts.list(), drops.list(), now)?;
-        self.write_and_tell(Op::Commit(puts, drops), now)?;
+        self.write_and_notify(Op::Commit(puts, drops), now)?;
         Ok(self.writes())
     }
 
-    /// Applies a write, whoever asks for it, and tells it. The answer is its code.
-    #[tactic(auto, using(crate::proofs::Told::refused_view, crate::proofs::Told::code_none))]
-    fn write_and_tell(&mut self, op: Op, now: u64) -> Result<u32, NoMemory>
+    /// Applies a write, whoever asks for it, and reports it. The answer is its code.
+    #[tactic(auto, using(crate::proofs::Delivery::refused_view, crate::proofs::Delivery::code_none))]
+    fn write_and_notify(&mut self, op: Op, now: u64) -> Result<u32, NoMemory>
         requires sound { is_sound_op op ≡ true }
         requires fits { fits (directory.entries_of self.old.directory) op ≡ true }
         ensures code { IfOk result (λ code. code ≡ directory.write_code self.old.directory op now) }
-        ensures state { OnOk result (self.new ≡ machine.after_judged self.old (directory.judged self.old.directory op now)) }
+        ensures state { OnOk result
+            (self.new
+            ≡ machine.after_judged self.old (directory.judged self.old.directory op now)) }
         ensures err { OnErr result (self.new ≡ self.old) }
     {
         if !any_queueing(&self.searches) {
@@ -173,7 +175,7 @@ impl Provider {
     }
 }
 
-/// The code that a fault tells.
+/// The code that a fault reports.
 fn code_of(fault: OpFault) -> Result<u32, NoMemory>
     ensures { IfOk result (λ code. fault ≡ OpFault.Code code) }
 {

@@ -15,6 +15,7 @@ use Rattle.sync_wire.specs.WireEntry.{is_kept_by, kept, kept_of, kept_values, un
 
 -- ---- values
 
+-- an option by a test is there exactly where the test holds
 pub some_if : (b : Bool) (key : List ℕ) → is_some (if b then Some key else None) ≡ b
 some_if true key = refl
 some_if false key = refl
@@ -45,6 +46,7 @@ kept_of-filled (Some kind) values a e = by (is_operational kind) e
     by true h = absurd (cc)
     by false h = filled kind (kept_values kind values) a h
 
+-- an attribute that is kept has a value
 pub kept-filled : (raw : RawAttribute) (a : Attribute) → kept raw ≡ Some a → a.values ≢ []
 kept-filled raw a e = kept_of-filled (type_named raw.name) raw.values a e
 
@@ -54,6 +56,7 @@ pub attributes_of-more : (raws : List RawAttribute) (i : ℕ) (raw : RawAttribut
 attributes_of-more raws i raw a low at some =
     ap joined (filter_map_some kept raws i raw a low at some) ∙ joined-push (filter_map kept (take i raws)) a
 
+-- an attribute that is not kept leaves the list of those that are
 pub attributes_of-same : (raws : List RawAttribute) (i : ℕ) (raw : RawAttribute) → i < length raws → raw ≡ get_or raws i raw
     → kept raw ≡ None → attributes_of (take (i + 1) raws) ≡ attributes_of (take i raws)
 attributes_of-same raws i raw low at none = ap joined (filter_map_none kept raws i raw low at none)

@@ -1,9 +1,12 @@
+pub mod Identities
+pub mod Lengths
 pub mod Lists
+pub mod OfSearch
+pub mod Servable
 pub mod Texts
 pub mod Keeping
 pub mod Listed
 pub mod Sizes
-pub mod Marks
-pub mod Told
-pub mod Passing
+pub mod OperationalAttributes
+pub mod Notified
 pub mod Operations

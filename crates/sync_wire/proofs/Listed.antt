@@ -83,6 +83,7 @@ gathered_once (a ∷ attrs) h =
     ap (λ first. first ∷ map (gathered (a ∷ attrs)) (map kind_in attrs)) (gathered_first a attrs h.0)
     ∙ ap (λ rest. a ∷ rest) (gathered_others a attrs attrs h.0 ∙ gathered_once attrs h.1)
 
+-- joining the attributes of a list that has each type once leaves it
 pub joined-once : (attrs : List Attribute) → IsAttributeList attrs → joined attrs ≡ attrs
 joined-once attrs is =
     let h = once attrs is.once in

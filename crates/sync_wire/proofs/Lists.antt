@@ -5,10 +5,12 @@ use Rattle.std.specs.Prelude.{find}
 use Rattle.std.specs.Option.{option_or}
 use Rattle.std.specs.List.{filter_map}
 
+-- where a conjunction holds, both of its parts do
 pub both : (a b : Bool) → (a && b) ≡ true → (a ≡ true) × (b ≡ true)
 both true b h = (refl, h)
 both false b h = absurd (cc)
 
+-- what is denied does not hold
 pub not_true : (b : Bool) → not b ≡ true → b ≡ false
 not_true true h = absurd (cc)
 not_true false h = refl
@@ -26,6 +28,7 @@ find_first {X} {Y} p f x xs = by (f x) refl
     by None e = rw e refl
     by (Some y) e = rw e (tested y (p y) refl)
 
+-- a number that is the one looked for is no other one
 pub none_other : {X : Type 0} (f : X → Option ℕ) (number : ℕ) (x : X) (found : ℕ) → f x ≡ Some found → found ≡ number
     → None ≡ find (λ other. not (other == number)) (filter_map f (x ∷ []))
 none_other f number x found some same = rw (some, same, eq-eqb number number refl) refl
@@ -35,6 +38,7 @@ pub first_stays : {Y : Type 0} (found first rest : Option Y) → found ≡ first
 first_stays None first rest same some = absurd (cc)
 first_stays (Some y) first rest same some = ap (λ o. option_or o rest) same
 
+-- where the first is none the rest decides
 pub first_passes : {Y : Type 0} (found first rest : Option Y) → found ≡ first → is_some found ≡ false → option_or first rest ≡ rest
 first_passes None first rest same none = ap (λ o. option_or o rest) (sym same)
 first_passes (Some y) first rest same none = absurd (cc)

@@ -20,12 +20,12 @@ use Rattle.sync_messages.specs.Info.{info_of, info_octets, uuids_octets, IsInRan
 use Rattle.sync_messages.proofs.StateLemmas.{state_read_again}
 use Rattle.sync_messages.proofs.DoneLemmas.{done_read_again}
 use Rattle.sync_messages.proofs.InfoLemmas.{info_read_again}
-use Rattle.sync_model.specs.Message.{Cookie}
+use Rattle.sync_model.specs.Message.{CookieText}
 use Rattle.sync_wire.specs.Law.{IsIdentity, IsShort}
 
 -- ---- parts
 
-cookie_size : (cookie : Option Cookie) → IsShort cookie → length (cookie_octets cookie) < 2 ^ 24 + 6
+cookie_size : (cookie : Option CookieText) → IsShort cookie → length (cookie_octets cookie) < 2 ^ 24 + 6
 cookie_size None short = omega arith
 cookie_size (Some cookie) short = omega (arith, element_size 4 cookie, short)
 
@@ -52,13 +52,13 @@ uuids_size [] = omega arith
 uuids_size (uuid ∷ uuids) =
     omega (arith, length-append (uuid_octets uuid) (flat_map uuid_octets uuids), uuid_size uuid, uuids_size uuids)
 
-refresh_size : (usual flag : Bool) (cookie : Option Cookie) → IsShort cookie → length (refresh_octets usual (cookie, flag)) < 2 ^ 24 + 13
+refresh_size : (usual flag : Bool) (cookie : Option CookieText) → IsShort cookie → length (refresh_octets usual (cookie, flag)) < 2 ^ 24 + 13
 refresh_size usual flag cookie short =
     omega (arith, length-append (cookie_octets cookie) (flag_octets 1 usual flag), cookie_size cookie short, flag_size usual flag)
 
 -- ---- the Sync State control
 
-state_small : (kind : State) (uuid : ℕ) (cookie : Option Cookie) → IsShort cookie → IsSmall (state_octets (record { state = kind; uuid = uuid; cookie = cookie }))
+state_small : (kind : State) (uuid : ℕ) (cookie : Option CookieText) → IsShort cookie → IsSmall (state_octets (record { state = kind; uuid = uuid; cookie = cookie }))
 unfolding state_octets
 state_small kind uuid cookie short =
     let number = element 10 (integer_octets (kind_number kind)) in
@@ -74,7 +74,8 @@ state_small kind uuid cookie short =
       cookie_size cookie short,
     )
 
-pub state_again : (kind : State) (uuid : ℕ) (cookie : Option Cookie) → IsIdentity uuid → IsShort cookie
+-- the value of a Sync State control is read again as it was written
+pub state_again : (kind : State) (uuid : ℕ) (cookie : Option CookieText) → IsIdentity uuid → IsShort cookie
     → state_of (state_octets (record { state = kind; uuid = uuid; cookie = cookie })) ≡ Ok (record { state = kind; uuid = uuid; cookie = cookie })
 state_again kind uuid cookie identity short =
     let value : SyncState = record { state = kind; uuid = uuid; cookie = cookie } in
@@ -82,11 +83,12 @@ state_again kind uuid cookie identity short =
 
 -- ---- the Sync Done control
 
-done_small : (deletes : Bool) (cookie : Option Cookie) → IsShort cookie → IsSmall (done_octets (record { cookie = cookie; refresh_deletes = deletes }))
+done_small : (deletes : Bool) (cookie : Option CookieText) → IsShort cookie → IsSmall (done_octets (record { cookie = cookie; refresh_deletes = deletes }))
 unfolding done_octets
 done_small deletes cookie short = omega (arith, element_size 48 (refresh_octets false (cookie, deletes)), refresh_size false deletes cookie short)
 
-pub done_again : (deletes : Bool) (cookie : Option Cookie) → IsShort cookie
+-- the value of a Sync Done control is read again as it was written
+pub done_again : (deletes : Bool) (cookie : Option CookieText) → IsShort cookie
     → done_of (done_octets (record { cookie = cookie; refresh_deletes = deletes })) ≡ Ok (record { cookie = cookie; refresh_deletes = deletes })
 done_again deletes cookie short =
     let value : SyncDone = record { cookie = cookie; refresh_deletes = deletes } in
@@ -130,5 +132,6 @@ in_range (info.RefreshDelete cookie done) h = tt
 in_range (info.RefreshPresent cookie done) h = tt
 in_range (info.IdSet cookie deletes uuids) h = each uuids h.0
 
+-- the value of a Sync Info message is read again as it was written
 pub info_again : (value : SyncInfo) → IsMedium value → info_of (info_octets value) ≡ Ok value
 info_again value h = info_read_again {E = Unit {0}} (Ok (info_octets value)) value refl (info_small value h) (in_range value h)

@@ -1,6 +1,7 @@
--- The messages of LDAP that a search with content synchronisation is asked for and told by, and what each says.
+-- The messages of LDAP that a search with content synchronisation is asked for and reported
+-- by, and what each says.
 pub mod CanBeSent
-pub mod Hearing
+pub mod Decoding
 pub mod Kind
 pub mod Law
 pub mod Refusals

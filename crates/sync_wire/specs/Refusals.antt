@@ -1,28 +1,29 @@
 -- What a function answered, seen by `view`, is what reading gives, unless memory ran out.
 use Rattle.std.specs.Prelude.{◌≡◌, ⊤, ℕ, Result, Ok, Err}
-use Rattle.sync_wire.specs.declared.fault.HearingFault.{HearingFault}
-use Rattle.sync_wire.specs.declared.fault.HearingFault.TheVariants.{OutOfPlace, BadValue, UuidDiffers, BadEntry, NoMemory}
+use Rattle.sync_wire.specs.declared.fault.DecodeFault.{DecodeFault}
+use Rattle.sync_wire.specs.declared.fault.DecodeFault.TheVariants.{OutOfPlace, BadValue, UuidDiffers, BadEntry, NoMemory}
 
-abbrev pub Fails : {Y : Type 0} → HearingFault → Result Y HearingFault → Type 0
+abbrev pub Fails : {Y : Type 0} → DecodeFault → Result Y DecodeFault → Type 0
 Fails OutOfPlace read = read ≡ Err OutOfPlace
 Fails BadValue read = read ≡ Err BadValue
 Fails (UuidDiffers uuid other) read = read ≡ Err (UuidDiffers uuid other)
 Fails (BadEntry code) read = read ≡ Err (BadEntry code)
 Fails NoMemory read = ⊤
 
-abbrev pub Gives : {X Y : Type 0} → (X → Y) → Result X HearingFault → Result Y HearingFault → Type 0
+abbrev pub Gives : {X Y : Type 0} → (X → Y) → Result X DecodeFault → Result Y DecodeFault → Type 0
 Gives view (Ok x) read = read ≡ Ok (view x)
 Gives view (Err refusal) read = Fails refusal read
 
 -- the second step where the first gave a value
-abbrev pub and_then : {X Y : Type 0} → Result X HearingFault → (X → Result Y HearingFault) → Result Y HearingFault
+abbrev pub and_then :
+    {X Y : Type 0} → Result X DecodeFault → (X → Result Y DecodeFault) → Result Y DecodeFault
 and_then (Ok x) next = next x
 and_then (Err refusal) next = Err refusal
 
-abbrev pub on_ok : {X Y : Type 0} → (X → Y) → Result X HearingFault → Result Y HearingFault
+abbrev pub on_ok : {X Y : Type 0} → (X → Y) → Result X DecodeFault → Result Y DecodeFault
 on_ok f (Ok x) = Ok (f x)
 on_ok f (Err refusal) = Err refusal
 
--- an entry that cannot be held, with the code that is against it
-abbrev pub bad_entry : ℕ → HearingFault
+-- an entry that cannot be held, with the code that rejects it
+abbrev pub bad_entry : ℕ → DecodeFault
 bad_entry code = BadEntry code

@@ -1,6 +1,8 @@
--- The message of LDAP that each message of a synchronised search is sent as (RFC 4533, sections 2.2 to 2.5).
+-- The message of LDAP that each message of a synchronised search is sent as (RFC 4533,
+-- sections 2.2 to 2.5).
 use Rattle.std.specs.Prelude.{ℕ, ℤ, Bool, true, false, List, [], ◌∷◌, ◌++◌, map, Option, Some, None, codes}
 use Rattle.std.specs.Int.{to_be_bytes, w128}
+use Rattle.ldap_constants.specs.declared.object_identifiers.TheConstants.{SYNC_STATE, SYNC_DONE, SYNC_INFO}
 use Rattle.uuid.specs.Text.{hyphenated_text, lower}
 use Rattle.csn_cookie.specs.Csn.{csn_text}
 use Rattle.schema_rules.specs.declared.attributes.Attribute.{Attribute}
@@ -20,29 +22,37 @@ use Rattle.ldap_messages.specs.declared.outcome.LdapResult.{LdapResult}
 use Rattle.ldap_messages.specs.Operation as operation
 use Rattle.ldap_messages.specs.Operation.{Operation}
 use Rattle.ldap_messages.specs.Whole.{Whole}
-use Rattle.sync_model.specs.Message.{Cookie, SyncMessage}
-use Rattle.sync_model.specs.Message.SyncMessage.{Put, Gone, Present, IdSet, NewCookie, PhaseEnds, Done, Passed}
+use Rattle.sync_model.specs.Message.{CookieText, SyncMessage}
+use Rattle.sync_model.specs.Message.SyncMessage.{AddOrModify, Delete, Present, IdSet, NewCookie, RefreshDelete, RefreshPresent, Done, Ignored}
 
 -- ---- the names of the controls and of the Sync Info message
 
 abbrev pub state_name : List ℕ
-state_name = codes "1.3.6.1.4.1.4203.1.9.1.2"
+state_name = SYNC_STATE.now
 
 abbrev pub done_name : List ℕ
-done_name = codes "1.3.6.1.4.1.4203.1.9.1.3"
+done_name = SYNC_DONE.now
 
 abbrev pub info_name : List ℕ
-info_name = codes "1.3.6.1.4.1.4203.1.9.1.4"
+info_name = SYNC_INFO.now
 
 -- ---- controls, none of which is critical
 
-abbrev pub state_control : State → ℕ → Option Cookie → Control
+abbrev pub state_control : State → ℕ → Option CookieText → Control
 state_control kind uuid cookie =
-    record { name = state_name; critical = false; value = Some (state_octets (record { state = kind; uuid = uuid; cookie = cookie })) }
+    record {
+      name = state_name;
+      critical = false;
+      value = Some (state_octets (record { state = kind; uuid = uuid; cookie = cookie }));
+    }
 
-abbrev pub done_control : Bool → Option Cookie → Control
+abbrev pub done_control : Bool → Option CookieText → Control
 done_control deletes cookie =
-    record { name = done_name; critical = false; value = Some (done_octets (record { cookie = cookie; refresh_deletes = deletes })) }
+    record {
+      name = done_name;
+      critical = false;
+      value = Some (done_octets (record { cookie = cookie; refresh_deletes = deletes }));
+    }
 
 -- ---- entries
 
@@ -57,13 +67,14 @@ raw_of a = record { name = type_name a.kind; values = a.values }
 abbrev pub single : List ℕ → List ℕ → RawAttribute
 single name value = record { name = name; values = value ∷ [] }
 
--- the identity (RFC 4530) and the stamp of the last change, as attributes
-abbrev pub marks_of : Entry → List RawAttribute
-marks_of e = single (codes "entryUUID") (uuid_text e.uuid) ∷ single (codes "entryCSN") (csn_text e.csn) ∷ []
+-- the identity (RFC 4530) and the CSN of the last change, as attributes
+abbrev pub operational_attributes_of : Entry → List RawAttribute
+operational_attributes_of e =
+    single (codes "entryUUID") (uuid_text e.uuid) ∷ single (codes "entryCSN") (csn_text e.csn) ∷ []
 
 -- the attributes in the order held, then the marks
 abbrev pub attributes_of : Entry → List RawAttribute
-attributes_of e = map raw_of e.attrs ++ marks_of e
+attributes_of e = map raw_of e.attrs ++ operational_attributes_of e
 
 abbrev pub entry_of : Entry → Operation
 entry_of e = operation.entry (name_text e.dn, attributes_of e)
@@ -72,34 +83,35 @@ entry_of e = operation.entry (name_text e.dn, attributes_of e)
 
 -- a result with empty texts and no referral
 abbrev pub result_of : ℤ → LdapResult
-result_of code = record { code = code; matched = []; message = []; referral = None }
+result_of code = record { code = code; matched_dn = []; diagnostic_message = []; referral = None }
 
-abbrev pub done_controls : Option (Bool × Option Cookie) → List Control
+abbrev pub done_controls : Option (Bool × Option CookieText) → List Control
 done_controls None = []
-done_controls (Some told) = done_control told.0 told.1 ∷ []
-
-abbrev pub phase_end : Bool → Bool → Option Cookie → SyncInfo
-phase_end true done cookie = info.RefreshDelete cookie done
-phase_end false done cookie = info.RefreshPresent cookie done
+done_controls (Some event) = done_control event.0 event.1 ∷ []
 
 abbrev pub info_of : SyncInfo → Operation
-info_of told = operation.intermediate (Some info_name, Some (info_octets told))
+info_of event = operation.intermediate (Some info_name, Some (info_octets event))
 
 abbrev pub kind_of : Bool → State
 kind_of true = state.Add
 kind_of false = state.Modify
 
--- ---- the operation and the controls of a message. What says nothing is sent as an intermediate response without a name
+-- ---- the operation and the controls of a message. What says nothing is sent as an intermediate
+-- response without a name
 
 abbrev pub parts_of : SyncMessage → Operation × List Control
-parts_of (Put adds entry cookie) = (entry_of entry, state_control (kind_of adds) entry.uuid cookie ∷ [])
-parts_of (Gone uuid name cookie) = (operation.entry (name, []), state_control state.Delete uuid cookie ∷ [])
-parts_of (Present uuid cookie) = (operation.entry ([], []), state_control state.Present uuid cookie ∷ [])
+parts_of (AddOrModify adds entry cookie) =
+    (entry_of entry, state_control (kind_of adds) entry.uuid cookie ∷ [])
+parts_of (Delete uuid name cookie) =
+    (operation.entry (name, []), state_control state.Delete uuid cookie ∷ [])
+parts_of (Present uuid cookie) =
+    (operation.entry ([], []), state_control state.Present uuid cookie ∷ [])
 parts_of (IdSet deletes uuids cookie) = (info_of (info.IdSet cookie deletes uuids), [])
 parts_of (NewCookie cookie) = (info_of (info.NewCookie cookie), [])
-parts_of (PhaseEnds deletes done cookie) = (info_of (phase_end deletes done cookie), [])
+parts_of (RefreshDelete done cookie) = (info_of (info.RefreshDelete cookie done), [])
+parts_of (RefreshPresent done cookie) = (info_of (info.RefreshPresent cookie done), [])
 parts_of (Done code control) = (operation.search_done (result_of code), done_controls control)
-parts_of Passed = (operation.intermediate (None, None), [])
+parts_of Ignored = (operation.intermediate (None, None), [])
 
 -- the message with this identifier
 abbrev pub sent : ℕ → SyncMessage → Whole

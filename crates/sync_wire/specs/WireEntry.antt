@@ -3,8 +3,9 @@ use Rattle.std.specs.Prelude.{ℕ, Bool, true, not, ◌&&◌, ◌==◌, nat_lt, 
 use Rattle.std.specs.List.{list_all, filter_map, flat_map}
 use Rattle.std.specs.Int.{w128, from_be_bytes}
 use Rattle.std.specs.Str.{str_eq_ignore_ascii_case}
+use Rattle.ldap_constants.specs.declared.result_codes.TheConstants.{ADMIN_LIMIT_EXCEEDED, INVALID_ATTRIBUTE_SYNTAX, INVALID_DN_SYNTAX, OBJECT_CLASS_VIOLATION}
 use Rattle.uuid.specs.Text.{parsed}
-use Rattle.csn_cookie.specs.Csn.{Stamp, csn_of_text}
+use Rattle.csn_cookie.specs.Csn.{CsnValue, csn_of_text}
 use Rattle.schema_rules.specs.declared.attributes.Attribute.{Attribute}
 use Rattle.schema_rules.specs.declared.raw.RawAttribute.{RawAttribute}
 use Rattle.schema_rules.specs.declared.types.Rule.{Rule}
@@ -16,17 +17,19 @@ use Rattle.dn_names.specs.Names.{TypeAndValue}
 use Rattle.dn_names.specs.Reading.{name_of_text}
 use Rattle.entry_tree.specs.declared.entry.Entry.{Entry}
 use Rattle.entry_tree.specs.State.{most_entry_weight}
-use Rattle.sync_wire.specs.declared.fault.HearingFault.{HearingFault}
-use Rattle.sync_wire.specs.declared.fault.HearingFault.TheVariants.{UuidDiffers}
+use Rattle.sync_wire.specs.declared.fault.DecodeFault.{DecodeFault}
+use Rattle.sync_wire.specs.declared.fault.DecodeFault.TheVariants.{UuidDiffers}
 use Rattle.sync_wire.specs.Refusals.{and_then, bad_entry}
 
 -- ---- operational attributes
 
 -- all values of the attributes of that name, whatever the case of its letters
 abbrev pub values_named : List ℕ → List RawAttribute → List (List ℕ)
-values_named name raws = flat_map (λ raw. raw.values) (filter (λ raw. str_eq_ignore_ascii_case raw.name name) raws)
+values_named name raws =
+    flat_map (λ raw. raw.values) (filter (λ raw. str_eq_ignore_ascii_case raw.name name) raws)
 
--- the identity of a text of 36 characters, in five groups of hexadecimal digits (RFC 4530, section 2.1)
+-- the identity of a text of 36 characters, in five groups of hexadecimal digits
+-- (RFC 4530, section 2.1)
 abbrev pub uuid_of : List ℕ → Option ℕ
 uuid_of text = if length text == 36 then option_map (from_be_bytes w128) (parsed text) else None
 
@@ -37,33 +40,33 @@ uuid_values raws = values_named (codes "entryUUID") raws
 abbrev pub first_other : ℕ → List (List ℕ) → Option ℕ
 first_other uuid values = find (λ other. not (other == uuid)) (filter_map uuid_of values)
 
-abbrev pub same_or_refused : ℕ → Option ℕ → Result (Unit {0}) HearingFault
+abbrev pub same_or_refused : ℕ → Option ℕ → Result (Unit {0}) DecodeFault
 same_or_refused uuid None = Ok tt
 same_or_refused uuid (Some other) = Err (UuidDiffers uuid other)
 
 -- no entryUUID is that of another identity
-abbrev pub checked_uuid : ℕ → List RawAttribute → Result (Unit {0}) HearingFault
+abbrev pub checked_uuid : ℕ → List RawAttribute → Result (Unit {0}) DecodeFault
 checked_uuid uuid raws = same_or_refused uuid (first_other uuid (uuid_values raws))
 
 -- each entryUUID is the text of an identity
 abbrev pub are_uuids : List RawAttribute → Bool
 are_uuids raws = list_all (λ value. is_some (uuid_of value)) (uuid_values raws)
 
-abbrev pub or_65 : Option Stamp → Result Stamp HearingFault
-or_65 None = Err (bad_entry 65)
+abbrev pub or_65 : Option CsnValue → Result CsnValue DecodeFault
+or_65 None = Err (bad_entry OBJECT_CLASS_VIOLATION)
 or_65 (Some csn) = Ok csn
 
-abbrev pub csn_of : List ℕ → Result Stamp HearingFault
+abbrev pub csn_of : List ℕ → Result CsnValue DecodeFault
 csn_of text = or_65 (csn_of_text text)
 
--- one value, which is a CSN, or objectClassViolation (65)
-abbrev pub one_csn : List (List ℕ) → Result Stamp HearingFault
-one_csn [] = Err (bad_entry 65)
+-- one value, which is a CSN, or objectClassViolation
+abbrev pub one_csn : List (List ℕ) → Result CsnValue DecodeFault
+one_csn [] = Err (bad_entry OBJECT_CLASS_VIOLATION)
 one_csn (value ∷ []) = csn_of value
-one_csn (value ∷ other ∷ values) = Err (bad_entry 65)
+one_csn (value ∷ other ∷ values) = Err (bad_entry OBJECT_CLASS_VIOLATION)
 
-abbrev pub stamp_of : List RawAttribute → Result Stamp HearingFault
-stamp_of raws = one_csn (values_named (codes "entryCSN") raws)
+abbrev pub entry_csn : List RawAttribute → Result CsnValue DecodeFault
+entry_csn raws = one_csn (values_named (codes "entryCSN") raws)
 
 -- ---- the other attributes
 
@@ -88,7 +91,8 @@ unless_empty kind (value ∷ values) = Some (record { kind = kind; values = valu
 
 abbrev pub kept_of : Option ℕ → List (List ℕ) → Option Attribute
 kept_of None values = None
-kept_of (Some kind) values = if is_operational kind then None else unless_empty kind (kept_values kind values)
+kept_of (Some kind) values =
+    if is_operational kind then None else unless_empty kind (kept_values kind values)
 
 -- what is kept of an attribute: nothing where its type is unknown or operational
 abbrev pub kept : RawAttribute → Option Attribute
@@ -103,26 +107,31 @@ is_of_its_syntax attribute = list_all (is_of_syntax attribute.kind) attribute.va
 
 -- ---- the entry
 
--- invalidDNSyntax (34)
-abbrev pub or_34 : {X : Type 0} → Result X NameFault → Result X HearingFault
+-- invalidDNSyntax
+abbrev pub or_34 : {X : Type 0} → Result X NameFault → Result X DecodeFault
 or_34 (Ok x) = Ok x
-or_34 (Err fault) = Err (bad_entry 34)
+or_34 (Err fault) = Err (bad_entry INVALID_DN_SYNTAX)
 
-abbrev pub name_of : List ℕ → Result (List (List TypeAndValue)) HearingFault
+abbrev pub name_of : List ℕ → Result (List (List TypeAndValue)) DecodeFault
 name_of text = or_34 (name_of_text text)
 
--- invalidAttributeSyntax (21)
-abbrev pub checked_syntax : List RawAttribute → List Attribute → Result (Unit {0}) HearingFault
+-- invalidAttributeSyntax
+abbrev pub checked_syntax : List RawAttribute → List Attribute → Result (Unit {0}) DecodeFault
 checked_syntax raws attributes =
-    if are_uuids raws && list_all is_of_its_syntax attributes then Ok tt else Err (bad_entry 21)
+    if are_uuids raws && list_all is_of_its_syntax attributes then Ok tt
+    else Err (bad_entry INVALID_ATTRIBUTE_SYNTAX)
 
--- adminLimitExceeded (11)
-abbrev pub checked_weight : Entry → Result Entry HearingFault
-checked_weight entry = if nat_lt most_entry_weight (weight_of entry.attrs) then Err (bad_entry 11) else Ok entry
+-- adminLimitExceeded
+abbrev pub checked_weight : Entry → Result Entry DecodeFault
+checked_weight entry =
+    if nat_lt most_entry_weight (weight_of entry.attrs) then Err (bad_entry ADMIN_LIMIT_EXCEEDED)
+    else Ok entry
 
--- the entry of an identity that was sent with this name and these attributes, or the first code against it; object
--- classes are not checked
-abbrev pub entry_of : ℕ → List ℕ → List RawAttribute → Result Entry HearingFault
+-- the entry of an identity that was sent with this name and these attributes, or the first code
+-- against it; object classes are not checked
+abbrev pub entry_of : ℕ → List ℕ → List RawAttribute → Result Entry DecodeFault
 entry_of uuid name raws =
-    and_then (name_of name) (λ dn. and_then (checked_syntax raws (attributes_of raws)) (λ checked. and_then (stamp_of raws) (λ csn.
+    and_then (name_of name) (λ dn.
+    and_then (checked_syntax raws (attributes_of raws)) (λ checked.
+    and_then (entry_csn raws) (λ csn.
     checked_weight (record { uuid = uuid; csn = csn; dn = dn; attrs = attributes_of raws }))))

@@ -2,8 +2,8 @@
 //! (RFC 4533, sections 2 and 3).
 #![tactic(auto)]
 
+mod decoding;
 mod fault;
-mod hearing;
 mod kind;
 mod laws;
 mod operational;
@@ -12,10 +12,10 @@ mod sending;
 mod values;
 mod wire_entry;
 
-pub use fault::HearingFault;
-pub use hearing::{Heard, hear};
+pub use decoding::{SyncEvent, decode};
+pub use fault::DecodeFault;
 pub use kind::tag_of;
-pub use laws::sent_is_heard;
+pub use laws::sent_is_decoded;
 pub use ldap_ber::NoMemory;
 pub use request::search_request;
-pub use sending::{done_message, end_message, entry_message, gone_message, names_message};
+pub use sending::{delete_message, done_message, end_message, entry_message, id_set_message};

@@ -6,9 +6,10 @@ ghost use Rattle.std.specs.Str.{str_eq_ignore_ascii_case};
 ghost use Rattle.sync_wire.specs.Refusals.{Gives};
 ghost use Rattle.sync_wire.specs.WireEntry as spec;
 
-use crate::fault::{HearingFault, OBJECT_CLASS_VIOLATION};
+use crate::fault::DecodeFault;
 use csn_cookie::Csn;
 use ldap_ber::{NoMemory, Octets};
+use ldap_constants::OBJECT_CLASS_VIOLATION;
 use schema_rules::RawAttribute;
 use std::alloc::Global;
 use uuid::Uuid;
@@ -25,12 +26,12 @@ pub(crate) fn check_uuid(
     alloc: Global,
     raws: &[RawAttribute],
     uuid: u128,
-) -> Result<(), HearingFault>
+) -> Result<(), DecodeFault>
     ensures { Gives (λ checked. checked) result (spec.checked_uuid uuid raws.now) }
 {
     let values = values_named(alloc, raws, ENTRY_UUID)?;
     match other_uuid(&values, uuid) {
-        Some(other) => Err(HearingFault::UuidDiffers(uuid, other)),
+        Some(other) => Err(DecodeFault::UuidDiffers(uuid, other)),
         None => Ok(()),
     }
 }
@@ -53,20 +54,20 @@ fn all_uuids(values: &[&Octets]) -> bool
 }
 
 /// The one entryCSN.
-pub(crate) fn stamp_of(alloc: Global, raws: &[RawAttribute]) -> Result<Csn, HearingFault>
-    ensures { Gives (λ csn. csn) result (spec.stamp_of raws.now) }
+pub(crate) fn entry_csn(alloc: Global, raws: &[RawAttribute]) -> Result<Csn, DecodeFault>
+    ensures { Gives (λ csn. csn) result (spec.entry_csn raws.now) }
 {
     let values = values_named(alloc, raws, ENTRY_CSN)?;
     match values.as_slice() {
         [value] => csn_of(value.as_slice()),
-        _ => Err(HearingFault::BadEntry(OBJECT_CLASS_VIOLATION)),
+        _ => Err(DecodeFault::BadEntry(OBJECT_CLASS_VIOLATION)),
     }
 }
 
-fn csn_of(text: &[u8]) -> Result<Csn, HearingFault>
+fn csn_of(text: &[u8]) -> Result<Csn, DecodeFault>
     ensures { Gives (λ csn. csn) result (spec.csn_of text.now) }
 {
-    Csn::parse(text).map_err(|_| HearingFault::BadEntry(OBJECT_CLASS_VIOLATION))
+    Csn::parse(text).map_err(|_| DecodeFault::BadEntry(OBJECT_CLASS_VIOLATION))
 }
 
 /// All values of the attributes of that name, whatever the case of its letters.
@@ -76,7 +77,8 @@ fn values_named<'a>(
     raws: &'a [RawAttribute],
     name: &[u8],
 ) -> Result<Vec<&'a Octets>, NoMemory>
-    ensures { IfOk result (λ values. map (λ v. v.now) values.items ≡ spec.values_named name.now raws.now) }
+    ensures { IfOk result (λ values.
+        map (λ v. v.now) values.items ≡ spec.values_named name.now raws.now) }
 {
     let mut values = Vec::new(alloc);
     for raw in raws {
@@ -94,7 +96,8 @@ fn is_named(raw: &RawAttribute, name: &[u8]) -> bool
 }
 
 fn push_each<'a>(list: &mut Vec<&'a Octets>, values: &'a [Octets]) -> Result<(), NoMemory>
-    ensures { OnOk result (map (λ v. v.now) list.new.items ≡ map (λ v. v.now) list.old.items ++ values.now) }
+    ensures { OnOk result
+        (map (λ v. v.now) list.new.items ≡ map (λ v. v.now) list.old.items ++ values.now) }
 {
     for value in values {
         list.push(value)?;

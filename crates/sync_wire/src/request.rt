@@ -9,12 +9,10 @@ ghost use Rattle.sync_wire.specs.Requesting as spec;
 
 use entry_tree::{Scope, Spec};
 use ldap_ber::{NoMemory, Octets, OctetsList};
+use ldap_constants::SYNC_REQUEST;
 use ldap_messages::{Control, ControlList, Message, Protocol, SearchScope};
 use std::alloc::Global;
 use sync_messages::SyncRequest;
-
-/// The Sync Request control.
-const SYNC_REQUEST: &[u8] = b"1.3.6.1.4.1.4203.1.9.1.1";
 
 /// The request for what is wanted, with all attributes and without limits.
 #[tactic(auto, using(crate::proofs::Operations::search_operation))]
@@ -25,9 +23,11 @@ pub fn search_request(
     sync: &SyncRequest,
 ) -> Result<Message, NoMemory>
     ensures message { IfOk result (λ message. whole_of message
-        ≡ spec.search_request (search_of wanted.now) id sync.now.mode sync.now.reload_hint sync.now.cookie) }
+        ≡ spec.search_request (search_of wanted.now) id sync.now.mode
+        sync.now.reload_hint sync.now.cookie) }
     // The value of its control is read again as what is asked.
-    ensures read_again { IfOk result (λ message. request_of (request_octets sync.now) ≡ Ok sync.now) }
+    ensures read_again { IfOk result (λ message.
+        request_of (request_octets sync.now) ≡ Ok sync.now) }
 {
     let base = wanted.base.write()?;
     let filter = wanted.filter.copy()?;
@@ -72,8 +72,10 @@ fn all_attributes(alloc: Global) -> Result<OctetsList, NoMemory>
 /// The control that asks for content synchronization.
 fn sync_control(alloc: Global, sync: &SyncRequest) -> Result<ControlList, NoMemory>
     ensures controls { IfOk result
-        (λ controls. controls ≡ spec.sync_control sync.now.mode sync.now.reload_hint sync.now.cookie ∷ []) }
-    ensures read_again { IfOk result (λ controls. request_of (request_octets sync.now) ≡ Ok sync.now) }
+        (λ controls.
+        controls ≡ spec.sync_control sync.now.mode sync.now.reload_hint sync.now.cookie ∷ []) }
+    ensures read_again { IfOk result (λ controls.
+        request_of (request_octets sync.now) ≡ Ok sync.now) }
 {
     let mut controls = ControlList::new(alloc);
     controls.push(Control {

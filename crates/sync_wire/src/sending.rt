@@ -4,28 +4,21 @@ ghost use Rattle.csn_cookie.specs.Cookie.{cookie_text};
 ghost use Rattle.dn_names.specs.Writing.{name_text};
 ghost use Rattle.ldap_messages.specs.Operation as operation;
 ghost use Rattle.ldap_messages.specs.Whole.{whole_of};
-ghost use Rattle.sync_model.specs.Message.SyncMessage.{Put, Gone, IdSet, PhaseEnds, Done};
+ghost use Rattle.sync_model.specs.Message.{phase_end};
+ghost use Rattle.sync_model.specs.Message.SyncMessage.{AddOrModify, Delete, IdSet, Done};
 ghost use Rattle.sync_model.specs.Stream.{end_of};
-ghost use Rattle.sync_wire.specs.Sending.{sent, attributes_of, marks_of, single as attribute, state_control, info_name, result_of, uuid_text};
+ghost use Rattle.sync_wire.specs.Sending.{sent, attributes_of, operational_attributes_of, single as attribute, state_control, info_name, result_of, uuid_text};
 
 use csn_cookie::Cookie;
 use dn_names::Dn;
 use entry_tree::Entry;
 use ldap_ber::{NoMemory, Octets, OctetsList};
+use ldap_constants::{SUCCESS, SYNC_DONE, SYNC_INFO, SYNC_STATE};
 use ldap_messages::{Control, ControlList, LdapResult, Message, Protocol};
 use schema_rules::{RawAttribute, RawList};
 use std::alloc::Global;
 use sync_messages::{IdList, State, SyncDone, SyncInfo, SyncState};
 use uuid::Uuid;
-
-/// The name of the Sync State control.
-const SYNC_STATE: &[u8] = b"1.3.6.1.4.1.4203.1.9.1.2";
-
-/// The name of the Sync Done control.
-const SYNC_DONE: &[u8] = b"1.3.6.1.4.1.4203.1.9.1.3";
-
-/// The name of the Sync Info message.
-const SYNC_INFO: &[u8] = b"1.3.6.1.4.1.4203.1.9.1.4";
 
 /// The end of a search, with this result code and no control.
 #[tactic(auto, using(crate::proofs::Operations::done_operation))]
@@ -40,7 +33,7 @@ pub fn done_message(alloc: Global, id: u32, code: u32) -> Result<Message, NoMemo
     })
 }
 
-/// The end of a refresh that succeeded, with the cookie of its content. It told what is deleted, or
+/// The end of a refresh that succeeded, with the cookie of its content. It reported what is deleted, or
 /// else what is present. A search that persists goes on after a Sync Info message; any other is over
 /// with its SearchResultDone (RFC 4533, sections 3.3.2 and 3.4.1).
 pub fn end_message(
@@ -52,7 +45,8 @@ pub fn end_message(
 ) -> Result<Message, NoMemory>
     requires rid { cookie.now.rid < 1000 }
     requires sid { cookie.now.sid < 4096 }
-    ensures { IfOk result (λ message. whole_of message ≡ sent id (end_of persists deletes (cookie_text cookie.now))) }
+    ensures { IfOk result (λ message.
+        whole_of message ≡ sent id (end_of persists deletes (cookie_text cookie.now))) }
 {
     let text = Octets::from_slice(alloc, &cookie.write())?;
     if persists {
@@ -69,7 +63,8 @@ fn phase_end_message(
     deletes: bool,
     cookie: Octets,
 ) -> Result<Message, NoMemory>
-    ensures { IfOk result (λ message. whole_of message ≡ sent id (PhaseEnds deletes true (Some cookie))) }
+    ensures { IfOk result (λ message.
+        whole_of message ≡ sent id (phase_end deletes true (Some cookie))) }
 {
     let value = if deletes {
         SyncInfo::RefreshDelete(Some(cookie), true).write(alloc)?
@@ -87,14 +82,15 @@ fn refresh_end_message(
     deletes: bool,
     cookie: Octets,
 ) -> Result<Message, NoMemory>
-    ensures { IfOk result (λ message. whole_of message ≡ sent id (Done (pos 0) (Some (deletes, Some cookie)))) }
+    ensures { IfOk result (λ message.
+        whole_of message ≡ sent id (Done (pos SUCCESS) (Some (deletes, Some cookie)))) }
 {
     let done = SyncDone {
         cookie: Some(cookie),
         refresh_deletes: deletes,
     };
     let controls = one_control(alloc, SYNC_DONE, done.write(alloc)?)?;
-    let result = result_of(alloc, 0)?;
+    let result = result_of(alloc, SUCCESS)?;
     Ok(Message {
         id,
         op: Protocol::SearchResultDone(result),
@@ -114,7 +110,8 @@ pub fn entry_message(
 ) -> Result<Message, NoMemory>
     requires rid { IfSome cookie (λ c. c.rid < 1000) }
     requires sid { IfSome cookie (λ c. c.sid < 4096) }
-    ensures { IfOk result (λ message. whole_of message ≡ sent id (Put adds entry.now (option_map cookie_text cookie))) }
+    ensures { IfOk result (λ message.
+        whole_of message ≡ sent id (AddOrModify adds entry.now (option_map cookie_text cookie))) }
 {
     let state = if adds { State::Add } else { State::Modify };
     let controls = state_control(alloc, state, entry.uuid, cookie)?;
@@ -130,7 +127,7 @@ pub fn entry_message(
 /// The entry of this identity in the state delete (RFC 4533, section 2.3): the name that it had, and
 /// no attributes, with this cookie, if any.
 #[tactic(auto, using(crate::proofs::Operations::entry_operation))]
-pub fn gone_message(
+pub fn delete_message(
     alloc: Global,
     id: u32,
     uuid: u128,
@@ -139,7 +136,9 @@ pub fn gone_message(
 ) -> Result<Message, NoMemory>
     requires rid { IfSome cookie (λ c. c.rid < 1000) }
     requires sid { IfSome cookie (λ c. c.sid < 4096) }
-    ensures { IfOk result (λ message. whole_of message ≡ sent id (Gone uuid (name_text name.now) (option_map cookie_text cookie))) }
+    ensures { IfOk result (λ message.
+        whole_of message
+        ≡ sent id (Delete uuid (name_text name.now) (option_map cookie_text cookie))) }
 {
     let controls = state_control(alloc, State::Delete, uuid, cookie)?;
     let name = name.write()?;
@@ -153,7 +152,7 @@ pub fn gone_message(
 
 /// The entries of these identities are deleted, or else present (RFC 4533, section 2.5), without a
 /// cookie.
-pub fn names_message(
+pub fn id_set_message(
     alloc: Global,
     id: u32,
     deletes: bool,
@@ -168,7 +167,8 @@ pub fn names_message(
 /// The Sync Info message with this value.
 #[tactic(auto, using(crate::proofs::Operations::info_operation))]
 fn info_message(alloc: Global, id: u32, value: Octets) -> Result<Message, NoMemory>
-    ensures { IfOk result (λ message. whole_of message ≡ (id, (operation.intermediate (Some info_name, Some value), []))) }
+    ensures { IfOk result (λ message.
+        whole_of message ≡ (id, (operation.intermediate (Some info_name, Some value), []))) }
 {
     Ok(Message {
         id,
@@ -189,7 +189,8 @@ fn state_control(
 ) -> Result<ControlList, NoMemory>
     requires rid { IfSome cookie (λ c. c.rid < 1000) }
     requires sid { IfSome cookie (λ c. c.sid < 4096) }
-    ensures { IfOk result (λ controls. controls ≡ state_control state uuid (option_map cookie_text cookie) ∷ []) }
+    ensures { IfOk result (λ controls.
+        controls ≡ state_control state uuid (option_map cookie_text cookie) ∷ []) }
 {
     let cookie = text_of(alloc, cookie)?;
     let state = SyncState {
@@ -234,12 +235,16 @@ fn attributes_of(alloc: Global, entry: &Entry) -> Result<RawList, NoMemory>
             values: attribute.values.copy()?,
         })?;
     }
-    push_marks(alloc, &mut list, entry)?;
+    push_operational_attributes(alloc, &mut list, entry)?;
     Ok(list)
 }
 
-fn push_marks(alloc: Global, list: &mut RawList, entry: &Entry) -> Result<(), NoMemory>
-    ensures { OnOk result (list.new ≡ list.old ++ marks_of entry.now) }
+fn push_operational_attributes(
+    alloc: Global,
+    list: &mut RawList,
+    entry: &Entry,
+) -> Result<(), NoMemory>
+    ensures { OnOk result (list.new ≡ list.old ++ operational_attributes_of entry.now) }
 {
     list.push(uuid_mark(alloc, entry.uuid)?)?;
     list.push(single(alloc, b"entryCSN", &entry.csn.write())?)
@@ -268,7 +273,8 @@ fn single(alloc: Global, name: &[u8], value: &[u8]) -> Result<RawAttribute, NoMe
 
 /// A list of this control alone, which is not critical.
 fn one_control(alloc: Global, name: &[u8], value: Octets) -> Result<ControlList, NoMemory>
-    ensures { IfOk result (λ controls. controls ≡ record { name = name.now; critical = false; value = Some value } ∷ []) }
+    ensures { IfOk result (λ controls.
+        controls ≡ record { name = name.now; critical = false; value = Some value } ∷ []) }
 {
     let mut controls = ControlList::new(alloc);
     controls.push(Control {
@@ -285,8 +291,8 @@ fn result_of(alloc: Global, code: u32) -> Result<LdapResult, NoMemory>
 {
     Ok(LdapResult {
         code: i64::from(code),
-        matched: Octets::from_slice(alloc, b"")?,
-        message: Octets::from_slice(alloc, b"")?,
+        matched_dn: Octets::from_slice(alloc, b"")?,
+        diagnostic_message: Octets::from_slice(alloc, b"")?,
         referral: None,
     })
 }

@@ -5,28 +5,23 @@ ghost use Rattle.std.specs.Option.{option_copied};
 ghost use Rattle.sync_wire.specs.Refusals.{Gives};
 ghost use Rattle.sync_wire.specs.Values as spec;
 
-use crate::fault::HearingFault;
+use crate::fault::DecodeFault;
 use ldap_ber::Octets;
+use ldap_constants::{SYNC_DONE, SYNC_STATE};
 use ldap_messages::Control;
 use std::alloc::Global;
 use sync_messages::{SyncDone, SyncFault, SyncInfo, SyncState};
 
-/// The Sync State control.
-const SYNC_STATE: &[u8] = b"1.3.6.1.4.1.4203.1.9.1.2";
-
-/// The Sync Done control.
-const SYNC_DONE: &[u8] = b"1.3.6.1.4.1.4203.1.9.1.3";
-
-impl From<SyncFault> for HearingFault {
+impl From<SyncFault> for DecodeFault {
     ghost from_gives = { λ fault refusal. refusal ≡ spec.refusal_of fault };
 
-    fn from(fault: SyncFault) -> HearingFault {
+    fn from(fault: SyncFault) -> DecodeFault {
         match fault {
-            SyncFault::NoMemory => HearingFault::NoMemory,
+            SyncFault::NoMemory => DecodeFault::NoMemory,
             SyncFault::Ber(_)
             | SyncFault::BadMode(_)
             | SyncFault::BadUuidLength(_)
-            | SyncFault::BadState(_) => HearingFault::BadValue,
+            | SyncFault::BadState(_) => DecodeFault::BadValue,
         }
     }
 }
@@ -41,21 +36,21 @@ fn control_named<'a>(controls: &'a [Control], name: &[u8]) -> Option<&'a Control
 }
 
 /// The bytes of a value, which have to be there.
-fn given(value: &Option<Octets>) -> Result<&[u8], HearingFault>
+fn given(value: &Option<Octets>) -> Result<&[u8], DecodeFault>
     ensures { Gives (λ bytes. bytes.now) result (spec.given_value value.now) }
 {
     match value {
         Some(value) => Ok(value.as_slice()),
-        None => Err(HearingFault::BadValue),
+        None => Err(DecodeFault::BadValue),
     }
 }
 
 /// What the Sync State control says, where an entry has one.
-pub(crate) fn sync_state(alloc: Global, controls: &[Control]) -> Result<SyncState, HearingFault>
+pub(crate) fn sync_state(alloc: Global, controls: &[Control]) -> Result<SyncState, DecodeFault>
     ensures { Gives (λ state. state) result (spec.sync_state controls.now) }
 {
     let Some(control) = control_named(controls, SYNC_STATE) else {
-        return Err(HearingFault::OutOfPlace);
+        return Err(DecodeFault::OutOfPlace);
     };
     let value = given(&control.value)?;
     Ok(SyncState::read(alloc, value)?)
@@ -65,7 +60,7 @@ pub(crate) fn sync_state(alloc: Global, controls: &[Control]) -> Result<SyncStat
 pub(crate) fn sync_done(
     alloc: Global,
     controls: &[Control],
-) -> Result<Option<SyncDone>, HearingFault>
+) -> Result<Option<SyncDone>, DecodeFault>
     ensures { Gives (λ done. done) result (spec.sync_done controls.now) }
 {
     let Some(control) = control_named(controls, SYNC_DONE) else {
@@ -76,7 +71,7 @@ pub(crate) fn sync_done(
 }
 
 /// What a Sync Info message says.
-pub(crate) fn sync_info(alloc: Global, value: &Option<Octets>) -> Result<SyncInfo, HearingFault>
+pub(crate) fn sync_info(alloc: Global, value: &Option<Octets>) -> Result<SyncInfo, DecodeFault>
     ensures { Gives (λ info. info) result (spec.sync_info value.now) }
 {
     let value = given(value)?;

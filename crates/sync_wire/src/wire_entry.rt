@@ -6,13 +6,12 @@ ghost use Rattle.schema_rules.specs.Schema.{type_rule};
 ghost use Rattle.sync_wire.specs.Refusals.{Gives};
 ghost use Rattle.sync_wire.specs.WireEntry as spec;
 
-use crate::fault::{
-    ADMIN_LIMIT_EXCEEDED, HearingFault, INVALID_ATTRIBUTE_SYNTAX, INVALID_DN_SYNTAX,
-};
-use crate::operational::{are_uuids, stamp_of};
+use crate::fault::DecodeFault;
+use crate::operational::{are_uuids, entry_csn};
 use dn_names::{Dn, NameFault};
 use entry_tree::Entry;
 use ldap_ber::{NoMemory, Octets, OctetsList};
+use ldap_constants::{ADMIN_LIMIT_EXCEEDED, INVALID_ATTRIBUTE_SYNTAX, INVALID_DN_SYNTAX};
 use schema_rules::{
     Attribute, AttributeType, Attrs, RawAttribute, Rule, add_values, are_of_syntax, known_key,
 };
@@ -27,17 +26,17 @@ pub(crate) fn entry_of(
     uuid: u128,
     name: &Octets,
     raws: &[RawAttribute],
-) -> Result<Entry, HearingFault>
+) -> Result<Entry, DecodeFault>
     ensures { Gives (λ entry. entry) result (spec.entry_of uuid name.now raws.now) }
 {
     let dn = name_of(alloc, name)?;
     let attrs = attributes_of(alloc, raws)?;
     if !are_uuids(alloc, raws)? || !are_of_their_syntax(alloc, attrs.list())? {
-        return Err(HearingFault::BadEntry(INVALID_ATTRIBUTE_SYNTAX));
+        return Err(DecodeFault::BadEntry(INVALID_ATTRIBUTE_SYNTAX));
     }
-    let csn = stamp_of(alloc, raws)?;
+    let csn = entry_csn(alloc, raws)?;
     if attrs.weight() > MOST_ENTRY_WEIGHT {
-        return Err(HearingFault::BadEntry(ADMIN_LIMIT_EXCEEDED));
+        return Err(DecodeFault::BadEntry(ADMIN_LIMIT_EXCEEDED));
     }
     Ok(Entry {
         uuid,
@@ -47,14 +46,14 @@ pub(crate) fn entry_of(
     })
 }
 
-fn name_of(alloc: Global, text: &Octets) -> Result<Dn, HearingFault>
+fn name_of(alloc: Global, text: &Octets) -> Result<Dn, DecodeFault>
     ensures { Gives (λ dn. dn) result (spec.name_of text.now) }
 {
     match Dn::parse(alloc, text.as_slice()) {
         Ok(dn) => Ok(dn),
-        Err(NameFault::NoMemory) => Err(HearingFault::NoMemory),
+        Err(NameFault::NoMemory) => Err(DecodeFault::NoMemory),
         Err(NameFault::BadName(_) | NameFault::UnknownType(_) | NameFault::TooLong(_)) => {
-            Err(HearingFault::BadEntry(INVALID_DN_SYNTAX))
+            Err(DecodeFault::BadEntry(INVALID_DN_SYNTAX))
         }
     }
 }

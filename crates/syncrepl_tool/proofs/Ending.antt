@@ -12,17 +12,17 @@ use Rattle.cascade_script.specs.declared.fault.Cause.TheVariants.{BadCommand, Un
 use Rattle.cascade_script.specs.Lines.{kept_bytes, most_bytes, most_lines, text_lines, up_to_last, has_more, limit_passed}
 use Rattle.cascade_script.specs.Reader.{Reader, reader_of}
 use Rattle.cascade_laws.specs.Run.{IsScript}
-use Rattle.cascade_world.specs.World.{State, no_nodes}
+use Rattle.cascade_world.specs.World.{WorldState, no_nodes}
 use Rattle.cascade_laws.proofs.Limits.{runs_limit}
 use Rattle.cascade_laws.proofs.Runs.{refused_not_whole}
-use Rattle.syncrepl_tool.proofs.Running.{nothing_written}
-use Rattle.syncrepl_tool.specs.Texts.{Says, refusal_text}
-use Rattle.syncrepl_tool.specs.Cascade.{WritesFront, WritesReport, WritesWhole, WritesUpTo, IsRefused, IsRefusedStatus, status_of, RunEnds, IsFrontOf, Decides}
+use Rattle.syncrepl_tool.proofs.SyncSession.{nothing_written}
+use Rattle.syncrepl_tool.specs.Texts.{Says, refusal_text, write_fault_text}
+use Rattle.syncrepl_tool.specs.Cascade.{WritesPrefix, WritesReport, WritesWhole, WritesUpTo, IsRefused, IsRefusedStatus, status_of, RunEnds, IsPrefixOf, Decides}
 
 -- ---- a flush leaves what was written
 
-pub front_kept : {script : Reader} {a b : Option (List ℕ)} → WritesFront script a b → (c : Option (List ℕ)) → Keeps b c → WritesFront script a c
-front_kept {script} {a} {b} f c k = record {
+pub prefix_kept : {script : Reader} {a b : Option (List ℕ)} → WritesPrefix script a b → (c : Option (List ℕ)) → Keeps b c → WritesPrefix script a c
+prefix_kept {script} {a} {b} f c k = record {
   orders = f.orders;
   report = f.report;
   end = f.end;
@@ -36,7 +36,7 @@ front_kept {script} {a} {b} f c k = record {
   torn = f.torn;
 }
 
-report_kept : {script : Reader} {a b : Option (List ℕ)} {end : State} {rest : Reader} → WritesReport script a b end rest → (c : Option (List ℕ)) → Keeps b c → WritesReport script a c end rest
+report_kept : {script : Reader} {a b : Option (List ℕ)} {end : WorldState} {rest : Reader} → WritesReport script a b end rest → (c : Option (List ℕ)) → Keeps b c → WritesReport script a c end rest
 report_kept {script} {a} {b} w c k = record {
   orders = w.orders;
   report = w.report;
@@ -48,55 +48,55 @@ report_kept {script} {a} {b} w c k = record {
   written = Appends-kept a b c _ w.written k;
 }
 
-pub up_to_kept : {script : Reader} {a b : Option (List ℕ)} {end : State} {line : ℕ} {cause : Cause} → WritesUpTo script a b end line cause → (c : Option (List ℕ)) → Keeps b c → WritesUpTo script a c end line cause
+pub up_to_kept : {script : Reader} {a b : Option (List ℕ)} {end : WorldState} {line : ℕ} {cause : Cause} → WritesUpTo script a b end line cause → (c : Option (List ℕ)) → Keeps b c → WritesUpTo script a c end line cause
 up_to_kept w c k = record { rest = w.rest; report = report_kept w.report c k; refusal = w.refusal }
 
 -- ---- the script of a text that was read is that of the bytes that were left
 
-kept_of_front : (text rest : List ℕ) → nat_lt most_bytes (length text) ≡ true → kept_bytes most_bytes text ≡ kept_bytes most_bytes (text ++ rest)
-kept_of_front text rest long =
+kept_of_prefix : (text rest : List ℕ) → nat_lt most_bytes (length text) ≡ true → kept_bytes most_bytes text ≡ kept_bytes most_bytes (text ++ rest)
+kept_of_prefix text rest long =
     let more : 67108864 ≤ length text = grind (arith, nat_tests) in
     let long' : nat_lt 67108864 (length (text ++ rest)) ≡ true = grind (arith, nat_tests, length-append text rest) in
     let same : take 67108864 (text ++ rest) ≡ take 67108864 text = rw take-append-le refl in
     rw (long, long') (ap (up_to_last 10) (sym same))
 
-more_of_front : (text rest : List ℕ) → nat_lt most_bytes (length text) ≡ true → has_more most_bytes text ≡ has_more most_bytes (text ++ rest)
-more_of_front text rest long =
+more_of_prefix : (text rest : List ℕ) → nat_lt most_bytes (length text) ≡ true → has_more most_bytes text ≡ has_more most_bytes (text ++ rest)
+more_of_prefix text rest long =
     let long' : nat_lt 67108864 (length (text ++ rest)) ≡ true = grind (arith, nat_tests, length-append text rest) in long ∙ sym long'
 
-reader_of_front : (text rest : List ℕ) → (length text ≤ most_bytes → rest ≡ []) → reader_of text ≡ reader_of (text ++ rest)
-reader_of_front text rest short =
+reader_of_prefix : (text rest : List ℕ) → (length text ≤ most_bytes → rest ≡ []) → reader_of text ≡ reader_of (text ++ rest)
+reader_of_prefix text rest short =
     elim (cases_Bool (nat_lt 67108864 (length text))) [
-      | inl long ↦ rw (kept_of_front text rest long, more_of_front text rest long) refl
+      | inl long ↦ rw (kept_of_prefix text rest long, more_of_prefix text rest long) refl
       | inr all ↦
           let within : length text ≤ 67108864 = grind (arith, nat_tests) in
           ap reader_of (sym (append-nil text)) ∙ ap (λ r. reader_of (text ++ r)) (sym (short within))
     ]
 
-pub at_front : (old new : Option (List ℕ)) (text : List ℕ) → IsFrontOf old new text → (P : Reader → Type 0) → P (reader_of text) → IfSome old (λ all. P (reader_of all))
-at_front None new text f P h = tt
-at_front (Some all) new text f P h =
-    let same : reader_of text ≡ reader_of all = reader_of_front text f.front.0 f.front.2 ∙ ap reader_of (sym f.front.1) in
+pub at_prefix : (old new : Option (List ℕ)) (text : List ℕ) → IsPrefixOf old new text → (P : Reader → Type 0) → P (reader_of text) → IfSome old (λ all. P (reader_of all))
+at_prefix None new text f P h = tt
+at_prefix (Some all) new text f P h =
+    let same : reader_of text ≡ reader_of all = reader_of_prefix text f.prefix.0 f.prefix.2 ∙ ap reader_of (sym f.prefix.1) in
     subst P same h
 
 pub if_some_map : {A : Type 0} (o : Option A) (P Q : A → Type 0) → ((a : A) → P a → Q a) → IfSome o P → IfSome o Q
 if_some_map None P Q h p = tt
 if_some_map (Some a) P Q h p = h a p
 
-pub front_of : {old new : Option (List ℕ)} {text : List ℕ} → IsFrontOf old new text → (a b : Option (List ℕ)) → WritesFront (reader_of text) a b → IfSome old (λ all. WritesFront (reader_of all) a b)
-front_of {old} {new} {text} front a b w = at_front old new text front (λ script. WritesFront script a b) w
+pub prefix_of : {old new : Option (List ℕ)} {text : List ℕ} → IsPrefixOf old new text → (a b : Option (List ℕ)) → WritesPrefix (reader_of text) a b → IfSome old (λ all. WritesPrefix (reader_of all) a b)
+prefix_of {old} {new} {text} prefix a b w = at_prefix old new text prefix (λ script. WritesPrefix script a b) w
 
 -- a read fault leaves the output as it was
-pub front_of_nothing : (left held : Option (List ℕ)) → IfSome left (λ text. WritesFront (reader_of text) held held)
-front_of_nothing None held = tt
-front_of_nothing (Some text) held = nothing_written (reader_of text) held
+pub prefix_of_nothing : (left held : Option (List ℕ)) → IfSome left (λ text. WritesPrefix (reader_of text) held held)
+prefix_of_nothing None held = tt
+prefix_of_nothing (Some text) held = nothing_written (reader_of text) held
 
 -- ---- what is said of the text that was left, by how the run ended
 
-script_of : {old new : Option (List ℕ)} {end : State} (text : List ℕ) → WritesWhole (reader_of text) old new end → IsScript text
+script_of : {old new : Option (List ℕ)} {end : WorldState} (text : List ℕ) → WritesWhole (reader_of text) old new end → IsScript text
 script_of {old} {new} {end} text w = record { orders = w.report.orders; report = w.report.report; end = end; rest = w.rest; run = w.report.run; whole = w.ended }
 
-no_script : {old new : Option (List ℕ)} {end : State} {line : ℕ} {cause : Cause} (text : List ℕ) → WritesUpTo (reader_of text) old new end line cause → IsScript text → ⊥
+no_script : {old new : Option (List ℕ)} {end : WorldState} {line : ℕ} {cause : Cause} (text : List ℕ) → WritesUpTo (reader_of text) old new end line cause → IsScript text → ⊥
 no_script {old} {new} {end} {line} {cause} text w is =
     refused_not_whole no_nodes (reader_of text) w.report.orders w.report.report end w.rest line cause w.report.run w.refusal is.orders is.report is.end is.rest is.run is.whole
 
@@ -117,35 +117,53 @@ within text is =
     let none : limit_passed text ≡ None = runs_limit no_nodes (reader_of text) is.orders is.report is.end is.rest is.run is.whole in
     short_of text none
 
-abbrev Ended' : List ℕ → Option (List ℕ) → Option (List ℕ) → State → ℕ → ℕ → Option (List ℕ) → Option (List ℕ) → ℕ → ℕ → ℕ → Type 0
+abbrev Ended' : List ℕ → Option (List ℕ) → Option (List ℕ) → WorldState → ℕ → ℕ → Option (List ℕ) → Option (List ℕ) → ℕ → ℕ → ℕ → Type 0
 Ended' text a b end before now unsaid said f t code = RunEnds (reader_of text) a b end before now unsaid said f t code
 
-module _ {old new : Option (List ℕ)} {text : List ℕ} (front : IsFrontOf old new text) (a b : Option (List ℕ)) (end : State) (before now : ℕ) (unsaid said : Option (List ℕ)) (f t code : ℕ) where
+module _ {old new : Option (List ℕ)} {text : List ℕ} (prefix : IsPrefixOf old new text) (a b : Option (List ℕ)) (end : WorldState) (before now : ℕ) (unsaid said : Option (List ℕ)) (f t code : ℕ) where
   pub done_of : Ended' text a b end before now unsaid said f t code → code ≡ 0 → IfSome old (λ all. IsScript all × WritesWhole (reader_of all) a b end)
   done_of (inl done) zero' =
-      if_some_map old (λ all. WritesWhole (reader_of all) a b end) _ (λ all w. (script_of all w, w)) (at_front old new text front (λ script. WritesWhole script a b end) done.1)
+      if_some_map old (λ all. WritesWhole (reader_of all) a b end) _ (λ all w. (script_of all w, w)) (at_prefix old new text prefix (λ script. WritesWhole script a b end) done.1)
   done_of (inr (inl (inl three, refused))) zero' = absurd (omega (arith, three))
   done_of (inr (inl (inr eight, refused))) zero' = absurd (omega (arith, eight))
   done_of (inr (inr fault)) zero' = absurd (omega (arith, fault.0))
 
   pub end_of : Ended' text a b end before now unsaid said f t code → code ≡ 0 → IsAtEnd new
-  end_of (inl done) zero' = front.end (within text (script_of text done.1))
+  end_of (inl done) zero' = prefix.end (within text (script_of text done.1))
   end_of (inr (inl (inl three, refused))) zero' = absurd (omega (arith, three))
   end_of (inr (inl (inr eight, refused))) zero' = absurd (omega (arith, eight))
   end_of (inr (inr fault)) zero' = absurd (omega (arith, fault.0))
+
+  pub quiet_of : Ended' text a b end before now unsaid said f t code → code ≡ 0 → Keeps unsaid said
+  quiet_of (inl done) zero' = done.2
+  quiet_of (inr (inl (inl three, refused))) zero' = absurd (omega (arith, three))
+  quiet_of (inr (inl (inr eight, refused))) zero' = absurd (omega (arith, eight))
+  quiet_of (inr (inr fault)) zero' = absurd (omega (arith, fault.0))
+
+  pub no_read_fault : Ended' text a b end before now unsaid said f t code → code ≡ 4 → ⊥
+  no_read_fault (inl done) four = omega (arith, done.0)
+  no_read_fault (inr (inl (inl three, refused))) four = omega (arith, three)
+  no_read_fault (inr (inl (inr eight, refused))) four = omega (arith, eight)
+  no_read_fault (inr (inr fault)) four = omega (arith, fault.0)
+
+  pub write_fault_of : Ended' text a b end before now unsaid said f t code → code ≡ 5 → Rose before now × Says write_fault_text unsaid said f t
+  write_fault_of (inl done) five = absurd (omega (arith, done.0))
+  write_fault_of (inr (inl (inl three, refused))) five = absurd (omega (arith, three))
+  write_fault_of (inr (inl (inr eight, refused))) five = absurd (omega (arith, eight))
+  write_fault_of (inr (inr fault)) five = (fault.1, fault.2)
 
   -- the refusal of a script, with a status of that number
   pub refused_of : (number : ℕ) → IsRefusedStatus number → Ended' text a b end before now unsaid said f t code → code ≡ number → IfSome old (λ all. IsRefused number (reader_of all) a b end unsaid said f t)
   refused_of number (inl three) (inl done) same = absurd (omega (arith, three, same, done.0))
   refused_of number (inr eight) (inl done) same = absurd (omega (arith, eight, same, done.0))
   refused_of number is (inr (inl refused)) same =
-      at_front old new text front (λ script. IsRefused number script a b end unsaid said f t) (subst (λ n. IsRefused n (reader_of text) a b end unsaid said f t) same refused.1)
+      at_prefix old new text prefix (λ script. IsRefused number script a b end unsaid said f t) (subst (λ n. IsRefused n (reader_of text) a b end unsaid said f t) same refused.1)
   refused_of number (inl three) (inr (inr fault)) same = absurd (omega (arith, three, same, fault.0))
   refused_of number (inr eight) (inr (inr fault)) same = absurd (omega (arith, eight, same, fault.0))
 
   not_script_of : {line : ℕ} {cause : Cause} → WritesUpTo (reader_of text) a b end line cause → IfSome old (λ all. IsScript all → ⊥)
   not_script_of {line} {cause} w =
-      if_some_map old (λ all. WritesUpTo (reader_of all) a b end line cause) _ (λ all w'. no_script all w') (at_front old new text front (λ script. WritesUpTo script a b end line cause) w)
+      if_some_map old (λ all. WritesUpTo (reader_of all) a b end line cause) _ (λ all w'. no_script all w') (at_prefix old new text prefix (λ script. WritesUpTo script a b end line cause) w)
 
   pub no_script_of : Ended' text a b end before now unsaid said f t code → IsRefusedStatus code → IfSome old (λ all. IsScript all → ⊥)
   no_script_of (inl done) (inl three) = absurd (omega (arith, done.0, three))
@@ -157,7 +175,7 @@ module _ {old new : Option (List ℕ)} {text : List ℕ} (front : IsFrontOf old 
   pub decides_of : Ended' text a b end before now unsaid said f t code → (Rose before now → ⊥) → IfSome old (Decides code)
   decides_of (inl done) no_fault =
       if_some_map old (λ all. WritesWhole (reader_of all) a b end) _ (λ all w. record { script = λ is. done.0; other = λ no. absurd (no (script_of all w)) })
-      (at_front old new text front (λ script. WritesWhole script a b end) done.1)
+      (at_prefix old new text prefix (λ script. WritesWhole script a b end) done.1)
   decides_of (inr (inl refused)) no_fault =
       if_some_map old (λ all. IsScript all → ⊥) _ (λ all no. record { script = λ is. absurd (no is); other = λ no'. refused.0 }) (not_script_of refused.1.3)
   decides_of (inr (inr fault)) no_fault = absurd (no_fault fault.1)
@@ -174,7 +192,7 @@ status_is (LaterCookie held given) = inl refl
 status_is Circle = inl refl
 status_is NoMemory = inl refl
 
-pub refused_ends : {script : Reader} {a b : Option (List ℕ)} {end : State} (before now : ℕ) {unsaid said : Option (List ℕ)} {f t code line : ℕ} {cause : Cause}
+pub refused_ends : {script : Reader} {a b : Option (List ℕ)} {end : WorldState} (before now : ℕ) {unsaid said : Option (List ℕ)} {f t code line : ℕ} {cause : Cause}
     → WritesUpTo script a b end line cause → code ≡ status_of cause → Says (refusal_text line cause) unsaid said f t → RunEnds script a b end before now unsaid said f t code
 refused_ends {script} {a} {b} {end} before now {unsaid} {said} {f} {t} {code} {line} {cause} w is says =
     inr (inl (subst IsRefusedStatus (sym is) (status_is cause), (line, cause, sym is, w, says)))

@@ -5,74 +5,87 @@ use Rattle.std.specs.declared.alloc.Global.{Global}
 use Rattle.std.specs.String.{string_bytes}
 use Rattle.std.specs.Io.KnownBytes.{Appends, Keeps, IsAtEnd}
 use Rattle.sync_io.specs.Faults.{Rose}
-use Rattle.sync_io.specs.Sink.{AppendsFront}
+use Rattle.sync_io.specs.Sink.{AppendsPrefix}
 use Rattle.cascade_script.specs.declared.fault.Cause.{Cause}
 use Rattle.cascade_script.specs.declared.fault.Cause.TheVariants.{LimitReached}
 use Rattle.cascade_laws.specs.Headline.{LinesAreRight}
 use Rattle.cascade_laws.specs.Reports.{AreReportsOf}
 use Rattle.cascade_script.specs.Lines.{most_bytes}
 use Rattle.cascade_script.specs.Orders.{Order}
-use Rattle.cascade_script.specs.Reader.{Reader, next_in}
+use Rattle.cascade_script.specs.Reader.{Reader, next_in, reader_of}
 use Rattle.cascade_script.specs.Reader.Next.{Ended}
-use Rattle.cascade_world.specs.Report.{Told, lines_text, report_text}
+use Rattle.cascade_world.specs.ReportLines.{ReportLine, lines_text, report_text}
 use Rattle.cascade_laws.specs.Run.{Runs, IsRefusal, IsScript, AreHeld}
 use Rattle.cascade_world.specs.Trace.{AreTraced, all_lines}
-use Rattle.cascade_world.specs.World.{State, no_nodes}
-use Rattle.syncrepl_tool.specs.Texts.{Says, refusal_text, write_fault_text}
+use Rattle.cascade_world.specs.World.{WorldState, no_nodes}
+use Rattle.syncrepl_tool.specs.Texts.{Says, refusal_text, read_fault_text, write_fault_text}
 use Rattle.syncrepl_tool.specs.declared.run.Status.{Status}
 use Rattle.syncrepl_tool.specs.declared.run.Outcome.{Outcome}
 use Rattle.syncrepl_tool.specs.declared.run.Outcome.TheVariants.{Done, Refused, WriteFault}
 use Rattle.syncrepl_tool.specs.declared.run.Input.{Input}
 use Rattle.syncrepl_tool.specs.declared.run.Input.TheVariants.{Text, Failed}
 
--- the text of a report, or that of the lines of all its orders but the last and then a front of the last one's
-abbrev pub EndsInLast : List (List Told) → List ℕ → Type 0
+-- the text of a report, or that of the lines of all its orders but the last and then a
+-- prefix of the last one's
+abbrev pub EndsInLast : List (List ReportLine) → List ℕ → Type 0
 EndsInLast report text =
     (text ≡ report_text report)
-    ⊎ ((whole : List (List Told)) × (last : List Told) × (front : List ℕ) × (rest : List ℕ)
-    × (report ≡ whole ++ last ∷ []) × (lines_text last ≡ front ++ rest) × (text ≡ report_text whole ++ front))
+    ⊎ ((whole : List (List ReportLine)) × (last : List ReportLine)
+    × (prefix : List ℕ) × (rest : List ℕ)
+    × (report ≡ whole ++ last ∷ []) × (lines_text last ≡ prefix ++ rest)
+    × (text ≡ report_text whole ++ prefix))
 
--- The headline: of the report of the first orders of the script a front was written, which may end in the midst of the last order's lines. Each order has the lines that belong to it, and each of these is right. The wire is used: these lines tell all that happened to the links and the copies of the consumers. And what they tell last of each consumer is what it holds.
-pub record WritesFront (script : Reader) (old new : Option (List ℕ)) : Type 0 where
+-- The headline: of the report of the first orders of the script a prefix was written, which may end
+-- in the midst of the last order's lines. Each order has the lines that belong to it, and each of
+-- these is right. The wire is used: these lines report all that happened to the links and the
+-- copies of the consumers. And what they report last of each consumer is what it holds.
+pub record WritesPrefix (script : Reader) (old new : Option (List ℕ)) : Type 0 where
   pub orders : List Order
-  pub report : List (List Told)
-  pub end : State
+  pub report : List (List ReportLine)
+  pub end : WorldState
   pub rest : Reader
   pub run : Runs no_nodes script orders report end rest
   pub given : AreReportsOf orders report
   pub right : LinesAreRight [] [] orders report
-  pub traced : AreTraced (all_lines report) end.followers
+  pub traced : AreTraced (all_lines report) end.consumer_nodes
   pub held : AreHeld (all_lines report) end
-  pub written : AppendsFront old new (report_text report)
+  pub written : AppendsPrefix old new (report_text report)
   pub torn : EndsInLast report written.0
 
--- the whole report of the first orders of the script was written, and the state is that which these orders leave
-pub record WritesReport (script : Reader) (old new : Option (List ℕ)) (end : State) (rest : Reader) : Type 0 where
+-- the whole report of the first orders of the script was written, and the state is that
+-- which these orders leave
+pub record WritesReport
+    (script : Reader) (old new : Option (List ℕ)) (end : WorldState) (rest : Reader) : Type 0 where
   pub orders : List Order
-  pub report : List (List Told)
+  pub report : List (List ReportLine)
   pub run : Runs no_nodes script orders report end rest
   pub given : AreReportsOf orders report
   pub right : LinesAreRight [] [] orders report
-  pub traced : AreTraced (all_lines report) end.followers
+  pub traced : AreTraced (all_lines report) end.consumer_nodes
   pub held : AreHeld (all_lines report) end
   pub written : Appends old new (report_text report)
 
--- all orders of the script are done and told
-pub record WritesWhole (script : Reader) (old new : Option (List ℕ)) (end : State) : Type 0 where
+-- all orders of the script are done and reported
+pub record WritesWhole
+    (script : Reader) (old new : Option (List ℕ)) (end : WorldState) : Type 0 where
   pub rest : Reader
   pub report : WritesReport script old new end rest
   pub ended : next_in rest ≡ Ended
 
--- the orders before the refused one are done and told, and that is refused at this line with this cause
-pub record WritesUpTo (script : Reader) (old new : Option (List ℕ)) (end : State) (line : ℕ) (cause : Cause) : Type 0 where
+-- the orders before the refused one are done and reported, and that is refused at this
+-- line with this cause
+pub record WritesUpTo
+    (script : Reader) (old new : Option (List ℕ)) (end : WorldState)
+    (line : ℕ) (cause : Cause) : Type 0 where
   pub rest : Reader
   pub report : WritesReport script old new end rest
   pub refusal : IsRefusal end rest line cause
 
 -- how the orders of a script ended
-abbrev pub Ends : Reader → Option (List ℕ) → Option (List ℕ) → State → ℕ → ℕ → Outcome → Type 0
+abbrev pub Ends : Reader → Option (List ℕ) → Option (List ℕ) → WorldState → ℕ → ℕ → Outcome → Type 0
 Ends script old new end before now Done = WritesWhole script old new end
-Ends script old new end before now (Refused fault) = WritesUpTo script old new end fault.line fault.cause
+Ends script old new end before now (Refused fault) =
+    WritesUpTo script old new end fault.line fault.cause
 Ends script old new end before now WriteFault = Rose before now
 
 -- the status of a refusal: 8 where a limit is passed, else 3
@@ -81,28 +94,39 @@ status_of (LimitReached number) = 8
 status_of _ = 3
 
 -- the script is refused with a status of that number, and the refusal is said
-abbrev pub IsRefused : ℕ → Reader → Option (List ℕ) → Option (List ℕ) → State → Option (List ℕ) → Option (List ℕ) → ℕ → ℕ → Type 0
+abbrev pub IsRefused :
+    ℕ → Reader → Option (List ℕ) → Option (List ℕ) → WorldState → Option (List ℕ) → Option (List ℕ)
+    → ℕ
+    → ℕ → Type 0
 IsRefused code script old new end unsaid said before now =
-    (line : ℕ) × (cause : Cause) × (status_of cause ≡ code) × WritesUpTo script old new end line cause
+    (line : ℕ) × (cause : Cause) × (status_of cause ≡ code)
+    × WritesUpTo script old new end line cause
     × Says (refusal_text line cause) unsaid said before now
 
 abbrev pub IsRefusedStatus : ℕ → Type 0
 IsRefusedStatus code = (code ≡ 3) ⊎ (code ≡ 8)
 
--- the orders of the script are done, and nothing is said; or it is refused, which is said; or writing the report failed
-abbrev pub RunEnds : Reader → Option (List ℕ) → Option (List ℕ) → State → ℕ → ℕ → Option (List ℕ) → Option (List ℕ) → ℕ → ℕ → ℕ → Type 0
+-- the orders of the script are done, and nothing is said; or it is refused, which is said; or
+-- writing the report failed
+abbrev pub RunEnds :
+    Reader → Option (List ℕ) → Option (List ℕ) → WorldState → ℕ → ℕ → Option (List ℕ)
+    → Option (List ℕ)
+    → ℕ → ℕ → ℕ → Type 0
 RunEnds script old new end before now unsaid said faults_before faults_now code =
     ((code ≡ 0) × WritesWhole script old new end × Keeps unsaid said)
-    ⊎ (IsRefusedStatus code × IsRefused code script old new end unsaid said faults_before faults_now)
+    ⊎ (IsRefusedStatus code
+    × IsRefused code script old new end unsaid said faults_before faults_now)
     ⊎ ((code ≡ 5) × Rose before now × Says write_fault_text unsaid said faults_before faults_now)
 
--- the text is the front of the bytes that were left, and all of them where it is not too long
-pub record IsFrontOf (old new : Option (List ℕ)) (text : List ℕ) : Type 0 where
-  pub front : IfSome old (λ all. (rest : List ℕ) × (all ≡ text ++ rest) × (length text ≤ most_bytes → rest ≡ []))
+-- the text is the prefix of the bytes that were left, and all of them where it is not too long
+pub record IsPrefixOf (old new : Option (List ℕ)) (text : List ℕ) : Type 0 where
+  pub prefix :
+      IfSome old
+      (λ all. (rest : List ℕ) × (all ≡ text ++ rest) × (length text ≤ most_bytes → rest ≡ []))
   pub end : length text ≤ most_bytes → IsAtEnd new
 
 abbrev pub IsInput : Option (List ℕ) → Option (List ℕ) → ℕ → ℕ → Input → Type 0
-IsInput old new before now (Text text) = IsFrontOf old new text
+IsInput old new before now (Text text) = IsPrefixOf old new text
 IsInput old new before now Failed = Rose before now
 
 -- a fact that a status of this code brings
@@ -125,3 +149,48 @@ IsStatus code = (code ≡ 2) ⊎ IsCascadeStatus code
 pub record Decides (code : ℕ) (text : List ℕ) : Type 0 where
   pub script : IsScript text → code ≡ 0
   pub other : (IsScript text → ⊥) → IsRefusedStatus code
+
+-- ---- what the status of a run says
+
+-- what the input, the output and the errors of a run hold at one moment: the bytes that are left to
+-- read, those of the report and those that were said, and how many reads and writes have failed
+pub record Streams : Type 0 where
+  pub left : Option (List ℕ)
+  pub read_faults : ℕ
+  pub report : Option (List ℕ)
+  pub report_faults : ℕ
+  pub said : Option (List ℕ)
+  pub said_faults : ℕ
+
+-- a run for the word `cascade` that found and left the streams so, and left the world so, may end
+-- with this status
+pub record MayEndWith (before after : Streams) (end : WorldState) (status : Status) : Type 0 where
+  pub done :
+      OnCode 0
+      (IfSome before.left
+      (λ text.
+      IsScript text × WritesWhole (reader_of text) before.report after.report end)) status
+  pub read_to_end : OnCode 0 (IsAtEnd after.left) status
+  pub quiet : OnCode 0 (Keeps before.said after.said) status
+  pub refused :
+      OnCode 3
+      (IfSome before.left
+      (λ text.
+      IsRefused 3 (reader_of text) before.report after.report end before.said after.said
+      before.said_faults after.said_faults)) status
+  pub limited :
+      OnCode 8
+      (IfSome before.left
+      (λ text.
+      IsRefused 8 (reader_of text) before.report after.report end before.said after.said
+      before.said_faults after.said_faults)) status
+  pub no_script :
+      IsRefusedStatus status.code → IfSome before.left (λ text. IsScript text → ⊥)
+  pub read_fault : OnCode 4 (Rose before.read_faults after.read_faults) status
+  pub read_fault_reported :
+      OnCode 4
+      (Says read_fault_text before.said after.said before.said_faults after.said_faults) status
+  pub write_fault : OnCode 5 (Rose before.report_faults after.report_faults) status
+  pub write_fault_reported :
+      OnCode 5
+      (Says write_fault_text before.said after.said before.said_faults after.said_faults) status

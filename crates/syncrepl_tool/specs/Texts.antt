@@ -5,7 +5,7 @@ use Rattle.std.specs.Io.KnownBytes.{Appends}
 use Rattle.cascade_script.specs.declared.fault.Cause.{Cause}
 use Rattle.cascade_script.specs.declared.fault.Cause.TheVariants.{BadCommand, UnknownNode, NameTaken, BadRecord, LimitReached, OutsideSuffix, LaterCookie, Circle, NoMemory}
 use Rattle.sync_io.specs.Faults.{Rose}
-use Rattle.sync_io.specs.Sink.{AppendsFront}
+use Rattle.sync_io.specs.Sink.{AppendsPrefix}
 
 unfoldable pub usage_text : List ℕ
 usage_text = codes "usage: syncrepl cascade | drill SEED WRITERS CONSUMERS SIZE | serve FILE | search ADDRESS BASE SCOPE FILTER [COUNT]\n"
@@ -43,9 +43,10 @@ cause_text NoMemory = codes "NoMemory"
 
 -- the place of a refusal and its cause
 unfoldable pub refusal_text : ℕ → Cause → List ℕ
-refusal_text line cause = codes "syncrepl: line " ++ decimal line ++ codes ": " ++ cause_text cause ++ codes "\n"
+refusal_text line cause =
+    codes "syncrepl: line " ++ decimal line ++ codes ": " ++ cause_text cause ++ codes "\n"
 
--- the text was written, or a front of it where a write failed
+-- the text was written, or a prefix of it where a write failed
 pub record Says (text : List ℕ) (old new : Option (List ℕ)) (before now : ℕ) : Type 0 where
-  pub front : AppendsFront old new text
+  pub prefix : AppendsPrefix old new text
   pub whole : (Rose before now → ⊥) → Appends old new text

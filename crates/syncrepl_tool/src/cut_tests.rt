@@ -1,4 +1,4 @@
-//! A refresh of 300 entries is cut behind each of its messages, and a settling behind it changes nothing. The report of
+//! A refresh of 300 entries is cut after each of its messages, and a settling after it changes nothing. The report of
 //! each would be long, so these are steps of a world, over objects in memory.
 use crate::tests::started;
 use cascade_world::{Script, World, read_event};
@@ -61,7 +61,7 @@ fn large_world(alloc: Global) -> Result<World, Fail> {
     Ok(world)
 }
 
-/// Whether the refresh of 300 entries, cut behind so many messages, changes nothing of a settling. Both
+/// Whether the refresh of 300 entries, cut after n messages, changes nothing of a settling. Both
 /// are without a cookie.
 fn is_settled(alloc: Global, world: &mut World, count: u32) -> Result<bool, Fail> {
     let script = format!(in alloc;
@@ -71,7 +71,7 @@ fn is_settled(alloc: Global, world: &mut World, count: u32) -> Result<bool, Fail
     Ok(lines.as_slice().ends_with(LARGE_CONTENT.as_bytes()))
 }
 
-/// The number of messages, from the first and up to before the last, behind which a cut changes nothing.
+/// The number of messages, from the first and up to before the last, after which a cut changes nothing.
 fn settled(alloc: Global, first: u32, last: u32) -> Result<u32, Fail> {
     let mut world = large_world(alloc)?;
     let count = count_settled(alloc, &mut world, first, last);
@@ -93,37 +93,37 @@ fn count_settled(alloc: Global, world: &mut World, first: u32, last: u32) -> Res
 fn discard<T: Drop>(_value: T) {}
 
 #[test]
-fn cuts_behind_messages_1_to_68_change_no_settling(rt: HostRuntime) -> Result<(), Fail> {
+fn cuts_after_messages_1_to_68_change_no_settling(rt: HostRuntime) -> Result<(), Fail> {
     assert!(rt; settled(rt.alloc(), 1, 69)? == 68);
     Ok(())
 }
 
 #[test]
-fn cuts_behind_messages_69_to_125_change_no_settling(rt: HostRuntime) -> Result<(), Fail> {
+fn cuts_after_messages_69_to_125_change_no_settling(rt: HostRuntime) -> Result<(), Fail> {
     assert!(rt; settled(rt.alloc(), 69, 126)? == 57);
     Ok(())
 }
 
 #[test]
-fn cuts_behind_messages_126_to_175_change_no_settling(rt: HostRuntime) -> Result<(), Fail> {
+fn cuts_after_messages_126_to_175_change_no_settling(rt: HostRuntime) -> Result<(), Fail> {
     assert!(rt; settled(rt.alloc(), 126, 176)? == 50);
     Ok(())
 }
 
 #[test]
-fn cuts_behind_messages_176_to_221_change_no_settling(rt: HostRuntime) -> Result<(), Fail> {
+fn cuts_after_messages_176_to_221_change_no_settling(rt: HostRuntime) -> Result<(), Fail> {
     assert!(rt; settled(rt.alloc(), 176, 222)? == 46);
     Ok(())
 }
 
 #[test]
-fn cuts_behind_messages_222_to_262_change_no_settling(rt: HostRuntime) -> Result<(), Fail> {
+fn cuts_after_messages_222_to_262_change_no_settling(rt: HostRuntime) -> Result<(), Fail> {
     assert!(rt; settled(rt.alloc(), 222, 263)? == 41);
     Ok(())
 }
 
 #[test]
-fn cuts_behind_messages_263_to_301_change_no_settling(rt: HostRuntime) -> Result<(), Fail> {
+fn cuts_after_messages_263_to_301_change_no_settling(rt: HostRuntime) -> Result<(), Fail> {
     assert!(rt; settled(rt.alloc(), 263, 302)? == 39);
     Ok(())
 }

@@ -14,7 +14,7 @@ use std::process::ExitCode;
 use std::{env, io};
 use sync_io::{Reading, Sink, Writing, write_whole};
 
-/// The status for want of memory.
+/// The status when out of memory.
 const NO_MEMORY: u8 = 6;
 
 fn main(rt: HostRuntime) -> ExitCode {

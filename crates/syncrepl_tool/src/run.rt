@@ -1,13 +1,11 @@
 ghost use Rattle.std.specs.Prelude.{◌≡◌, ◌↔◌, ◌≢◌, ◌≤◌, false, IfOk, IfSome, IsOk, IsTrue, OnErr, ℕ, []};
-ghost use Rattle.std.specs.Io.KnownBytes.{IsAtEnd, Keeps};
 ghost use Rattle.sync_io.specs.Faults.{Rose};
 ghost use Rattle.cascade_script.specs.Reader.{reader_of};
-ghost use Rattle.cascade_laws.specs.Run.{IsScript};
 ghost use Rattle.cascade_world.specs.World.{no_nodes};
 ghost use Rattle.std.specs.String.{string_bytes};
 ghost use Rattle.cascade_script.specs.declared.fault.Cause.TheVariants.{NoMemory};
 ghost use Rattle.syncrepl_tool.specs.Texts.{Says, usage_text, read_fault_text, write_fault_text, refusal_text, cause_text, limit_text, later_cookie_text};
-ghost use Rattle.syncrepl_tool.specs.Cascade.{WritesFront, WritesWhole, IsRefused, IsRefusedStatus, status_of, Ends, RunEnds, IsInput, OnCode, Decides, IsCascade, IsStatus, IsCascadeStatus};
+ghost use Rattle.syncrepl_tool.specs.Cascade.{WritesPrefix, status_of, Ends, RunEnds, IsInput, OnCode, Decides, IsCascade, IsStatus, IsCascadeStatus, MayEndWith};
 
 use cascade_world::{Cause, NoMemory, Script, ScriptFault, World, read_event};
 use ldap_ber::Octets;
@@ -41,48 +39,40 @@ pub fn run<R: Threads + Wait + Sync, I: Source, O: Sink, E: Sink>(
     requires prompt { I.waits input.old ≡ false }
 
     // The prefix of accepted writes that a `stored` line names reaches at least as far as they did
-    // when the search was opened, and what the line tells is all that the specification selects from
+    // when the search was opened, and what the line reports is all that the specification selects from
     // it, and no more. It is what the consumer holds, and a `show` prints, up to its next line. A
-    // search is refused with 4096 exactly where the consumer's cookie is in its way. Each consumer
-    // is what the lines of its messages make of it. Each event gives the lines that belong to it, and
-    // no others.
+    // search is refused with e-syncRefreshRequired exactly where the consumer's cookie is in its way.
+    // Each consumer is what the lines of its messages make of it. Each event gives the lines that
+    // belong to it, and no others.
     ensures headline { IfSome (I.bytes_left input.old) (λ text.
-        WritesFront (reader_of text) (O.bytes_held output.old) (O.bytes_held output.new)) }
+        WritesPrefix (reader_of text) (O.bytes_held output.old) (O.bytes_held output.new)) }
 
-    ensures done { IfOk result (OnCode 0 (IfSome (I.bytes_left input.old) (λ text. IsScript text
-        × WritesWhole (reader_of text) (O.bytes_held output.old) (O.bytes_held output.new) world.new))) }
-    ensures read_to_end { IfOk result (OnCode 0 (IsAtEnd (I.bytes_left input.new))) }
-    ensures quiet { IfOk result (OnCode 0 (Keeps (E.bytes_held errors.old) (E.bytes_held errors.new))) }
+    ensures answer { IfOk result (MayEndWith
+        (record {
+          left = I.bytes_left input.old;
+          read_faults = I.read_fault_count input.old;
+          report = O.bytes_held output.old;
+          report_faults = O.write_fault_count output.old;
+          said = E.bytes_held errors.old;
+          said_faults = E.write_fault_count errors.old;
+        })
+        (record {
+          left = I.bytes_left input.new;
+          read_faults = I.read_fault_count input.new;
+          report = O.bytes_held output.new;
+          report_faults = O.write_fault_count output.new;
+          said = E.bytes_held errors.new;
+          said_faults = E.write_fault_count errors.new;
+        })
+        world.new) }
 
     ensures usage { IfOk result (λ status. (status.code ≡ 2) ↔ (IsCascade words.now → ⊥)) }
-    ensures usage_told { IfOk result (OnCode 2 (Says usage_text
+    ensures usage_reported { IfOk result (OnCode 2 (Says usage_text
         (E.bytes_held errors.old) (E.bytes_held errors.new)
         (E.write_fault_count errors.old) (E.write_fault_count errors.new))) }
     // Other words are answered whether there is memory or not, and nothing is read, done or reported.
     ensures other { (IsCascade words.now → ⊥) → IsOk result
         × (world.new ≡ world.old) × (input.new ≡ input.old) × (output.new ≡ output.old) }
-
-    ensures refused { IfOk result (OnCode 3 (IfSome (I.bytes_left input.old) (λ text. IsRefused 3 (reader_of text)
-        (O.bytes_held output.old) (O.bytes_held output.new) world.new
-        (E.bytes_held errors.old) (E.bytes_held errors.new)
-        (E.write_fault_count errors.old) (E.write_fault_count errors.new)))) }
-    ensures limited { IfOk result (OnCode 8 (IfSome (I.bytes_left input.old) (λ text. IsRefused 8 (reader_of text)
-        (O.bytes_held output.old) (O.bytes_held output.new) world.new
-        (E.bytes_held errors.old) (E.bytes_held errors.new)
-        (E.write_fault_count errors.old) (E.write_fault_count errors.new)))) }
-    ensures no_script { IfOk result (λ status. IsRefusedStatus status.code → IfSome (I.bytes_left input.old)
-        (λ text. IsScript text → ⊥)) }
-
-    ensures read_fault { IfOk result (OnCode 4 (Rose
-        (I.read_fault_count input.old) (I.read_fault_count input.new))) }
-    ensures read_fault_told { IfOk result (OnCode 4 (Says read_fault_text
-        (E.bytes_held errors.old) (E.bytes_held errors.new)
-        (E.write_fault_count errors.old) (E.write_fault_count errors.new))) }
-    ensures write_fault { IfOk result (OnCode 5 (Rose
-        (O.write_fault_count output.old) (O.write_fault_count output.new))) }
-    ensures write_fault_told { IfOk result (OnCode 5 (Says write_fault_text
-        (E.bytes_held errors.old) (E.bytes_held errors.new)
-        (E.write_fault_count errors.old) (E.write_fault_count errors.new))) }
 
     // Where there is no memory nothing was said.
     ensures unsaid { OnErr result (errors.new ≡ errors.old) }
@@ -142,40 +132,32 @@ pub fn run_cascade<I: Source, O: Sink, E: Sink>(
     requires prompt { I.waits input.old ≡ false }
 
     // The prefix of accepted writes that a `stored` line names reaches at least as far as they did
-    // when the search was opened, and what the line tells is all that the specification selects from
+    // when the search was opened, and what the line reports is all that the specification selects from
     // it, and no more. It is what the consumer holds, and a `show` prints, up to its next line. A
-    // search is refused with 4096 exactly where the consumer's cookie is in its way. Each consumer
-    // is what the lines of its messages make of it. Each event gives the lines that belong to it, and
-    // no others.
+    // search is refused with e-syncRefreshRequired exactly where the consumer's cookie is in its way.
+    // Each consumer is what the lines of its messages make of it. Each event gives the lines that
+    // belong to it, and no others.
     ensures headline { IfSome (I.bytes_left input.old) (λ text.
-        WritesFront (reader_of text) (O.bytes_held output.old) (O.bytes_held output.new)) }
+        WritesPrefix (reader_of text) (O.bytes_held output.old) (O.bytes_held output.new)) }
 
-    ensures done { IfOk result (OnCode 0 (IfSome (I.bytes_left input.old) (λ text. IsScript text
-        × WritesWhole (reader_of text) (O.bytes_held output.old) (O.bytes_held output.new) world.new))) }
-    ensures read_to_end { IfOk result (OnCode 0 (IsAtEnd (I.bytes_left input.new))) }
-    ensures quiet { IfOk result (OnCode 0 (Keeps (E.bytes_held errors.old) (E.bytes_held errors.new))) }
-
-    ensures refused { IfOk result (OnCode 3 (IfSome (I.bytes_left input.old) (λ text. IsRefused 3 (reader_of text)
-        (O.bytes_held output.old) (O.bytes_held output.new) world.new
-        (E.bytes_held errors.old) (E.bytes_held errors.new)
-        (E.write_fault_count errors.old) (E.write_fault_count errors.new)))) }
-    ensures limited { IfOk result (OnCode 8 (IfSome (I.bytes_left input.old) (λ text. IsRefused 8 (reader_of text)
-        (O.bytes_held output.old) (O.bytes_held output.new) world.new
-        (E.bytes_held errors.old) (E.bytes_held errors.new)
-        (E.write_fault_count errors.old) (E.write_fault_count errors.new)))) }
-    ensures no_script { IfOk result (λ status. IsRefusedStatus status.code → IfSome (I.bytes_left input.old)
-        (λ text. IsScript text → ⊥)) }
-
-    ensures read_fault { IfOk result (OnCode 4 (Rose
-        (I.read_fault_count input.old) (I.read_fault_count input.new))) }
-    ensures read_fault_told { IfOk result (OnCode 4 (Says read_fault_text
-        (E.bytes_held errors.old) (E.bytes_held errors.new)
-        (E.write_fault_count errors.old) (E.write_fault_count errors.new))) }
-    ensures write_fault { IfOk result (OnCode 5 (Rose
-        (O.write_fault_count output.old) (O.write_fault_count output.new))) }
-    ensures write_fault_told { IfOk result (OnCode 5 (Says write_fault_text
-        (E.bytes_held errors.old) (E.bytes_held errors.new)
-        (E.write_fault_count errors.old) (E.write_fault_count errors.new))) }
+    ensures answer { IfOk result (MayEndWith
+        (record {
+          left = I.bytes_left input.old;
+          read_faults = I.read_fault_count input.old;
+          report = O.bytes_held output.old;
+          report_faults = O.write_fault_count output.old;
+          said = E.bytes_held errors.old;
+          said_faults = E.write_fault_count errors.old;
+        })
+        (record {
+          left = I.bytes_left input.new;
+          read_faults = I.read_fault_count input.new;
+          report = O.bytes_held output.new;
+          report_faults = O.write_fault_count output.new;
+          said = E.bytes_held errors.new;
+          said_faults = E.write_fault_count errors.new;
+        })
+        world.new) }
 
     // Where there is no memory nothing was said.
     ensures unsaid { OnErr result (errors.new ≡ errors.old) }
@@ -332,7 +314,8 @@ fn run_text<O: Sink, E: Sink>(
     errors: &mut E,
 ) -> Result<Status, NoMemory>
     requires fresh { world.old ≡ no_nodes }
-    ensures front { WritesFront (reader_of text) (O.bytes_held output.old) (O.bytes_held output.new) }
+    ensures prefix { WritesPrefix (reader_of text) (O.bytes_held output.old)
+        (O.bytes_held output.new) }
     ensures ends { IfOk result (λ status. RunEnds (reader_of text)
         (O.bytes_held output.old) (O.bytes_held output.new) world.new
         (O.write_fault_count output.old) (O.write_fault_count output.new)
@@ -361,7 +344,7 @@ pub enum Outcome {
     WriteFault,
 }
 
-/// Does and tells the events of a script one after another.
+/// Does and reports the events of a script one after another.
 fn run_events<O: Sink>(
     alloc: Global,
     world: &mut World,
@@ -369,7 +352,7 @@ fn run_events<O: Sink>(
     output: &mut O,
 ) -> Result<Outcome, NoMemory>
     requires fresh { world.old ≡ no_nodes }
-    ensures front { WritesFront script.old (O.bytes_held output.old) (O.bytes_held output.new) }
+    ensures prefix { WritesPrefix script.old (O.bytes_held output.old) (O.bytes_held output.new) }
     ensures ends { IfOk result (Ends script.old
         (O.bytes_held output.old) (O.bytes_held output.new) world.new
         (O.write_fault_count output.old) (O.write_fault_count output.new)) }
@@ -392,9 +375,10 @@ fn run_events<O: Sink>(
     }
 }
 
-/// How the events end with a refusal; want of memory is no outcome.
+/// How the events end with a refusal; out of memory is no outcome.
 fn refused(fault: ScriptFault) -> Result<Outcome, NoMemory>
-    ensures { IfOk result (λ outcome. (fault.cause ≢ NoMemory) × (outcome ≡ Outcome.Refused fault)) }
+    ensures { IfOk result (λ outcome.
+        (fault.cause ≢ NoMemory) × (outcome ≡ Outcome.Refused fault)) }
 {
     match fault.cause {
         Cause::NoMemory => Err(AllocError),

@@ -52,7 +52,7 @@ fn ran<R: Threads + Wait + Sync, I: Source, O: Sink>(
     Ok((status.code, errors))
 }
 
-/// Asserts that what was found is what is wanted, or tells both.
+/// Asserts that what was found is what is wanted, or reports both.
 fn assert_same<T: PartialEq + Debug>(rt: &impl Abort, part: &str, found: &T, wanted: &T) {
     assert!(rt;
         *found == *wanted,
@@ -110,7 +110,7 @@ fn run_cascade_does_a_script(rt: HostRuntime) -> Result<(), Fail> {
     Ok(())
 }
 
-/// The start, a settling, empty lines up to so many lines, and then this.
+/// The start, a settling, empty lines up to n lines, and then this.
 fn long_script(alloc: Global, lines: usize, more: &[u8]) -> Result<Vec<u8>, Fail> {
     let mut script = started(alloc, b"settle c\n")?;
     for _ in 11..lines {
@@ -147,7 +147,7 @@ fn a_script_has_1000000_lines_at_most(rt: HostRuntime) -> Result<(), Fail> {
     Ok(())
 }
 
-/// The start, a settling, and a comment up to so many bytes.
+/// The start, a settling, and a comment up to n bytes.
 fn large_script(alloc: Global, bytes: usize) -> Result<Vec<u8>, Fail> {
     let mut script = started(alloc, b"settle c\n")?;
     script.resize(bytes, b'#')?;
@@ -195,7 +195,7 @@ fn assert_usage<R: Threads + Wait + Sync + Abort>(
 }
 
 #[test]
-fn a_second_read_that_fails_is_told(rt: HostRuntime) -> Result<(), Fail> {
+fn a_second_read_that_fails_is_reported(rt: HostRuntime) -> Result<(), Fail> {
     let mut steps = Vec::new(rt.alloc());
     steps.push(Step::Give(Octets::from_slice(rt.alloc(), START)?))?;
     steps.push(Step::Fail)?;
@@ -220,7 +220,7 @@ fn failing_output(alloc: Global) -> Result<FaultySink, NoMemory> {
 }
 
 #[test]
-fn a_second_write_that_fails_is_told(rt: HostRuntime) -> Result<(), Fail> {
+fn a_second_write_that_fails_is_reported(rt: HostRuntime) -> Result<(), Fail> {
     let script = started(rt.alloc(), b"settle c\nsettle c\n")?;
     let mut input = MemorySource::new(Octets::from(script));
     let mut output = failing_output(rt.alloc())?;

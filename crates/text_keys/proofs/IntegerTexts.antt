@@ -1,5 +1,5 @@
 -- An integer has one text: the decimal form of its number.
-use Rattle.std.proofs.Common.{◌≡◌, ℕ, zero, suc, ◌<◌, ◌^◌, ◌≢◌, Bool, true, false, not, ◌==◌, List, [], ◌∷◌, length, get_or, pos, neg_ℤ, refl, ap, sym, ◌∙◌, arith}
+use Rattle.std.proofs.Common.{◌≡◌, ℕ, zero, suc, ◌<◌, ◌^◌, ◌≢◌, Bool, true, false, not, ◌==◌, List, [], ◌∷◌, length, get_or, pos, neg_ℤ, refl, ap, sym, arith}
 use Rattle.std.proofs.lemmas.Bool.{and_parts, false≢true, eqb-true, eqb-false, eq-eqb, not-true}
 use Rattle.std.proofs.lemmas.Fmt.{decimal-digits_value}
 use Rattle.std.proofs.lemmas.Int.{ints}
@@ -48,14 +48,3 @@ by_sign c cs false test integer fits =
     let no_plus : get_or (c ∷ cs) 0 0 ≢ 43 = not_in_digits decimal_digits (c ∷ cs) 43 all.1 (λ digit. omega arith) 0 all.0 in
     let small = small_where (digits_value 10 (c ∷ cs)) (rw (test, without_leading_plus_none (c ∷ cs) no_plus) at fits) in
     rw (test, without_leading_plus_none (c ∷ cs) no_plus) (sym (decimal_of_number (c ∷ cs) number small))
-
-pub integer_text : (text : List ℕ) → is_integer text ≡ true → has_64_bits (integer_of text) ≡ true
-    → text ≡ signed_decimal (integer_of text)
-integer_text [] integer fits = absurd (false≢true integer)
-integer_text (c ∷ cs) integer fits = by_sign c cs (c == 45) refl integer fits
-
--- so two integers of one number are the same text
-pub integer_of-injective : (left right : List ℕ) → is_integer left ≡ true → has_64_bits (integer_of left) ≡ true
-    → is_integer right ≡ true → has_64_bits (integer_of right) ≡ true → integer_of left ≡ integer_of right → left ≡ right
-integer_of-injective left right left_is left_fits right_is right_fits same =
-    integer_text left left_is left_fits ∙ ap signed_decimal same ∙ sym (integer_text right right_is right_fits)

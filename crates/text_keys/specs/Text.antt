@@ -1,11 +1,12 @@
--- Keys of text: the characters of a value without the differences that matching ignores (RFC 4518). A
--- space is U+0020 alone, to which NFKC also brings the other spaces.
+-- Keys of text: the characters of a value without the differences that matching ignores (RFC 4518).
+-- A space is U+0020 alone, to which NFKC also brings the other spaces.
 use Rattle.std.specs.Prelude.{ℕ, Bool, true, false, ◌&&◌, ◌==◌, if◌then◌else◌, List, [], ◌∷◌, Option, Some, None, option_and_then, chars, encode_utf8_all}
 use Rattle.std.specs.Str.{is_utf8}
 use Rattle.caseless.specs.Caseless.{default_case_fold}
 use Rattle.unicode_normalization.specs.Forms.{nfkc}
 
--- NFKC, and after it full case folding where case is ignored (compare RFC 4518, sections 2.2 and 2.3)
+-- NFKC, and after it full case folding where case is ignored (compare RFC 4518,
+-- sections 2.2 and 2.3)
 abbrev pub prepared : Bool → List ℕ → List ℕ
 prepared fold cs = if fold then default_case_fold (nfkc cs) else nfkc cs
 
@@ -19,7 +20,8 @@ begins_with_space (c ∷ cs) = is_space c
 -- each run of spaces made one
 abbrev pub single_spaced : List ℕ → List ℕ
 single_spaced [] = []
-single_spaced (c ∷ cs) = if is_space c && begins_with_space cs then single_spaced cs else c ∷ single_spaced cs
+single_spaced (c ∷ cs) =
+    if is_space c && begins_with_space cs then single_spaced cs else c ∷ single_spaced cs
 
 abbrev pub without_leading_spaces : List ℕ → List ℕ
 without_leading_spaces [] = []
@@ -32,14 +34,15 @@ is_empty (c ∷ cs) = false
 abbrev pub without_trailing_spaces : List ℕ → List ℕ
 without_trailing_spaces [] = []
 without_trailing_spaces (c ∷ cs) =
-    if is_space c && is_empty (without_trailing_spaces cs) then [] else c ∷ without_trailing_spaces cs
+    if is_space c && is_empty (without_trailing_spaces cs) then []
+    else c ∷ without_trailing_spaces cs
 
--- each run of spaces made one, without those at the start of what stands first and at the end of what
--- stands last (compare RFC 4518, section 2.6.1)
+-- each run of spaces made one, without those at the start of what stands first and at the end of
+-- what stands last (compare RFC 4518, section 2.6.1)
 unfoldable pub squeezed : Bool → Bool → List ℕ → List ℕ
 squeezed first last cs =
-    let front = if first then without_leading_spaces cs else cs in
-    let whole = if last then without_trailing_spaces front else front in
+    let prefix = if first then without_leading_spaces cs else cs in
+    let whole = if last then without_trailing_spaces prefix else prefix in
     single_spaced whole
 
 -- the characters, with a space before them where one is due
@@ -49,7 +52,8 @@ spaced space cs = if space then 32 ∷ cs else cs
 -- the key of a piece of a value, as UTF-8, and none where the piece is not UTF-8
 unfoldable pub piece_key : List ℕ → Bool → Bool → Bool → Option (List ℕ)
 piece_key piece fold first last =
-    if is_utf8 piece then Some (encode_utf8_all (squeezed first last (prepared fold (chars piece)))) else None
+    if is_utf8 piece then Some (encode_utf8_all (squeezed first last (prepared fold (chars piece))))
+    else None
 
 -- a whole value has a key that is not empty
 abbrev pub not_empty : List ℕ → Option (List ℕ)

@@ -10,7 +10,7 @@ use std::alloc::Global;
 use std::str;
 
 /// The key of an integer within 64 bits with sign: its text, which has no second form (RFC 4517,
-/// section 3.3.16).
+/// section 3.3.16). Else it is `NotUtf8` or `NotOfSyntax`, or `NoMemory`.
 #[tactic(auto, unfolding(crate::specs::Integer::integer_key))]
 pub fn integer_key(alloc: Global, value: &[u8]) -> Result<Vec<u8>, KeyFault>
     ensures key { IfOk result (λ key. integer_key value.now ≡ Some key.items) }

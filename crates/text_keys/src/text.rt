@@ -9,7 +9,8 @@ use std::alloc::{AllocError, Global};
 use std::str;
 use unicode_normalization::to_nfkc;
 
-/// The key of a value whose case is ignored, as by caseIgnoreMatch (RFC 4517, section 4.2.11).
+/// The key of a value whose case is ignored, as by caseIgnoreMatch (RFC 4517, section 4.2.11). It
+/// is `NotUtf8`, `NotOfSyntax` where it has no character but spaces, or `NoMemory`.
 #[tactic(auto, unfolding(crate::specs::Text::ignore_case_key))]
 pub fn ignore_case_key(alloc: Global, value: &[u8]) -> Result<Vec<u8>, KeyFault>
     ensures key { IfOk result (λ key. ignore_case_key value.now ≡ Some key.items) }
@@ -18,7 +19,8 @@ pub fn ignore_case_key(alloc: Global, value: &[u8]) -> Result<Vec<u8>, KeyFault>
     whole_key(alloc, value, true)
 }
 
-/// The key of a value whose case counts, as by caseExactMatch (RFC 4517, section 4.2.4).
+/// The key of a value whose case counts, as by caseExactMatch (RFC 4517, section 4.2.4). It is
+/// `NotUtf8`, `NotOfSyntax` where it has no character but spaces, or `NoMemory`.
 #[tactic(auto, unfolding(crate::specs::Text::exact_key))]
 pub fn exact_key(alloc: Global, value: &[u8]) -> Result<Vec<u8>, KeyFault>
     ensures key { IfOk result (λ key. exact_key value.now ≡ Some key.items) }

@@ -3,7 +3,7 @@ ghost use Rattle.std.specs.Prelude.{◌≡◌, pos, true, ◌+◌, ◌<◌, ◌�
 ghost use Rattle.std.specs.Char.{is_ascii_digit};
 ghost use Rattle.std.specs.List.{list_all};
 ghost use Rattle.text_keys.specs.Fault.{IsFaultOf};
-ghost use Rattle.text_keys.specs.Time.{number_at, is_moment, is_time, time_key};
+ghost use Rattle.text_keys.specs.Time.{number_at, is_instant, is_time, time_key};
 
 use crate::digits::all_digits;
 use crate::fault::KeyFault;
@@ -28,15 +28,15 @@ fn is_time(text: &[u8]) -> bool
         return false;
     }
     let digits = &text[..14];
-    all_digits(digits) && is_moment(digits)
+    all_digits(digits) && is_instant(digits)
 }
 
 /// Whether the digits name a day of the calendar, in a year after the year 0, and a second of that
 /// day.
-fn is_moment(digits: &[u8]) -> bool
+fn is_instant(digits: &[u8]) -> bool
     requires long { length digits.now ≡ 14 }
     requires digits { list_all is_ascii_digit digits.now ≡ true }
-    ensures { result ≡ is_moment digits.now }
+    ensures { result ≡ is_instant digits.now }
 {
     let year = year_of(digits);
     let month = two_digits(digits, 4);

@@ -2,7 +2,7 @@
 use std::fmt::Debug;
 use std::process::Abort;
 
-/// Asserts that what was found is what is wanted, or tells the row.
+/// Asserts that what was found is what is wanted, or reports the row.
 pub(crate) fn assert_same<T: PartialEq + Debug>(rt: &impl Abort, row: &str, found: &T, wanted: &T) {
     assert!(rt;
         *found == *wanted,
@@ -13,7 +13,7 @@ pub(crate) fn assert_same<T: PartialEq + Debug>(rt: &impl Abort, row: &str, foun
 /// Drops a value through its bound, so that no proof goes through the cases of its type.
 pub(crate) fn discard<T: Drop>(_value: T) {}
 
-/// What is asked, and what is told of it.
+/// What is asked, and what is reported of it.
 pub(crate) type Row = (&'static str, &'static str);
 
 pub(crate) fn utf8(bytes: &[u8]) -> &str {

@@ -72,7 +72,7 @@ const REFUSED: [Row; 31] = [
     (r"ou=\zz+foo=1", "BadName(0)"),
 ];
 
-/// Names at the limits: the front, a piece, how often it stands, the end; and why it is refused.
+/// Names at the limits: the prefix, a piece, how often it stands, the end; and why it is refused.
 const LONG: [Row; 5] = [
     ("|ou=a,|31|ou=a", "none"),
     ("|ou=a,|32|ou=a", "TooLong(160)"),
@@ -126,15 +126,15 @@ fn names(rt: HostRuntime) -> Result<(), Fail> {
 
 fn check_rows(rt: &impl Abort, alloc: Global, word: &str, rows: &[Row]) -> Result<(), Fail> {
     for (asked, wanted) in rows {
-        let told = told(alloc, word, asked)?;
-        assert_same(rt, asked, &told.as_str(), wanted);
+        let reported = reported(alloc, word, asked)?;
+        assert_same(rt, asked, &reported.as_str(), wanted);
     }
     Ok(())
 }
 
-/// What is told of the text, or the fault that refuses it.
-fn told(alloc: Global, word: &str, text: &str) -> Result<String, Fail> {
-    let told = match word {
+/// What is reported of the text, or the fault that refuses it.
+fn reported(alloc: Global, word: &str, text: &str) -> Result<String, Fail> {
+    let reported = match word {
         "written" => rewritten(alloc, text),
         "long" => long(alloc, text),
         "compared" => compared(alloc, text),
@@ -142,8 +142,8 @@ fn told(alloc: Global, word: &str, text: &str) -> Result<String, Fail> {
         "built" => built(alloc, text),
         _ => read(alloc, text),
     };
-    match told {
-        Ok(told) => Ok(told),
+    match reported {
+        Ok(reported) => Ok(reported),
         Err(fault) => Ok(format!(in alloc; "{fault:?}")?),
     }
 }
@@ -158,17 +158,17 @@ fn rewritten(alloc: Global, text: &str) -> Result<String, NameFault> {
     Ok(utf8(name.write()?.as_slice()).to_string(alloc)?)
 }
 
-/// The text before the first bar, and that behind it.
+/// The text before the first bar, and that after it.
 fn parted(text: &str) -> (&str, &str) {
     text.split_once('|').unwrap_or((text, ""))
 }
 
-/// What is told of a front, as many times a piece, and an end.
+/// What is reported of a prefix, as many times a piece, and an end.
 fn long(alloc: Global, text: &str) -> Result<String, NameFault> {
-    let (front, rest) = parted(text);
+    let (prefix, rest) = parted(text);
     let (piece, rest) = parted(rest);
     let (count, end) = parted(rest);
-    let mut text = front.to_string(alloc)?;
+    let mut text = prefix.to_string(alloc)?;
     for _ in 0..count.parse::<u64>().unwrap_or(0) {
         text.push_str(piece)?;
     }

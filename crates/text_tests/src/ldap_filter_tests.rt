@@ -89,7 +89,7 @@ const NO_TEXTS: [(&[u8], &str); 3] = [
     (b"(cn=a)\xff", "BadFilter(6)"),
 ];
 
-/// How often a front stands before an item, and `)` behind it; and why that is refused.
+/// How often a prefix stands before an item, and `)` after it; and why that is refused.
 const LEVELS: [Row; 6] = [
     ("31 (! (cn=a)", "none"),
     ("32 (! (cn=a)", "TooDeep"),
@@ -99,7 +99,7 @@ const LEVELS: [Row; 6] = [
     ("32 (|(cn=a) (|)", "TooDeep"),
 ];
 
-/// How often a piece stands behind a front. Long lists take no more of the stack than short ones.
+/// How often a piece stands after a prefix. Long lists take no more of the stack than short ones.
 const LONG: [Row; 2] = [
     ("10000 (cn=a) (|", "true true"),
     ("10000 *b (cn=a", "true true"),
@@ -216,8 +216,8 @@ fn truths_of_filters(rt: HostRuntime) -> Result<(), Fail> {
 
 fn check_rows(rt: &impl Abort, alloc: Global, word: &str, rows: &[Row]) -> Result<(), Fail> {
     for (asked, wanted) in rows {
-        let told = told(alloc, word, asked)?;
-        assert_same(rt, asked, &told.as_str(), wanted);
+        let reported = reported(alloc, word, asked)?;
+        assert_same(rt, asked, &reported.as_str(), wanted);
     }
     Ok(())
 }
@@ -227,17 +227,17 @@ fn check_bytes(rt: &impl Abort, alloc: Global) -> Result<(), Fail> {
         match read(alloc, bytes) {
             Ok(_) => return Err(Fail::from("no fault")),
             Err(fault) => {
-                let told = format!(in alloc; "{fault:?}")?;
-                assert_same(rt, "bytes", &told.as_str(), wanted);
+                let reported = format!(in alloc; "{fault:?}")?;
+                assert_same(rt, "bytes", &reported.as_str(), wanted);
             }
         }
     }
     Ok(())
 }
 
-/// What is told of the text, or the fault that refuses it.
-fn told(alloc: Global, word: &str, text: &str) -> Result<String, Fail> {
-    let told = match word {
+/// What is reported of the text, or the fault that refuses it.
+fn reported(alloc: Global, word: &str, text: &str) -> Result<String, Fail> {
+    let reported = match word {
         "again" => again(alloc, text),
         "nested" => nested(alloc, text),
         "long" => long(alloc, text),
@@ -248,8 +248,8 @@ fn told(alloc: Global, word: &str, text: &str) -> Result<String, Fail> {
         "extensible" => truth(alloc, Filter::Extensible(octets(alloc, "")?)),
         _ => read(alloc, text.as_bytes()),
     };
-    match told {
-        Ok(told) => Ok(told),
+    match reported {
+        Ok(reported) => Ok(reported),
         Err(fault) => Ok(format!(in alloc; "{fault:?}")?),
     }
 }
@@ -289,7 +289,7 @@ fn is_read_as(alloc: Global, text: &[u8], filter: &Filter) -> Result<bool, Filte
     Ok(is_same)
 }
 
-/// The text up to the first blank, and that behind it.
+/// The text up to the first blank, and that after it.
 fn parted(text: &str) -> (&str, &str) {
     text.split_once(' ').unwrap_or((text, ""))
 }
@@ -304,20 +304,20 @@ fn repeated(alloc: Global, piece: &str, count: &str) -> Result<String, NoMemory>
 
 fn nested(alloc: Global, text: &str) -> Result<String, FilterFault> {
     let (levels, rest) = parted(text);
-    let (front, item) = parted(rest);
-    let (fronts, ends) = (
-        repeated(alloc, front, levels)?,
+    let (prefix, item) = parted(rest);
+    let (prefixes, ends) = (
+        repeated(alloc, prefix, levels)?,
         repeated(alloc, ")", levels)?,
     );
-    let text = format!(in alloc; "{fronts}{item}{ends}")?;
+    let text = format!(in alloc; "{prefixes}{item}{ends}")?;
     read(alloc, text.as_bytes())
 }
 
 /// Whether the copy of a long filter is the same, and is written as its text.
 fn long(alloc: Global, text: &str) -> Result<String, FilterFault> {
     let (count, rest) = parted(text);
-    let (piece, front) = parted(rest);
-    let text = format!(in alloc; "{front}{})", repeated(alloc, piece, count)?)?;
+    let (piece, prefix) = parted(rest);
+    let text = format!(in alloc; "{prefix}{})", repeated(alloc, piece, count)?)?;
     let again = again(alloc, &text)?;
     let (is_same, written) = parted(&again);
     Ok(format!(in alloc; "{is_same} {}", written == text.as_str())?)
@@ -339,9 +339,9 @@ fn list_of_extensible(alloc: Global) -> Result<Filter, NoMemory> {
 fn pair(alloc: Global, text: &str) -> Result<String, FilterFault> {
     let (one, other) = parted(text);
     let one = Filter::read_text(alloc, one.as_bytes())?;
-    let told = compared(alloc, &one, other);
+    let reported = compared(alloc, &one, other);
     discard(one);
-    told
+    reported
 }
 
 fn compared(alloc: Global, one: &Filter, other: &str) -> Result<String, FilterFault> {

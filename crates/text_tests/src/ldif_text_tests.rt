@@ -43,7 +43,7 @@ fn sign_of(how: How) -> &'static [u8] {
     }
 }
 
-/// Appends the entry with its edits, each behind its sign.
+/// Appends the entry with its edits, each after its sign.
 fn push_modify(text: &mut Vec<u8>, name: &Octets, edits: &EditList) -> Result<(), NoMemory> {
     push_word(text, b"modify", name.as_slice())?;
     for edit in edits.list() {
@@ -87,7 +87,7 @@ fn push_change(text: &mut Vec<u8>, change: &Change) -> Result<(), NoMemory> {
     }
 }
 
-/// Appends the record with the number of its last line, behind which the reading goes on.
+/// Appends the record with the number of its last line, after which the reading goes on.
 fn push_record(
     alloc: Global,
     text: &mut Vec<u8>,
@@ -138,15 +138,15 @@ fn push_next(alloc: Global, text: &mut Vec<u8>, records: &mut Records) -> Result
 }
 
 /// The records of the text, each with the number of its last line, and how the reading ends.
-fn told(alloc: Global, text: &[u8]) -> Result<Vec<u8>, NoMemory> {
+fn reported(alloc: Global, text: &[u8]) -> Result<Vec<u8>, NoMemory> {
     let mut records = Records::new(text, 1);
-    let mut told = Vec::new(alloc);
+    let mut reported = Vec::new(alloc);
     for _ in 0..10 {
-        if !push_next(alloc, &mut told, &mut records)? {
+        if !push_next(alloc, &mut reported, &mut records)? {
             break;
         }
     }
-    Ok(told)
+    Ok(reported)
 }
 
 /// The examples 1 to 7 of RFC 2849, and what is read of each. Left out are the empty lines that the
@@ -469,7 +469,7 @@ const RULES: [Row; 45] = [
 
 fn check_rows(rt: &impl Abort, alloc: Global, rows: &[Row]) -> Result<(), Fail> {
     for (text, wanted) in rows {
-        let found = told(alloc, text.as_bytes())?;
+        let found = reported(alloc, text.as_bytes())?;
         assert_same(rt, text, &found.as_slice(), &wanted.as_bytes());
     }
     Ok(())
@@ -483,17 +483,22 @@ fn records(rt: HostRuntime) -> Result<(), Fail> {
     check_million(&rt, rt.alloc())
 }
 
-/// A refusal changes nothing: what is told of a text that is read on behind it, which begins at line 7.
+/// A refusal changes nothing: what is reported of a text that is read on after it, which begins at line 7.
 const REFUSED_TWICE: &str = "add a cn|x @8\nBadLine(11)BadLine(11)";
 
 fn check_refusals(rt: &impl Abort, alloc: Global) -> Result<(), Fail> {
     let mut records = Records::new(b"dn: a\ncn: x\n\ndn: b\ncn\n", 7);
     assert_same(rt, "first line", &records.line(), &7);
-    let mut told = Vec::new(alloc);
+    let mut reported = Vec::new(alloc);
     for _ in 0..3 {
-        push_next(alloc, &mut told, &mut records)?;
+        push_next(alloc, &mut reported, &mut records)?;
     }
-    assert_same(rt, "refusals", &told.as_slice(), &REFUSED_TWICE.as_bytes());
+    assert_same(
+        rt,
+        "refusals",
+        &reported.as_slice(),
+        &REFUSED_TWICE.as_bytes(),
+    );
     assert_same(rt, "last line", &records.line(), &8);
     Ok(())
 }
@@ -516,7 +521,7 @@ fn raw_list(alloc: Global, lines: Lines) -> Result<RawList, NoMemory> {
     Ok(list)
 }
 
-/// A name, what its entry has, the identity and the stamp, and the lines of it all.
+/// A name, what its entry has, the identity and the CSN, and the lines of it all.
 type Marked = (&'static [u8], Lines, u128, &'static [u8], &'static [u8]);
 
 const MARKED: [Marked; 2] = [
@@ -560,17 +565,17 @@ fn written(
     alloc: Global,
     name: &[u8],
     lines: Lines,
-    marks: Option<(u128, Csn)>,
+    operational: Option<(u128, Csn)>,
 ) -> Result<Vec<u8>, Fail> {
     let list = raw_list(alloc, lines)?;
     let attrs = Attrs::read(alloc, &list)?;
-    Ok(write_entry(alloc, name, &attrs, marks)?)
+    Ok(write_entry(alloc, name, &attrs, operational)?)
 }
 
 fn check_marked(rt: &impl Abort, alloc: Global) -> Result<(), Fail> {
     for (name, lines, uuid, csn, wanted) in &MARKED {
-        let marks = Some((*uuid, Csn::parse(csn)?));
-        let found = written(alloc, name, lines, marks)?;
+        let operational = Some((*uuid, Csn::parse(csn)?));
+        let found = written(alloc, name, lines, operational)?;
         assert_same(rt, "entry", &found.as_slice(), wanted);
     }
     Ok(())
@@ -634,7 +639,7 @@ fn added_values(change: &Option<Change>) -> usize {
     }
 }
 
-/// How many values the first record adds, and the line behind it.
+/// How many values the first record adds, and the line after it.
 fn first_added(alloc: Global, text: &[u8]) -> Result<(usize, u64), LdifFault> {
     let mut records = Records::new(text, 1);
     let change = records.next(alloc)?;

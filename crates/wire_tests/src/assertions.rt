@@ -2,7 +2,7 @@
 use std::fmt::Debug;
 use std::process::Abort;
 
-/// Asserts that what was found is what is wanted, or tells the row.
+/// Asserts that what was found is what is wanted, or reports the row.
 pub(crate) fn assert_same<T: PartialEq + Debug>(rt: &impl Abort, row: &str, found: &T, wanted: &T) {
     assert!(rt;
         *found == *wanted,
@@ -10,7 +10,7 @@ pub(crate) fn assert_same<T: PartialEq + Debug>(rt: &impl Abort, row: &str, foun
     );
 }
 
-/// The same of a row that is told by its bytes.
+/// The same of a row that is reported by its bytes.
 pub(crate) fn assert_same_of<T: PartialEq + Debug>(
     rt: &impl Abort,
     row: &[u8],

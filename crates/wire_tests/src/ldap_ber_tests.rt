@@ -238,7 +238,7 @@ fn elements_in_elements_are_read(rt: HostRuntime) -> Result<(), Fail> {
     Ok(check_inside(&rt, &mut Reader::inside(&whole))?)
 }
 
-/// What a caller asks of the element behind the first one in a sequence.
+/// What a caller asks of the element after the first one in a sequence.
 #[derive(Clone, Copy)]
 enum Call {
     Next,
@@ -269,7 +269,7 @@ fn refusal(bytes: &[u8], call: Call) -> Result<Option<BerFault>, BerFault> {
     Ok(refusal_of(&mut inner, call))
 }
 
-/// Sequences, what is asked of the element behind the first one, and what refuses it.
+/// Sequences, what is asked of the element after the first one, and what refuses it.
 const REFUSED: [(&[u8], Call, BerKind, usize); 19] = [
     // no element, a tag alone, a length cut, a body cut
     (b"\x30\x03\x02\x01\x05", Call::Next, BerKind::Short, 5),
@@ -312,7 +312,7 @@ const REFUSED: [(&[u8], Call, BerKind, usize); 19] = [
         BerKind::LongLength,
         5,
     ),
-    // the tag number 31, which is told before what is wrong with the length
+    // the tag number 31, which is reported before what is wrong with the length
     (
         b"\x30\x06\x02\x01\x05\x1f\x1f\0",
         Call::Next,
@@ -370,7 +370,7 @@ const REFUSED: [(&[u8], Call, BerKind, usize); 19] = [
         BerKind::Short,
         8,
     ),
-    // bytes behind the last element
+    // bytes after the last element
     (b"\x30\x05\x02\x01\x05\0\0", Call::End, BerKind::Trailing, 5),
     (
         b"\x30\x81\x04\x02\x01\x05\0",

@@ -22,7 +22,7 @@ fn push_answer<S: Source>(text: &mut String, source: &mut S) -> Result<(), Alloc
     }
 }
 
-/// Reads so many times into two bytes, and gives the answers in words.
+/// Reads n times into two bytes, and gives the answers in words.
 fn answers<S: Source>(alloc: Global, source: &mut S, reads: u32) -> Result<String, AllocError> {
     let mut text = String::new(alloc);
     for _ in 0..reads {

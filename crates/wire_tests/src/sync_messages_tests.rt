@@ -267,7 +267,7 @@ const SPELLINGS: [(&[u8], &[u8]); 6] = [
         b"\x30\x0b\x0a\x01\x01\x80\x01a\x30\x03\x04\x01b",
         b"\x30\x03\x0a\x01\x01",
     ),
-    // known tags behind the first unknown one are unknown too
+    // known tags after the first unknown one are unknown too
     (
         b"\x30\x09\x0a\x01\x01\x80\x01a\x04\x01b",
         b"\x30\x03\x0a\x01\x01",
@@ -361,7 +361,7 @@ const REFUSED_REQUESTS: [(&[u8], SyncFault); 14] = [
     ),
     (b"\x30\x03\x0a\x01\x02", SyncFault::BadMode(2)),
     (b"\x30\x03\x0a\x01\xff", SyncFault::BadMode(-1)),
-    // what stands behind it
+    // what stands after it
     (
         b"\x30\x05\x0a\x01\x01\x04\x01",
         SyncFault::Ber(BerFault {

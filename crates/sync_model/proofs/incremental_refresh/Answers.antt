@@ -2,4 +2,4 @@ use Rattle.sync_model.proofs.Incremental as law
 use Rattle.sync_model.proofs.incremental_refresh.Goals as goal
 
 pub returns : goal.returns
-returns c = λ session ascending start number accepted pieces from least cut. law.refresh_sent session ascending start number accepted pieces from least cut
+returns c = λ operation ascending start number accepted pieces from least cut. law.refresh_sent operation ascending start number accepted pieces from least cut

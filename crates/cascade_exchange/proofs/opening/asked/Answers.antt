@@ -5,4 +5,4 @@ use Rattle.cascade_exchange.proofs.opening.asked.Goals as goal
 pub returns-clause-value : goal.returns-clause-value
 returns-clause-value c =
     IfOk-weaker c.control_of-control.result _ _
-    (λ value is. asked_value c.args.follower.now.consumer c.args.mode c.in_ok-request.request value c.in_ok-request.ensures.message is c.in_ok-request.ensures.read_again) c.control_of-control.ensures
+    (λ value is. asked_value c.args.consumer_node.now.consumer c.args.mode c.in_ok-request.request value c.in_ok-request.ensures.message is c.in_ok-request.ensures.read_again) c.control_of-control.ensures

@@ -1,23 +1,23 @@
 use Rattle.std.proofs.Common.{◌∙◌}
 use Rattle.std.specs.Prelude.{Ok}
-use Rattle.cascade_exchange.specs.Exchange.{pair_of, takes}
+use Rattle.cascade_exchange.specs.Exchange.{agreement_of, takes}
 use Rattle.cascade_exchange.proofs.Loops.{went, takes_at, took_one, took_none}
 use Rattle.cascade_exchange.proofs.receiving.take.Goals as goal
 
 pub returns-then-not-branch-clause-does : goal.returns-then-not-branch-clause-does
 returns-then-not-branch-clause-does c =
-    let whole = takes c.args.count (pair_of c.args.provider.now c.args.follower.now c.args.out.now.lineage) in
-    let same = went whole (takes c.loop-left.left (pair_of c.loop-left.provider c.loop-left.follower c.args.out.now.lineage)) c.args.out.now c.loop-left.out c.loop-left.invariant.left in
-    let one = takes_at c.loop-left.provider c.take_one.new.provider c.loop-left.follower c.take_one.new.follower c.loop-left.out.lineage c.args.out.now.lineage c.loop-left.out c.take_one.new.out (Ok c.in_ok-take_one.field-0) same c.in_ok-take_one.ensures.does in
-    took_none whole c.loop-left.left (pair_of c.loop-left.provider c.loop-left.follower c.args.out.now.lineage) (pair_of c.take_one.new.provider c.take_one.new.follower c.args.out.now.lineage) _ _ _ _ c.in_ok-take_one.field-0 c.loop-left-test.true c.loop-left.invariant.left one c.if-not-branch.true (rw c.as_slice.ensures at c.in_ok-nothing.ensures)
+    let whole = takes c.args.count (agreement_of c.args.provider.now c.args.consumer_node.now c.args.out.now.lineage) in
+    let same = went whole (takes c.loop-left.left (agreement_of c.loop-left.provider c.loop-left.consumer_node c.args.out.now.lineage)) c.args.out.now c.loop-left.out c.loop-left.invariant.left in
+    let one = takes_at c.loop-left.provider c.take_one.new.provider c.loop-left.consumer_node c.take_one.new.consumer_node c.loop-left.out.lineage c.args.out.now.lineage c.loop-left.out c.take_one.new.out (Ok c.in_ok-take_one.field-0) same c.in_ok-take_one.ensures.does in
+    took_none whole c.loop-left.left (agreement_of c.loop-left.provider c.loop-left.consumer_node c.args.out.now.lineage) (agreement_of c.take_one.new.provider c.take_one.new.consumer_node c.args.out.now.lineage) _ _ _ _ c.in_ok-take_one.field-0 c.loop-left-test.true c.loop-left.invariant.left one c.if-not-branch.true (rw c.as_slice.ensures at c.in_ok-nothing.ensures)
 
 pub loop-left-preserved : goal.loop-left-preserved
 loop-left-preserved c =
-    let whole = takes c.args.count (pair_of c.args.provider.now c.args.follower.now c.args.out.now.lineage) in
-    let same = went whole (takes c.loop-left.left (pair_of c.loop-left.provider c.loop-left.follower c.args.out.now.lineage)) c.args.out.now c.loop-left.out c.loop-left.invariant.left in
-    let one = takes_at c.loop-left.provider c.take_one.new.provider c.loop-left.follower c.take_one.new.follower c.loop-left.out.lineage c.args.out.now.lineage c.loop-left.out c.take_one.new.out (Ok c.in_ok-take_one.field-0) same c.in_ok-take_one.ensures.does in
+    let whole = takes c.args.count (agreement_of c.args.provider.now c.args.consumer_node.now c.args.out.now.lineage) in
+    let same = went whole (takes c.loop-left.left (agreement_of c.loop-left.provider c.loop-left.consumer_node c.args.out.now.lineage)) c.args.out.now c.loop-left.out c.loop-left.invariant.left in
+    let one = takes_at c.loop-left.provider c.take_one.new.provider c.loop-left.consumer_node c.take_one.new.consumer_node c.loop-left.out.lineage c.args.out.now.lineage c.loop-left.out c.take_one.new.out (Ok c.in_ok-take_one.field-0) same c.in_ok-take_one.ensures.does in
     record {
-      left = took_one whole c.loop-left.left (pair_of c.loop-left.provider c.loop-left.follower c.args.out.now.lineage) (pair_of c.take_one.new.provider c.take_one.new.follower c.args.out.now.lineage) _ _ _ c.in_ok-take_one.field-0 c.loop-left-test.true c.loop-left.invariant.left one c.if-not-branch.false;
+      left = took_one whole c.loop-left.left (agreement_of c.loop-left.provider c.loop-left.consumer_node c.args.out.now.lineage) (agreement_of c.take_one.new.provider c.take_one.new.consumer_node c.args.out.now.lineage) _ _ _ c.in_ok-take_one.field-0 c.loop-left-test.true c.loop-left.invariant.left one c.if-not-branch.false;
       directory = c.in_ok-take_one.ensures.directory ∙ c.loop-left.invariant.directory;
       queue_limit = c.in_ok-take_one.ensures.queue_limit ∙ c.loop-left.invariant.queue_limit;
       kind = c.in_ok-take_one.ensures.kind ∙ c.loop-left.invariant.kind;

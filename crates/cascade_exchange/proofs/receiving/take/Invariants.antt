@@ -1,12 +1,12 @@
 use Rattle.std.proofs.Common.{◌≡◌}
-use Rattle.cascade_exchange.specs.Exchange.{pair_of, takes}
+use Rattle.cascade_exchange.specs.Exchange.{agreement_of, takes}
 use Rattle.cascade_exchange.specs.Going.{GoesOn}
 use Rattle.cascade_exchange.proofs.receiving.take.Given as goal
 
--- so many takings are left
+-- n takings are left
 abbrev pub invariant-loop-left : goal.invariant-loop-left
 invariant-loop-left l = record {
-  left : GoesOn (takes l.fn.count (pair_of l.fn.provider l.fn.follower l.fn.out.lineage)) (takes l.left (pair_of l.provider l.follower l.fn.out.lineage)) l.fn.out l.out;
+  left : GoesOn (takes l.fn.count (agreement_of l.fn.provider l.fn.consumer_node l.fn.out.lineage)) (takes l.left (agreement_of l.provider l.consumer_node l.fn.out.lineage)) l.fn.out l.out;
   directory : l.provider.directory ≡ l.fn.provider.directory;
   queue_limit : l.provider.queue_limit ≡ l.fn.provider.queue_limit;
   kind : l.provider.kind ≡ l.fn.provider.kind;

@@ -1,12 +1,12 @@
 use Rattle.std.proofs.Common.{◌≡◌}
-use Rattle.cascade_exchange.specs.Exchange.{pair_of, sent}
+use Rattle.cascade_exchange.specs.Exchange.{agreement_of, sent}
 use Rattle.cascade_exchange.specs.Going.{GoesOn}
 use Rattle.cascade_exchange.proofs.sending.send.Given as goal
 
--- so many sendings are left, and the writes are as before
+-- n sendings are left, and the writes are as before
 abbrev pub invariant-loop-left : goal.invariant-loop-left
 invariant-loop-left l = record {
-  goes : GoesOn (sent l.fn.count (pair_of l.fn.provider l.fn.follower l.fn.out.lineage)) (sent l.left (pair_of l.provider l.follower l.fn.out.lineage)) l.fn.out l.out;
+  goes : GoesOn (sent l.fn.count (agreement_of l.fn.provider l.fn.consumer_node l.fn.out.lineage)) (sent l.left (agreement_of l.provider l.consumer_node l.fn.out.lineage)) l.fn.out l.out;
   directory : l.provider.directory ≡ l.fn.provider.directory;
   queue_limit : l.provider.queue_limit ≡ l.fn.provider.queue_limit;
   kind : l.provider.kind ≡ l.fn.provider.kind;

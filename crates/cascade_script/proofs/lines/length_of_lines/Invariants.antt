@@ -3,7 +3,7 @@ use Rattle.std.specs.Str.Lines.{lines}
 use Rattle.cascade_script.specs.Lines.{IsCut}
 use Rattle.cascade_script.proofs.lines.length_of_lines.Given as goal
 
--- so many lines stand before the place
+-- n lines stand before the place
 abbrev pub invariant-loop-count : goal.invariant-loop-count
 invariant-loop-count l =
     record {

@@ -9,6 +9,6 @@ loop-i-preserved c =
     let i = c.loop-i.i in
     let within : i < length bytes = omega arith in
     elim c.if-b-mark.branch [
-      | then-b-mark w ↦ record { front = rw w.length-is (up_to_last-more c.args.mark bytes i within w.if-b-mark.true); within = omega (arith, w.length-is) }
-      | else-b-mark w ↦ record { front = rw w.length-is (up_to_last-same c.args.mark bytes _ i within w.if-b-mark.false c.loop-i.invariant.front); within = omega (arith, w.length-is, c.loop-i.invariant.within) }
+      | then-b-mark w ↦ record { first_part = rw w.length-is (up_to_last-more c.args.mark bytes i within w.if-b-mark.true); within = omega (arith, w.length-is) }
+      | else-b-mark w ↦ record { first_part = rw w.length-is (up_to_last-same c.args.mark bytes _ i within w.if-b-mark.false c.loop-i.invariant.first_part); within = omega (arith, w.length-is, c.loop-i.invariant.within) }
     ]

@@ -1,4 +1,4 @@
--- Those that stay ascend, and are told by the set of what is dropped.
+-- Those that stay ascend, and are reported by the set of what is dropped.
 use Rattle.std.proofs.Common.{◌∙◌, not, ap}
 use Rattle.std.specs.List.{filter}
 use Rattle.entry_writes.specs.Effects.{is_one_of}

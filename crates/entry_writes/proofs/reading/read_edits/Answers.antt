@@ -8,7 +8,7 @@ use Rattle.std.proofs.lemmas.Result.{err_from_is_err_and}
 use Rattle.schema_rules.proofs.Lists.{filter_map_some}
 use Rattle.entry_writes.specs.Reading.{raw_code, typed, typed_edits, read_edits}
 use Rattle.entry_writes.specs.Sound.{is_sound_edit}
-use Rattle.entry_writes.proofs.Firsts.{first_code_none, first_code_some, Tells-same}
+use Rattle.entry_writes.proofs.Firsts.{first_code_none, first_code_some, HasCode-same}
 use Rattle.entry_writes.proofs.reading.read_edits.Goals as goal
 
 pub returns-in_err-edit-clause-fault : goal.returns-in_err-edit-clause-fault
@@ -17,7 +17,7 @@ returns-in_err-edit-clause-fault c =
     let listed = c.list-raw-items.result.now in
     let p = err_from_is_err_and c.from_residual.result c.from_residual.ensures.1 in
     let same : listed ≡ raws = c.list-raw-items.ensures in
-    rw (p.1, p.2) (Tells-same (raw_code c.raw-item.result) (result_err (read_edits raws)) _
+    rw (p.1, p.2) (HasCode-same (raw_code c.raw-item.result) (result_err (read_edits raws)) _
     (λ n some.
     ap (λ xs. result_err (read_edits xs)) (sym same)
     ∙ ap (λ o. result_err (typed_edits o (filter_map typed listed)))

@@ -2,7 +2,7 @@
 use Rattle.std.proofs.Common.{map, ap, sym, ◌∙◌}
 use Rattle.std.proofs.lemmas.List.{at_drop_all}
 use Rattle.ldap_filter.specs.Same.{same_trees}
-use Rattle.ldap_filter.specs.Tree.{tree_of, trees, parts_of}
+use Rattle.ldap_filter.specs.FilterTree.{tree_of, trees, parts_of}
 use Rattle.ldap_filter.proofs.Lists.{same_trees_end}
 use Rattle.ldap_filter.proofs.filter.+comparisons.Goals as goal
 

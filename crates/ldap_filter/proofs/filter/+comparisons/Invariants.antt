@@ -1,6 +1,6 @@
 use Rattle.std.proofs.Common.{◌≡◌, map, drop}
 use Rattle.ldap_filter.specs.Same.{same_trees}
-use Rattle.ldap_filter.specs.Tree.{tree_of, trees}
+use Rattle.ldap_filter.specs.FilterTree.{tree_of, trees}
 use Rattle.ldap_filter.proofs.filter.+comparisons.Given as goal
 
 -- the lists are the same where what is left of them is

@@ -1,5 +1,5 @@
 use Rattle.std.proofs.Common.{◌≡◌, map, take}
-use Rattle.ldap_filter.specs.Tree.{tree_of}
+use Rattle.ldap_filter.specs.FilterTree.{tree_of}
 use Rattle.ldap_filter.proofs.filter.+copies.Given as goal
 
 -- the filters so far are copied

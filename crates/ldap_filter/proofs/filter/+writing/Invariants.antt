@@ -1,5 +1,5 @@
 use Rattle.std.proofs.Common.{◌≡◌, ◌++◌, map, drop}
-use Rattle.ldap_filter.specs.Tree.{tree_of, trees}
+use Rattle.ldap_filter.specs.FilterTree.{tree_of, trees}
 use Rattle.ldap_filter.specs.Writing.{texts_of, have_texts, are_sound}
 use Rattle.ldap_filter.proofs.filter.+writing.Given as goal
 

@@ -1,9 +1,9 @@
--- A filter takes a level, and one more filter of a list stands behind those so far.
+-- A filter takes a level, and one more filter of a list stands after those so far.
 use Rattle.std.proofs.Common.{◌≡◌, ◌+◌, length, map, ap, sym, ◌∙◌, arith}
 use Rattle.std.proofs.lemmas.List.{length_push, map_push}
 use Rattle.ldap_filter.specs.Grammar.{begins_with}
 use Rattle.ldap_filter.specs.Reading.{filter_in}
-use Rattle.ldap_filter.specs.Tree.{tree_of}
+use Rattle.ldap_filter.specs.FilterTree.{tree_of}
 use Rattle.ldap_filter.proofs.Many.{many_next, filter_in-some}
 use Rattle.ldap_filter.proofs.reading.+filters.Goals as goal
 

@@ -1,4 +1,4 @@
--- One more value behind a star.
+-- One more value after a star.
 use Rattle.std.proofs.Common.{◌≡◌, ◌+◌, length, ap, sym, ◌∙◌, arith}
 use Rattle.std.proofs.lemmas.List.{length_push}
 use Rattle.ldap_filter.specs.Grammar.{begins_with}

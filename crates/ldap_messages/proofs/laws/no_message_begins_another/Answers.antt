@@ -1,4 +1,4 @@
-use Rattle.ldap_messages.proofs.FrontLemmas.{one_message, message_cut}
+use Rattle.ldap_messages.proofs.PrefixLemmas.{one_message, message_cut}
 use Rattle.ldap_messages.proofs.laws.no_message_begins_another.Goals as goal
 
 pub returns-clause-one : goal.returns-clause-one

@@ -1,12 +1,12 @@
 use Rattle.std.proofs.Common.{◌≡◌, length}
 use Rattle.ldap_ber.specs.Reading.{many_at}
-use Rattle.ldap_ber.proofs.ManyLemmas.{with_front}
+use Rattle.ldap_ber.proofs.ManyLemmas.{with_prefix}
 use Rattle.ldap_parts.specs.Attributes.{attribute_at}
 use Rattle.ldap_parts.proofs.attributes.attributes_in.Given as goal
 
 -- the attributes so far and those that are left are all of them
 abbrev pub invariant-loop-alloc : goal.invariant-loop-alloc
-invariant-loop-alloc l = with_front l.attributes (many_at attribute_at l.reader.stop l.reader.left) ≡ many_at attribute_at l.initial.reader.stop l.initial.reader.left
+invariant-loop-alloc l = with_prefix l.attributes (many_at attribute_at l.reader.stop l.reader.left) ≡ many_at attribute_at l.initial.reader.stop l.initial.reader.left
 
 abbrev pub decreases-loop-alloc : goal.decreases-loop-alloc
 decreases-loop-alloc l = length l.reader.left

@@ -1,4 +1,4 @@
--- One more piece stands behind those so far, or the pieces end, or one is refused.
+-- One more piece stands after those so far, or the pieces end, or one is refused.
 use Rattle.std.proofs.Common.{◌∙◌}
 use Rattle.ldap_parts.proofs.FilterLemmas.{middle_goes_on, middle_ends}
 use Rattle.ldap_parts.proofs.filter_reading.middle_of.Goals as goal

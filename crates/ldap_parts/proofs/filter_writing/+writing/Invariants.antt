@@ -1,6 +1,6 @@
 use Rattle.std.proofs.Common.{◌≡◌, map, drop}
 use Rattle.ldap_ber.specs.Writer.{after_bytes}
-use Rattle.ldap_filter.specs.Tree.{tree_of, trees}
+use Rattle.ldap_filter.specs.FilterTree.{tree_of, trees}
 use Rattle.ldap_parts.specs.Filters.{filters_octets, all_have_piece}
 use Rattle.ldap_parts.proofs.filter_writing.+writing.Given as goal
 

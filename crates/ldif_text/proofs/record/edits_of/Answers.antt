@@ -9,7 +9,7 @@ returns-in_err-current c =
     let lines = c.args.lines.now in
     let i = c.loop-line.line-index in
     let next = at_drop_more (edits_of c.loop-line.done c.loop-line.current) lines i c.line-item.result (omega arith) in
-    let told : Refuses c.in_err-current.field-0.0 (edits_of c.loop-line.done c.loop-line.current (drop i lines)) =
+    let shown : Refuses c.in_err-current.field-0.0 (edits_of c.loop-line.done c.loop-line.current (drop i lines)) =
     rw (next, ← c.line-item.is) (c.in_err-current.ensures (drop (i + 1) lines)) in
-    let here = rw (← c.loop-line.invariant) at told in
+    let here = rw (← c.loop-line.invariant) at shown in
     grind (arith, here)

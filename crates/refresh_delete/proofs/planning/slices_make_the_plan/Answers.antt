@@ -1,4 +1,4 @@
-use Rattle.refresh_delete.proofs.Telling.{planned-pieces}
+use Rattle.refresh_delete.proofs.Deciding.{planned-pieces}
 use Rattle.refresh_delete.proofs.planning.slices_make_the_plan.Goals as goal
 
 pub returns : goal.returns

@@ -1,4 +1,4 @@
-use Rattle.refresh_present.proofs.Telling.{planned-pieces}
+use Rattle.refresh_present.proofs.Deciding.{planned-pieces}
 use Rattle.refresh_present.proofs.planning.slices_make_the_plan.Goals as goal
 
 pub returns : goal.returns

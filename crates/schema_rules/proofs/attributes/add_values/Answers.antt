@@ -1,4 +1,4 @@
--- The values go behind those of the type at its place, or last.
+-- The values go after those of the type at its place, or last.
 use Rattle.std.proofs.Common.{◌≡◌, Some, None, nat_eq, ◌++◌, ◌∷◌, [], set, ap, sym, ◌∙◌}
 use Rattle.std.specs.List.{position}
 use Rattle.std.proofs.lemmas.Result.{IfOk-weaker}

@@ -3,14 +3,14 @@ use Rattle.std.proofs.Common.{◌≡◌, None, Some, ap, sym, ◌∙◌}
 use Rattle.std.proofs.lemmas.Result.{err_from_is_err_and}
 use Rattle.schema_rules.specs.Attributes.{first_code, raw_code, typed_code, with_values}
 use Rattle.schema_rules.proofs.Joining.{IsAttributeList-with_values, is_given-with_values}
-use Rattle.schema_rules.proofs.Reading.{Tells-same, first_code_none, first_code_some, joined_more, none_given, none_filled}
+use Rattle.schema_rules.proofs.Reading.{HasCode-same, first_code_none, first_code_some, joined_more, none_given, none_filled}
 use Rattle.schema_rules.proofs.attributes.joined.Goals as goal
 
 pub returns-in_err-kind-clause-fault : goal.returns-in_err-kind-clause-fault
 returns-in_err-kind-clause-fault c =
     let raws = c.args.raws.now in
     let p = err_from_is_err_and c.from_residual.result c.from_residual.ensures.1 in
-    rw (p.1, p.2) (Tells-same (raw_code c.raw-item.result) (first_code raws) _
+    rw (p.1, p.2) (HasCode-same (raw_code c.raw-item.result) (first_code raws) _
     (λ n some. first_code_some raws _ _ n c.loop-raw-test.true c.raw-item.is c.loop-raw.invariant.none some) c.in_err-kind.ensures.fault)
 
 pub loop-raw-preserved : goal.loop-raw-preserved

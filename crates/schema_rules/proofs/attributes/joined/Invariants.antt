@@ -3,7 +3,7 @@ use Rattle.std.specs.List.{filter_map, list_all}
 use Rattle.schema_rules.specs.Attributes as spec
 use Rattle.schema_rules.proofs.attributes.joined.Given as goal
 
--- the attributes so far are joined, and nothing is against them
+-- the attributes so far are joined, and nothing rejects them
 abbrev pub invariant-loop-raw : goal.invariant-loop-raw
 invariant-loop-raw l = record {
   joined : l.items.items ≡ spec.joined (filter_map spec.typed (take l.raw-index l.raws));

@@ -3,7 +3,7 @@ use Rattle.std.specs.VecDeque.{deque_capacity, deque_len}
 use Rattle.session_log.specs.Log.{last_of, before_last, greatest}
 use Rattle.session_log.proofs.ending.keep_last.Given as goal
 
--- what is still to be dropped stands at the front
+-- what is still to be dropped stands at the start
 abbrev pub invariant-loop-notes : goal.invariant-loop-notes
 invariant-loop-notes l = record {
   kept : last_of l.limit l.notes.items ≡ last_of l.limit l.fn.notes.items;

@@ -4,7 +4,7 @@ use Rattle.std.specs.Map.{keys_of}
 use Rattle.sync_consumer.specs.declared.stage.Staged.{Staged}
 use Rattle.sync_consumer.specs.declared.stage.Before.TheVariants.{Had}
 use Rattle.sync_consumer.specs.Staging.{IsAt, IsGapFor, IsStage, change_of, changes_of, count_of, weight_within}
-use Rattle.sync_consumer.proofs.Stages.{short, within, slot_at, valued_at, laid_enough, valued_stage, back_nowhere}
+use Rattle.sync_consumer.proofs.Stages.{short, within, slot_at, valued_at, staged_enough, valued_stage, back_nowhere}
 use Rattle.sync_consumer.proofs.changes.replace.Goals as goal
 
 pub add-requires-clause-few : goal.add-requires-clause-few
@@ -24,7 +24,7 @@ remove-requires-clause-counted c =
     let at : IsAt (keys_of (changes_of items)) (change_of c.args.old).0 c.in-Ok.place = rw c.uuid.ensures at found in
     let here : late ≡ get_or items c.in-Ok.place late = c.replace-late.ensures.value ∙ c.index_mut.ensures.value ∙ ap (get_or items c.in-Ok.place) (sym c.replace-late.ensures.value) in
     let is = sym (slot_at items (change_of c.args.old).0 c.in-Ok.place late c.requires.stage.ordered at here) in
-    rw c.add.ensures.count ((laid_enough (changes_of items) (change_of c.args.old) load.count load.weight c.requires.stage (Some (change_of late).1) is).0)
+    rw c.add.ensures.count ((staged_enough (changes_of items) (change_of c.args.old) load.count load.weight c.requires.stage (Some (change_of late).1) is).0)
 
 pub remove-requires-clause-weighed : goal.remove-requires-clause-weighed
 remove-requires-clause-weighed c =
@@ -35,7 +35,7 @@ remove-requires-clause-weighed c =
     let at : IsAt (keys_of (changes_of items)) (change_of c.args.old).0 c.in-Ok.place = rw c.uuid.ensures at found in
     let here : late ≡ get_or items c.in-Ok.place late = c.replace-late.ensures.value ∙ c.index_mut.ensures.value ∙ ap (get_or items c.in-Ok.place) (sym c.replace-late.ensures.value) in
     let is = sym (slot_at items (change_of c.args.old).0 c.in-Ok.place late c.requires.stage.ordered at here) in
-    rw c.add.ensures.weight ((laid_enough (changes_of items) (change_of c.args.old) load.count load.weight c.requires.stage (Some (change_of late).1) is).1)
+    rw c.add.ensures.weight ((staged_enough (changes_of items) (change_of c.args.old) load.count load.weight c.requires.stage (Some (change_of late).1) is).1)
 
 pub returns-in-Ok-clause-value : goal.returns-in-Ok-clause-value
 returns-in-Ok-clause-value c =

@@ -2,7 +2,7 @@
 use Rattle.std.proofs.Common.{◌≡◌, ◌∙◌, ◌-◌, Some, None, sym, ap, subst, arith}
 use Rattle.sync_model.specs.Copy.{slot}
 use Rattle.sync_consumer.specs.Staging.{IsStage, change_of, changes_of, count_of, weight_within, slot_before}
-use Rattle.sync_consumer.proofs.Stages.{short, within, laid_enough, laid_stage}
+use Rattle.sync_consumer.proofs.Stages.{short, within, staged_enough, staged_stage}
 use Rattle.sync_consumer.proofs.changes.set.Goals as goal
 
 pub add-requires-clause-few : goal.add-requires-clause-few
@@ -16,22 +16,22 @@ add-requires-clause-light c =
 pub remove-requires-clause-counted : goal.remove-requires-clause-counted
 remove-requires-clause-counted c =
     let stage = changes_of c.args.changes.now.items in
-    let was : Some (change_of c.in-Had.old).1 ≡ slot stage (change_of c.args.change).0 = sym (ap slot_before c.in-Had.is) ∙ c.lay_one-before.ensures.was in
-    rw c.add.ensures.count ((laid_enough stage (change_of c.args.change) c.args.load.now.count c.args.load.now.weight c.requires.stage (Some (change_of c.in-Had.old).1) was).0)
+    let was : Some (change_of c.in-Had.old).1 ≡ slot stage (change_of c.args.change).0 = sym (ap slot_before c.in-Had.is) ∙ c.stage_one-before.ensures.was in
+    rw c.add.ensures.count ((staged_enough stage (change_of c.args.change) c.args.load.now.count c.args.load.now.weight c.requires.stage (Some (change_of c.in-Had.old).1) was).0)
 
 pub remove-requires-clause-weighed : goal.remove-requires-clause-weighed
 remove-requires-clause-weighed c =
     let stage = changes_of c.args.changes.now.items in
-    let was : Some (change_of c.in-Had.old).1 ≡ slot stage (change_of c.args.change).0 = sym (ap slot_before c.in-Had.is) ∙ c.lay_one-before.ensures.was in
-    rw c.add.ensures.weight ((laid_enough stage (change_of c.args.change) c.args.load.now.count c.args.load.now.weight c.requires.stage (Some (change_of c.in-Had.old).1) was).1)
+    let was : Some (change_of c.in-Had.old).1 ≡ slot stage (change_of c.args.change).0 = sym (ap slot_before c.in-Had.is) ∙ c.stage_one-before.ensures.was in
+    rw c.add.ensures.weight ((staged_enough stage (change_of c.args.change) c.args.load.now.count c.args.load.now.weight c.requires.stage (Some (change_of c.in-Had.old).1) was).1)
 
 pub returns-in-Had-clause-stage : goal.returns-in-Had-clause-stage
 returns-in-Had-clause-stage c =
     let stage = changes_of c.args.changes.now.items in
     let load = c.args.load.now in
-    let was : Some (change_of c.in-Had.old).1 ≡ slot stage (change_of c.args.change).0 = sym (ap slot_before c.in-Had.is) ∙ c.lay_one-before.ensures.was in
-    subst (λ stage. IsStage stage c.remove.new.self.count c.remove.new.self.weight) (sym c.lay_one-before.ensures.value)
-    (laid_stage stage (change_of c.args.change) load.count load.weight c.requires.stage (Some (change_of c.in-Had.old).1) was c.remove.new.self.count c.remove.new.self.weight
+    let was : Some (change_of c.in-Had.old).1 ≡ slot stage (change_of c.args.change).0 = sym (ap slot_before c.in-Had.is) ∙ c.stage_one-before.ensures.was in
+    subst (λ stage. IsStage stage c.remove.new.self.count c.remove.new.self.weight) (sym c.stage_one-before.ensures.value)
+    (staged_stage stage (change_of c.args.change) load.count load.weight c.requires.stage (Some (change_of c.in-Had.old).1) was c.remove.new.self.count c.remove.new.self.weight
     (c.remove.ensures.count ∙ ap (λ n. n - count_of (change_of c.in-Had.old).1) c.add.ensures.count)
     (c.remove.ensures.weight ∙ ap (λ n. n - weight_within (change_of c.in-Had.old).1) c.add.ensures.weight))
 
@@ -39,9 +39,9 @@ pub returns-in_default-clause-stage : goal.returns-in_default-clause-stage
 returns-in_default-clause-stage c =
     let stage = changes_of c.args.changes.now.items in
     let load = c.args.load.now in
-    let was : None ≡ slot stage (change_of c.args.change).0 = sym (ap slot_before c.in_default.is) ∙ c.lay_one-before.ensures.was in
+    let was : None ≡ slot stage (change_of c.args.change).0 = sym (ap slot_before c.in_default.is) ∙ c.stage_one-before.ensures.was in
     let count = c.add.ensures.count in
     let weight = c.add.ensures.weight in
-    subst (λ stage. IsStage stage c.add.new.self.count c.add.new.self.weight) (sym c.lay_one-before.ensures.value)
-    (laid_stage stage (change_of c.args.change) load.count load.weight c.requires.stage None was c.add.new.self.count c.add.new.self.weight
+    subst (λ stage. IsStage stage c.add.new.self.count c.add.new.self.weight) (sym c.stage_one-before.ensures.value)
+    (staged_stage stage (change_of c.args.change) load.count load.weight c.requires.stage None was c.add.new.self.count c.add.new.self.weight
     (omega (arith, count)) (omega (arith, weight)))

@@ -1,8 +1,9 @@
 -- An identity in its gap, or found.
 use Rattle.std.proofs.Common.{◌∙◌, ap, sym}
 use Rattle.sync_consumer.specs.Staging.{rises}
-use Rattle.sync_consumer.proofs.Rising.{insert_in_gap, insert_found, rises-insert, with_room}
+use Rattle.sync_consumer.proofs.Rising.{insert_in_gap, insert_found, rises-insert}
 use Rattle.sync_consumer.proofs.named.insert.Goals as goal
+use Rattle.entry_tree.proofs.Searching.{with_room}
 
 pub returns-in-Err-clause-value : goal.returns-in-Err-clause-value
 returns-in-Err-clause-value c =

@@ -9,9 +9,9 @@ use Rattle.sync_consumer.proofs.names.note.Goals as goal
 
 pub returns-in_ok-insert-clause-own : goal.returns-in_ok-insert-clause-own
 returns-in_ok-insert-clause-own c =
-    let entry = c.in-Put.kept.value in
+    let entry = c.in-AddOrModify.kept.value in
     let key_is : c.key.result.now ≡ name_key entry.dn = cc in
-    ap (λ s. are_noted c.insert.new.self (put_alone s)) c.in-Put.is
+    ap (λ s. are_noted c.insert.new.self (put_alone s)) c.in-AddOrModify.is
     ∙ noted_one c.args.names.now c.insert.new.self c.key.result entry c.uuid.result key_is c.in_ok-insert.ensures.entries
 
 pub returns-in_ok-insert-clause-others : goal.returns-in_ok-insert-clause-others

@@ -1,8 +1,8 @@
 use Rattle.std.proofs.Common.{length}
-use Rattle.syncrepl_tool.proofs.Running.{SoFar}
+use Rattle.syncrepl_tool.proofs.SyncSession.{SoFar}
 use Rattle.syncrepl_tool.proofs.run.run_events.Given as goal
 
--- the events so far are done and told
+-- the events so far are done and reported
 abbrev pub invariant-loop-event : goal.invariant-loop-event
 invariant-loop-event g l =
     let held = g.O.Sink.bytes_held in

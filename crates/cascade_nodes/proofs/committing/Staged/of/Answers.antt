@@ -7,14 +7,14 @@ use Rattle.entry_tree.specs.Selection.{Search, search_of}
 use Rattle.entry_tree.specs.Sound.{is_sound_put}
 use Rattle.sync_consumer.specs.Taking.{AreFit}
 use Rattle.sync_provider.specs.declared.committing.StagedCommit.{StagedCommit}
-use Rattle.cascade_report.specs.Report.{Stage}
+use Rattle.cascade_report.specs.ReportLines.{StoredStage}
 use Rattle.cascade_nodes.specs.Commits.{commit_of, note_of}
-use Rattle.cascade_nodes.proofs.Commits.{all_more}
 use Rattle.cascade_nodes.proofs.committing.Staged.of.Goals as goal
+use Rattle.ldap_ber.proofs.Lists.{list_all-push}
 
 pub loop-stage-preserved : goal.loop-stage-preserved
 loop-stage-preserved c =
-    let stage : Stage = c.in-Some.stage in
+    let stage : StoredStage = c.in-Some.stage in
     let wants : Search = search_of c.args.wanted.now in
     let so_far = c.loop-stage.yielded in
     let before = c.loop-stage.staged in
@@ -27,8 +27,8 @@ loop-stage-preserved c =
       notes = notes ∙ ap (λ ns. ns ++ note_of wants stage ∷ []) is.notes ∙ sym (map-append (note_of wants) so_far (stage ∷ []));
       sound =
           subst (λ cs. list_all (λ (commit : StagedCommit). list_all is_sound_put commit.puts) cs ≡ true) (sym commits)
-          (all_more (λ (commit : StagedCommit). list_all is_sound_put commit.puts) before.commits.items (commit_of stage) is.sound fit.sound);
+          (list_all-push (λ (commit : StagedCommit). list_all is_sound_put commit.puts) before.commits.items (commit_of stage) is.sound fit.sound);
       light =
           subst (λ cs. list_all (λ (commit : StagedCommit). list_all is_light commit.puts) cs ≡ true) (sym commits)
-          (all_more (λ (commit : StagedCommit). list_all is_light commit.puts) before.commits.items (commit_of stage) is.light fit.light);
+          (list_all-push (λ (commit : StagedCommit). list_all is_light commit.puts) before.commits.items (commit_of stage) is.light fit.light);
     }

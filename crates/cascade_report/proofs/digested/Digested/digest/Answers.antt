@@ -2,8 +2,8 @@
 use Rattle.std.proofs.Common.{◌≡◌, Bor, List, ◌++◌, map, sym, ap, ◌∙◌, subst}
 use Rattle.entry_tree.specs.declared.entry.Entry.{Entry}
 use Rattle.sha2.specs.Sha256.{sha256}
-use Rattle.cascade_report.specs.Digests.{front}
-use Rattle.cascade_report.specs.Report.{text_of}
+use Rattle.cascade_report.specs.Digests.{prefix}
+use Rattle.cascade_report.specs.ReportLines.{text_of}
 use Rattle.cascade_report.proofs.Digests.{digest_is}
 use Rattle.cascade_report.proofs.digested.Digested.digest.Goals as goal
 
@@ -14,9 +14,9 @@ returns-clause-digest c =
     let here : c.args.self.now.copy.held ≡ held = cc in
     let same : c.entries-entries.result.now ≡ held = c.entries-entries.ensures in
     let rest : List Entry = map (λ (e : Bor Entry). e.now) c.deref.result.now in
-    let split : front reached c.entries-entries.result.now ++ rest ≡ c.entries-entries.result.now =
-    ap (λ (es : List (Bor Entry)). front reached c.entries-entries.result.now ++ map (λ (e : Bor Entry). e.now) es) c.deref.ensures.value ∙ c.in_ok-rest.ensures in
+    let split : prefix reached c.entries-entries.result.now ++ rest ≡ c.entries-entries.result.now =
+    ap (λ (es : List (Bor Entry)). prefix reached c.entries-entries.result.now ++ map (λ (e : Bor Entry). e.now) es) c.deref.ensures.value ∙ c.in_ok-rest.ensures in
     digest_is c.self.inside.hasher reached held rest c.in_ok-digest.digest c.self.invariant
-    (subst (λ (es : List Entry). front reached es ++ rest ≡ es) same split)
+    (subst (λ (es : List Entry). prefix reached es ++ rest ≡ es) same split)
     c.in_ok-digest.ensures.digest
     ∙ ap (λ (es : List Entry). sha256 (text_of es)) (sym here)

@@ -1,13 +1,13 @@
 use Rattle.cascade_exchange.specs.Exchange.{part_of}
-use Rattle.cascade_world.proofs.AtPlaces.{supplier_low, follower_low}
+use Rattle.cascade_world.proofs.AtPlaces.{provider_node_low, consumer_node_low}
 use Rattle.cascade_world.proofs.Steps.{nowhere}
 use Rattle.cascade_world.proofs.world.World.exchange.Goals as goal
 
-pub exchange_at-requires-clause-supplier : goal.exchange_at-requires-clause-supplier
-exchange_at-requires-clause-supplier c = supplier_low c.args.self.now c.args.name c.in-Ok.supplier c.in-Ok.follower c.in-Ok.ensures.ok
+pub exchange_at-requires-clause-provider_node : goal.exchange_at-requires-clause-provider_node
+exchange_at-requires-clause-provider_node c = provider_node_low c.args.self.now c.args.name c.in-Ok.provider_node c.in-Ok.consumer_node c.in-Ok.ensures.ok
 
-pub exchange_at-requires-clause-follower : goal.exchange_at-requires-clause-follower
-exchange_at-requires-clause-follower c = follower_low c.args.self.now c.args.name c.in-Ok.supplier c.in-Ok.follower c.in-Ok.ensures.ok
+pub exchange_at-requires-clause-consumer_node : goal.exchange_at-requires-clause-consumer_node
+exchange_at-requires-clause-consumer_node c = consumer_node_low c.args.self.now c.args.name c.in-Ok.provider_node c.in-Ok.consumer_node c.in-Ok.ensures.ok
 
 pub returns-in-Ok-clause-steps : goal.returns-in-Ok-clause-steps
 returns-in-Ok-clause-steps c = c.exchange_at.ensures.steps c.args.name c.in-Ok.ensures.ok

@@ -4,9 +4,9 @@ use Rattle.cascade_world.proofs.world.World.perform.Goals as goal
 
 pub returns-in-Ok-clause-does : goal.returns-in-Ok-clause-does
 returns-in-Ok-clause-does c =
-    performed_at c.args.self.now _ c.args.supplier c.args.follower (part_of c.args.exchange) c.index.result.now c.index_mut-from.result.now c.serve.new.supplier c.index_mut-to.result.now c.serve.new.follower
-    c.in-Ok.top c.serve.result c.self.view_is c.requires.supplier c.requires.follower c.index.ensures c.index_mut-from.ensures.value c.index_mut-to.ensures.value c.in-Ok.ensures
+    performed_at c.args.self.now _ c.args.provider_node c.args.consumer_node (part_of c.args.exchange) c.index.result.now c.index_mut-from.result.now c.serve.new.provider_node c.index_mut-to.result.now c.serve.new.consumer_node
+    c.in-Ok.top c.serve.result c.self.view_is c.requires.provider_node c.requires.consumer_node c.index.ensures c.index_mut-from.ensures.value c.index_mut-to.ensures.value c.in-Ok.ensures
     c.serve.ensures.does c.serve.ensures.before c.serve.ensures.same
 
 pub returns-in-Err-clause-does : goal.returns-in-Err-clause-does
-returns-in-Err-clause-does c = unperformed c.args.self.now c.args.supplier c.args.follower (part_of c.args.exchange) c.requires.supplier c.requires.follower
+returns-in-Err-clause-does c = unperformed c.args.self.now c.args.provider_node c.args.consumer_node (part_of c.args.exchange) c.requires.provider_node c.requires.consumer_node

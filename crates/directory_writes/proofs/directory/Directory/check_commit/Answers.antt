@@ -1,4 +1,4 @@
--- What is against the entries after the commit, where nothing is against one more write.
+-- What rejects the entries after the commit, where nothing rejects one more write.
 use Rattle.std.proofs.Common.{rules, ◌≡◌, ◌-◌, ◌^◌, min, None, sym, ◌∙◌, subst}
 use Rattle.std.specs.Prelude.{IfErr}
 use Rattle.entry_tree.specs.Effects.{committed}

@@ -1,4 +1,4 @@
--- What is told of an operation that is accepted.
+-- What is reported of an operation that is accepted.
 use Rattle.std.proofs.Common.{rules, ◌≡◌, ◌+◌, length}
 use Rattle.entry_tree.specs.Effects.{effect}
 use Rattle.entry_tree.specs.History.{identity}

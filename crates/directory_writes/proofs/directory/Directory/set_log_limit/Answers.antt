@@ -12,4 +12,4 @@ invariant_of-self c =
     let entries : after.entries ≡ was.held.entries = c.set_log_limit.ensures.entries in
     let log : after.touches.log ≡ trimmed c.args.limit was.held.touches.log = c.set_log_limit.ensures.log in
     let numbers : after.touches.numbers ≡ was.held.touches.numbers = c.set_log_limit.ensures.numbers in
-    kept_trimmed d was.held.entries after.entries was.stamps was.weight was.held.touches.numbers after.touches.numbers after.touches.log c.args.limit c.self.invariant entries log numbers
+    kept_trimmed d was.held.entries after.entries was.csn_maker was.weight was.held.touches.numbers after.touches.numbers after.touches.log c.args.limit c.self.invariant entries log numbers

@@ -5,7 +5,7 @@ use Rattle.std.proofs.lemmas.Iterator.Consumers.{YieldsList-from_filter, count_f
 use Rattle.std.proofs.lemmas.List.Sums.{length-filter}
 use Rattle.csn_cookie.specs.Csn.{is_upto}
 use Rattle.entry_tree.specs.declared.op.Write.{Write}
-use Rattle.directory_writes.proofs.Stamps.{upto_writes}
+use Rattle.directory_writes.proofs.Csns.{upto_writes}
 use Rattle.directory_writes.proofs.directory.Directory.upto.Goals as goal
 
 pub returns : goal.returns

@@ -31,11 +31,11 @@ invariant_of-self-2 c =
     let room : has_room was.accepted.items op ≡ true = sym (room_is was.accepted.items op weight capped) ∙ within in
     let free : code_of was.suffix was.held.entries op ≡ None = search rules in
     let fitting : fits was.held.entries op ≡ true = search rules in
-    let before : is_before was.stamps csn ≡ true = search rules in
+    let before : is_before was.csn_maker csn ≡ true = search rules in
     let number : c.identity-uuid.result ≡ identity was.history (length was.accepted.items + 1) = search rules in
     let notes : after.touches.log ≡ logged (length was.accepted.items + 1) was.held.entries after.entries was.held.touches.log = search rules in
     let renews : IsRenewed (length was.accepted.items + 1) (arrivals op c.identity-uuid.result) (touched was.held.entries after.entries) was.held.touches.numbers after.touches.numbers = search rules in
-    kept_after d was.held.entries after.entries was.stamps c.next.new.self was.weight weight was.held.touches.numbers after.touches.numbers after.touches.log c.identity-uuid.result w c.push_reserved.new.self.items
+    kept_after d was.held.entries after.entries was.csn_maker c.next.new.self was.weight weight was.held.touches.numbers after.touches.numbers after.touches.log c.identity-uuid.result w c.push_reserved.new.self.items
     writes drawn c.self.invariant (room_weighs was.accepted.items op was.weight weight c.self.invariant.weighed capped room) before
     (record { made = entries; good = record { sound = c.requires.sound; unopposed = free; fitting = fitting }; same = number; notes = notes; renews = renews })
 
@@ -43,7 +43,7 @@ pub apply-requires-clause-ascends : goal.apply-requires-clause-ascends
 apply-requires-clause-ascends c =
     let was = c.self.inside in
     let d : DirectoryState = record { suffix = was.suffix; sid = was.sid; history = was.history; writes = was.accepted.items; log = was.held.touches.log } in
-    kept_ascends d was.held.entries was.stamps was.weight was.held.touches.numbers c.self.invariant
+    kept_ascends d was.held.entries was.csn_maker was.weight was.held.touches.numbers c.self.invariant
 
 pub invariant_of-self-in-Err : goal.invariant_of-self-in-Err
 invariant_of-self-in-Err c =
@@ -53,7 +53,7 @@ invariant_of-self-in-Err c =
     let entries : after.entries ≡ was.held.entries = search rules in
     let log : after.touches.log ≡ was.held.touches.log = search rules in
     let writes : c.reserve.new.self.items ≡ was.accepted.items = search rules in
-    kept_refused d was.held.entries after.entries was.stamps was.weight was.held.touches.numbers after.touches.numbers after.touches.log c.reserve.new.self.items
+    kept_refused d was.held.entries after.entries was.csn_maker was.weight was.held.touches.numbers after.touches.numbers after.touches.log c.reserve.new.self.items
     c.self.invariant entries log c.in-Err.ensures.same_numbers writes
 
 pub returns-clause-ok : goal.returns-clause-ok
@@ -72,10 +72,10 @@ returns-clause-ok c =
     let room : has_room was.accepted.items op ≡ true = sym (room_is was.accepted.items op weight capped) ∙ within in
     let free : code_of was.suffix was.held.entries op ≡ None = search rules in
     let fitting : fits was.held.entries op ≡ true = search rules in
-    let next : next_csn c.args.now was.stamps ≡ Some csn = search rules in
+    let next : next_csn c.args.now was.csn_maker ≡ Some csn = search rules in
     let number : c.identity-uuid.result ≡ identity was.history (length was.accepted.items + 1) = search rules in
     let notes : after.touches.log ≡ logged (length was.accepted.items + 1) was.held.entries after.entries was.held.touches.log = search rules in
     let renews : IsRenewed (length was.accepted.items + 1) (arrivals op c.identity-uuid.result) (touched was.held.entries after.entries) was.held.touches.numbers after.touches.numbers = search rules in
-    written_is d was.held.entries after.entries was.stamps was.weight was.held.touches.numbers after.touches.numbers after.touches.log c.identity-uuid.result op csn c.args.now c.push_reserved.new.self.items
+    written_is d was.held.entries after.entries was.csn_maker was.weight was.held.touches.numbers after.touches.numbers after.touches.log c.identity-uuid.result op csn c.args.now c.push_reserved.new.self.items
     c.self.invariant room next free writes (record { made = entries; good = record { sound = c.requires.sound; unopposed = free; fitting = fitting }; same = number; notes = notes; renews = renews })
     ∙ ap (λ x. written x op c.args.now) c.self.view_is

@@ -48,4 +48,4 @@ returns-clause-touched c =
     let drops = c.args.drops.now in
     let left = left_by_steps es c.reserve.new.self.items c.remove_each.new.entries.items drops c.in_ok-dropped.dropped.keys c.reserve.ensures.items c.in_ok-dropped.ensures c.remove_each.ensures.items in
     let whole = committed_by_steps es c.args.puts.now c.remove_each.new.entries.items c.in_ok-copied.copied.items c.put_each.new.entries.items drops left c.in_ok-copied.ensures c.put_each.ensures in
-    c.in_ok-touches.ensures ∙ ap (touched c.args.self.now) (sym (whole ∙ ap (λ xs. committed xs c.args.puts.now drops) c.self.view_is))
+    c.in_ok-entry_changes.ensures ∙ ap (touched c.args.self.now) (sym (whole ∙ ap (λ xs. committed xs c.args.puts.now drops) c.self.view_is))

@@ -5,7 +5,7 @@ use Rattle.std.proofs.lemmas.Result.{err_from_is_err_and}
 use Rattle.schema_rules.specs.Attributes.{weight_of}
 use Rattle.entry_writes.specs.declared.entry.Entry.{Entry}
 use Rattle.entry_writes.specs.Codes.{modify_code}
-use Rattle.entry_writes.specs.Fault.{Tells}
+use Rattle.entry_writes.specs.Fault.{HasCode}
 use Rattle.entry_writes.specs.State.{is_named, entry_named, total_weight}
 use Rattle.entry_writes.specs.Touched.{touched}
 use Rattle.entry_tree.proofs.Modifying.{placed_by, within, code_placed, effect_placed, touched_placed}
@@ -29,9 +29,9 @@ returns-in_err-entry-clause-refused c =
     let placed = placed_by es c.deref.result.now name c.place_of.result c.in-Some.place e c.self.invariant.ascends c.deref.ensures.value c.place_of.ensures c.in-Some.is c.index-was.ensures in
     let rest : c.weight_without-others.result + weight_of e.attrs ≡ total_weight es = c.weight_without-others.ensures ∙ c.self.invariant.weighed in
     let code = code_placed es name c.in-Some.place e c.weight_without-others.result c.args.edits.now placed rest in
-    let told : Tells (modify_code es (entry_named es name) c.args.edits.now) c.in_err-entry.field-0.0 = rw code c.in_err-entry.ensures.refused in
+    let shown : HasCode (modify_code es (entry_named es name) c.args.edits.now) c.in_err-entry.field-0.0 = rw code c.in_err-entry.ensures.refused in
     let p = err_from_is_err_and c.from_residual.result c.from_residual.ensures.1 in
-    rw (p.1, p.2, view) told
+    rw (p.1, p.2, view) shown
 
 pub returns-clause-accepted : goal.returns-clause-accepted
 returns-clause-accepted c =
@@ -85,6 +85,6 @@ returns-clause-touched c =
     let entry = c.in_ok-entry.entry in
     let made = ap (λ (x : Entry). set es c.in-Some.place x) c.in_ok-entry.ensures.value ∙ effect_placed es name c.in-Some.place e c.args.edits.now c.args.csn placed in
     rw view
-    (c.in_ok-touches.ensures
+    (c.in_ok-entry_changes.ensures
     ∙ sym (touched_placed es name c.in-Some.place e entry placed (ap (λ (x : Entry). x.uuid) c.in_ok-entry.ensures.value))
     ∙ ap (touched es) made)

@@ -5,7 +5,7 @@ use Rattle.std.specs.Option.{option_copied}
 use Rattle.schema_rules.specs.Attributes.{weight_of}
 use Rattle.entry_writes.specs.State.{entry_at, total_weight, most_entries, most_weight}
 use Rattle.entry_writes.specs.Touched.{is_change}
-use Rattle.entry_tree.proofs.Putting.{found_weight, found_le, put_directory, put_touch, touched_put}
+use Rattle.entry_tree.proofs.Putting.{found_weight, found_le, put_directory, put_change, touched_put}
 use Rattle.entry_tree.proofs.tree.Tree.put.Goals as goal
 
 pub weight_without-requires : goal.weight_without-requires
@@ -28,5 +28,5 @@ pub returns-clause-touched : goal.returns-clause-touched
 returns-clause-touched c =
     let held = c.self.inside.entries.items in
     let found : option_copied c.get-was.result ≡ entry_at held c.args.entry.uuid = c.get-was.ensures.value ∙ ap (λ es. entry_at es c.args.entry.uuid) (sym c.self.view_is) in
-    rw (c.in_ok-touches.ensures, c.in_ok-put_entry.ensures.ok, ← c.self.view_is)
-    (ap (λ was. filter is_change (put_touch was c.args.entry ∷ [])) found ∙ sym (touched_put c.args.entry held c.self.invariant.ascends))
+    rw (c.in_ok-entry_changes.ensures, c.in_ok-put_entry.ensures.ok, ← c.self.view_is)
+    (ap (λ was. filter is_change (put_change was c.args.entry ∷ [])) found ∙ sym (touched_put c.args.entry held c.self.invariant.ascends))

@@ -2,12 +2,13 @@
 use Rattle.std.proofs.Common.{◌≡◌, ◌+◌, ◌∷◌, None, ap, sym, ◌∙◌}
 use Rattle.std.specs.Result.{result_ok}
 use Rattle.std.proofs.lemmas.Result.{err_from_is_err_and}
+use Rattle.ldap_constants.specs.declared.result_codes.TheConstants.{ADMIN_LIMIT_EXCEEDED}
 use Rattle.schema_rules.specs.Attributes.{entry_code, weight_of}
 use Rattle.dn_names.specs.Reading.{limited}
 use Rattle.entry_writes.specs.Codes.{target_code, weight_code, length_code, moved_code}
 use Rattle.entry_writes.specs.Effects.{new_name, new_attributes}
 use Rattle.entry_writes.specs.State.{is_identified, weight_with}
-use Rattle.entry_writes.proofs.Firsts.{Tells-same}
+use Rattle.entry_writes.proofs.Firsts.{HasCode-same}
 use Rattle.entry_tree.proofs.Limits.{light_where_none, third_some, three_none, fourth_some}
 use Rattle.entry_tree.proofs.Moving.{held_seen, part_le, weight_judged, target_none, attributes_are, long_where_none, too_long_top}
 use Rattle.entry_tree.proofs.tree.Tree.renamed.Goals as goal
@@ -28,7 +29,7 @@ returns-in_err-check_weight-clause-refused c =
     let judged = weight_judged es top attrs c.self.inside.weight c.weight_without.result c.weight.result c.self.invariant (held_seen es c.args.self.now top c.self.view_is c.requires) c.weight_without.ensures c.weight.ensures in
     let p = err_from_is_err_and c.from_residual-in_err-check_weight.result c.from_residual-in_err-check_weight.ensures.1 in
     rw (p.1, p.2, ← c.self.view_is, ← are)
-    (Tells-same (weight_code c.weight.result (c.weight_without.result + c.weight.result)) (moved_code c.args.suffix.now es top name attrs c.args.superior.now) _
+    (HasCode-same (weight_code c.weight.result (c.weight_without.result + c.weight.result)) (moved_code c.args.suffix.now es top name attrs c.args.superior.now) _
     (λ n some. third_some (target_code c.args.suffix.now es top name c.args.superior.now) (entry_code attrs) (weight_code (weight_of attrs) (weight_with es top (weight_of attrs))) (length_code es top name) n
     target c.in_ok-check_entry.ensures.ok (sym judged ∙ some))
     c.in_err-check_weight.ensures.fault)
@@ -46,7 +47,7 @@ returns-in-None-clause-refused c =
     let judged = weight_judged es top attrs c.self.inside.weight c.weight_without.result c.weight.result c.self.invariant held c.weight_without.ensures c.weight.ensures in
     let none : result_ok (limited name) ≡ None = ap (λ a. result_ok (limited (c.args.rdn.now ∷ a))) (sym c.in_ok-above.ensures) ∙ sym c.in_ok-name.ensures ∙ c.in-None.is in
     rw (← c.self.view_is, ← are)
-    (fourth_some (target_code c.args.suffix.now es top name c.args.superior.now) (entry_code attrs) (weight_code (weight_of attrs) (weight_with es top (weight_of attrs))) (length_code es top name) 11
+    (fourth_some (target_code c.args.suffix.now es top name c.args.superior.now) (entry_code attrs) (weight_code (weight_of attrs) (weight_with es top (weight_of attrs))) (length_code es top name) ADMIN_LIMIT_EXCEEDED
     target c.in_ok-check_entry.ensures.ok (sym judged ∙ c.in_ok-check_weight.ensures.ok) (too_long_top (is_identified top.uuid) es top name held (long_where_none name none)))
 
 pub returns-clause-light : goal.returns-clause-light

@@ -33,5 +33,5 @@ pub returns-clause-touched : goal.returns-clause-touched
 returns-clause-touched c =
     let top = c.in-Some.top.now in
     let es = c.self.inside.entries.items in
-    rw (c.in_ok-moved.ensures.touches, c.in_ok-moved.ensures.entries, c.deref.ensures.value, ← c.self.view_is)
+    rw (c.in_ok-moved.ensures.entry_changes, c.in_ok-moved.ensures.entries, c.deref.ensures.value, ← c.self.view_is)
     (sym (touched_mapped (moved top c.in_ok-renamed.renamed.name c.in_ok-renamed.renamed.attrs c.args.csn) (moved_keeps top c.in_ok-renamed.renamed.name c.in_ok-renamed.renamed.attrs c.args.csn) es c.self.invariant.ascends))

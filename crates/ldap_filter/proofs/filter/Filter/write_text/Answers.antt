@@ -1,7 +1,7 @@
 -- What is written of a filter is read as the filter.
 use Rattle.std.proofs.Common.{◌≡◌, ◌++◌, ap, ◌∙◌}
 use Rattle.ldap_filter.specs.Reading.{read_filter}
-use Rattle.ldap_filter.specs.Tree.{tree_of}
+use Rattle.ldap_filter.specs.FilterTree.{tree_of}
 use Rattle.ldap_filter.specs.Writing.{text_of}
 use Rattle.ldap_filter.proofs.Texts.{written_read}
 use Rattle.ldap_filter.proofs.filter.Filter.write_text.Goals as goal

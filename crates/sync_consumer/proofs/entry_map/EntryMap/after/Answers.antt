@@ -6,7 +6,7 @@ use Rattle.sync_model.specs.Within.{against}
 use Rattle.sync_consumer.specs.Holding.{entries_in}
 use Rattle.sync_consumer.specs.Names.{AreClear}
 use Rattle.sync_consumer.proofs.Apart.{apart}
-use Rattle.sync_consumer.proofs.Settling.{after_held}
+use Rattle.sync_consumer.proofs.Effecting.{after_held}
 use Rattle.sync_consumer.proofs.entry_map.EntryMap.after.Goals.{then-not-branch+in_ok-check, else-not-branch}
 use Rattle.sync_consumer.proofs.entry_map.EntryMap.after.Goals as goal
 

@@ -1,11 +1,11 @@
 -- The entry at the place that is found.
 use Rattle.std.proofs.Common.{◌≡◌, ◌∙◌, Global, Some, true, ap, sym}
+use Rattle.std.proofs.Math.ListN.{get_or-map}
 use Rattle.std.specs.declared.rc.Rc.{Rc}
 use Rattle.entry_tree.specs.declared.entry.Entry.{Entry}
 use Rattle.entry_tree.specs.State.{ascends, entry_at}
 use Rattle.sync_consumer.specs.Holding.{entries_in}
 use Rattle.sync_consumer.proofs.Cuts.{entry_found, entry_missed}
-use Rattle.sync_consumer.proofs.Searches.{get_or-map}
 use Rattle.sync_consumer.proofs.entry_map.EntryMap.get.Goals as goal
 
 pub returns-in-Ok : goal.returns-in-Ok

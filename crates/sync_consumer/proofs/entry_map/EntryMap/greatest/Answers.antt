@@ -8,7 +8,7 @@ use Rattle.entry_tree.specs.declared.entry.Entry.{Entry}
 use Rattle.entry_tree.specs.State.{ascends}
 use Rattle.sync_consumer.specs.Holding.{entries_in}
 use Rattle.sync_consumer.specs.Staging.{up_to}
-use Rattle.sync_consumer.proofs.Fronts.{all_front}
+use Rattle.sync_consumer.proofs.Prefixes.{all_prefix}
 use Rattle.sync_consumer.proofs.entry_map.EntryMap.greatest.Goals as goal
 
 pub returns-in-Some-clause-all : goal.returns-in-Some-clause-all
@@ -23,5 +23,5 @@ returns-in-Some-clause-all c =
     let up : ascends (entries_in kept) ≡ true = ap (λ es. ascends es) c.kept.ensures.value ∙ c.kept.ensures.ascends in
     ap (λ u. up_to u c.args.self.now) (sym uuid_is)
     ∙ ap (up_to last.value.uuid) (sym c.kept.ensures.value)
-    ∙ all_front (entries_in kept) last.value up found
+    ∙ all_prefix (entries_in kept) last.value up found
     ∙ c.kept.ensures.value

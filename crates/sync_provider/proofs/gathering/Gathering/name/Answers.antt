@@ -1,7 +1,7 @@
 use Rattle.std.proofs.Common.{rules, ◌≡◌, ◌<◌, ◌≤◌, [], ◌∷◌, ◌++◌, length, ap, ◌∙◌}
 use Rattle.sync_model.specs.Stream.{most_names}
 use Rattle.sync_provider.specs.Gathering.{Gathered}
-use Rattle.sync_provider.specs.declared.parts.Part.TheVariants as part
+use Rattle.sync_provider.specs.declared.refresh_item.RefreshItem.TheVariants as part
 use Rattle.sync_provider.proofs.Sets.{gathers_name, gathers_set}
 use Rattle.sync_provider.proofs.gathering.Gathering.name.Goals as goal
 

@@ -1,6 +1,6 @@
 use Rattle.std.proofs.Common.{rules, ◌≡◌, [], ◌∷◌, ◌++◌, ap, ◌∙◌}
 use Rattle.sync_provider.specs.Gathering.{Gathered}
-use Rattle.sync_provider.specs.declared.parts.Part.TheVariants as part
+use Rattle.sync_provider.specs.declared.refresh_item.RefreshItem.TheVariants as part
 use Rattle.sync_provider.proofs.Sets.{gathers_entry}
 use Rattle.sync_provider.proofs.gathering.Gathering.send.Goals as goal
 

@@ -7,7 +7,7 @@ use Rattle.sync_provider.specs.Machine.{committed_each, refusal_of_each}
 use Rattle.sync_provider.proofs.provider.Provider.commit_in_turn.Given as goal
 
 -- as many writes came since as commits are made, and no others; the commits that are left may be asked for, and leave what all
--- leave, and what is against them is against all
+-- leave, and what rejects them rejects all
 abbrev pub invariant-loop-staged : goal.invariant-loop-staged
 invariant-loop-staged l = record {
   grown : HasGrown l.fn.self l.self;

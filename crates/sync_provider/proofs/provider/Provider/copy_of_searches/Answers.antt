@@ -1,4 +1,4 @@
--- One more search is copied, and those that are left go on behind it.
+-- One more search is copied, and those that are left go on after it.
 use Rattle.std.proofs.Common.{rules, ◌≡◌, ◌∷◌, ap, sym, ◌∙◌}
 use Rattle.std.specs.BTreeMap.{insert_entry}
 use Rattle.std.specs.List.Sorted.{IsStrictlySortedBy}

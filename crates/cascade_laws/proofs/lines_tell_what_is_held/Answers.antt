@@ -1,5 +1,0 @@
-use Rattle.cascade_laws.proofs.HeadlineHolds.{runs_held}
-use Rattle.cascade_laws.proofs.lines_tell_what_is_held.Goals as goal
-
-pub returns : goal.returns
-returns c = runs_held

@@ -1,5 +1,0 @@
-use Rattle.cascade_nodes.proofs.Asked.{spelled}
-use Rattle.cascade_nodes.proofs.source.Source.hand_out.Goals as goal
-
-pub returns-clause-spelled : goal.returns-clause-spelled
-returns-clause-spelled c = spelled c.self.inside.provider.searches c.args.number c.hand_out.result c.self.invariant c.hand_out.ensures.turn

@@ -1,5 +1,0 @@
-use Rattle.directory_laws.proofs.Stamps.{IsCsn-start, IsCsn-next_csn}
-use Rattle.directory_laws.proofs.drawn_stamps_are_in_range.Goals as goal
-
-pub returns : goal.returns
-returns c = (IsCsn-start, IsCsn-next_csn)

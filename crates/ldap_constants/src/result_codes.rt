@@ -1,0 +1,58 @@
+//! Result codes (RFC 4511, section 4.1.9 and appendix A.2; RFC 4533, section 2.6).
+
+/// success (RFC 4511, appendix A.2).
+pub const SUCCESS: u32 = 0;
+
+/// protocolError (RFC 4511, appendix A.2).
+pub const PROTOCOL_ERROR: u32 = 2;
+
+/// adminLimitExceeded (RFC 4511, appendix A.2).
+pub const ADMIN_LIMIT_EXCEEDED: u32 = 11;
+
+/// noSuchAttribute (RFC 4511, appendix A.2).
+pub const NO_SUCH_ATTRIBUTE: u32 = 16;
+
+/// undefinedAttributeType (RFC 4511, appendix A.2).
+pub const UNDEFINED_ATTRIBUTE_TYPE: u32 = 17;
+
+/// constraintViolation (RFC 4511, appendix A.2).
+pub const CONSTRAINT_VIOLATION: u32 = 19;
+
+/// attributeOrValueExists (RFC 4511, appendix A.2).
+pub const ATTRIBUTE_OR_VALUE_EXISTS: u32 = 20;
+
+/// invalidAttributeSyntax (RFC 4511, appendix A.2).
+pub const INVALID_ATTRIBUTE_SYNTAX: u32 = 21;
+
+/// noSuchObject (RFC 4511, appendix A.2).
+pub const NO_SUCH_OBJECT: u32 = 32;
+
+/// invalidDNSyntax (RFC 4511, appendix A.2).
+pub const INVALID_DN_SYNTAX: u32 = 34;
+
+/// busy (RFC 4511, appendix A.2).
+pub const BUSY: u32 = 51;
+
+/// unwillingToPerform (RFC 4511, appendix A.2).
+pub const UNWILLING_TO_PERFORM: u32 = 53;
+
+/// namingViolation (RFC 4511, appendix A.2).
+pub const NAMING_VIOLATION: u32 = 64;
+
+/// objectClassViolation (RFC 4511, appendix A.2).
+pub const OBJECT_CLASS_VIOLATION: u32 = 65;
+
+/// notAllowedOnNonLeaf (RFC 4511, appendix A.2).
+pub const NOT_ALLOWED_ON_NON_LEAF: u32 = 66;
+
+/// notAllowedOnRDN (RFC 4511, appendix A.2).
+pub const NOT_ALLOWED_ON_RDN: u32 = 67;
+
+/// entryAlreadyExists (RFC 4511, appendix A.2).
+pub const ENTRY_ALREADY_EXISTS: u32 = 68;
+
+/// other (RFC 4511, appendix A.2).
+pub const OTHER: u32 = 80;
+
+/// e-syncRefreshRequired (RFC 4533, section 2.6).
+pub const E_SYNC_REFRESH_REQUIRED: u32 = 4096;

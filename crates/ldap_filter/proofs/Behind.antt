@@ -1,9 +1,0 @@
--- Where a piece stands.
-use Rattle.std.proofs.Common.{◌≡◌, ℕ, true, List, [], ◌∷◌, length, drop, nat_eq, Some, refl}
-use Rattle.std.specs.List.{starts_with}
-use Rattle.ldap_filter.specs.Matching.{behind_first}
-
--- at a front that is the piece, that is its first place
-pub behind_first_here : (piece text : List ℕ) → starts_with nat_eq text piece ≡ true → behind_first piece text ≡ Some (drop (length piece) text)
-behind_first_here piece [] here = rw here refl
-behind_first_here piece (c ∷ cs) here = rw here refl

@@ -1,7 +1,0 @@
-use Rattle.std.proofs.Common.{◌≡◌, drop}
-use Rattle.ldap_filter.specs.Matching.{behind_all}
-use Rattle.ldap_filter.proofs.matching.behind_all.Given as goal
-
--- the pieces that are left stand in the text that is left
-abbrev pub invariant-loop-piece : goal.invariant-loop-piece
-invariant-loop-piece l = behind_all (drop l.piece-index l.pieces) l.rest ≡ behind_all l.pieces l.text

@@ -1,0 +1,201 @@
+//! A search that runs.
+
+ghost use Rattle.std.specs.Prelude.{◌≡◌, [], true, false, None, Some, IfOk};
+ghost use Rattle.sync_model.specs.Copy as model;
+ghost use Rattle.sync_model.specs.Message.SyncMessage.{AddOrModify, IdSet};
+ghost use Rattle.sync_wire.specs.Requesting.{persists};
+ghost use Rattle.sync_consumer.specs.SyncSession.{session_of, copy_with, within, message_of, taken_by_search, StepsTo, StepsBy};
+ghost use Rattle.sync_consumer.specs.Staging.{changes_of, staged_each};
+
+use crate::consumer::Taken;
+use crate::fault::{PeerFault, Refusal};
+use crate::held::Held;
+use crate::named::Named;
+use crate::stage::{Stage, Staged, drops_of, put_of};
+use entry_tree::Entry;
+use ldap_ber::{NoMemory, Octets};
+use ldap_messages::Message;
+use std::alloc::Global;
+use sync_messages::Mode;
+use sync_wire::{SyncEvent, decode};
+
+/// A search that runs: at first its refresh, and where it persists what comes after that.
+#[derive(Drop)]
+pub(crate) struct SyncSession {
+    /// The ID of its messages.
+    pub(crate) id: u32,
+    pub(crate) mode: Mode,
+    /// Whether the refresh is over.
+    pub(crate) persisting: bool,
+    /// Whether the present phase of the refresh is over.
+    pub(crate) ended: bool,
+    /// What was named as present.
+    pub(crate) named: Named,
+    pub(crate) stage: Stage,
+}
+
+/// What a message leads to.
+#[derive(Drop)]
+pub(crate) enum Step {
+    /// The search goes on.
+    Goes(Taken),
+    /// The search is at its end.
+    Ends(Taken),
+}
+
+impl SyncSession {
+    pub(crate) fn new(alloc: Global, id: u32, mode: Mode) -> SyncSession
+        ensures { Some (session_of result)
+            ≡ (model.asked id (persists mode)
+            (record { held = []; cookie = None; session = None })).session }
+    {
+        SyncSession {
+            id,
+            mode,
+            persisting: false,
+            ended: false,
+            named: Named::new(alloc),
+            stage: Stage::new(alloc),
+        }
+    }
+
+    pub(crate) fn copy(&self) -> Result<SyncSession, NoMemory>
+        ensures { IfOk result (λ copy. copy ≡ self.now) }
+    {
+        Ok(SyncSession {
+            id: self.id,
+            mode: self.mode,
+            persisting: self.persisting,
+            ended: self.ended,
+            named: self.named.copy()?,
+            stage: self.stage.copy()?,
+        })
+    }
+
+    pub(crate) fn persists(&self) -> bool
+        ensures { result ≡ persists self.now.mode }
+    {
+        matches!(self.mode, Mode::RefreshAndPersist)
+    }
+
+    /// Takes a message. Where memory ran out all is as before.
+    pub(crate) fn take(&mut self, held: &mut Held, message: &Message) -> Result<Step, Refusal>
+        ensures { taken_by_search held.old self.old held.new self.new result message.now }
+    {
+        if message.id != self.id {
+            return Err(Refusal::OutOfPlace);
+        }
+        let decoded = decode(held.entries.allocator(), message, self.persisting)?;
+        self.take_decoded(held, decoded)
+    }
+
+    /// Takes what a message says.
+    fn take_decoded(&mut self, held: &mut Held, decoded: SyncEvent) -> Result<Step, Refusal>
+        ensures { StepsBy held.old self.old held.new self.new result (message_of decoded) }
+    {
+        match decoded {
+            SyncEvent::AddOrModify(entry, cookie) => self.put(held, entry, cookie),
+            SyncEvent::Delete(uuid, cookie) => self.drop_each(held, &[uuid], cookie),
+            SyncEvent::Present(uuid) => self.name(held, &[uuid]),
+            SyncEvent::IdSet {
+                deletes,
+                uuids,
+                cookie,
+            } => {
+                if deletes {
+                    self.drop_each(held, uuids.list(), cookie)
+                } else {
+                    self.name(held, uuids.list())
+                }
+            }
+            SyncEvent::NewCookie(cookie) => {
+                let nothing = Vec::new(held.entries.allocator());
+                self.stage_each(held, nothing, Some(cookie))
+            }
+            SyncEvent::RefreshDelete { done, cookie } => self.end_phase(held, true, done, cookie),
+            SyncEvent::RefreshPresent { done, cookie } => self.end_phase(held, false, done, cookie),
+            SyncEvent::Done { code, control } => self.end_search(held, code, control),
+            SyncEvent::Ignored => Ok(Step::Goes(Taken::Staged)),
+        }
+    }
+
+    /// Stages an entry.
+    fn put(
+        &mut self,
+        held: &mut Held,
+        entry: Entry,
+        cookie: Option<Octets>,
+    ) -> Result<Step, Refusal>
+        ensures { StepsBy held.old self.old held.new self.new result
+            (AddOrModify true entry cookie) }
+    {
+        if !self.stage.has_room(&entry) {
+            return Err(Refusal::Fault(PeerFault::StageFull));
+        }
+        let changes = put_of(held.entries.allocator(), entry)?;
+        self.stage_each(held, changes, cookie)
+    }
+
+    /// Stages that these identities have no entry.
+    #[tactic(auto, using(crate::proofs::Outcomes::staged_dropped))]
+    fn drop_each(
+        &mut self,
+        held: &mut Held,
+        uuids: &[u128],
+        cookie: Option<Octets>,
+    ) -> Result<Step, Refusal>
+        ensures { StepsBy held.old self.old held.new self.new result (IdSet true uuids.now cookie) }
+    {
+        let changes = drops_of(held.entries.allocator(), uuids)?;
+        self.stage_each(held, changes, cookie)
+    }
+
+    /// Notes that these identities have an entry as before.
+    fn name(&mut self, held: &Held, uuids: &[u128]) -> Result<Step, Refusal>
+        ensures { StepsBy held.now self.old held.now self.new result (IdSet false uuids.now None) }
+    {
+        if self.persisting {
+            return Err(Refusal::OutOfPlace);
+        }
+        match held.unknown(&self.stage, uuids) {
+            Some(uuid) => Err(Refusal::Fault(PeerFault::PresentUnknown(uuid))),
+            None => {
+                self.named.add(uuids)?;
+                Ok(Step::Goes(Taken::Staged))
+            }
+        }
+    }
+
+    /// Stages changes. After the refresh a cookie brings the stage into effect; before its end it
+    /// is not kept.
+    fn stage_each(
+        &mut self,
+        held: &mut Held,
+        changes: Vec<Staged>,
+        cookie: Option<Octets>,
+    ) -> Result<Step, Refusal>
+        ensures { StepsTo held.old self.old held.new self.new result
+            (within false held.old self.old (model.with_cookie (copy_with held.old self.old)
+            (record (session_of self.old) {
+              stage = staged_each self.old.stage (changes_of changes.items);
+            }) cookie)) }
+    {
+        let undo = self.stage.stage_each(changes)?;
+        if !self.persisting {
+            return Ok(Step::Goes(Taken::Staged));
+        }
+        let Some(cookie) = cookie else {
+            return Ok(Step::Goes(Taken::Staged));
+        };
+        match held.commit_stage(&mut self.stage, Some(cookie)) {
+            Ok(commit) => {
+                self.named.clear();
+                Ok(Step::Goes(Taken::Stored(commit)))
+            }
+            Err(refusal) => {
+                self.stage.undo(undo);
+                Err(refusal)
+            }
+        }
+    }
+}

@@ -1,0 +1,202 @@
+-- A search over one more write: what it sent so far is the same.
+use Rattle.std.proofs.Common.{◌≡◌, ℕ, zero, suc, ◌+◌, ◌≤◌, Bool, true, cond, List, [], ◌∷◌, ◌++◌, length, take, drop, refl, ap, sym, ◌∙◌, inl, inr, arith, append_assoc, length-take}
+use Rattle.std.specs.Prelude.{◌⊎◌}
+use Rattle.std.proofs.lemmas.List.{take-append-le}
+use Rattle.csn_cookie.specs.Cookie.{cookie_text}
+use Rattle.csn_cookie.specs.Csn.{start}
+use Rattle.entry_tree.specs.Selection.{Search, select}
+use Rattle.entry_tree.specs.Touched.{touched}
+use Rattle.entry_tree.specs.declared.entry.Entry.{Entry}
+use Rattle.entry_tree.specs.declared.op.Write.{Write}
+use Rattle.sync_model.specs.Copy.{Copy}
+use Rattle.sync_model.specs.Law.{Begins, IsContentWithin}
+use Rattle.sync_model.specs.Message.{SyncMessage}
+use Rattle.sync_model.specs.Stream.{SyncOperation, Start, content_after, notified_all, group, later}
+use Rattle.sync_model.specs.Stream.Start.{InitialContent, DeletePhase, PresentPhase}
+use Rattle.directory_writes.specs.Directory.{cookie_at, last_csn}
+use Rattle.directory_writes.proofs.Notified.{agree-longer}
+use Rattle.sync_provider.specs.Search.{session_of, refresh_from}
+use Rattle.sync_provider.proofs.Refreshes.{refresh-longer}
+use Rattle.sync_provider.proofs.Whereabouts.{InRefresh, AtWhole, InGroup, IsWhere}
+
+abbrev one_more : List Write → Write → List Write
+one_more writes w = writes ++ w ∷ []
+
+module _ (number : ℕ) (persists : Bool) (search : Search) (writes : List Write) (w : Write) where
+  abbrev pub old : SyncOperation
+  old = session_of persists number number search writes
+
+  -- the search over one more write
+  abbrev pub new : SyncOperation
+  new = session_of persists number number search (one_more writes w)
+
+  pub content_same : (n : ℕ) → n ≤ length writes → content_after new n ≡ content_after old n
+  content_same n low = ap (select search) (agree-longer number writes (w ∷ []) n low)
+
+  cookie_same : (n : ℕ) → n ≤ length writes → new.cookies n ≡ old.cookies n
+  cookie_same n low = ap (λ (ws : List Write). cookie_text (cookie_at number number (last_csn (start number) ws))) (take-append-le n writes (w ∷ []) low)
+
+  group_same : (n : ℕ) → n + 1 ≤ length writes → group new n ≡ group old n
+  group_same n low =
+      let before : content_after new n ≡ content_after old n = content_same n (omega (arith, low)) in
+      λ i. notified_all (cookie_same (n + 1) low i) (touched (before i) (content_same (n + 1) low i))
+
+  later_same : (count from : ℕ) → from + count ≤ length writes → later new from count ≡ later old from count
+  later_same zero from low = refl
+  later_same (suc count) from low =
+      let prefix : later new from count ≡ later old from count = later_same count from (omega (arith, low)) in
+      let last : group new (from + count) ≡ group old (from + count) = group_same (from + count) (omega (arith, low)) in
+      λ i. prefix i ++ last i
+
+  refresh_same : (first : Start) (opened : ℕ) → opened ≤ length writes → refresh_from new first opened ≡ refresh_from old first opened
+  refresh_same first opened low =
+      ap (refresh_from new first) (sym long) ∙ by (one_more writes w) (drop opened writes ++ w ∷ []) whole ∙ sym (by writes (drop opened writes) (split opened writes)) ∙ ap (refresh_from old first) long
+    where
+      prefix : List Write
+      prefix = take opened writes
+
+      long : length prefix ≡ opened
+      long = omega (arith, length-take opened writes, low)
+
+      split : (n : ℕ) (ws : List Write) → take n ws ++ drop n ws ≡ ws
+      split zero ws = refl
+      split (suc n) [] = refl
+      split (suc n) (x ∷ ws) = ap (λ ys. x ∷ ys) (split n ws)
+
+      whole : prefix ++ (drop opened writes ++ w ∷ []) ≡ one_more writes w
+      whole = sym (append_assoc prefix (drop opened writes) (w ∷ [])) ∙ ap (λ ws. ws ++ w ∷ []) (split opened writes)
+
+      by : (all more : List Write) → prefix ++ more ≡ all → refresh_from (session_of persists number number search all) first (length prefix) ≡ refresh_from (session_of persists number number search prefix) first (length prefix)
+      by all more is = refresh-longer persists number number search first prefix more all is
+
+  -- its messages up to n of the writes are those over the writes before
+  pub stream_same : (first : Start) (opened count : ℕ) → opened + count ≤ length writes
+      → refresh_from new first opened ++ cond persists (later new opened count) [] ≡ refresh_from old first opened ++ cond persists (later old opened count) []
+  stream_same first opened count low =
+      let prefix : refresh_from new first opened ≡ refresh_from old first opened = refresh_same first opened (omega (arith, low)) in
+      λ i. prefix i ++ cond persists (later_same count opened low i) []
+
+  begins_same : (first : Start) (opened : ℕ) (held : List Entry) → opened ≤ length writes → Begins old first opened held → Begins new first opened held
+  begins_same first opened held low begins = by first begins
+    where
+      content : (least : ℕ) → IsContentWithin old least opened held → IsContentWithin new least opened held
+      content least is = record { number = is.number; from = is.from; upto = is.upto; same = is.same ∙ sym (content_same is.number (omega (arith, is.upto, low))) }
+
+      by : (s : Start) → Begins old s opened held → Begins new s opened held
+      by InitialContent is = is
+      by (DeletePhase n) is = content n is
+      by (PresentPhase n) is = content n is
+
+  -- ---- where a search is
+
+  module _ (first : Start) (opened count : ℕ) (low : opened + count ≤ length writes) (entries : List Entry) (held : Copy) (taken ahead : List SyncMessage) where
+    refresh_longer : InRefresh old first opened count entries held taken ahead → InRefresh new first opened count entries held taken ahead
+    refresh_longer is = record {
+      begins = begins_same first opened entries (omega (arith, low)) is.begins;
+      rest = is.rest;
+      some = is.some;
+      whole = is.whole ∙ sym (refresh_same first opened (omega (arith, low)));
+      beyond = is.beyond ∙ ap (λ ms. is.rest ++ cond persists ms []) (sym (later_same count opened low));
+      copy = is.copy;
+    }
+
+    whole_longer : AtWhole old opened count entries held ahead → AtWhole new opened count entries held ahead
+    whole_longer is = record {
+      number = is.number;
+      more = is.more;
+      from = is.from;
+      sum = is.sum;
+      content = is.content ∙ sym (content_same is.number (omega (arith, is.sum, low)));
+      beyond = is.beyond ∙ sym (later_same is.more is.number (omega (arith, is.sum, low)));
+      ended = is.ended;
+      copy = is.copy;
+    }
+
+    group_longer : InGroup old opened count entries held ahead → InGroup new opened count entries held ahead
+    group_longer is =
+        let one : content_after new is.number ≡ content_after old is.number = content_same is.number (omega (arith, is.sum, low)) in
+        let two : content_after new (is.number + 1) ≡ content_after old (is.number + 1) = content_same (is.number + 1) (omega (arith, is.sum, low)) in
+        let text : new.cookies (is.number + 1) ≡ old.cookies (is.number + 1) = cookie_same (is.number + 1) (omega (arith, is.sum, low)) in
+        let more : later new (is.number + 1) is.more ≡ later old (is.number + 1) is.more = later_same is.more (is.number + 1) (omega (arith, is.sum, low)) in
+        record {
+          number = is.number;
+          more = is.more;
+          from = is.from;
+          sum = is.sum;
+          content = is.content ∙ sym one;
+          before = is.before;
+          entry_change = is.entry_change;
+          after = is.after;
+          at = (λ i. touched (one i) (two i)) ∙ is.at;
+          beyond = is.beyond ∙ (λ i. notified_all (sym text i) (is.entry_change ∷ is.after) ++ sym more i);
+          ended = is.ended;
+          copy = is.copy;
+        }
+
+    -- a copy that stands somewhere in its messages stands there over one more write
+    pub place_longer : IsWhere old first opened count entries held taken ahead → IsWhere new first opened count entries held taken ahead
+    place_longer (inl is) = inl (refresh_longer is)
+    place_longer (inr is) = inr (is.0, past is.1)
+      where
+        past : AtWhole old opened count entries held ahead ⊎ InGroup old opened count entries held ahead → AtWhole new opened count entries held ahead ⊎ InGroup new opened count entries held ahead
+        past (inl at) = inl (whole_longer at)
+        past (inr at) = inr (group_longer at)
+
+-- ---- the messages of one more write are to come
+
+module _ (operation : SyncOperation) (goes : operation.persists ≡ true) (first : Start) (opened count : ℕ) (entries : List Entry) (held : Copy) (taken ahead : List SyncMessage) where
+  abbrev pub Group : List SyncMessage
+  Group = group operation (opened + count)
+
+  refresh_grows : InRefresh operation first opened count entries held taken ahead → InRefresh operation first opened (suc count) entries held taken (ahead ++ Group)
+  refresh_grows is = record {
+    begins = is.begins;
+    rest = is.rest;
+    some = is.some;
+    whole = is.whole;
+    beyond =
+        ap (λ ms. ms ++ Group) (is.beyond ∙ ap (λ b. is.rest ++ cond b (later operation opened count) []) goes)
+        ∙ append_assoc is.rest (later operation opened count) Group
+        ∙ ap (λ b. is.rest ++ cond b (later operation opened count ++ Group) []) (sym goes);
+    copy = is.copy;
+  }
+
+  whole_grows : AtWhole operation opened count entries held ahead → AtWhole operation opened (suc count) entries held (ahead ++ Group)
+  whole_grows is = record {
+    number = is.number;
+    more = suc is.more;
+    from = is.from;
+    sum = omega (arith, is.sum);
+    content = is.content;
+    beyond = (λ i. is.beyond i ++ group operation (sym is.sum i));
+    ended = is.ended;
+    copy = is.copy;
+  }
+
+  group_grows : InGroup operation opened count entries held ahead → InGroup operation opened (suc count) entries held (ahead ++ Group)
+  group_grows is = record {
+    number = is.number;
+    more = suc is.more;
+    from = is.from;
+    sum = omega (arith, is.sum);
+    content = is.content;
+    before = is.before;
+    entry_change = is.entry_change;
+    after = is.after;
+    at = is.at;
+    beyond =
+        (λ i. is.beyond i ++ group operation (sym is.sum i))
+        ∙ append_assoc (notified_all (operation.cookies (is.number + 1)) (is.entry_change ∷ is.after)) (later operation (is.number + 1) is.more) (group operation (is.number + 1 + is.more));
+    ended = is.ended;
+    copy = is.copy;
+  }
+
+  -- and with the messages of that write to come
+  pub place_grows : IsWhere operation first opened count entries held taken ahead → IsWhere operation first opened (suc count) entries held taken (ahead ++ Group)
+  place_grows (inl is) = inl (refresh_grows is)
+  place_grows (inr is) = inr (is.0, past is.1)
+    where
+      past : AtWhole operation opened count entries held ahead ⊎ InGroup operation opened count entries held ahead
+          → AtWhole operation opened (suc count) entries held (ahead ++ Group) ⊎ InGroup operation opened (suc count) entries held (ahead ++ Group)
+      past (inl at) = inl (whole_grows at)
+      past (inr at) = inr (group_grows at)

@@ -1,0 +1,87 @@
+-- The messages of a search by their places: what each is handed out as.
+use Rattle.std.proofs.Common.{◌≡◌, ℕ, ◌<◌, Bool, true, false, cond, List, [], ◌∷◌, ◌++◌, length, Some, refl, ap, sym, ◌∙◌, inl, inr, subst, append-nil}
+use Rattle.std.specs.Prelude.{◌⊎◌, pos, All, filter_map}
+use Rattle.ldap_constants.specs.declared.result_codes.TheConstants.{SUCCESS}
+use Rattle.entry_tree.specs.declared.entry.Entry.{Entry}
+use Rattle.sync_model.specs.Incremental.{sent_entry}
+use Rattle.sync_model.specs.Message.{SyncMessage}
+use Rattle.sync_model.specs.Stream.{SyncOperation, Start, is_delete_phase, end_of, later, stream}
+use Rattle.sync_model.proofs.Gather.{Each, each-append}
+use Rattle.sync_model.proofs.Groups.{each_one}
+use Rattle.sync_model.proofs.LaterWrites.{each_weaker, each_entry, place_in}
+use Rattle.sync_model.proofs.NextMessages.{HasNext, Next, some_next}
+use Rattle.sync_wire.specs.Sending as wire
+use Rattle.sync_provider.specs.HandingOut.{turn_of_message}
+use Rattle.sync_provider.specs.HandingOut.Turn.{Hands, Closes}
+use Rattle.sync_provider.specs.Search.{whole_walk, refresh_from}
+use Rattle.sync_provider.proofs.Growing.{GoesOn, part_goes, refresh_from-goes, later_all_go}
+use Rattle.sync_provider.proofs.Kept.{hands}
+use Rattle.sync_provider.proofs.RefreshTaken.{part, last, follows, midst_part}
+
+abbrev IsHands : SyncMessage → Type 0
+IsHands m = turn_of_message 1 m ≡ Hands (wire.sent 1 m)
+
+-- ---- the next message of a search
+
+-- it is handed out, and more may follow; or it is the end of a search that ends with its refresh
+pub record IsHanded (persists : Bool) (m : SyncMessage) (rest : List SyncMessage) : Type 0 where
+  pub turn : turn_of_message 1 m ≡ Hands (wire.sent 1 m)
+  pub more : persists ≡ false → HasNext rest
+
+-- or it is the last of a search that ends with its refresh
+pub record IsClosing (persists : Bool) (m : SyncMessage) (rest : List SyncMessage) : Type 0 where
+  pub turn : turn_of_message 1 m ≡ Closes (pos SUCCESS) (wire.sent 1 m)
+  pub none : rest ≡ []
+  pub ends : persists ≡ false
+
+module _ (operation : SyncOperation) (start : Start) (opened count : ℕ) where
+  abbrev Messages : List SyncMessage
+  Messages = stream operation start opened (whole_walk operation start opened) count
+
+  abbrev Part : List SyncMessage
+  Part = part operation start opened
+
+  abbrev Last : SyncMessage
+  Last = last operation start opened
+
+  -- of a search that goes on
+  lasting : operation.persists ≡ true → Each IsHands Messages
+  lasting goes =
+      each_weaker GoesOn IsHands Messages (hands 1)
+      (each-append GoesOn (refresh_from operation start opened) (cond operation.persists (later operation opened count) []) (refresh_from-goes operation start opened goes)
+      (subst (λ b. Each GoesOn (cond b (later operation opened count) [])) (sym goes) (later_all_go count operation opened)))
+
+  -- of one that ends
+  ending : operation.persists ≡ false → (earlier rest : List SyncMessage) (m : SyncMessage) → Next Part earlier Last m rest → IsHanded operation.persists m rest ⊎ IsClosing operation.persists m rest
+  ending ends earlier rest m (inl is) =
+      inl (record {
+        turn = hands 1 m (part_goes (is_delete_phase start) m (midst_part operation start opened earlier rest m is));
+        more = λ ends. subst HasNext (sym is.left) (some_next is.more Last);
+      })
+  ending ends earlier rest m (inr is) =
+      inr (record {
+        turn = subst (λ x. turn_of_message 1 x ≡ Closes (pos SUCCESS) (wire.sent 1 x)) (ap (λ b. end_of b (is_delete_phase start) (operation.cookies opened)) (sym ends) ∙ sym is.message) refl;
+        none = is.none;
+        ends = ends;
+      })
+
+  -- each message of a search is handed out, or is the end of one that ends with its refresh
+  pub stream_turn : (earlier rest : List SyncMessage) (m : SyncMessage) → earlier ++ m ∷ rest ≡ Messages → IsHanded operation.persists m rest ⊎ IsClosing operation.persists m rest
+  stream_turn earlier rest m whole = by operation.persists refl
+    where
+      none : operation.persists ≡ false → Messages ≡ refresh_from operation start opened
+      none ends = ap (λ b. refresh_from operation start opened ++ cond b (later operation opened count) []) ends ∙ append-nil (refresh_from operation start opened)
+
+      by : (persists : Bool) → operation.persists ≡ persists → IsHanded operation.persists m rest ⊎ IsClosing operation.persists m rest
+      by true is = inl (record {
+        turn = each_one IsHands earlier rest m (subst (Each IsHands) (sym whole) (lasting is));
+        more = λ ends. let bad : true ≡ false = sym is ∙ ends in let never : ⊥ = cc in absurd never;
+      })
+      by false is = ending is earlier rest m (follows operation start opened earlier rest m (whole ∙ none is))
+
+  -- what holds of each entry that the refresh sends holds of one that this message sends
+  pub refresh_sends : (P : Entry → Type 0) (earlier rest : List SyncMessage) (m : SyncMessage) → earlier ++ m ∷ rest ≡ Messages → length earlier < length (refresh_from operation start opened)
+      → All P (filter_map sent_entry (refresh_from operation start opened)) → (e : Entry) → sent_entry m ≡ Some e → P e
+  refresh_sends P earlier rest m whole low all e is =
+      let inside = place_in earlier rest (refresh_from operation start opened) (cond operation.persists (later operation opened count) []) m whole low in
+      each_one (λ x. (y : Entry) → sent_entry x ≡ Some y → P y) earlier inside.0 m (subst (Each (λ x. (y : Entry) → sent_entry x ≡ Some y → P y)) inside.1 (each_entry P (refresh_from operation start opened) all)) e is

@@ -1,0 +1,147 @@
+//! What is left of a refresh.
+
+ghost use Rattle.std.specs.Prelude.{◌≡◌, ◌≢◌, ◌<◌, [], false, drop, IfOk};
+ghost use Rattle.csn_cookie.specs.Cookie.{cookie_text};
+ghost use Rattle.ldap_messages.specs.Whole.{whole_of};
+ghost use Rattle.sync_model.specs.Law.{is_nil};
+ghost use Rattle.sync_wire.specs.Sending.{sent};
+ghost use Rattle.sync_provider.specs.Search.{message_of, first_of};
+
+use crate::NoMemory;
+use crate::refresh_item::RefreshItem;
+use csn_cookie::Cookie;
+use entry_tree::Entry;
+use ldap_messages::Message;
+use std::alloc::Global;
+use std::marker::Model;
+use sync_messages::IdList;
+use sync_wire::{end_message, entry_message, id_set_message};
+
+/// The messages of a refresh that were not handed out yet (RFC 4533, section 3.3): its parts, and
+/// its end.
+#[derive(Drop)]
+pub(crate) struct PendingRefresh {
+    parts: Vec<RefreshItem>,
+    /// How many parts were handed out.
+    handed: usize,
+    /// The cookie of the end.
+    cookie: Cookie,
+}
+
+impl Model for PendingRefresh {
+    ghost use Rattle.std.specs.Prelude.{drop};
+    ghost use Rattle.csn_cookie.specs.Cookie.{cookie_text};
+    ghost use Rattle.sync_provider.specs.Search.{Remaining, IsOpen};
+
+    ghost Value = { Remaining };
+
+    ghost view = { λ r.
+        record { parts = drop r.handed r.parts.items; cookie = cookie_text r.cookie } };
+
+    ghost invariant = { λ r. IsOpen r.parts.items r.handed r.cookie };
+}
+
+impl PendingRefresh {
+    /// All of a refresh, whose end has this cookie.
+    pub(crate) fn new(parts: Vec<RefreshItem>, cookie: Cookie) -> PendingRefresh
+        requires rid { cookie.rid < 1000 }
+        requires sid { cookie.sid < 4096 }
+        ensures { result ≡ record { parts = parts.items; cookie = cookie_text cookie } }
+    {
+        PendingRefresh {
+            parts,
+            handed: 0,
+            cookie,
+        }
+    }
+
+    pub(crate) fn copy(&self) -> Result<PendingRefresh, NoMemory>
+        ensures { IfOk result (λ copy. copy ≡ self.now) }
+    {
+        Ok(PendingRefresh {
+            parts: copy_of_parts(*self.parts.allocator(), self.parts.as_slice())?,
+            handed: self.handed,
+            cookie: self.cookie,
+        })
+    }
+
+    /// Whether nothing is left but the end.
+    #[tactic(auto, using(crate::proofs::Turns::end_is))]
+    pub(crate) fn is_end(&self) -> bool
+        ensures { result ≡ is_nil self.now.parts }
+    {
+        self.parts.len() <= self.handed
+    }
+
+    /// Goes on to the next message.
+    #[tactic(auto, using(crate::proofs::Turns::not_end, crate::proofs::Turns::drop_one))]
+    pub(crate) fn advance(&mut self)
+        requires { is_nil self.old.parts ≡ false }
+        ensures { self.new ≡ record self.old { parts = drop 1 self.old.parts } }
+    {
+        self.handed += 1;
+    }
+
+    /// The next message, in a search that goes on after its refresh or not, and in a delete phase or
+    /// a present phase.
+    #[tactic(auto, using(crate::proofs::Turns::first_part, crate::proofs::Turns::first_end))]
+    pub(crate) fn message(
+        &self,
+        id: u32,
+        persists: bool,
+        deletes: bool,
+    ) -> Result<Message, NoMemory>
+        ensures { IfOk result (λ message.
+            whole_of message ≡ sent id (first_of persists deletes self.now.parts self.now.cookie)) }
+    {
+        let alloc = *self.parts.allocator();
+        match self.parts.get(self.handed) {
+            Some(part) => part_message(alloc, id, deletes, part),
+            None => end_message(alloc, id, persists, deletes, &self.cookie),
+        }
+    }
+}
+
+/// The message of a part, in a delete phase or a present phase.
+fn part_message(
+    alloc: Global,
+    id: u32,
+    deletes: bool,
+    part: &RefreshItem,
+) -> Result<Message, NoMemory>
+    ensures { IfOk result (λ message. whole_of message ≡ sent id (message_of deletes part.now)) }
+{
+    match part {
+        RefreshItem::Whole(entry) => entry_message(alloc, id, true, entry, None),
+        RefreshItem::Names(uuids) => id_set_message(alloc, id, deletes, uuids.list()),
+    }
+}
+
+fn copy_of_parts(alloc: Global, parts: &[RefreshItem]) -> Result<Vec<RefreshItem>, NoMemory>
+    ensures { IfOk result (λ copy. copy.items ≡ parts.now) }
+{
+    let mut copy = Vec::new(alloc);
+    for part in parts {
+        copy.push(copy_of_part(alloc, part)?)?;
+    }
+    Ok(copy)
+}
+
+fn copy_of_part(alloc: Global, part: &RefreshItem) -> Result<RefreshItem, NoMemory>
+    ensures { IfOk result (λ copy. copy ≡ part.now) }
+{
+    match part {
+        RefreshItem::Whole(entry) => Ok(RefreshItem::Whole(entry.copy()?)),
+        RefreshItem::Names(uuids) => Ok(RefreshItem::Names(copy_of_names(alloc, uuids)?)),
+    }
+}
+
+fn copy_of_names(alloc: Global, uuids: &IdList) -> Result<IdList, NoMemory>
+    ensures { IfOk result (λ copy. copy ≡ uuids.now) }
+{
+    let mut copy = IdList::new(alloc);
+    for uuid in uuids.list() {
+        copy.push(*uuid)?;
+    }
+    Ok(copy)
+}
