@@ -1,3 +1,5 @@
+pub mod Bare
+pub mod Carrying
 pub mod Cuts
 pub mod Decoding
 pub mod Doing

@@ -13,7 +13,7 @@ use Rattle.ldap_messages.specs.Whole.{message_octets}
 use Rattle.cascade_exchange.specs.declared.exchange.Exchange.{Exchange}
 use Rattle.cascade_exchange.specs.declared.exchange.Exchange.TheVariants as goes
 use Rattle.cascade_exchange.specs.Cookies.{is_later}
-use Rattle.cascade_exchange.specs.Exchange.{Agreement, ExchangeOutcome, part_of, fits, after_lines, and_then, name_of, copy_of, Sending, turn_of, sends, sending_by, sending, sent_before, sent, taken_as, taken_from, taking, taken_before, taken_some, takes, is_busy, cut, idle, answer_of, is_required, opened_by, opened_idle, opens, asked_again, opens_anew, left_to_send, ran_before, ran_some, runs, drains, follows_on, refreshes, catches_up, settled_reported, settles, given, wanted}
+use Rattle.cascade_exchange.specs.Exchange.{Agreement, ExchangeOutcome, part_of, fits, after_lines, and_then, name_of, copy_of, Sending, turn_of, sends, sending_by, sending, sent_before, sent, taken_as, taken_from, taking, taken_before, taken_some, takes, is_busy, cut, idle, answer_of, is_required, opened_by, opened_idle, opens, asked_again, opens_anew, left_to_send, ran_before, ran_some, runs, drains, follows_on, refreshes, catches_up, settled_reported, settles, given, wanted, respecs}
 use Rattle.cascade_exchange.specs.Exchange.Sending.{Sends, Rests, Overflows}
 use Rattle.cascade_exchange.specs.Reception.{Came, received}
 use Rattle.cascade_exchange.specs.Reception.{Came as came}
@@ -184,6 +184,9 @@ given_named text p = by (is_later (copy_of p.consumer_node).cookie text) refl
 wanted_named : (search : Search) (p : Agreement) → NamedIn p (wanted search p)
 wanted_named search p = record { name = refl; source = refl }
 
+pub respecs_named : (search : Search) (p : Agreement) → NamedIn p (respecs search p)
+respecs_named search p = then_named p (idle p) (wanted search) (idle_named p) (wanted_named search)
+
 -- ---- all parts
 
 -- each part leaves the names
@@ -196,4 +199,4 @@ part_named goes.Settle p = settles_named p
 part_named goes.Lose p = record { name = refl; source = refl }
 part_named (goes.Give text) p = given_named text p
 part_named goes.Idle p = idle_named p
-part_named (goes.Want spec) p = then_named p (idle p) (wanted (search_of spec)) (idle_named p) (wanted_named (search_of spec))
+part_named (goes.Want spec) p = respecs_named (search_of spec) p

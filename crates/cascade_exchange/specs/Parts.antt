@@ -6,6 +6,7 @@ use Rattle.cascade_script.specs.declared.fault.Cause.{Cause}
 use Rattle.cascade_script.specs.declared.fault.Cause.TheVariants.{LaterCookie, LimitReached, NoMemory}
 use Rattle.ldap_messages.specs.Whole.{Whole, whole_of}
 use Rattle.ldap_messages.specs.declared.message.Message.{Message}
+use Rattle.sync_model.specs.Copy.{Copy}
 use Rattle.sync_provider.specs.HandingOut.{Turn}
 use Rattle.sync_provider.specs.HandingOut.Turn.{Hands, Closes, Waits, Unknown}
 use Rattle.ldap_parts.specs.declared.control.Control.{Control}
@@ -17,7 +18,7 @@ use Rattle.sync_provider.specs.Machine.{ProviderState}
 use Rattle.sync_provider.specs.Returning.{snapshot_of}
 use Rattle.cascade_exchange.specs.Exchange.{Agreement, ExchangeOutcome, answer_of, opened_idle, is_required, Sending, handed, fits, linked, with_copy, with_text, refused_copy, taken_as}
 use Rattle.cascade_exchange.specs.Cookies.{is_later}
-use Rattle.cascade_exchange.specs.Reception.{received_of}
+use Rattle.cascade_exchange.specs.Reception.{Came}
 use Rattle.cascade_exchange.specs.Exchange.Sending.{Sends, Rests, Overflows}
 use Rattle.cascade_exchange.specs.Exchange.{name_of}
 use Rattle.cascade_nodes.specs.Link.{most_link}
@@ -106,17 +107,16 @@ Links before message old after new (Err NoMemory) = Unit {0}
 Links before message old after new (Err cause) =
     (fits before message ≡ false) × (cause ≡ LimitReached most_link)
 
--- the same of a message that was taken from the link and decoded, or of bytes that spell none
+-- the same of what the consumer makes of a message that was taken from the link and decoded, or
+-- of bytes that spell none
 abbrev pub Received :
-    Agreement → Option Whole → Report → Agreement → Report → Result (Unit {0}) Cause → Type 0
-Received before found old after new (Ok done) =
+    Agreement → Copy × Came → Report → Agreement → Report → Result (Unit {0}) Cause → Type 0
+Received before received old after new (Ok done) =
     (line : ReportLine)
-    × (taken_as before before.consumer_node.link
-    (received_of before.consumer_node.consumer.copy found).0
-    (received_of before.consumer_node.consumer.copy found).1 ≡ (after, line))
+    × (taken_as before before.consumer_node.link received.0 received.1 ≡ (after, line))
     × (new ≡ said old (line ∷ []))
-Received before found old after new (Err NoMemory) = Unit {0}
-Received before found old after new (Err cause) = ⊥
+Received before received old after new (Err NoMemory) = Unit {0}
+Received before received old after new (Err cause) = ⊥
 
 -- the same of a consumer that asks for a search in this mode, which answers whether its
 -- cookie does not serve

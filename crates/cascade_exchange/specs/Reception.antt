@@ -1,13 +1,15 @@
 -- What a consumer makes of the bytes of a message (RFC 4511, section 5; RFC 4533, section 3).
-use Rattle.std.specs.Prelude.{ℕ, ℤ, Bool, ◌==◌, if◌then◌else◌, List, codes, Option, Some, None, Result, Ok, Err}
+use Rattle.std.specs.Prelude.{ℕ, ℤ, pos, Bool, false, ◌&&◌, ◌==◌, if◌then◌else◌, is_none, List, codes, Option, Some, None, Result, Ok, Err}
+use Rattle.std.specs.Ordering.{int_eq}
+use Rattle.ldap_constants.specs.declared.result_codes.TheConstants.{SUCCESS}
 use Rattle.ldap_messages.specs.Frame.{Read, read_of}
 use Rattle.ldap_messages.specs.Frame.Read.{partial, refused, long, message}
 use Rattle.ldap_messages.specs.Operation.{Operation}
 use Rattle.ldap_messages.specs.Operation.Operation.{entry, search_done, reference, intermediate}
 use Rattle.ldap_messages.specs.Whole.{Whole}
 use Rattle.ldap_parts.specs.declared.control.Control.{Control}
-use Rattle.sync_model.specs.Message.{SyncMessage}
-use Rattle.sync_model.specs.Message.SyncMessage.{Done, Ignored}
+use Rattle.sync_model.specs.Message.{CookieText, SyncMessage}
+use Rattle.sync_model.specs.Message.SyncMessage.{AddOrModify, Delete, Present, IdSet, NewCookie, RefreshDelete, RefreshPresent, Done, Ignored}
 use Rattle.sync_model.specs.Copy.{Commit, Copy, SyncSession, Fault, Answer}
 use Rattle.sync_model.specs.Copy.{Answer as answer, Fault as fault}
 use Rattle.sync_model.specs.Within.{taken_within}
@@ -96,6 +98,36 @@ abbrev pub received_of : Copy → Option Whole → Copy × Came
 received_of copy None = refused_for copy (codes "BadMessage")
 received_of copy (Some whole) = received_by copy.session copy whole
 
+-- ---- from a link
+
+abbrev pub is_bare : Option (Bool × Option CookieText) → Bool
+is_bare None = false
+is_bare (Some control) = is_none control.1
+
+-- it ends a refresh, and gives no cookie
+abbrev pub ends_bare : SyncMessage → Bool
+ends_bare (AddOrModify adds e cookie) = false
+ends_bare (Delete uuid name cookie) = false
+ends_bare (Present uuid cookie) = false
+ends_bare (IdSet deletes uuids cookie) = false
+ends_bare (NewCookie cookie) = false
+ends_bare (RefreshDelete done cookie) = done && is_none cookie
+ends_bare (RefreshPresent done cookie) = done && is_none cookie
+ends_bare (Done code control) = is_bare control && int_eq code (pos SUCCESS)
+ends_bare Ignored = false
+
+abbrev pub says_bare : Result SyncMessage DecodeFault → Bool
+says_bare (Ok said) = ends_bare said
+says_bare (Err found) = false
+
+-- the end of a refresh without a cookie has no place in a link, so that a line reports each stage
+-- that takes effect
+abbrev pub received_next : Copy → Option Whole → Copy × Came
+received_next copy None = received_of copy None
+received_next copy (Some whole) =
+    if says_bare (whole_said false whole) then refused_for copy (codes "OutOfPlace")
+    else received_of copy (Some whole)
+
 -- the copy after the message that these bytes spell, and what came of it
 abbrev pub received : Copy → List ℕ → Copy × Came
-received copy bytes = received_of copy (decoded bytes)
+received copy bytes = received_next copy (decoded bytes)

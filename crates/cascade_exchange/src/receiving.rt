@@ -10,7 +10,8 @@ ghost use Rattle.cascade_report.specs.Report.{said};
 ghost use Rattle.cascade_report.specs.ReportLines.{commit_reported, ReportLine as reported};
 
 use crate::cutting::drop_all;
-use crate::taking::{BAD_MESSAGE, fault_name, stored_number};
+use crate::ending::ends_bare;
+use crate::taking::{BAD_MESSAGE, OUT_OF_PLACE, fault_name, stored_number};
 use cascade_nodes::{ConsumerNode, ScriptProvider, discard};
 use cascade_report::Report;
 use cascade_script::Cause;
@@ -65,7 +66,7 @@ pub fn take_one(
         return Ok(false);
     };
     let found = decoded(alloc, bytes.as_slice())?;
-    take_found(provider, consumer_node, found, out)?;
+    take_found(alloc, provider, consumer_node, found, out)?;
     Ok(true)
 }
 
@@ -84,13 +85,14 @@ fn decoded(alloc: Global, bytes: &[u8]) -> Result<Option<Message>, NoMemory>
 /// Takes a message that was decoded, or gives the search up where there is none.
 #[tactic(auto, using(crate::proofs::Reception::garbled))]
 fn take_found(
+    alloc: Global,
     provider: &mut ScriptProvider,
     consumer_node: &mut ConsumerNode,
     found: Option<Message>,
     out: &mut Report,
 ) -> Result<(), Cause>
     ensures does { Received (agreement_of provider.old consumer_node.old out.old.lineage)
-        (option_map whole_of found)
+        (decoding.received_next consumer_node.old.consumer.copy (option_map whole_of found))
         out.old (agreement_of provider.new consumer_node.new out.old.lineage) out.new result }
     ensures directory { provider.new.directory ≡ provider.old.directory }
     ensures queue_limit { provider.new.queue_limit ≡ provider.old.queue_limit }
@@ -98,7 +100,7 @@ fn take_found(
 {
     match found {
         Some(message) => {
-            let taken = take_message(provider, consumer_node, &message, out);
+            let taken = take_message(alloc, provider, consumer_node, &message, out);
             discard(message);
             taken
         }
@@ -109,16 +111,39 @@ fn take_found(
     }
 }
 
-/// Takes a message, and reports what came of it.
-#[tactic(auto, using(crate::proofs::Reception::receives_staged))]
+/// Takes a message, and reports what came of it. One that ends a refresh without a cookie is refused.
+#[tactic(auto, using(crate::proofs::Reception::bare, crate::proofs::Reception::not_bare))]
 fn take_message(
+    alloc: Global,
     provider: &mut ScriptProvider,
     consumer_node: &mut ConsumerNode,
     message: &Message,
     out: &mut Report,
 ) -> Result<(), Cause>
     ensures does { Received (agreement_of provider.old consumer_node.old out.old.lineage)
-        (Some (whole_of message.now))
+        (decoding.received_next consumer_node.old.consumer.copy (Some (whole_of message.now)))
+        out.old (agreement_of provider.new consumer_node.new out.old.lineage) out.new result }
+    ensures directory { provider.new.directory ≡ provider.old.directory }
+    ensures queue_limit { provider.new.queue_limit ≡ provider.old.queue_limit }
+    ensures kind { provider.new.kind ≡ provider.old.kind }
+{
+    if ends_bare(alloc, message)? {
+        give_up(provider, consumer_node, OUT_OF_PLACE, out)?;
+        return Ok(());
+    }
+    hand_to_consumer(provider, consumer_node, message, out)
+}
+
+/// Has the consumer take a message, and reports what came of it.
+#[tactic(auto, using(crate::proofs::Reception::receives_staged))]
+fn hand_to_consumer(
+    provider: &mut ScriptProvider,
+    consumer_node: &mut ConsumerNode,
+    message: &Message,
+    out: &mut Report,
+) -> Result<(), Cause>
+    ensures does { Received (agreement_of provider.old consumer_node.old out.old.lineage)
+        (decoding.received_of consumer_node.old.consumer.copy (Some (whole_of message.now)))
         out.old (agreement_of provider.new consumer_node.new out.old.lineage) out.new result }
     ensures directory { provider.new.directory ≡ provider.old.directory }
     ensures queue_limit { provider.new.queue_limit ≡ provider.old.queue_limit }

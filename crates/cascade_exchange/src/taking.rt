@@ -10,6 +10,9 @@ use sync_consumer::PeerFault;
 /// The name of the fault of bytes that are no message.
 pub const BAD_MESSAGE: &[u8] = b"BadMessage";
 
+/// The name of the fault of a message that has no place where it comes.
+pub const OUT_OF_PLACE: &[u8] = b"OutOfPlace";
+
 /// The name of a fault.
 pub fn fault_name(fault: PeerFault) -> &'static [u8]
     ensures { result.now ≡ peer_name fault }

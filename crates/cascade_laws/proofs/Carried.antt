@@ -1,5 +1,5 @@
 -- What the provider puts into a link as bytes is decoded by the consumer as the message that it was sent for.
-use Rattle.std.proofs.Common.{◌≡◌, ◌<◌, ◌≤◌, ◌^◌, ◌==◌, if◌then◌else◌, ℕ, Bool, true, false, Option, List, [], ◌∷◌, ◌++◌, length, append-nil, Some, None, Ok, ap, sym, ◌∙◌, refl, arith}
+use Rattle.std.proofs.Common.{◌≡◌, ◌<◌, ◌≤◌, ◌^◌, ◌==◌, if◌then◌else◌, ℕ, Bool, true, false, cond, Option, List, [], ◌∷◌, ◌++◌, length, append-nil, Some, None, Ok, ap, sym, ◌∙◌, refl, arith}
 use Rattle.std.specs.Prelude.{All, pos, codes}
 use Rattle.std.proofs.lemmas.List.Elements.{All-nil, All-cons}
 use Rattle.ldap_constants.specs.declared.result_codes.TheConstants.{SUCCESS, BUSY}
@@ -30,7 +30,7 @@ use Rattle.sync_wire.proofs.Operations.{entry_operation, done_operation, info_op
 use Rattle.sync_wire.proofs.Notified.{sent_round_trip}
 use Rattle.sync_wire.proofs.Lengths.{put_size, set_size, phase_size, done_size, busy_size}
 use Rattle.sync_wire.proofs.OfSearch.{IsOfSearch, end_with, of_each, gone_short, short_text}
-use Rattle.cascade_world.specs.Reception.{whole_in, decoded, whole_said, came_of, refused_for, received_as, received_by, received_of, received}
+use Rattle.cascade_world.specs.Reception.{whole_in, decoded, whole_said, came_of, refused_for, received_as, received_by, received_of, received_next, received, ends_bare, says_bare}
 
 -- ---- what its bytes are decoded to
 
@@ -120,11 +120,12 @@ module _ (persisting : Bool) where
 
 -- ---- what the consumer makes of it
 
-pub received_sent : (copy : Copy) (session : SyncSession) (m : SyncMessage) → copy.session ≡ Some session → session.id ≡ 1 → IsOfSearch m
+pub received_sent : (copy : Copy) (session : SyncSession) (m : SyncMessage) → copy.session ≡ Some session → session.id ≡ 1 → IsOfSearch m → ends_bare m ≡ false
     → received copy (message_octets (wire.sent 1 m)) ≡ ((taken_within 1 copy m).0, came_of (taken_within 1 copy m).1)
-received_sent copy session m runs same is =
+received_sent copy session m runs same is cookied =
     let whole = wire.sent 1 m in
-    ap (received_of copy) (sent_decoded m is)
+    ap (received_next copy) (sent_decoded m is)
+    ∙ ap (λ bare. cond bare (refused_for copy (codes "OutOfPlace")) (received_of copy (Some whole))) (ap says_bare (sent_said false m is) ∙ cookied)
     ∙ ap (λ found. received_by found copy whole) runs
     ∙ ap (λ id. if 1 == id then received_as 1 copy (whole_said session.persisting whole) else refused_for copy (codes "OutOfPlace")) same
     ∙ ap (received_as 1 copy) (sent_said session.persisting m is)

@@ -24,7 +24,7 @@ use Rattle.entry_tree.specs.declared.op.Write.{Write}
 use Rattle.entry_tree.proofs.Directory.{ascends_filter}
 use Rattle.sync_model.specs.Copy.{Copy, SyncSession, Answer, refused, taken, taken_by, taken_in, taken_done, over}
 use Rattle.sync_model.specs.Copy.Fault.{OutOfPlace}
-use Rattle.sync_model.specs.Copy.Answer.{Over}
+use Rattle.sync_model.specs.Copy.Answer.{Staged, Stored, Over}
 use Rattle.sync_model.specs.Law.{Ascending, IsWithin}
 use Rattle.sync_model.specs.Message.{SyncMessage}
 use Rattle.sync_model.specs.Stream.{SyncOperation, content_after}
@@ -43,7 +43,8 @@ use Rattle.cascade_exchange.proofs.Owns.{owns-still}
 use Rattle.cascade_world.specs.Cookies.{held_cookie}
 use Rattle.cascade_world.specs.Exchange.{Agreement, agreement_of, copy_of, with_copy, number_of_cookie, stored_number, storing, taken_as, taken_from, taking}
 use Rattle.cascade_laws.specs.Headline.{Opening, Known, known_after, NamesPrefix, session_over, stream_over, octets_of, busy}
-use Rattle.cascade_world.specs.Reception.{Came, came_of, received}
+use Rattle.cascade_world.specs.Reception.{Came, came_of, received, ends_bare}
+use Rattle.cascade_exchange.proofs.Bare.{Agrees, bare_answer}
 use Rattle.cascade_world.specs.Origins.{Lineage}
 use Rattle.cascade_world.specs.ReportLines.{Storing, ReportLine}
 use Rattle.cascade_world.specs.ReportLines.{ReportLine as reported}
@@ -196,8 +197,12 @@ module _ (lin : Lineage) (number : ℕ) (suffix : Name) (p : ProviderState) (f :
     has_session = where_session operation goes.start opening.writes goes.count known.entries held goes.taken goes.ahead goes.place
 
     -- the bytes are decoded as the message
-    decoded_is : IsOfSearch m → received held (octets_of m) ≡ (outcome.0, came_of outcome.1)
-    decoded_is can = received_sent held has_session.session m has_session.runs has_session.id can
+    decoded_is : IsOfSearch m → ends_bare m ≡ false → received held (octets_of m) ≡ (outcome.0, came_of outcome.1)
+    decoded_is can cookied = received_sent held has_session.session m has_session.runs has_session.id can cookied
+
+    -- what comes of it reports whether it ends a refresh without a cookie
+    agrees : (a : Answer) → outcome.1 ≡ a → Agrees (ends_bare m) a
+    agrees a is = subst (Agrees (ends_bare m)) is (bare_answer 1 held m)
 
     abbrev Is : Copy → Came → Type 0
     Is copy came = IsTaken (taken_as (agreement_of p f lin) left copy came).0 (taken_as (agreement_of p f lin) left copy came).1
@@ -380,8 +385,13 @@ module _ (lin : Lineage) (number : ℕ) (suffix : Name) (p : ProviderState) (f :
             known_is = own_stored f.name known stored
 
       first_is : IsTaken (taken_as (agreement_of p f lin) left (received held (octets_of m)).0 (received held (octets_of m)).1).0 (taken_as (agreement_of p f lin) left (received held (octets_of m)).0 (received held (octets_of m)).1).1
-      first_is = subst (λ (h : Copy × Came). Is h.0 h.1) (sym (decoded_is takes.can)) (by takes.comes)
+      first_is = subst (λ (h : Copy × Came). Is h.0 h.1) (sym (decoded_is takes.can (cookied takes.comes))) (by takes.comes)
         where
+          cookied : StagesOne operation ascending within sent texts goes.start opening.writes goes.count known.entries held (goes.taken ++ m ∷ []) is.beyond outcome
+              ⊎ StoresOne operation ascending within sent texts goes.start opening.writes goes.count known.entries is.beyond outcome → ends_bare m ≡ false
+          cookied (inl now) = agrees Staged now.answer
+          cookied (inr now) = agrees (Stored now.commit) now.answer
+
           by : StagesOne operation ascending within sent texts goes.start opening.writes goes.count known.entries held (goes.taken ++ m ∷ []) is.beyond outcome
               ⊎ StoresOne operation ascending within sent texts goes.start opening.writes goes.count known.entries is.beyond outcome → Is outcome.0 (came_of outcome.1)
           by (inl now) = staged_is now
@@ -433,7 +443,7 @@ module _ (lin : Lineage) (number : ℕ) (suffix : Name) (p : ProviderState) (f :
 
       busy_is : IsTaken (taken_as (agreement_of p f lin) left (received held (octets_of m)).0 (received held (octets_of m)).1).0 (taken_as (agreement_of p f lin) left (received held (octets_of m)).0 (received held (octets_of m)).1).1
       busy_is =
-          subst (λ (h : Copy × Came). Is h.0 h.1) (sym (decoded_is (subst IsOfSearch (sym is.message) (inr (refl, refl)))))
+          subst (λ (h : Copy × Came). Is h.0 h.1) (sym (decoded_is (subst IsOfSearch (sym is.message) (inr (refl, refl))) (ap ends_bare is.message)))
           (subst (λ (o : Copy × Answer). Is o.0 (came_of o.1)) (sym outcome_is) ended_is)
 
     pub one_taken : IsTaken (taken_as (agreement_of p f lin) left (received held (octets_of m)).0 (received held (octets_of m)).1).0 (taken_as (agreement_of p f lin) left (received held (octets_of m)).0 (received held (octets_of m)).1).1

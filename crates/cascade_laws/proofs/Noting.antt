@@ -4,7 +4,7 @@ use Rattle.std.proofs.lemmas.Bool.{cases_Bool}
 use Rattle.std.proofs.lemmas.List.Concat.{flat_map-cons}
 use Rattle.std.proofs.lemmas.Option.{slice_get_within}
 use Rattle.std.specs.Option.{option_or}
-use Rattle.std.specs.Prelude.{Result, Ok, Err, map, slice_get, cond, ◌&&◌, ◌==◌}
+use Rattle.std.specs.Prelude.{Result, Ok, Err, map, option_map, slice_get, cond, ◌&&◌, ◌==◌}
 use Rattle.std.specs.Str.{bytes_eq}
 use Rattle.std.proofs.lemmas.List.{take-append-le, take_all}
 use Rattle.ldap_constants.specs.declared.result_codes.TheConstants.{E_SYNC_REFRESH_REQUIRED}
@@ -17,21 +17,22 @@ use Rattle.entry_tree.specs.declared.op.Op.TheVariants.{Commit}
 use Rattle.entry_tree.specs.declared.op.Write.{Write}
 use Rattle.sync_wire.proofs.Servable.{CanBeServed, SelectedCanBeServed}
 use Rattle.directory_writes.specs.Directory.{DirectoryState, entries_after, entries_of, last_csn}
-use Rattle.sync_provider.specs.Committing.{commit_refusal}
+use Rattle.directory_writes.specs.Commits as directory
+use Rattle.directory_writes.specs.declared.commit.CommitFault as causes
+use Rattle.directory_writes.specs.declared.commit.CommitFault.TheVariants as cause
+use Rattle.sync_provider.specs.Committing.{commit_refusal, fault_of}
 use Rattle.sync_provider.specs.Machine as machine
-use Rattle.sync_provider.specs.Machine.{ProviderState, refusal_of_each}
+use Rattle.sync_provider.specs.Machine.{ProviderState, after_commit}
 use Rattle.sync_provider.specs.declared.provider.Kind.TheVariants.{Replica}
-use Rattle.sync_provider.specs.declared.writing.CommitFault.{CommitFault}
-use Rattle.sync_provider.specs.declared.writing.CommitFault.TheVariants as fault
 use Rattle.cascade_script.specs.declared.fault.Cause.{Cause}
 use Rattle.cascade_nodes.specs.declared.node.ProviderNode.{ProviderNode}
-use Rattle.cascade_world.specs.Commits.{note_of, commit_of, with_commits, commits_by, commits_all}
+use Rattle.cascade_world.specs.Commits.{note_of, with_stage, limit_in, limit_of, with_commits, commits_by, commits_all}
 use Rattle.cascade_laws.specs.Headline.{Known, known_after, known_of, Committed, with_stored, with_csn, committed_after, stored_by, stored_of}
 use Rattle.cascade_world.specs.Origins.{CommitOrigin}
 use Rattle.cascade_world.specs.ReportLines.{Storing, ReportLine, StoredStage, stage_of, stages_in, stages_of}
 use Rattle.cascade_world.specs.ReportLines.ReportLine.{Wrote, Opened, Refused, Sent, Taken, Stored, Ended, Faulted, Cut, Nothing, Settled, Holds, Clocked, Shown}
 use Rattle.cascade_laws.proofs.Exchanged.{no_time}
-use Rattle.cascade_laws.proofs.Feeding.{IsSource, Frame, IsRightOf, LineIsRightOf, LinesAreRightOf, KeepsAll, CommitIs, CommitsAreKept}
+use Rattle.cascade_laws.proofs.Feeding.{IsSource, Frame, IsRightOf, LineIsRightOf, LinesAreRightOf, KeepsAll, IsCommitted, CommitIs, CommitsAreKept}
 use Rattle.cascade_laws.proofs.Saying.{known_next, stored_more, commits_more, committed_of, committed_time, clock_reported, clock_more}
 use Rattle.cascade_world.proofs.SameNames.{itself}
 use Rattle.cascade_laws.proofs.Tracking.{noted, HasCommitted}
@@ -196,40 +197,34 @@ module _ (kept : CommitsAreKept) (selected : SelectedCanBeServed) (number : ℕ)
   served known stored is = subst CanBeServed (sym is.exactly) (selected frame.spec (entries_after from (take stored.number frame.writes)) (good stored.number))
 
   -- what rejects the commits of some stages: nothing, or a limit
-  abbrev CommittingBy : List ReportLine → ProviderNode → List StoredStage → Option CommitFault → Type 0
+  abbrev CommittingBy : List ReportLine → ProviderNode → List StoredStage → Option ℕ → Type 0
   CommittingBy said own stages None = IsCommitting number suffix first name said (with_commits now search own stages)
-  CommittingBy said own stages (Some (fault.LimitReached limit)) = Unit {0}
-  CommittingBy said own stages (Some (fault.DuplicateName one other)) = ⊥
-  CommittingBy said own stages (Some fault.NotAReplica) = ⊥
-  CommittingBy said own stages (Some fault.NoMemory) = ⊥
+  CommittingBy said own stages (Some limit) = Unit {0}
 
   -- so it is with these stages, which leave what was reported by then
   abbrev AreCommitting : List ReportLine → ProviderNode → List StoredStage → Type 0
-  AreCommitting said own stages = CommittingBy said own stages (refusal_of_each own.provider (map commit_of stages) now)
+  AreCommitting said own stages = CommittingBy said own stages (limit_of now own.provider stages)
 
   -- the replica after one of them
   abbrev with_one : ProviderNode → StoredStage → ProviderNode
   with_one own stage = record own {
-    provider = machine.committed own.provider stage.puts stage.drops now;
+    provider = with_stage now own.provider stage;
     notes = own.notes ++ note_of search stage ∷ [];
   }
 
-  one_before : (said : List ReportLine) (own : ProviderNode) (stage : StoredStage) (stages : List StoredStage) (refusal : Option CommitFault) → CommittingBy said (with_one own stage) stages refusal → CommittingBy said own (stage ∷ stages) refusal
+  one_before : (said : List ReportLine) (own : ProviderNode) (stage : StoredStage) (stages : List StoredStage) (limit : Option ℕ) → CommittingBy said (with_one own stage) stages limit → CommittingBy said own (stage ∷ stages) limit
   one_before said own stage stages None is =
       subst (λ ns. IsCommitting number suffix first name said (record own { provider = (with_commits now search (with_one own stage) stages).provider; notes = ns }))
       (append_assoc own.notes (note_of search stage ∷ []) (map (note_of search) stages)) is
-  one_before said own stage stages (Some (fault.LimitReached limit)) is = tt
-  one_before said own stage stages (Some (fault.DuplicateName one other)) is = is
-  one_before said own stage stages (Some fault.NotAReplica) is = is
-  one_before said own stage stages (Some fault.NoMemory) is = is
+  one_before said own stage stages (Some limit) is = tt
 
   -- one stage, and those after it
   stage_commits : (said : List ReportLine) (own : ProviderNode) (stored : Storing) (later : List ReportLine) (stages : List StoredStage) → now ≡ clock_reported said → IsRightOf from frame (known_of name said) stored
       → IsCommitting number suffix first name said own
       → (IsCommitting number suffix first name (said ++ Stored name stored ∷ []) (with_one own (stage_of stored)) → AreCommitting later (with_one own (stage_of stored)) stages)
       → AreCommitting later own (stage_of stored ∷ stages)
-  stage_commits said own stored later stages clock is committing beyond =
-      by (commit_refusal p.kind p.directory stored.commit.puts stored.commit.drops now) (kept number suffix p stored.commit.puts stored.commit.drops now committing.keeps.source kind can)
+  stage_commits said own stored later stages clock is_right committing beyond =
+      by (directory.commit_refusal p.directory stored.commit.puts stored.commit.drops now) refl
     where
       p : ProviderState
       p = own.provider
@@ -242,26 +237,43 @@ module _ (kept : CommitsAreKept) (selected : SelectedCanBeServed) (number : ℕ)
       here q source = ap (λ n. entries_after n q.directory.writes) (ap (λ (d : DirectoryState). d.history) source.directory)
 
       left : committed (entries_of p.directory) stored.commit.puts stored.commit.drops ≡ stored.entries
-      left = ap (λ es. committed es stored.commit.puts stored.commit.drops) (here p committing.keeps.source ∙ committing.has.held) ∙ is.staged
+      left = ap (λ es. committed es stored.commit.puts stored.commit.drops) (here p committing.keeps.source ∙ committing.has.held) ∙ is_right.staged
 
       can : CanBeServed (committed (entries_of p.directory) stored.commit.puts stored.commit.drops)
-      can = subst CanBeServed (sym left) (served (known_of name said) stored is)
+      can = subst CanBeServed (sym left) (served (known_of name said) stored is_right)
 
-      by : (refusal : Option CommitFault) → CommitIs number suffix p stored.commit.puts stored.commit.drops now refusal
-          → CommittingBy later own (stage_of stored ∷ stages) (option_or refusal (refusal_of_each (with_one own (stage_of stored)).provider (map commit_of stages) now))
-      by None done =
-          let q = machine.committed p stored.commit.puts stored.commit.drops now in
-          one_before later own (stage_of stored) stages (refusal_of_each (with_one own (stage_of stored)).provider (map commit_of stages) now) (beyond (record {
+      stage : StoredStage
+      stage = stage_of stored
+
+      at_replica : (r : Option causes.CommitFault) → directory.commit_refusal p.directory stored.commit.puts stored.commit.drops now ≡ r → commit_refusal p.kind p.directory stored.commit.puts stored.commit.drops now ≡ option_map fault_of r
+      at_replica r is = ap (λ k. commit_refusal k p.directory stored.commit.puts stored.commit.drops now) kind ∙ ap (option_map fault_of) is
+
+      commit_is : (r : Option causes.CommitFault) → directory.commit_refusal p.directory stored.commit.puts stored.commit.drops now ≡ r → CommitIs number suffix p stored.commit.puts stored.commit.drops now (option_map fault_of r)
+      commit_is r is = subst (CommitIs number suffix p stored.commit.puts stored.commit.drops now) (at_replica r is) (kept number suffix p stored.commit.puts stored.commit.drops now committing.keeps.source kind can)
+
+      limit_is : (r : Option causes.CommitFault) → directory.commit_refusal p.directory stored.commit.puts stored.commit.drops now ≡ r → limit_of now p (stage ∷ stages) ≡ option_or (limit_in r) (limit_of now (with_stage now p stage) stages)
+      limit_is r is = ap (λ found. option_or (limit_in found) (limit_of now (with_stage now p stage) stages)) is
+
+      here_is : (r : Option causes.CommitFault) → directory.commit_refusal p.directory stored.commit.puts stored.commit.drops now ≡ r
+          → CommittingBy later own (stage ∷ stages) (option_or (limit_in r) (limit_of now (with_stage now p stage) stages)) → AreCommitting later own (stage ∷ stages)
+      here_is r is = subst (CommittingBy later own (stage ∷ stages)) (sym (limit_is r is))
+
+      by : (r : Option causes.CommitFault) → directory.commit_refusal p.directory stored.commit.puts stored.commit.drops now ≡ r → AreCommitting later own (stage ∷ stages)
+      by None is =
+          let same : machine.committed p stored.commit.puts stored.commit.drops now ≡ with_stage now p stage = ap (after_commit p (Commit stored.commit.puts stored.commit.drops) now) (at_replica None is) in
+          let q = with_stage now p stage in
+          let done = subst (λ r. IsCommitted number suffix p r stored.commit.puts stored.commit.drops now) same (commit_is None is) in
+          here_is None is
+          (one_before later own stage stages (limit_of now q stages) (beyond (record {
             named = committing.named;
             keeps = keeps_through number suffix first p q committing.keeps done.keeps;
             has =
-                one_more number name said stored search now done.csn own.notes p.directory.writes q.directory.writes (is.wanted ∙ wants) clock done.drawn done.one
+                one_more number name said stored search now done.csn own.notes p.directory.writes q.directory.writes (is_right.wanted ∙ wants) clock done.drawn done.one
                 (sym (here q done.keeps.source) ∙ done.entries ∙ left) committing.has;
-          }))
-      by (Some (fault.LimitReached limit)) done = tt
-      by (Some (fault.DuplicateName one other)) done = absurd done
-      by (Some fault.NoMemory) done = absurd done
-      by (Some fault.NotAReplica) done = absurd done
+          })))
+      by (Some (cause.LimitReached limit)) is = here_is (Some (cause.LimitReached limit)) is tt
+      by (Some (cause.DuplicateName one other)) is = absurd (commit_is (Some (cause.DuplicateName one other)) is)
+      by (Some cause.NoMemory) is = absurd (commit_is (Some cause.NoMemory) is)
 
   -- a line that stores something is a commit, and no other line is one
   line_by : (line : ReportLine) (lines said : List ReportLine) (own : ProviderNode) → now ≡ clock_reported said → LinesAreRightOf from frame (known_of name said) (line ∷ lines)
@@ -303,11 +315,8 @@ module _ (kept : CommitsAreKept) (selected : SelectedCanBeServed) (number : ℕ)
 
   pub lines_commit : (lines said : List ReportLine) (own : ProviderNode) → now ≡ clock_reported said → LinesAreRightOf from frame (known_of name said) lines → IsCommitting number suffix first name said own
       → CommittingIn number suffix first name (said ++ lines) (commits_all now search own (stages_of lines))
-  lines_commit lines said own clock is committing = by (refusal_of_each own.provider (map commit_of (stages_of lines)) now) (lines_by lines said own clock is committing)
+  lines_commit lines said own clock is committing = by (limit_of now own.provider (stages_of lines)) (lines_by lines said own clock is committing)
     where
-      by : (refusal : Option CommitFault) → CommittingBy (said ++ lines) own (stages_of lines) refusal → CommittingIn number suffix first name (said ++ lines) (commits_by now search own (stages_of lines) refusal)
+      by : (limit : Option ℕ) → CommittingBy (said ++ lines) own (stages_of lines) limit → CommittingIn number suffix first name (said ++ lines) (commits_by now search own (stages_of lines) limit)
       by None done = done
-      by (Some (fault.LimitReached limit)) done = tt
-      by (Some (fault.DuplicateName one other)) done = absurd done
-      by (Some fault.NotAReplica) done = absurd done
-      by (Some fault.NoMemory) done = absurd done
+      by (Some limit) done = tt

@@ -6,7 +6,7 @@ ghost use Rattle.entry_tree.specs.Selection.{search_of};
 ghost use Rattle.entry_tree.specs.Sound.{is_sound_put};
 ghost use Rattle.sync_consumer.specs.Taking.{AreFit};
 ghost use Rattle.cascade_nodes.specs.Commits as spec;
-ghost use Rattle.cascade_nodes.specs.Commits.{Leaves};
+ghost use Rattle.cascade_nodes.specs.Commits.{CanCommit, IsLimit, IsCauseOf, Leaves};
 
 use crate::node::{ProviderNode, copy_wanted};
 use cascade_report::{CommitOrigin, StoredStage};
@@ -18,15 +18,16 @@ use sync_provider::{CommitFault, StagedCommit};
 impl ProviderNode {
     /// Commits these stages of what is wanted one after another, all or none, and keeps a note of
     /// each, where the clock shows `now`, in microseconds from the first moment of 1970 on. It is
-    /// `LimitReached` or `NoMemory`, and then the node is as before; whatever else rejects one of
-    /// them leaves the directory as it is.
-    #[tactic(auto, using(crate::proofs::Commits::noted, crate::proofs::Commits::all_committed, crate::proofs::Commits::none_committed))]
+    /// `LimitReached` or `NoMemory`, and then the node is as before: nothing but a limit of its
+    /// writes can reject one of them.
+    #[tactic(auto, using(crate::proofs::Commits::noted, crate::proofs::Commits::all_committed, crate::proofs::Commits::none_committed, crate::proofs::Commits::only_a_limit))]
     pub fn commit_all(
         &mut self,
         wanted: &Spec,
         stages: Vec<StoredStage>,
         now: u64,
     ) -> Result<(), Cause>
+        requires can { CanCommit self.old stages.items }
         ensures does { Leaves (spec.commits_all now (search_of wanted.now) self.old stages.items)
             self.new result }
         ensures err { OnErr result (self.new ≡ self.old) }
@@ -38,21 +39,22 @@ impl ProviderNode {
             Ok(_) => Ok(()),
             Err(fault) => {
                 self.notes.truncate(count);
-                answer_to(fault)
+                Err(cause_of(fault))
             }
         }
     }
 }
 
-/// What the fault of commits comes to in an event.
-fn answer_to(fault: CommitFault) -> Result<(), Cause>
-    ensures { result ≡ spec.outcome_of fault }
+/// What the fault of commits comes to in an event, where nothing but a limit rejects them.
+fn cause_of(fault: CommitFault) -> Cause
+    requires { IsLimit fault }
+    ensures { IsCauseOf fault result }
 {
     match fault {
-        CommitFault::LimitReached(limit) => Err(Cause::LimitReached(limit)),
-        CommitFault::NoMemory => Err(Cause::NoMemory),
-        CommitFault::DuplicateName(_, _) => Ok(()),
-        CommitFault::NotAReplica => Ok(()),
+        CommitFault::LimitReached(limit) => Cause::LimitReached(limit),
+        CommitFault::NoMemory => Cause::NoMemory,
+        CommitFault::DuplicateName(_, _) => unreachable!(),
+        CommitFault::NotAReplica => unreachable!(),
     }
 }
 

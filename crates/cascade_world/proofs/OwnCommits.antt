@@ -10,8 +10,9 @@ use Rattle.cascade_script.specs.declared.fault.Cause.{Cause}
 use Rattle.cascade_script.specs.declared.fault.Cause.TheVariants.{BadCommand, UnknownNode, NameTaken, BadRecord, LimitReached, OutsideSuffix, LaterCookie, Circle, NoMemory}
 use Rattle.cascade_nodes.specs.declared.node.ProviderNode.{ProviderNode}
 use Rattle.cascade_nodes.specs.declared.node.ConsumerNode.{ConsumerNode}
-use Rattle.cascade_nodes.specs.Commits.{with_commits, commits_all, Leaves}
+use Rattle.cascade_nodes.specs.Commits.{with_commits, commits_all, CanCommit, Leaves}
 use Rattle.cascade_report.specs.ReportLines.{StoredStage}
+use Rattle.cascade_world.specs.InStep.{OwnCanCommit}
 use Rattle.cascade_world.specs.World.{WorldState, is_provider_node, provider_node_named, with_provider_node, with_own, commits_in, commits_of}
 use Rattle.cascade_world.proofs.Finding.{provider_node_name}
 use Rattle.cascade_nodes.proofs.Commits.{committed_name}
@@ -99,6 +100,15 @@ own_seen state view place i f g wants stages own after result same low is also w
     at_place state.consumer_nodes place f (λ consumer_node. Leaves (commits_of state consumer_node stages) (record view { provider_nodes = set view.provider_nodes i after }) result) low is'
     (subst (λ (s : WorldState). Leaves (commits_of state f stages) (record s { provider_nodes = set s.provider_nodes i after }) result) (sym same)
     (own_commits state f stages i own after result at own_is' does''))
+
+-- and what it can commit
+pub own_can : (state view : WorldState) (place i : ℕ) (f : ConsumerNode) (own : ProviderNode) (stages : List StoredStage) → view ≡ state → place < length state.consumer_nodes → f ≡ get_or view.consumer_nodes place f
+    → position (is_provider_node f.name) state.provider_nodes ≡ Some i → own ≡ get_or view.provider_nodes i own → IfSome (slice_get state.consumer_nodes place) (OwnCanCommit state stages) → CanCommit own stages
+own_can state view place i f own stages same low is at own_is can =
+    let is' = subst (λ (s : WorldState). f ≡ get_or s.consumer_nodes place f) same is in
+    let own_is' = subst (λ (s : WorldState). own ≡ get_or s.provider_nodes i own) same own_is in
+    let can' : OwnCanCommit state stages f = subst (λ found. IfSome found (OwnCanCommit state stages)) (slice_get-get_or state.consumer_nodes place f low ∙ ap Some (sym is')) can in
+    can' own (found_at (is_provider_node f.name) state.provider_nodes i own at own_is')
 
 -- a refusal leaves the replica, and so the world
 pub own_same : (state : WorldState) (i : ℕ) (own after : ProviderNode) (result : Result (Unit {0}) Cause) → own ≡ get_or state.provider_nodes i own → OnErr result (after ≡ own)

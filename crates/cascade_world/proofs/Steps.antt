@@ -1,6 +1,6 @@
 -- Steps of the world, by the places of its nodes.
-use Rattle.std.proofs.Common.{◌≡◌, ℕ, Some, None, List, [], set, get_or, refl, ap, sym, subst, ◌∙◌}
-use Rattle.std.specs.Prelude.{Result, Ok, Err, OnErr, position, slice_get}
+use Rattle.std.proofs.Common.{◌≡◌, ℕ, ◌<◌, Some, None, List, [], length, set, get_or, refl, ap, sym, subst, ◌∙◌}
+use Rattle.std.specs.Prelude.{Result, Ok, Err, IfSome, OnErr, position, slice_get}
 use Rattle.std.proofs.lemmas.Option.{slice_get-get_or, get_or_from_slice_get}
 use Rattle.std.proofs.lemmas.List.{set-get_or}
 use Rattle.schema_rules.specs.declared.raw.Change.{Change}
@@ -16,10 +16,14 @@ use Rattle.cascade_nodes.specs.Commits.{Leaves}
 use Rattle.cascade_script.specs.Fault.{RefusedAt}
 use Rattle.cascade_exchange.specs.Parts.{Performs}
 use Rattle.cascade_report.specs.Origins.{Lineage}
+use Rattle.cascade_world.specs.InStep.{AreInStep, OwnCanCommit}
 use Rattle.cascade_world.specs.Places.{ArePlaces, placed, PerformsAt, Writes}
 use Rattle.cascade_report.specs.ReportLines.{stages_of}
 use Rattle.cascade_world.specs.World.{WorldState, Step, Does, IsStep, is_provider_node, is_consumer_node, provider_node_named, consumer_node_named, with_provider, with_consumer_node, with_pair, with_lines, with_outcome, commits_of, lineage_of, between, exchange_of, exchange, write_to, limited, limit_log, limit_queue}
+use Rattle.cascade_exchange.proofs.Carrying.{IsCarried, CarriedIn, part_carried}
 use Rattle.cascade_exchange.proofs.Names.{SameNames, NamedIn, part_named}
+use Rattle.cascade_world.proofs.AtPlaces.{consumer_after}
+use Rattle.cascade_world.proofs.Keeping.{can_commit}
 use Rattle.cascade_world.proofs.OwnCommits.{commits_none}
 use Rattle.cascade_world.proofs.Places.{position_is, found_at, changed_at}
 use Rattle.cascade_world.proofs.Finding.{consumer_node_name}
@@ -105,6 +109,21 @@ exchange_done state mid new name j i what done places at commits =
     let step' : exchange state name (part_of what) ≡ Ok (new, at.does.0) =
     exchange_is state name j i at.provider_node at.consumer_node (part_of what) is ∙ ap (with_outcome state) at.does.1 ∙ ap (with_lines at.does.0) whole in
     subst (λ s. IsStep s new done.text.items) (sym step') (refl, at.does.2)
+
+-- what can be committed then
+pub exchange_can : (state mid : WorldState) (j i : ℕ) (what : Exchange) (done : Performed) → AreInStep state → ((name : List ℕ) × ArePlaces state name (j, i)) → (at : PerformsAt state j i (part_of what) mid (Ok done))
+    → i < length state.consumer_nodes → IfSome (slice_get mid.consumer_nodes i) (OwnCanCommit mid done.stages.items)
+exchange_can state mid j i what done steady stand at low =
+    let is = between_of state stand.0 j i at.provider_node at.consumer_node stand.1 at.at_consumer_node at.at_provider_node in
+    let pair = pair_at state at.provider_node at.consumer_node in
+    let lin = lineage_of state at.provider_node in
+    let next = agreement_of at.provider at.consumer lin in
+    let kept : SameNames pair next = subst (NamedIn pair) at.does.1 (part_named what pair) in
+    let carried : IsCarried pair next at.does.0 = subst (CarriedIn pair) at.does.1 (part_carried what pair) in
+    let mid_is : mid ≡ with_pair state next = at.after ∙ placed_is state stand.0 j i at.provider_node at.consumer_node at.consumer at.provider lin is kept in
+    let can : OwnCanCommit (with_pair state next) (stages_of at.does.0) at.consumer = can_commit state stand.0 at.consumer_node at.provider_node is.found is.supplied next at.does.0 carried kept steady in
+    subst (λ found. IfSome found (OwnCanCommit mid done.stages.items)) (sym (consumer_after state mid j i (part_of what) (Ok done) at low))
+    (subst (λ (s : WorldState). OwnCanCommit s done.stages.items at.consumer) (sym mid_is) (subst (λ stages. OwnCanCommit (with_pair state next) stages at.consumer) (sym at.does.3) can))
 
 -- a commit that is refused refuses the event
 pub exchange_uncommitted : (state mid new : WorldState) (name : List ℕ) (j i : ℕ) (what : Exchange) (done : Performed) (cause : Cause) → ArePlaces state name (j, i) → (at : PerformsAt state j i (part_of what) mid (Ok done))

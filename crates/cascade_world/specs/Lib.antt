@@ -10,5 +10,6 @@ pub use Rattle.cascade_exchange.specs.Exchange
 pub use Rattle.cascade_exchange.specs.Reception
 pub use Rattle.cascade_exchange.specs.Trace
 pub mod Directory
+pub mod InStep
 pub mod Places
 pub mod World

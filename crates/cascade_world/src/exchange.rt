@@ -2,21 +2,24 @@
 ghost use Rattle.std.specs.Prelude.{◌≡◌, ◌<◌, ℕ, List, length, slice_get, IfSome, OnErr};
 ghost use Rattle.cascade_exchange.specs.Exchange.{part_of};
 ghost use Rattle.cascade_nodes.specs.Commits.{Leaves};
+ghost use Rattle.cascade_world.specs.InStep.{AreInStep, OwnCanCommit};
 ghost use Rattle.cascade_world.specs.Places.{ArePlaces, PerformsAt};
 ghost use Rattle.cascade_world.specs.World as spec;
 ghost use Rattle.cascade_world.specs.World.{Does};
 
-use crate::world::{Lines, World};
+use crate::nodes::Nodes;
+use crate::world::Lines;
 use cascade_exchange::{Exchange, Performed, serve};
 use cascade_nodes::discard;
 use cascade_report::StoredStage;
 use cascade_script::Cause;
 use ldap_ber::Octets;
 
-impl World {
+impl Nodes {
     /// Does what goes on between a consumer and its provider, and then the commits of a replica. After
     /// a refusal the world is as before.
     pub(crate) fn exchange(&mut self, name: Octets, exchange: Exchange) -> Result<Lines, Cause>
+        requires in_step { AreInStep self.old }
         ensures steps { Does (spec.exchange self.old name (part_of exchange)) self.new result }
         ensures err { OnErr result (self.new ≡ self.old) }
     {
@@ -40,8 +43,10 @@ impl World {
         consumer_node: usize,
         exchange: Exchange,
     ) -> Result<Lines, Cause>
+        requires in_step { AreInStep self.old }
         requires provider_node { provider_node < length self.old.provider_nodes }
         requires consumer_node { consumer_node < length self.old.consumer_nodes }
+        requires places { (name : List ℕ) × ArePlaces self.old name (provider_node, consumer_node) }
         ensures steps { (name : List ℕ) → ArePlaces self.old name (provider_node, consumer_node)
             → Does (spec.exchange self.old name (part_of exchange)) self.new result }
         ensures err { OnErr result (self.new ≡ self.old) }
@@ -95,7 +100,8 @@ impl World {
     /// refusal its directory is as before.
     #[tactic(auto, using(crate::proofs::OwnCommits::at_place, crate::proofs::OwnCommits::commits_nothing, crate::proofs::OwnCommits::own_same))]
     fn commit(&mut self, place: usize, stages: Vec<StoredStage>) -> Result<(), Cause>
-        requires { place < length self.old.consumer_nodes }
+        requires place { place < length self.old.consumer_nodes }
+        requires can { IfSome (slice_get self.old.consumer_nodes place) (OwnCanCommit self.old stages.items) }
         ensures does { IfSome (slice_get self.old.consumer_nodes place)
             (λ consumer_node.
             Leaves (spec.commits_of self.old consumer_node stages.items) self.new result) }

@@ -6,6 +6,7 @@
 
 mod exchange;
 mod new_nodes;
+mod nodes;
 mod repointing;
 mod world;
 

@@ -1,29 +1,8 @@
-use Rattle.std.proofs.Common.{[], ◌∷◌, ◌∙◌, ap, rules, w64, SFits}
-use Rattle.std.proofs.lemmas.Int.{to_z-of_z}
-use Rattle.cascade_report.specs.ReportLines.ReportLine.{Ended}
-use Rattle.cascade_report.specs.Report.{said}
-use Rattle.cascade_exchange.proofs.Reception.{receives_copied, receives_stored, receives_over, receives_fault}
+use Rattle.std.proofs.Common.{sym, ◌∙◌}
+use Rattle.cascade_exchange.proofs.Reception.{bare}
 use Rattle.cascade_exchange.proofs.receiving.take_message.Goals as goal
 
-pub returns-in-Copied-clause-does : goal.returns-in-Copied-clause-does
-returns-in-Copied-clause-does c =
-    receives_copied c.args.out.now.lineage c.args.provider.now c.args.consumer_node.now c.take.new.self c.args.message.now _ _ _ c.in-Copied.ensures.spec c.in-Copied.ensures.reload c.in-Copied.ensures.exact
-    (rw c.as_slice-in-Copied.ensures at c.in_ok-taken-in-Copied.ensures)
-
-pub returns-in-Stored-clause-does : goal.returns-in-Stored-clause-does
-returns-in-Stored-clause-does c =
-    rw c.in_ok-report_stored-in-Stored.ensures.same
-    (receives_stored c.args.out.now.lineage c.args.provider.now c.args.consumer_node.now c.take.new.self c.args.message.now _ _ _ c.in-Stored.ensures.spec c.in-Stored.ensures.reload c.in-Stored.ensures.exact
-    c.in_ok-report_stored-in-Stored.ensures.line)
-
-pub returns-in-Over-clause-does : goal.returns-in-Over-clause-does
-returns-in-Over-clause-does c =
-    let fits : SFits w64 c.in-Over.code = search rules in
-    let line = rw c.as_slice-in-Over.ensures at c.in_ok-ended-in-Over.ensures in
-    receives_over c.args.out.now.lineage c.args.provider.now c.args.consumer_node.now c.take.new.self c.args.message.now _ _ _ c.in-Over.ensures.spec c.in-Over.ensures.reload c.in-Over.ensures.exact
-    (line ∙ ap (λ code. said c.args.out.now (Ended c.args.consumer_node.now.name code ∷ [])) (to_z-of_z w64 c.in-Over.code fits))
-
-pub returns-in-Fault-clause-does : goal.returns-in-Fault-clause-does
-returns-in-Fault-clause-does c =
-    receives_fault c.args.out.now.lineage c.args.provider.now c.give_up.new.provider c.args.consumer_node.now c.give_up.new.consumer_node c.take.new.self c.args.message.now _ _ _ c.in-Fault.ensures.spec c.in-Fault.ensures.reload c.in-Fault.ensures.exact
-    c.give_up.ensures.pair (rw c.fault_name.ensures at c.in_ok-give_up-in-Fault.ensures.line)
+pub returns-then-branch-clause-does : goal.returns-then-branch-clause-does
+returns-then-branch-clause-does c =
+    bare c.args.out.now.lineage c.args.provider.now c.give_up.new.provider c.args.consumer_node.now c.give_up.new.consumer_node c.args.message.now _ _
+    (sym c.in_ok-ends_bare.ensures ∙ c.if-branch.true) c.in_ok-give_up.ensures.pair c.in_ok-give_up.ensures.line

@@ -1,0 +1,211 @@
+-- Ends of a refresh that come without a cookie, and what a copy makes of all other messages.
+use Rattle.std.proofs.Common.{◌≡◌, ℕ, Bool, true, false, cond, Option, Some, None, List, [], ◌∷◌, refl, ap, sym, subst, ◌∙◌}
+use Rattle.std.specs.Prelude.{⊤, ℤ, Result, Ok, Err, pos, not, ◌&&◌, ◌||◌, ◌==◌, is_none, find}
+use Rattle.std.specs.Ordering.{int_eq}
+use Rattle.entry_tree.specs.declared.entry.Entry.{Entry}
+use Rattle.ldap_constants.specs.declared.result_codes.TheConstants.{SUCCESS}
+use Rattle.ldap_messages.specs.declared.message.Message.{Message}
+use Rattle.ldap_messages.specs.declared.protocol.Protocol.{Protocol}
+use Rattle.ldap_messages.specs.declared.protocol.Protocol.TheVariants as op
+use Rattle.ldap_messages.specs.Operation.{Operation}
+use Rattle.ldap_messages.specs.Operation.{Operation as operation}
+use Rattle.ldap_messages.specs.Whole.{Whole, whole_of}
+use Rattle.ldap_parts.specs.declared.control.Control.{Control}
+use Rattle.schema_rules.specs.declared.raw.RawAttribute.{RawAttribute}
+use Rattle.sync_messages.specs.declared.state.State.{State}
+use Rattle.sync_messages.specs.declared.state.State.TheVariants as state
+use Rattle.sync_messages.specs.declared.state.SyncState.{SyncState}
+use Rattle.sync_model.specs.Message.{CookieText, SyncMessage}
+use Rattle.sync_model.specs.Message.SyncMessage.{AddOrModify, Delete, Present, IdSet, NewCookie, RefreshDelete, RefreshPresent, Done, Ignored}
+use Rattle.sync_model.specs.Copy.{Copy, SyncSession, Answer as answer, Fault, staged, all_dropped, is_known, refused, goes_on, with_cookie, refreshed, over, named_unless, taken_names, ends_phase, persists_on, taken_info, taken_done, taken_in, taken_by, taken}
+use Rattle.sync_model.specs.Copy.Fault.{OutOfPlace}
+use Rattle.sync_model.specs.Within.{puts_entry, limit_fault, refused_by, taken_within}
+use Rattle.sync_wire.specs.Decoding as wire
+use Rattle.sync_wire.specs.Refusals.{and_then, on_ok, Fails}
+use Rattle.sync_wire.specs.Values.{sync_state}
+use Rattle.sync_wire.specs.WireEntry.{checked_uuid, entry_of}
+use Rattle.sync_wire.specs.declared.fault.DecodeFault.{DecodeFault}
+use Rattle.sync_wire.specs.declared.fault.DecodeFault.TheVariants as decoding
+use Rattle.sync_wire.specs.declared.decoding.SyncEvent.{SyncEvent}
+use Rattle.sync_consumer.specs.SyncSession.{message_of}
+use Rattle.cascade_exchange.specs.Reception.{operation_said, whole_said, is_bare, ends_bare, says_bare}
+use Rattle.cascade_exchange.proofs.Decoding.{message_said}
+
+-- ---- an entry ends nothing
+
+then_not_bare : {X : Type 0} (first : Result X DecodeFault) (next : X → Result SyncMessage DecodeFault) → ((x : X) → says_bare (next x) ≡ false) → says_bare (and_then first next) ≡ false
+then_not_bare (Ok x) next not_bare = not_bare x
+then_not_bare (Err found) next not_bare = refl
+
+ok_not_bare : {X : Type 0} (f : X → SyncMessage) (first : Result X DecodeFault) → ((x : X) → ends_bare (f x) ≡ false) → says_bare (on_ok f first) ≡ false
+ok_not_bare f (Ok x) not_bare = not_bare x
+ok_not_bare f (Err found) not_bare = refl
+
+if_not_bare : (b : Bool) (one other : Result SyncMessage DecodeFault) → says_bare one ≡ false → says_bare other ≡ false → says_bare (cond b one other) ≡ false
+if_not_bare true one other h k = h
+if_not_bare false one other h k = k
+
+contents_not_bare : (s : State) (uuid : ℕ) (cookie : Option CookieText) (name : List ℕ) (raws : List RawAttribute) → says_bare (wire.contents s uuid cookie name raws) ≡ false
+contents_not_bare state.Present uuid cookie name raws = refl
+contents_not_bare state.Add uuid cookie name raws = ok_not_bare (λ entry. AddOrModify true entry cookie) (entry_of uuid name raws) (λ entry. refl)
+contents_not_bare state.Modify uuid cookie name raws = ok_not_bare (λ entry. AddOrModify false entry cookie) (entry_of uuid name raws) (λ entry. refl)
+contents_not_bare state.Delete uuid cookie name raws = refl
+
+said_not_bare : (persisting : Bool) (name : List ℕ) (raws : List RawAttribute) (sync : SyncState) → says_bare (wire.entry_said persisting name raws sync) ≡ false
+said_not_bare persisting name raws sync =
+    let rest : Unit {0} → Result SyncMessage DecodeFault = λ checked. wire.contents sync.state sync.uuid sync.cookie name raws in
+    if_not_bare (persisting && wire.is_present sync.state) (Err decoding.OutOfPlace) (and_then (checked_uuid sync.uuid raws) rest) refl
+    (then_not_bare (checked_uuid sync.uuid raws) rest (λ checked. contents_not_bare sync.state sync.uuid sync.cookie name raws))
+
+by_entry : (persisting : Bool) (controls : List Control) (name : List ℕ) (raws : List RawAttribute) → says_bare (and_then (sync_state controls) (wire.entry_said persisting name raws)) ≡ false
+by_entry persisting controls name raws = then_not_bare (sync_state controls) (wire.entry_said persisting name raws) (said_not_bare persisting name raws)
+
+pub entry_not_bare : (m : Message) (name : List ℕ) (raws : List RawAttribute) → m.op ≡ op.SearchResultEntry name raws → says_bare (whole_said false (whole_of m)) ≡ false
+entry_not_bare m name raws is =
+    ap says_bare (message_said false m) ∙ ap (λ o. says_bare (wire.operation_said false m.controls o)) is ∙ by_entry false m.controls name raws
+
+-- whether its refresh is done is nothing to an end
+op_bare : (persisting : Bool) (controls : List Control) (o : Operation) → says_bare (operation_said persisting controls o) ≡ says_bare (operation_said false controls o)
+op_bare persisting controls (operation.entry parts) = by_entry persisting controls parts.0 parts.1 ∙ sym (by_entry false controls parts.0 parts.1)
+op_bare persisting controls (operation.reference parts) = refl
+op_bare persisting controls (operation.intermediate parts) = refl
+op_bare persisting controls (operation.search_done parts) = refl
+op_bare persisting controls (operation.bind parts) = refl
+op_bare persisting controls (operation.unbind parts) = refl
+op_bare persisting controls (operation.search parts) = refl
+op_bare persisting controls (operation.modify parts) = refl
+op_bare persisting controls (operation.add parts) = refl
+op_bare persisting controls (operation.delete parts) = refl
+op_bare persisting controls (operation.rename parts) = refl
+op_bare persisting controls (operation.compare parts) = refl
+op_bare persisting controls (operation.abandon parts) = refl
+op_bare persisting controls (operation.extended parts) = refl
+op_bare persisting controls (operation.bind_response parts) = refl
+op_bare persisting controls (operation.modify_response parts) = refl
+op_bare persisting controls (operation.add_response parts) = refl
+op_bare persisting controls (operation.delete_response parts) = refl
+op_bare persisting controls (operation.rename_response parts) = refl
+op_bare persisting controls (operation.compare_response parts) = refl
+op_bare persisting controls (operation.extended_response parts) = refl
+
+pub whole_bare : (persisting : Bool) (whole : Whole) → says_bare (whole_said persisting whole) ≡ says_bare (whole_said false whole)
+whole_bare persisting whole = op_bare persisting whole.1.1 whole.1.0
+
+-- ---- by what is decoded
+
+done_kept : (code : ℤ) (control : Option (Bool × Option CookieText)) → ends_bare (Done code control) ≡ ends_bare (message_of (wire.decoded_of (Done code control)))
+done_kept code None = refl
+done_kept code (Some control) = refl
+
+same_end : (message : SyncMessage) → ends_bare message ≡ ends_bare (message_of (wire.decoded_of message))
+same_end (AddOrModify adds entry cookie) = refl
+same_end (Delete uuid name cookie) = refl
+same_end (Present uuid cookie) = refl
+same_end (IdSet deletes uuids cookie) = refl
+same_end (NewCookie cookie) = refl
+same_end (RefreshDelete done cookie) = refl
+same_end (RefreshPresent done cookie) = refl
+same_end (Done code control) = done_kept code control
+same_end Ignored = refl
+
+by_decoded : (said : Result SyncMessage DecodeFault) (received : SyncEvent) → on_ok wire.decoded_of said ≡ Ok received → says_bare said ≡ ends_bare (message_of received)
+by_decoded (Ok message) received is = let same : wire.decoded_of message ≡ received = cc in same_end message ∙ ap (λ (h : SyncEvent). ends_bare (message_of h)) same
+by_decoded (Err found) received is = let never : ⊥ = cc in absurd never
+
+pub decoded_bare : (m : Message) (received : SyncEvent) → on_ok wire.decoded_of (wire.said false m) ≡ Ok received → says_bare (whole_said false (whole_of m)) ≡ ends_bare (message_of received)
+decoded_bare m received is = ap says_bare (message_said false m) ∙ by_decoded (wire.said false m) received is
+
+by_failed : (said : Result SyncMessage DecodeFault) (found : DecodeFault) → on_ok wire.decoded_of said ≡ Err found → says_bare said ≡ false
+by_failed (Ok message) found is = let never : ⊥ = cc in absurd never
+by_failed (Err other) found is = refl
+
+pub failed_not_bare : (m : Message) (found : DecodeFault) → on_ok wire.decoded_of (wire.said false m) ≡ Err found → says_bare (whole_said false (whole_of m)) ≡ false
+failed_not_bare m found is = ap says_bare (message_said false m) ∙ by_failed (wire.said false m) found is
+
+-- the same of two of the faults
+pub value_not_bare : (m : Message) (found : DecodeFault) → found ≡ decoding.BadValue → Fails found (on_ok wire.decoded_of (wire.said false m)) → says_bare (whole_said false (whole_of m)) ≡ false
+value_not_bare m found is fails = failed_not_bare m decoding.BadValue (subst (λ f. Fails f (on_ok wire.decoded_of (wire.said false m))) is fails)
+
+pub uuid_not_bare : (m : Message) (found : DecodeFault) (one other : ℕ) → found ≡ decoding.UuidDiffers one other → Fails found (on_ok wire.decoded_of (wire.said false m)) → says_bare (whole_said false (whole_of m)) ≡ false
+uuid_not_bare m found one other is fails = failed_not_bare m (decoding.UuidDiffers one other) (subst (λ f. Fails f (on_ok wire.decoded_of (wire.said false m))) is fails)
+
+-- ---- what a copy makes of it
+
+-- what is staged, and what takes effect with a cookie, was no such end, and what takes effect without one was
+abbrev pub Agrees : Bool → answer → Type 0
+Agrees bare answer.Staged = bare ≡ false
+Agrees bare (answer.Stored commit) = bare ≡ false
+Agrees bare (answer.Copied commit) = bare ≡ true
+Agrees bare (answer.Over code) = ⊤
+Agrees bare (answer.Refused fault) = ⊤
+
+either_agrees : (bare b : Bool) (one other : Copy × answer) → Agrees bare one.1 → Agrees bare other.1 → Agrees bare (cond b one other).1
+either_agrees bare true one other h k = h
+either_agrees bare false one other h k = k
+
+with_cookie_agrees : (copy : Copy) (session : SyncSession) (cookie : Option CookieText) → Agrees false (with_cookie copy session cookie).1
+with_cookie_agrees copy session None = refl
+with_cookie_agrees copy session (Some cookie) = either_agrees false session.persisting _ (goes_on copy session) refl refl
+
+named_agrees : (copy : Copy) (session : SyncSession) (uuids : List ℕ) (unknown : Option ℕ) → Agrees false (named_unless unknown copy session uuids).1
+named_agrees copy session uuids None = refl
+named_agrees copy session uuids (Some uuid) = tt
+
+names_agree : (copy : Copy) (session : SyncSession) (uuids : List ℕ) → Agrees false (taken_names copy session uuids).1
+names_agree copy session uuids =
+    let unknown : Option ℕ = find (λ uuid. not (is_known copy.held session.stage uuid)) uuids in
+    either_agrees false session.persisting (refused copy OutOfPlace) (named_unless unknown copy session uuids) tt (named_agrees copy session uuids unknown)
+
+refreshed_agrees : (copy : Copy) (session : SyncSession) (cookie : Option CookieText) (next : Option SyncSession) (b : Bool) → b ≡ true → Agrees (is_none cookie && b) (refreshed copy session cookie next).1
+refreshed_agrees copy session None next b is = is
+refreshed_agrees copy session (Some cookie) next b is = refl
+
+ended_agrees : (copy : Copy) (session : SyncSession) (cookie : Option CookieText) (next : Option SyncSession) → Agrees (is_none cookie) (refreshed copy session cookie next).1
+ended_agrees copy session None next = refl
+ended_agrees copy session (Some cookie) next = refl
+
+info_agrees : (copy : Copy) (session : SyncSession) (deletes done : Bool) (cookie : Option CookieText) → Agrees (done && is_none cookie) (taken_info copy session deletes done cookie).1
+info_agrees copy session deletes true cookie =
+    let now : SyncSession = ends_phase copy.held session deletes in
+    either_agrees (is_none cookie) (session.persisting || ((true && not session.persists) || (not deletes && session.ended))) (refused copy OutOfPlace)
+    (refreshed copy now cookie (Some (persists_on now))) tt (ended_agrees copy now cookie (Some (persists_on now)))
+info_agrees copy session deletes false cookie =
+    let now : SyncSession = ends_phase copy.held session deletes in
+    either_agrees false (session.persisting || ((false && not session.persists) || (not deletes && session.ended))) (refused copy OutOfPlace) (goes_on copy now) tt refl
+
+done_agrees : (copy : Copy) (session : SyncSession) (control : Option (Bool × Option CookieText)) (b : Bool) → b ≡ true → Agrees (is_bare control && b) (taken_done copy session control).1
+done_agrees copy session None b is = tt
+done_agrees copy session (Some control) b is =
+    let now : SyncSession = ends_phase copy.held session control.0 in
+    either_agrees (is_none control.1 && b) (not control.0 && session.ended) (refused copy OutOfPlace) (refreshed copy now control.1 None) tt (refreshed_agrees copy now control.1 None b is)
+
+in_agrees : (copy : Copy) (session : SyncSession) (message : SyncMessage) → Agrees (ends_bare message) (taken_in copy session message).1
+in_agrees copy session (AddOrModify adds entry cookie) = with_cookie_agrees copy (record session { stage = staged entry.uuid (Some entry) session.stage }) cookie
+in_agrees copy session (Delete uuid name cookie) = with_cookie_agrees copy (record session { stage = staged uuid None session.stage }) cookie
+in_agrees copy session (Present uuid cookie) = names_agree copy session (uuid ∷ [])
+in_agrees copy session (IdSet deletes uuids cookie) =
+    let dropped : SyncSession = record session { stage = all_dropped session.stage uuids } in
+    either_agrees false deletes (with_cookie copy dropped cookie) (taken_names copy session uuids) (with_cookie_agrees copy dropped cookie) (names_agree copy session uuids)
+in_agrees copy session (NewCookie cookie) = with_cookie_agrees copy session (Some cookie)
+in_agrees copy session (RefreshDelete done cookie) = info_agrees copy session true done cookie
+in_agrees copy session (RefreshPresent done cookie) = info_agrees copy session false done cookie
+in_agrees copy session (Done code control) = by session.persists (int_eq code (pos SUCCESS)) refl
+  where
+    by : (persists zero : Bool) → int_eq code (pos SUCCESS) ≡ zero → Agrees (is_bare control && int_eq code (pos SUCCESS)) (cond (persists || not zero) (over copy code) (taken_done copy session control)).1
+    by true zero is = tt
+    by false true is = done_agrees copy session control (int_eq code (pos SUCCESS)) is
+    by false false is = tt
+in_agrees copy session Ignored = refl
+
+by_agrees : (search : Option SyncSession) (id : ℕ) (copy : Copy) (message : SyncMessage) → Agrees (ends_bare message) (taken_by search id copy message).1
+by_agrees None id copy message = tt
+by_agrees (Some session) id copy message =
+    either_agrees (ends_bare message) (id == session.id) (taken_in copy session message) (refused copy OutOfPlace) (in_agrees copy session message) tt
+
+limits_agree : (bare : Bool) (copy : Copy) (fault : Option Fault) (outcome : Copy × answer) → Agrees bare outcome.1 → Agrees bare (refused_by fault copy outcome).1
+limits_agree bare copy None outcome h = h
+limits_agree bare copy (Some fault) outcome h = tt
+
+pub bare_answer : (id : ℕ) (copy : Copy) (message : SyncMessage) → Agrees (ends_bare message) (taken_within id copy message).1
+bare_answer id copy message =
+    limits_agree (ends_bare message) copy (limit_fault (puts_entry message) (taken id copy message).0 (taken id copy message).1) (taken id copy message) (by_agrees copy.session id copy message)
