@@ -1,25 +1,23 @@
 -- Each part of an event leaves the consumer as its lines report.
-use Rattle.std.proofs.Common.{◌≡◌, ℕ, zero, suc, Bool, true, false, Option, Some, None, List, [], ◌∷◌, ◌++◌, length, refl, ap, sym, subst, ◌∙◌, inl, inr}
+use Rattle.std.proofs.Common.{◌≡◌, ℕ, Bool, true, false, Option, Some, None, List, [], ◌∷◌, ◌++◌, length, refl, ap, sym, subst, ◌∙◌, inl, inr}
 use Rattle.std.proofs.lemmas.Bool.{cases_Bool}
 use Rattle.std.proofs.lemmas.List.Sums.{fold-append}
-use Rattle.std.specs.Prelude.{Ok, Err, ◌||◌, is_some}
+use Rattle.std.specs.Prelude.{◌||◌, is_some}
 use Rattle.std.specs.List.{fold}
-use Rattle.entry_tree.specs.Selection.{Search}
+use Rattle.entry_tree.specs.Selection.{Search, search_of}
+use Rattle.cascade_exchange.specs.declared.exchange.Exchange.{Exchange}
+use Rattle.cascade_exchange.specs.declared.exchange.Exchange.TheVariants as goes
 use Rattle.sync_messages.specs.declared.request.Mode.{Mode}
-use Rattle.sync_messages.specs.declared.request.Mode.TheVariants.{RefreshOnly}
 use Rattle.sync_model.specs.Copy.{Copy, SyncSession}
-use Rattle.sync_provider.specs.HandingOut.{Turn}
-use Rattle.sync_provider.specs.HandingOut.Turn.{Hands, Closes, Waits, Unknown}
 use Rattle.sync_provider.specs.Machine.{ProviderState}
 use Rattle.sync_provider.specs.declared.searches.Accepted.{Accepted}
 use Rattle.sync_provider.specs.declared.searches.Accepted.TheVariants as accepted
-use Rattle.cascade_exchange.specs.Exchange.{Agreement, ExchangeOutcome, fits, after_lines, and_then, name_of, copy_of, Sending, turn_of, handed, sends, sending_by, sending, sent_before, sent, closed, given_up, taken_as, taken_from, taking, taken_before, taken_some, takes, is_busy, cut, idle, answer_of, is_required, opened_by, opened_idle, opens, asked_again, opens_anew, left_to_send, ran_before, ran_some, runs, drains, follows_on, catches_up, settled_reported, settles, holding, lost, given, wanted, respecs}
-use Rattle.cascade_exchange.specs.Exchange.Sending.{Sends, Rests, Overflows}
+use Rattle.cascade_exchange.specs.Exchange.{Agreement, ExchangeOutcome, part_of, name_of, copy_of, handed, linked, sends, sent, closed, given_up, taken_as, taking, takes, is_busy, cut, idle, opened_by, opens, settles, holding, lost, given, wanted, respecs}
 use Rattle.cascade_exchange.specs.Reception.{Came, received}
 use Rattle.cascade_exchange.specs.Reception.{Came as came}
-use Rattle.cascade_exchange.specs.Cookies.{is_later}
 use Rattle.cascade_report.specs.ReportLines.{ReportLine}
 use Rattle.cascade_report.specs.ReportLines.{ReportLine as reported}
+use Rattle.cascade_exchange.proofs.EachPart.{LeavesIn, LeavesTaking, AnyMode, SmallSteps, sent_leaves, taking_leaves, takes_leave, cut_leaves, idle_leaves, opens_leave, settles_leave, given_leaves}
 use Rattle.cascade_exchange.specs.Trace.{seen_of, took, dropped, after_own, name_in}
 
 -- lines of the consumer of this name
@@ -72,25 +70,14 @@ keeps_both {wants} {a} {b} {c} {ls} {ms} first second = record {
 keeps_quiet : (pair : Agreement) (line : ReportLine) → name_in line ≡ pair.consumer_node.name → seen_of pair.consumer_node ≡ after_own (seen_of pair.consumer_node) line → Keeps pair pair (line ∷ [])
 keeps_quiet pair line own quiet = record { name = refl; source = refl; spec = refl; reload = refl; directory = refl; kind = refl; lineage = refl; own = (own, tt); traced = quiet }
 
--- ---- parts one after another
+-- ---- the small steps
 
 -- a part that changes what the consumer wants, and leaves the rest of them
 abbrev pub AltersIn : (Search → Search) → Agreement → ExchangeOutcome → Type 0
-AltersIn wants pair (Ok next) = Alters wants pair next.0 next.1
-AltersIn wants pair (Err cause) = Unit {0}
+AltersIn wants pair outcome = LeavesIn (Alters wants) pair outcome
 
 abbrev pub KeepsIn : Agreement → ExchangeOutcome → Type 0
 KeepsIn pair outcome = AltersIn as_before pair outcome
-
-keeps_lines : (pair after : Agreement) (lines : List ReportLine) (outcome : ExchangeOutcome) → Keeps pair after lines → KeepsIn after outcome → KeepsIn pair (after_lines lines outcome)
-keeps_lines pair after lines (Ok next) h k = keeps_both h k
-keeps_lines pair after lines (Err cause) h k = tt
-
-keeps_then : (pair : Agreement) (outcome : ExchangeOutcome) (next : Agreement → ExchangeOutcome) → KeepsIn pair outcome → ((after : Agreement) → KeepsIn after (next after)) → KeepsIn pair (and_then outcome next)
-keeps_then pair (Ok first) next h k = keeps_lines pair first.0 first.1 (next first.0) h (k first.0)
-keeps_then pair (Err cause) next h k = tt
-
--- ---- sending
 
 handed_directory : (p : ProviderState) (search : Option ℕ) → (handed p search).directory ≡ p.directory
 handed_directory p None = refl
@@ -100,49 +87,19 @@ handed_kind : (p : ProviderState) (search : Option ℕ) → (handed p search).ki
 handed_kind p None = refl
 handed_kind p (Some number) = refl
 
-abbrev KeepsSending : Agreement → Sending → Type 0
-KeepsSending pair (Sends after message) = Keeps pair after (reported.Sent (name_of pair) message ∷ [])
-KeepsSending pair Rests = Unit {0}
-KeepsSending pair Overflows = Unit {0}
-
-sends_keeps : (pair : Agreement) (search : Option ℕ) (message : List ℕ) → KeepsSending pair (sends pair search message)
-sends_keeps pair search message =
-    elim (cases_Bool (fits pair.consumer_node message)) [
-      | inl room ↦
-          rw room record {
-            name = refl;
-            source = refl;
-            spec = refl;
-            reload = refl;
-            directory = handed_directory pair.provider pair.consumer_node.search;
-            kind = handed_kind pair.provider pair.consumer_node.search;
-            lineage = refl;
-            own = (refl, tt);
-            traced = refl;
-          }
-      | inr full ↦ rw full tt
-    ]
-
-sending_by_keeps : (pair : Agreement) (turn : Turn) → KeepsSending pair (sending_by pair turn)
-sending_by_keeps pair (Hands whole) = sends_keeps pair pair.consumer_node.search _
-sending_by_keeps pair (Closes code whole) = sends_keeps pair None _
-sending_by_keeps pair Waits = tt
-sending_by_keeps pair Unknown = tt
-
-sending_keeps : (pair : Agreement) → KeepsSending pair (sending pair)
-sending_keeps pair = sending_by_keeps pair (turn_of pair.provider pair.consumer_node.search)
-
-sent_before_keeps : (pair : Agreement) (next : Agreement → ExchangeOutcome) (found : Sending) → KeepsSending pair found → ((after : Agreement) → KeepsIn after (next after)) → KeepsIn pair (sent_before next pair found)
-sent_before_keeps pair next (Sends after message) h k = keeps_lines pair after _ (next after) h (k after)
-sent_before_keeps pair next Rests h k = keeps_quiet pair (reported.Nothing (name_of pair)) refl refl
-sent_before_keeps pair next Overflows h k = tt
-
--- sending messages keeps what each part keeps
-pub sent_keeps : (count : ℕ) (pair : Agreement) → KeepsIn pair (sent count pair)
-sent_keeps zero pair = keeps_nothing pair
-sent_keeps (suc count) pair = sent_before_keeps pair (λ after. sent count after) (sending pair) (sending_keeps pair) (λ after. sent_keeps count after)
-
--- ---- taking
+sends_keeps : (pair : Agreement) (search : Option ℕ) (message : List ℕ)
+    → Keeps pair (record pair { provider = handed pair.provider pair.consumer_node.search; consumer_node = linked pair.consumer_node search message }) (reported.Sent (name_of pair) message ∷ [])
+sends_keeps pair search message = record {
+  name = refl;
+  source = refl;
+  spec = refl;
+  reload = refl;
+  directory = handed_directory pair.provider pair.consumer_node.search;
+  kind = handed_kind pair.provider pair.consumer_node.search;
+  lineage = refl;
+  own = (refl, tt);
+  traced = refl;
+}
 
 closed_directory : (p : ProviderState) (search : Option ℕ) → (closed p search).directory ≡ p.directory
 closed_directory p None = refl
@@ -173,128 +130,69 @@ taken_as_keeps pair message rest (came.Refused fault) e = record {
   traced = ap dropped (sym (took_is (copy_of pair.consumer_node) pair.consumer_node.link message rest e));
 }
 
--- taking a message keeps what each part keeps
-abbrev pub KeepsTaking : Agreement → Option (Agreement × ReportLine) → Type 0
-KeepsTaking pair None = Unit {0}
-KeepsTaking pair (Some first) = Keeps pair first.0 (first.1 ∷ [])
-
-taken_from_keeps : (pair : Agreement) (link : List (List ℕ)) → pair.consumer_node.link ≡ link → KeepsTaking pair (taken_from pair link)
-taken_from_keeps pair [] e = tt
-taken_from_keeps pair (message ∷ rest) e = taken_as_keeps pair message rest (received (copy_of pair.consumer_node) message).1 e
-
--- one message that is taken keeps what each part keeps
-pub taking_keeps : (pair : Agreement) → KeepsTaking pair (taking pair)
-taking_keeps pair = taken_from_keeps pair pair.consumer_node.link refl
-
-taken_before_keeps : (name : List ℕ) (pair : Agreement) (next : Agreement → Agreement × List ReportLine) (quiet : List ReportLine) (found : Option (Agreement × ReportLine)) → pair.consumer_node.name ≡ name → KeepsTaking pair found → Keeps pair pair quiet
-    → ((after : Agreement) → after.consumer_node.name ≡ name → Keeps after (next after).0 (next after).1)
-    → Keeps pair (taken_before next pair quiet found).0 (taken_before next pair quiet found).1
-taken_before_keeps name pair next quiet None own h q k = q
-taken_before_keeps name pair next quiet (Some first) own h q k = keeps_both h (k first.0 (h.name ∙ own))
-
-pub taken_some_keeps : (count : ℕ) (name : List ℕ) (quiet : List ReportLine) (pair : Agreement) → pair.consumer_node.name ≡ name → ((p : Agreement) → p.consumer_node.name ≡ name → Keeps p p quiet)
-    → Keeps pair (taken_some count quiet pair).0 (taken_some count quiet pair).1
-taken_some_keeps zero name quiet pair own q = keeps_nothing pair
-taken_some_keeps (suc count) name quiet pair own q =
-    taken_before_keeps name pair (λ after. taken_some count quiet after) quiet (taking pair) own (taking_keeps pair) (q pair own)
-    (λ after own'. taken_some_keeps count name quiet after own' q)
-
--- taking messages keeps what each part keeps
-pub takes_keeps : (count : ℕ) (pair : Agreement) → KeepsIn pair (takes count pair)
-takes_keeps count pair =
-    taken_some_keeps count pair.consumer_node.name (reported.Nothing (name_of pair) ∷ []) pair refl (λ p own. keeps_quiet p (reported.Nothing (name_of pair)) (sym own) refl)
-
--- ---- cutting and opening
-
--- a cut keeps what each part keeps
-pub cut_keeps : (pair : Agreement) → KeepsIn pair (cut pair)
-cut_keeps pair =
-    elim (cases_Bool (is_busy pair.consumer_node)) [
-      | inl busy ↦
-          rw busy record {
-            name = refl;
-            source = refl;
-            spec = refl;
-            reload = refl;
-            directory = closed_directory pair.provider pair.consumer_node.search;
-            kind = closed_kind pair.provider pair.consumer_node.search;
-            lineage = refl;
-            own = (refl, tt);
-            traced = refl;
-          }
-      | inr free ↦ rw free (keeps_quiet pair (reported.Nothing (name_of pair)) refl refl)
-    ]
-
--- a cut of a busy consumer keeps what each part keeps
-pub idle_keeps : (pair : Agreement) → KeepsIn pair (idle pair)
-idle_keeps pair =
-    elim (cases_Bool (is_busy pair.consumer_node)) [
-      | inl busy ↦ let cut' = cut_keeps pair in rw busy (rw busy at cut')
-      | inr free ↦ rw free (keeps_nothing pair)
-    ]
+cuts_keep : (pair : Agreement) → Keeps pair (given_up pair (copy_of pair.consumer_node)) (reported.Cut (name_of pair) ∷ [])
+cuts_keep pair = record {
+  name = refl;
+  source = refl;
+  spec = refl;
+  reload = refl;
+  directory = closed_directory pair.provider pair.consumer_node.search;
+  kind = closed_kind pair.provider pair.consumer_node.search;
+  lineage = refl;
+  own = (refl, tt);
+  traced = refl;
+}
 
 opened_by_keeps : (mode : Mode) (pair : Agreement) (answer : Accepted) → KeepsIn pair (opened_by mode pair answer)
 opened_by_keeps mode pair (accepted.Opened number writes) = record { name = refl; source = refl; spec = refl; reload = refl; directory = refl; kind = refl; lineage = refl; own = (refl, tt); traced = refl }
 opened_by_keeps mode pair (accepted.Refused code) = record { name = refl; source = refl; spec = refl; reload = refl; directory = refl; kind = refl; lineage = refl; own = (refl, tt); traced = refl }
 opened_by_keeps mode pair accepted.NoMemory = keeps_nothing pair
 
-idly_keeps : (mode : Mode) (pair : Agreement) → KeepsIn pair (opened_idle mode pair)
-idly_keeps mode pair = opened_by_keeps mode pair (answer_of mode pair)
+steps_keep : SmallSteps (Alters as_before) AnyMode
+steps_keep = record {
+  still = keeps_nothing;
+  through = λ one two three lines more first second. keeps_both first second;
+  sends = sends_keeps;
+  takes = λ pair message rest is. taken_as_keeps pair message rest (received (copy_of pair.consumer_node) message).1 is;
+  nothing = λ name pair named. keeps_quiet pair (reported.Nothing name) (sym named) refl;
+  cuts = cuts_keep;
+  opens = λ mode asked pair answer. opened_by_keeps mode pair answer;
+  settled = λ pair. keeps_quiet pair (reported.Settled (name_of pair) (length pair.provider.directory.writes)) refl refl;
+}
+
+-- ---- each part
+
+-- sending messages keeps what each part keeps
+pub sent_keeps : (count : ℕ) (pair : Agreement) → KeepsIn pair (sent count pair)
+sent_keeps count pair = sent_leaves (Alters as_before) AnyMode steps_keep count pair
+
+-- taking a message keeps what each part keeps
+abbrev pub KeepsTaking : Agreement → Option (Agreement × ReportLine) → Type 0
+KeepsTaking pair found = LeavesTaking (Alters as_before) pair found
+
+-- one message that is taken keeps what each part keeps
+pub taking_keeps : (pair : Agreement) → KeepsTaking pair (taking pair)
+taking_keeps pair = taking_leaves (Alters as_before) AnyMode steps_keep pair
+
+-- taking messages keeps what each part keeps
+pub takes_keeps : (count : ℕ) (pair : Agreement) → KeepsIn pair (takes count pair)
+takes_keeps count pair = takes_leave (Alters as_before) AnyMode steps_keep count pair
+
+-- a cut keeps what each part keeps
+pub cut_keeps : (pair : Agreement) → KeepsIn pair (cut pair)
+cut_keeps pair = cut_leaves (Alters as_before) AnyMode steps_keep pair
+
+-- a cut of a busy consumer keeps what each part keeps
+pub idle_keeps : (pair : Agreement) → KeepsIn pair (idle pair)
+idle_keeps pair = idle_leaves (Alters as_before) AnyMode steps_keep pair
 
 -- an opening keeps what each part keeps
 pub opens_keeps : (mode : Mode) (pair : Agreement) → KeepsIn pair (opens mode pair)
-opens_keeps mode pair = keeps_then pair (idle pair) (opened_idle mode) (idle_keeps pair) (idly_keeps mode)
-
-again_keeps : (pair : Agreement) → KeepsIn pair (asked_again pair)
-again_keeps pair =
-    elim (cases_Bool (is_required (answer_of RefreshOnly pair))) [
-      | inl required ↦
-          rw required (keeps_then pair (opened_idle RefreshOnly pair) (opened_idle RefreshOnly) (idly_keeps RefreshOnly pair) (idly_keeps RefreshOnly))
-      | inr served ↦ rw served (idly_keeps RefreshOnly pair)
-    ]
-
-anew_keeps : (pair : Agreement) → KeepsIn pair (opens_anew pair)
-anew_keeps pair = keeps_then pair (idle pair) asked_again (idle_keeps pair) again_keeps
-
--- ---- settling
-
-ran_before_keeps : (pair : Agreement) (next : Agreement → ExchangeOutcome) (found : Sending) → KeepsSending pair found → ((after : Agreement) → KeepsIn after (next after)) → KeepsIn pair (ran_before next pair found)
-ran_before_keeps pair next (Sends after message) h k =
-    let then' = taken_some_keeps 1 after.consumer_node.name [] after refl (λ p own. keeps_nothing p) in
-    keeps_lines pair (taken_some 1 [] after).0 _ (next (taken_some 1 [] after).0) (keeps_both h then') (k (taken_some 1 [] after).0)
-ran_before_keeps pair next Rests h k = keeps_nothing pair
-ran_before_keeps pair next Overflows h k = tt
-
-ran_some_keeps : (count : ℕ) (pair : Agreement) → KeepsIn pair (ran_some count pair)
-ran_some_keeps zero pair = keeps_nothing pair
-ran_some_keeps (suc count) pair = ran_before_keeps pair (λ after. ran_some count after) (sending pair) (sending_keeps pair) (λ after. ran_some_keeps count after)
-
-runs_keeps : (pair : Agreement) → KeepsIn pair (runs pair)
-runs_keeps pair = ran_some_keeps (left_to_send pair pair.consumer_node.search) pair
-
-drains_keeps : (pair : Agreement) → KeepsIn pair (drains pair)
-drains_keeps pair = taken_some_keeps (length pair.consumer_node.link) pair.consumer_node.name [] pair refl (λ p own. keeps_nothing p)
-
-settled_keeps : (pair : Agreement) → KeepsIn pair (settled_reported pair)
-settled_keeps pair = keeps_quiet pair (reported.Settled (name_of pair) (length pair.provider.directory.writes)) refl refl
-
-catching_keeps : (pair : Agreement) → KeepsIn pair (catches_up pair)
-catching_keeps pair =
-    elim (cases_Bool (follows_on pair)) [
-      | inl follows ↦ rw follows (keeps_nothing pair)
-      | inr free ↦ rw free (keeps_then pair (opens_anew pair) runs (anew_keeps pair) runs_keeps)
-    ]
+opens_keeps mode pair = opens_leave (Alters as_before) AnyMode steps_keep mode tt pair
 
 -- a settling keeps what each part keeps
 pub settles_keeps : (pair : Agreement) → KeepsIn pair (settles pair)
-settles_keeps pair =
-    keeps_then pair (and_then (and_then (drains pair) runs) catches_up) settled_reported
-    (keeps_then pair (and_then (drains pair) runs) catches_up
-    (keeps_then pair (drains pair) runs (drains_keeps pair) runs_keeps)
-    catching_keeps)
-    settled_keeps
-
--- ---- cookies
+settles_keeps pair = settles_leave (Alters as_before) AnyMode steps_keep tt pair
 
 holding_keeps : (pair : Agreement) (cookie : Option (List ℕ)) → KeepsIn pair (holding pair cookie)
 holding_keeps pair cookie = record { name = refl; source = refl; spec = refl; reload = refl; directory = refl; kind = refl; lineage = refl; own = (refl, tt); traced = refl }
@@ -305,11 +203,7 @@ lost_keeps pair = holding_keeps pair None
 
 -- a cookie that is given keeps what each part keeps
 pub given_keeps : (text : List ℕ) (pair : Agreement) → KeepsIn pair (given text pair)
-given_keeps text pair =
-    elim (cases_Bool (is_later (copy_of pair.consumer_node).cookie text)) [
-      | inl later ↦ rw later tt
-      | inr good ↦ rw good (holding_keeps pair (Some text))
-    ]
+given_keeps text pair = given_leaves (Alters as_before) AnyMode steps_keep text pair (holding_keeps pair (Some text))
 
 -- ---- other wishes
 
@@ -337,13 +231,29 @@ wanted_alters search pair idle' =
 pub respecs_alters : (search : Search) (pair : Agreement) → AltersIn (λ s. search) pair (respecs search pair)
 respecs_alters search pair =
     elim (cases_Bool (is_busy pair.consumer_node)) [
-      | inl busy ↦
-          let cut' = cut_keeps pair in
-          let first : Keeps pair (given_up pair (copy_of pair.consumer_node)) (reported.Cut (name_of pair) ∷ []) = rw busy at cut' in
-          rw busy (keeps_both first (wanted_alters search (given_up pair (copy_of pair.consumer_node)) refl))
+      | inl busy ↦ rw busy (keeps_both (cuts_keep pair) (wanted_alters search (given_up pair (copy_of pair.consumer_node)) refl))
       | inr free ↦
           rw free (
           wanted_alters search pair
           (no_session (is_some pair.consumer_node.search) (copy_of pair.consumer_node).session _ free)
           )
     ]
+
+-- ---- all parts
+
+-- what is wanted after it
+abbrev pub wants_of : Exchange → Search → Search
+wants_of (goes.Want spec) = λ search. search_of spec
+wants_of _ = as_before
+
+-- each part keeps this
+pub part_alters : (what : Exchange) (pair : Agreement) → AltersIn (wants_of what) pair (part_of what pair)
+part_alters (goes.Open mode) pair = opens_keeps mode pair
+part_alters (goes.Send count) pair = sent_keeps count pair
+part_alters (goes.Take count) pair = takes_keeps count pair
+part_alters goes.Cut pair = cut_keeps pair
+part_alters goes.Settle pair = settles_keeps pair
+part_alters goes.Lose pair = lost_keeps pair
+part_alters (goes.Give text) pair = given_keeps text pair
+part_alters goes.Idle pair = idle_keeps pair
+part_alters (goes.Want spec) pair = respecs_alters (search_of spec) pair

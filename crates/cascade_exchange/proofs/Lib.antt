@@ -3,11 +3,11 @@ pub mod Carrying
 pub mod Cuts
 pub mod Decoding
 pub mod Doing
+pub mod EachPart
 pub mod Exchanging
 pub mod Giving
 pub mod Reception
 pub mod Loops
-pub mod Names
 pub mod Openings
 pub mod Owns
 pub mod Pending

@@ -7,7 +7,7 @@ use Rattle.cascade_script.specs.declared.fault.Cause.{Cause}
 use Rattle.cascade_script.specs.declared.fault.Cause.TheVariants.{BadCommand, UnknownNode, NameTaken, BadRecord, LimitReached, OutsideSuffix, LaterCookie, Circle, NoMemory}
 use Rattle.cascade_exchange.specs.Exchange.{Agreement, ExchangeOutcome}
 use Rattle.cascade_report.specs.Report.{Report}
-use Rattle.cascade_exchange.specs.Parts.{Does, Performs}
+use Rattle.cascade_exchange.specs.Parts.{Does, Performs, KeepsAllButSearches}
 use Rattle.cascade_report.specs.ReportLines.{lines_text, stages_of}
 use Rattle.cascade_exchange.specs.declared.exchange.Performed.{Performed}
 
@@ -34,6 +34,7 @@ refused outcome old text p after Circle h = h
 refused outcome old text p after NoMemory h = tt
 
 -- and comes back with its own
-pub back : (before mid after : ProviderState) (snapshot : SearchesSnapshot) → mid.directory ≡ before.directory → mid.queue_limit ≡ before.queue_limit → mid.kind ≡ before.kind
+pub back : (before mid after : ProviderState) (snapshot : SearchesSnapshot) → KeepsAllButSearches before mid
     → snapshot ≡ snapshot_of before → after ≡ record mid { searches = snapshot.searches } → after ≡ before
-back before mid after snapshot kept limit kind same is = is ∙ λ i. record { kind = kind i; directory = kept i; searches = (same i).searches; queue_limit = limit i }
+back before mid after snapshot kept same is =
+    is ∙ λ i. record { kind = kept.kind i; directory = kept.directory i; searches = (same i).searches; queue_limit = kept.queue_limit i }

@@ -42,17 +42,21 @@ Performs outcome after (Ok done) =
 Performs outcome after (Err NoMemory) = Unit {0}
 Performs outcome after (Err cause) = outcome ≡ Err cause
 
--- the moment is that of this provider and this consumer node, of whom the provider has
--- only other searches now
+-- of a provider only the searches are others now
+pub record KeepsAllButSearches (old new : ProviderState) : Type 0 where
+  pub directory : new.directory ≡ old.directory
+  pub queue_limit : new.queue_limit ≡ old.queue_limit
+  pub kind : new.kind ≡ old.kind
+
+-- the moment is that of this provider and this consumer node, and of the provider only the searches
+-- are others now
 pub record IsBefore
     (provider : ProviderState) (consumer_node : ConsumerNode)
     (now : ProviderState) (before : Snapshot) : Type 0 where
   pub same_searches : before.searches ≡ snapshot_of provider
   pub ours : AreOurs before.searches.searches
   pub same_consumer_node : before.consumer_node ≡ consumer_node
-  pub same_directory : now.directory ≡ provider.directory
-  pub same_limit : now.queue_limit ≡ provider.queue_limit
-  pub same_kind : now.kind ≡ provider.kind
+  pub same_provider : KeepsAllButSearches provider now
 
 -- the same of the sending of one message, which answers whether one was pending
 abbrev pub SendsOne : Agreement → Sending → Report → Agreement → Report → Result Bool Cause → Type 0

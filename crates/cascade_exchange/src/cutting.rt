@@ -3,7 +3,7 @@ ghost use Rattle.std.specs.Prelude.{◌≡◌, Some};
 ghost use Rattle.cascade_exchange.specs.Exchange as spec;
 ghost use Rattle.cascade_exchange.specs.Exchange.{agreement_of};
 ghost use Rattle.cascade_report.specs.Origins.{Lineage};
-ghost use Rattle.cascade_exchange.specs.Parts.{Does};
+ghost use Rattle.cascade_exchange.specs.Parts.{Does, KeepsAllButSearches};
 
 use cascade_nodes::{ConsumerNode, ScriptProvider};
 use cascade_report::Report;
@@ -23,9 +23,7 @@ pub fn drop_all(provider: &mut ScriptProvider, consumer_node: &mut ConsumerNode)
     ensures does { (lineage : Lineage) → agreement_of provider.new consumer_node.new lineage
         ≡ spec.given_up (agreement_of provider.old consumer_node.old lineage)
         consumer_node.old.consumer.copy }
-    ensures directory { provider.new.directory ≡ provider.old.directory }
-    ensures queue_limit { provider.new.queue_limit ≡ provider.old.queue_limit }
-    ensures kind { provider.new.kind ≡ provider.old.kind }
+    ensures provider { KeepsAllButSearches provider.old provider.new }
 {
     if let Some(number) = consumer_node.search {
         provider.drop_search(number);
@@ -43,9 +41,7 @@ pub fn cut(
 ) -> Result<(), Cause>
     ensures does { Does (spec.cut (agreement_of provider.old consumer_node.old out.old.lineage))
         out.old (agreement_of provider.new consumer_node.new out.old.lineage) out.new result }
-    ensures directory { provider.new.directory ≡ provider.old.directory }
-    ensures queue_limit { provider.new.queue_limit ≡ provider.old.queue_limit }
-    ensures kind { provider.new.kind ≡ provider.old.kind }
+    ensures provider { KeepsAllButSearches provider.old provider.new }
 {
     if !is_busy(consumer_node) {
         out.nothing(consumer_node.name.as_slice())?;

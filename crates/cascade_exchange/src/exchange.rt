@@ -4,7 +4,7 @@ ghost use Rattle.sync_provider.specs.Returning.{snapshot_of, HasNoWriteSince};
 ghost use Rattle.cascade_exchange.specs.Exchange.{agreement_of, part_of};
 ghost use Rattle.cascade_nodes.specs.Ours.{AreOurs};
 ghost use Rattle.cascade_exchange.specs.Parts as parts;
-ghost use Rattle.cascade_exchange.specs.Parts.{Performs, IsBefore};
+ghost use Rattle.cascade_exchange.specs.Parts.{Performs, IsBefore, KeepsAllButSearches};
 
 use crate::cookies::{give, lose};
 use crate::cutting::cut;
@@ -57,9 +57,7 @@ impl Exchange {
         ensures does { parts.Does
             (part_of self (agreement_of provider.old consumer_node.old out.old.lineage))
             out.old (agreement_of provider.new consumer_node.new out.old.lineage) out.new result }
-        ensures directory { provider.new.directory ≡ provider.old.directory }
-        ensures queue_limit { provider.new.queue_limit ≡ provider.old.queue_limit }
-        ensures kind { provider.new.kind ≡ provider.old.kind }
+        ensures provider { KeepsAllButSearches provider.old provider.new }
     {
         match self {
             Exchange::Open(mode) => open_search(alloc, provider, consumer_node, mode, out),

@@ -7,7 +7,8 @@ ghost use Rattle.sync_wire.specs.Requesting.{persists};
 ghost use Rattle.cascade_exchange.specs.Exchange as spec;
 ghost use Rattle.cascade_exchange.specs.Reception as decoding;
 ghost use Rattle.cascade_exchange.specs.Exchange.{agreement_of};
-ghost use Rattle.cascade_exchange.specs.Parts.{Does, Opens, Refuses, first_value};
+ghost use Rattle.cascade_exchange.specs.Parts.{Does, KeepsAllButSearches, Opens, Refuses};
+ghost use Rattle.cascade_exchange.specs.Parts.{first_value};
 
 use crate::cutting::{cut, is_busy};
 use cascade_nodes::{ConsumerNode, MESSAGE_ID, ScriptProvider, copy_wanted, discard};
@@ -33,9 +34,7 @@ pub fn open_search(
     ensures does { Does
         (spec.opens mode (agreement_of provider.old consumer_node.old out.old.lineage))
         out.old (agreement_of provider.new consumer_node.new out.old.lineage) out.new result }
-    ensures directory { provider.new.directory ≡ provider.old.directory }
-    ensures queue_limit { provider.new.queue_limit ≡ provider.old.queue_limit }
-    ensures kind { provider.new.kind ≡ provider.old.kind }
+    ensures provider { KeepsAllButSearches provider.old provider.new }
 {
     cut_if_busy(provider, consumer_node, out)?;
     ask_once(alloc, provider, consumer_node, mode, out)
@@ -53,9 +52,7 @@ pub fn open_anew(
     ensures does { Does
         (spec.opens_anew (agreement_of provider.old consumer_node.old out.old.lineage))
         out.old (agreement_of provider.new consumer_node.new out.old.lineage) out.new result }
-    ensures directory { provider.new.directory ≡ provider.old.directory }
-    ensures queue_limit { provider.new.queue_limit ≡ provider.old.queue_limit }
-    ensures kind { provider.new.kind ≡ provider.old.kind }
+    ensures provider { KeepsAllButSearches provider.old provider.new }
 {
     cut_if_busy(provider, consumer_node, out)?;
     ask_again(alloc, provider, consumer_node, out)
@@ -73,9 +70,7 @@ fn ask_once(
     ensures does { Does
         (spec.opened_idle mode (agreement_of provider.old consumer_node.old out.old.lineage))
         out.old (agreement_of provider.new consumer_node.new out.old.lineage) out.new result }
-    ensures directory { provider.new.directory ≡ provider.old.directory }
-    ensures queue_limit { provider.new.queue_limit ≡ provider.old.queue_limit }
-    ensures kind { provider.new.kind ≡ provider.old.kind }
+    ensures provider { KeepsAllButSearches provider.old provider.new }
 {
     open_idle(alloc, provider, consumer_node, mode, out)?;
     Ok(())
@@ -92,9 +87,7 @@ fn ask_again(
     ensures does { Does
         (spec.asked_again (agreement_of provider.old consumer_node.old out.old.lineage))
         out.old (agreement_of provider.new consumer_node.new out.old.lineage) out.new result }
-    ensures directory { provider.new.directory ≡ provider.old.directory }
-    ensures queue_limit { provider.new.queue_limit ≡ provider.old.queue_limit }
-    ensures kind { provider.new.kind ≡ provider.old.kind }
+    ensures provider { KeepsAllButSearches provider.old provider.new }
 {
     if open_idle(alloc, provider, consumer_node, Mode::RefreshOnly, out)? {
         return ask_once(alloc, provider, consumer_node, Mode::RefreshOnly, out);
@@ -111,9 +104,7 @@ pub fn cut_if_busy(
 ) -> Result<(), Cause>
     ensures does { Does (spec.idle (agreement_of provider.old consumer_node.old out.old.lineage))
         out.old (agreement_of provider.new consumer_node.new out.old.lineage) out.new result }
-    ensures directory { provider.new.directory ≡ provider.old.directory }
-    ensures queue_limit { provider.new.queue_limit ≡ provider.old.queue_limit }
-    ensures kind { provider.new.kind ≡ provider.old.kind }
+    ensures provider { KeepsAllButSearches provider.old provider.new }
 {
     if is_busy(consumer_node) {
         return cut(provider, consumer_node, out);
@@ -132,9 +123,7 @@ fn open_idle(
 ) -> Result<bool, Cause>
     ensures does { Opens mode (agreement_of provider.old consumer_node.old out.old.lineage)
         out.old (agreement_of provider.new consumer_node.new out.old.lineage) out.new result }
-    ensures directory { provider.new.directory ≡ provider.old.directory }
-    ensures queue_limit { provider.new.queue_limit ≡ provider.old.queue_limit }
-    ensures kind { provider.new.kind ≡ provider.old.kind }
+    ensures provider { KeepsAllButSearches provider.old provider.new }
 {
     let control = asked(alloc, consumer_node, mode)?;
     let wanted = copy_wanted(consumer_node.consumer.inner().spec())?;

@@ -5,7 +5,7 @@ ghost use Rattle.cascade_exchange.specs.Exchange as spec;
 ghost use Rattle.cascade_exchange.specs.Reception as decoding;
 ghost use Rattle.cascade_exchange.specs.Exchange.{agreement_of};
 ghost use Rattle.sync_consumer.specs.Taking.{AreFit};
-ghost use Rattle.cascade_exchange.specs.Parts.{Does, TakesOne, Received};
+ghost use Rattle.cascade_exchange.specs.Parts.{Does, TakesOne, Received, KeepsAllButSearches};
 ghost use Rattle.cascade_report.specs.Report.{said};
 ghost use Rattle.cascade_report.specs.ReportLines.{commit_reported, ReportLine as reported};
 
@@ -32,9 +32,7 @@ pub fn take(
     ensures does { Does
         (spec.takes count (agreement_of provider.old consumer_node.old out.old.lineage))
         out.old (agreement_of provider.new consumer_node.new out.old.lineage) out.new result }
-    ensures directory { provider.new.directory ≡ provider.old.directory }
-    ensures queue_limit { provider.new.queue_limit ≡ provider.old.queue_limit }
-    ensures kind { provider.new.kind ≡ provider.old.kind }
+    ensures provider { KeepsAllButSearches provider.old provider.new }
 {
     let mut left = count;
     while left > 0 {
@@ -58,9 +56,7 @@ pub fn take_one(
     ensures does { TakesOne (agreement_of provider.old consumer_node.old out.old.lineage)
         (spec.taking (agreement_of provider.old consumer_node.old out.old.lineage))
         out.old (agreement_of provider.new consumer_node.new out.old.lineage) out.new result }
-    ensures directory { provider.new.directory ≡ provider.old.directory }
-    ensures queue_limit { provider.new.queue_limit ≡ provider.old.queue_limit }
-    ensures kind { provider.new.kind ≡ provider.old.kind }
+    ensures provider { KeepsAllButSearches provider.old provider.new }
 {
     let Some(bytes) = consumer_node.link.pop() else {
         return Ok(false);
@@ -94,9 +90,7 @@ fn take_found(
     ensures does { Received (agreement_of provider.old consumer_node.old out.old.lineage)
         (decoding.received_next consumer_node.old.consumer.copy (option_map whole_of found))
         out.old (agreement_of provider.new consumer_node.new out.old.lineage) out.new result }
-    ensures directory { provider.new.directory ≡ provider.old.directory }
-    ensures queue_limit { provider.new.queue_limit ≡ provider.old.queue_limit }
-    ensures kind { provider.new.kind ≡ provider.old.kind }
+    ensures provider { KeepsAllButSearches provider.old provider.new }
 {
     match found {
         Some(message) => {
@@ -123,9 +117,7 @@ fn take_message(
     ensures does { Received (agreement_of provider.old consumer_node.old out.old.lineage)
         (decoding.received_next consumer_node.old.consumer.copy (Some (whole_of message.now)))
         out.old (agreement_of provider.new consumer_node.new out.old.lineage) out.new result }
-    ensures directory { provider.new.directory ≡ provider.old.directory }
-    ensures queue_limit { provider.new.queue_limit ≡ provider.old.queue_limit }
-    ensures kind { provider.new.kind ≡ provider.old.kind }
+    ensures provider { KeepsAllButSearches provider.old provider.new }
 {
     if ends_bare(alloc, message)? {
         give_up(provider, consumer_node, OUT_OF_PLACE, out)?;
@@ -145,9 +137,7 @@ fn hand_to_consumer(
     ensures does { Received (agreement_of provider.old consumer_node.old out.old.lineage)
         (decoding.received_of consumer_node.old.consumer.copy (Some (whole_of message.now)))
         out.old (agreement_of provider.new consumer_node.new out.old.lineage) out.new result }
-    ensures directory { provider.new.directory ≡ provider.old.directory }
-    ensures queue_limit { provider.new.queue_limit ≡ provider.old.queue_limit }
-    ensures kind { provider.new.kind ≡ provider.old.kind }
+    ensures provider { KeepsAllButSearches provider.old provider.new }
 {
     match consumer_node.consumer.take(message) {
         Taken::Staged => {
@@ -207,9 +197,7 @@ fn give_up(
         consumer_node.old.consumer.copy }
     ensures line { OnOk result
         (out.new ≡ said out.old (reported.Faulted consumer_node.old.name fault.now ∷ [])) }
-    ensures directory { provider.new.directory ≡ provider.old.directory }
-    ensures queue_limit { provider.new.queue_limit ≡ provider.old.queue_limit }
-    ensures kind { provider.new.kind ≡ provider.old.kind }
+    ensures provider { KeepsAllButSearches provider.old provider.new }
 {
     drop_all(provider, consumer_node);
     out.faulted(consumer_node.name.as_slice(), fault)

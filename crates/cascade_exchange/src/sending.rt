@@ -1,10 +1,11 @@
 //! Messages that a provider hands out into the link of a consumer.
-ghost use Rattle.std.specs.Prelude.{◌≡◌, Some, IfOk, IfSome};
+ghost use Rattle.std.specs.Prelude.{Some, IfOk, IfSome};
 ghost use Rattle.ldap_messages.specs.Whole.{HasSpelling, whole_of, message_octets};
 ghost use Rattle.cascade_exchange.specs.Exchange as spec;
 ghost use Rattle.cascade_exchange.specs.Exchange.{agreement_of};
 ghost use Rattle.cascade_report.specs.Origins.{Lineage};
-ghost use Rattle.cascade_exchange.specs.Parts.{Does, SendsOne, HandsOut, Links};
+ghost use Rattle.cascade_exchange.specs.Parts.{Does, HandsOut, KeepsAllButSearches, Links};
+ghost use Rattle.cascade_exchange.specs.Parts.{SendsOne};
 
 use cascade_nodes::{ConsumerNode, ScriptProvider, discard};
 use cascade_report::Report;
@@ -25,9 +26,7 @@ pub fn send(
     ensures does { Does
         (spec.sent count (agreement_of provider.old consumer_node.old out.old.lineage))
         out.old (agreement_of provider.new consumer_node.new out.old.lineage) out.new result }
-    ensures directory { provider.new.directory ≡ provider.old.directory }
-    ensures queue_limit { provider.new.queue_limit ≡ provider.old.queue_limit }
-    ensures kind { provider.new.kind ≡ provider.old.kind }
+    ensures provider { KeepsAllButSearches provider.old provider.new }
 {
     let mut left = count;
     while left > 0 {
@@ -50,9 +49,7 @@ pub fn send_one(
     ensures does { SendsOne (agreement_of provider.old consumer_node.old out.old.lineage)
         (spec.sending (agreement_of provider.old consumer_node.old out.old.lineage))
         out.old (agreement_of provider.new consumer_node.new out.old.lineage) out.new result }
-    ensures directory { provider.new.directory ≡ provider.old.directory }
-    ensures queue_limit { provider.new.queue_limit ≡ provider.old.queue_limit }
-    ensures kind { provider.new.kind ≡ provider.old.kind }
+    ensures provider { KeepsAllButSearches provider.old provider.new }
 {
     let Some(message) = next_message(provider, consumer_node)? else {
         return Ok(false);
@@ -76,9 +73,7 @@ fn next_message(
         (agreement_of provider.new consumer_node.new lineage) result }
     ensures spelled { IfOk result (λ found.
         IfSome found (λ message. HasSpelling (whole_of message))) }
-    ensures directory { provider.new.directory ≡ provider.old.directory }
-    ensures queue_limit { provider.new.queue_limit ≡ provider.old.queue_limit }
-    ensures kind { provider.new.kind ≡ provider.old.kind }
+    ensures provider { KeepsAllButSearches provider.old provider.new }
 {
     let Some(number) = consumer_node.search else {
         return Ok(None);

@@ -1,9 +1,8 @@
 //! Consumers that want something else.
-ghost use Rattle.std.specs.Prelude.{◌≡◌};
 ghost use Rattle.entry_tree.specs.Selection.{search_of};
 ghost use Rattle.cascade_exchange.specs.Exchange as spec;
 ghost use Rattle.cascade_exchange.specs.Exchange.{agreement_of};
-ghost use Rattle.cascade_exchange.specs.Parts.{Does};
+ghost use Rattle.cascade_exchange.specs.Parts.{Does, KeepsAllButSearches};
 
 use crate::opening::cut_if_busy;
 use cascade_nodes::{ConsumerNode, ScriptProvider, discard};
@@ -22,9 +21,7 @@ pub fn want(
         (spec.respecs (search_of wanted)
         (agreement_of provider.old consumer_node.old out.old.lineage))
         out.old (agreement_of provider.new consumer_node.new out.old.lineage) out.new result }
-    ensures directory { provider.new.directory ≡ provider.old.directory }
-    ensures queue_limit { provider.new.queue_limit ≡ provider.old.queue_limit }
-    ensures kind { provider.new.kind ≡ provider.old.kind }
+    ensures provider { KeepsAllButSearches provider.old provider.new }
 {
     match cut_if_busy(provider, consumer_node, out) {
         Ok(()) => {

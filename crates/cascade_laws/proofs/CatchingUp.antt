@@ -21,12 +21,13 @@ use Rattle.sync_model.proofs.Histories.{ascends-state_of}
 use Rattle.sync_consumer.specs.Taking.{is_persisting}
 use Rattle.sync_provider.specs.HandingOut.{Turn, turn_of_pending, turn_of_found, search_at}
 use Rattle.sync_provider.specs.HandingOut.Turn.{Hands, Closes, Waits, Unknown}
+use Rattle.sync_provider.specs.Law.{Delivers}
 use Rattle.sync_provider.specs.Machine.{ProviderState}
 use Rattle.sync_provider.specs.Search.{SearchState, pending}
 use Rattle.sync_provider.proofs.Advanced.{IsIdle, never_idle}
 use Rattle.sync_provider.proofs.Whereabouts.{InRefresh, AtWhole, InGroup}
 use Rattle.cascade_nodes.specs.declared.node.ConsumerNode.{ConsumerNode}
-use Rattle.cascade_nodes.proofs.Fed.{waits, HasRoom, HasPending, IsAtRest}
+use Rattle.cascade_nodes.proofs.Fed.{HasRoom, HasPending, IsAtRest}
 use Rattle.cascade_world.specs.Exchange.{Agreement, agreement_of, ExchangeOutcome, after_lines, and_then, copy_of, name_of, Sending, Sends, Rests, Overflows, turn_of, handed, linked, fits, sending_by, sending, taking, taken_as, taken_from, taken_before, taken_some, pending_count, left_to_send, ran_before, ran_some, runs, drains, follows_on, opens_anew, refreshes, catches_up, settled_reported}
 use Rattle.cascade_laws.specs.Headline.{Opening, Known, with_sent, known_after, session_over, octets_of, busy}
 use Rattle.cascade_world.specs.Reception.{Came, received}
@@ -35,7 +36,7 @@ use Rattle.cascade_world.specs.Origins.{Lineage}
 use Rattle.cascade_world.specs.ReportLines.{ReportLine}
 use Rattle.cascade_world.specs.ReportLines.{ReportLine as reported}
 use Rattle.cascade_laws.proofs.Composing.{IsKeptIn, known_by_lines, kept-still, kept-reported, kept-then, kept-lines}
-use Rattle.cascade_laws.proofs.Feeding.{Remains, IsSource, GoesOn, IsGoing, IsFed, Frame, IsKept}
+use Rattle.cascade_laws.proofs.Feeding.{IsSource, GoesOn, IsGoing, IsFed, Frame, IsKept}
 use Rattle.cascade_laws.proofs.FedOpening.{OpenedIn, opens_anew_opens}
 use Rattle.cascade_laws.proofs.FedSending.{own_sent, GoingSent, going_sent}
 use Rattle.cascade_laws.proofs.FedTaking.{IsTaken, GoingTaken, going_taken}
@@ -85,15 +86,15 @@ module _ (lin : Lineage) (number : ℕ) (p : ProviderState) (f : ConsumerNode) (
 
   -- all of the Stream was taken
   pub all_taken : (goes.cut ≡ false) × (goes.ahead ≡ [])
-  all_taken = by goes.cut refl (subst (Remains goes.cut goes.ahead) nothing_left goes.left)
+  all_taken = by goes.cut refl (subst (λ ms. Delivers goes.cut ms goes.ahead) nothing_left goes.left)
     where
       filled : (prefix : List SyncMessage) → [] ≡ prefix ++ busy ∷ [] → ⊥
       filled [] same = cc
       filled (m ∷ prefix) same = cc
 
-      by : (cut : Bool) → goes.cut ≡ cut → Remains cut goes.ahead [] → (goes.cut ≡ false) × (goes.ahead ≡ [])
+      by : (cut : Bool) → goes.cut ≡ cut → Delivers cut [] goes.ahead → (goes.cut ≡ false) × (goes.ahead ≡ [])
       by false is left = (is, sym left)
-      by true is left = absurd (filled left.0 left.2)
+      by true is left = absurd (filled left.prefix left.is)
 
 -- ---- a consumer whose search goes on, and has nothing left, is up to its provider
 
@@ -117,15 +118,12 @@ module _ (lin : Lineage) (number : ℕ) (suffix : Name) (p : ProviderState) (f :
       let never : ⊥ = cc in
       never
 
-  at_end : (persists : opening.persists ≡ true) → opening.writes + goes.count ≡ length writes
-  at_end persists = goes.all ((λ i. waits (persists i) ((all_taken lin number p f opening entries goes drained).0 i)))
-
-  whole_is : opening.persists ≡ true → AtWhole operation opening.writes goes.count entries f.consumer.copy goes.ahead → entries ≡ all_content number p f
-  whole_is persists is =
+  whole_is : AtWhole operation opening.writes goes.count entries f.consumer.copy goes.ahead → entries ≡ all_content number p f
+  whole_is is =
       is.content
       ∙ past.none_left operation (λ n. ascends-state_of number writes n) (λ n. (source.good n).within)
       (λ n. (source.good n).sent) texts opening.writes goes.count is.more is.number (sym is.beyond ∙ none_ahead)
-      ∙ ap (content_after operation) (is.sum ∙ at_end persists)
+      ∙ ap (content_after operation) (is.sum ∙ goes.upto)
       ∙ content_of_all number p f
 
   group_is : InGroup operation opening.writes goes.count entries f.consumer.copy goes.ahead → ⊥
@@ -137,15 +135,15 @@ module _ (lin : Lineage) (number : ℕ) (suffix : Name) (p : ProviderState) (f :
   pub up_to_date : entries ≡ all_content number p f
   up_to_date = by goes.place
     where
-      by_past : opening.persists ≡ true → AtWhole operation opening.writes goes.count entries f.consumer.copy goes.ahead ⊎ InGroup operation opening.writes goes.count entries f.consumer.copy goes.ahead → entries ≡ all_content number p f
-      by_past persists (inl is) = whole_is persists is
-      by_past persists (inr is) = absurd (group_is is)
+      by_past : AtWhole operation opening.writes goes.count entries f.consumer.copy goes.ahead ⊎ InGroup operation opening.writes goes.count entries f.consumer.copy goes.ahead → entries ≡ all_content number p f
+      by_past (inl is) = whole_is is
+      by_past (inr is) = absurd (group_is is)
 
       by : InRefresh operation goes.start opening.writes goes.count entries f.consumer.copy goes.taken goes.ahead
           ⊎ ((operation.persists ≡ true) × (AtWhole operation opening.writes goes.count entries f.consumer.copy goes.ahead ⊎ InGroup operation opening.writes goes.count entries f.consumer.copy goes.ahead))
           → entries ≡ all_content number p f
       by (inl is) = absurd (in_refresh is)
-      by (inr is) = by_past is.0 is.1
+      by (inr is) = by_past is.1
 
 -- ---- what runs, and what of it is drained
 

@@ -1,8 +1,6 @@
 -- What holds of the nodes after a declaration.
 use Rattle.std.proofs.Common.{◌≡◌, ◌⊎◌, ◌+◌, ◌<◌, ◌≤◌, ℕ, Bool, true, false, Option, Some, None, List, [], ◌∷◌, ◌++◌, length, refl, ap, sym, subst, ◌∙◌, inl, inr, arith, append-nil, length-append}
-use Rattle.std.proofs.lemmas.Bool.{cases_Bool, leb-false, or_parts}
-use Rattle.std.specs.Prelude.{count_by, is_some, map, not, nat_le, option_map, slice_get}
-use Rattle.std.specs.List.{list_any}
+use Rattle.std.specs.Prelude.{count_by, is_some, map, option_map, slice_get}
 use Rattle.std.specs.Str.{bytes_eq}
 use Rattle.dn_names.specs.Names.{TypeAndValue}
 use Rattle.entry_tree.specs.Selection.{Search}
@@ -15,10 +13,11 @@ use Rattle.cascade_laws.specs.Headline.{Known, nothing_known, known_of, is_decla
 use Rattle.cascade_script.specs.Orders.{Order}
 use Rattle.cascade_script.specs.Orders.{Order as asks}
 use Rattle.cascade_world.specs.ReportLines.{ReportLine}
-use Rattle.cascade_world.specs.World.{WorldState, is_provider_node, is_consumer_node, has_node, provider_node_named, where_room, new_provider_node, with_root, declare_root, new_consumer_node, with_consumer, with_replica, is_offered, follow, declare_consumer_node}
+use Rattle.cascade_world.specs.World.{WorldState, is_provider_node, provider_node_named, new_provider_node, with_root, declare_root, new_consumer_node, with_consumer, with_replica, is_offered, declare_consumer_node}
 use Rattle.cascade_laws.proofs.Exchanges.{After}
 use Rattle.cascade_laws.proofs.Feeding.{IsFed, Promises, RestIsFed, FreshIsSource}
-use Rattle.cascade_world.proofs.Finding.{find-more, find-nowhere, IsChanged, found_after, provider_nodes_by, consumer_nodes_by, provider_node_pushed, consumer_node_pushed}
+use Rattle.cascade_world.proofs.Finding.{find-more, IsChanged, found_after, provider_nodes_by, consumer_nodes_by, provider_node_pushed, consumer_node_pushed, IsNew, is_new}
+use Rattle.cascade_world.proofs.Found as lookup
 use Rattle.cascade_laws.proofs.Growing.{count_more, AllBecome, grows_itself, sources_changed, rooted_grown, committers_changed, committers_but}
 use Rattle.cascade_laws.proofs.Ordered.{AsksOf, time_still, consumers_still, strangers_still, consumers_asked, strangers_asked, provider_nodes_declared, provider_node_kept}
 use Rattle.cascade_laws.proofs.Rooting.{nothing_written}
@@ -30,15 +29,6 @@ use Rattle.cascade_world.proofs.Traced.{AreReported}
 use Rattle.cascade_laws.proofs.Tracking.{noted, HasCommitted, AreSources, AreNumbered, IsConsumerNode, AreConsumerNodes, AllApart, IsManned, AreManned, Feeds, Tracks}
 
 -- ---- a new name
-
-pub record IsNew (state : WorldState) (name : List ℕ) : Type 0 where
-  pub provider_node : provider_nodes_by state.provider_nodes name ≡ None
-  pub consumer_node : consumer_nodes_by state.consumer_nodes name ≡ None
-
-is_new : (state : WorldState) (name : List ℕ) → has_node name state ≡ false → IsNew state name
-is_new state name new =
-    let parts = or_parts (list_any (is_provider_node name) state.provider_nodes) (list_any (is_consumer_node name) state.consumer_nodes) new in
-    record { provider_node = find-nowhere (is_provider_node name) state.provider_nodes parts.0; consumer_node = find-nowhere (is_consumer_node name) state.consumer_nodes parts.1 }
 
 -- another node has another name
 other_provider_node : (state : WorldState) (name n : List ℕ) (s : ProviderNode) → IsNew state name → provider_nodes_by state.provider_nodes n ≡ Some s → bytes_eq n name ≡ false
@@ -56,14 +46,6 @@ declared_now before number order count = record { earlier = before; whole = refl
 -- one more node is counted
 counted_now : (before : List Order) (order : Order) (number : ℕ) → is_declaration order ≡ true → number ≡ count_by is_declaration before → number + 1 ≡ count_by is_declaration (before ++ order ∷ [])
 counted_now before order number declares count = ap (λ n. n + 1) count ∙ sym (count_more is_declaration before order declares)
-
--- there is room, or the declaration is refused
-room_after : (before : List Order) (said : List ReportLine) (order : Order) (state after : WorldState) → (state.nodes < most_nodes → Tracks (before ++ order ∷ []) (said ++ []) after) → After before said order (where_room state after)
-room_after before said order state after is =
-    elim (cases_Bool (nat_le most_nodes state.nodes)) [
-      | inl full ↦ rw full tt
-      | inr room ↦ rw room (is (leb-false most_nodes state.nodes room), tt)
-    ]
 
 nothing_said : (before : List Order) (said : List ReportLine) (state : WorldState) → Tracks before said state → Tracks before (said ++ []) state
 nothing_said before said state is = subst (λ s. Tracks before s state) (sym (append-nil said)) is
@@ -266,14 +248,8 @@ root_tracked fresh_is before said state name suffix new is room = record {
 
 pub provider_after : FreshIsSource → (before : List Order) (said : List ReportLine) (state : WorldState) (name : List ℕ) (suffix : List (List TypeAndValue)) → Tracks before said state → After before said (asks.Provider name suffix) (declare_root state name suffix)
 provider_after fresh_is before said state name suffix is =
-    elim (cases_Bool (has_node name state)) [
-      | inl taken ↦ rw taken tt
-      | inr new ↦
-          rw new (
-          room_after before said (asks.Provider name suffix) state (with_root state name suffix)
-          (λ room. nothing_said (before ++ asks.Provider name suffix ∷ []) said (with_root state name suffix) (root_tracked fresh_is before said state name suffix (is_new state name new) is room))
-          )
-    ]
+    lookup.root_declared (After before said (asks.Provider name suffix)) (λ cause. tt) state name suffix (λ new room.
+    (nothing_said (before ++ asks.Provider name suffix ∷ []) said (with_root state name suffix) (root_tracked fresh_is before said state name suffix (is_new state name new) is room), tt))
 
 -- ---- a consumer
 
@@ -404,42 +380,18 @@ replica_tracked fresh_is rest_is before said state name source search reload r n
 
 -- ---- each with its provider
 
--- what is not refused is so
-pub inside_is : (b : Bool) → not b ≡ false → b ≡ true
-inside_is true h = refl
-inside_is false h = let never : true ≡ false = h in cc
-
--- where the state after it is right, if its name is new and it may have its provider
-follow_after : (before : List Order) (said : List ReportLine) (order : Order) (state : WorldState) (source : List ℕ) (search : Search) (after : WorldState) (found : Option ProviderNode) → provider_node_named source state ≡ found
-    → ((r : ProviderNode) → provider_node_named source state ≡ Some r → is_offered search r ≡ true → state.nodes < most_nodes → Tracks (before ++ order ∷ []) said after) → After before said order (follow state search after found)
-follow_after before said order state source search after None e is = tt
-follow_after before said order state source search after (Some r) e is =
-    elim (cases_Bool (not (is_offered search r))) [
-      | inl outside ↦ rw outside tt
-      | inr inside ↦
-          rw inside (room_after before said order state after (λ room. nothing_said (before ++ order ∷ []) said after (is r e (inside_is (is_offered search r) inside) room)))
-    ]
-
 pub consumer_after : RestIsFed → (before : List Order) (said : List ReportLine) (state : WorldState) (name source : List ℕ) (search : Search) (reload : Bool) → AreReported state said → Tracks before said state
     → After before said (asks.Consumer name source search reload) (declare_consumer_node state name source search (with_consumer state (new_consumer_node name source search reload)))
 consumer_after rest_is before said state name source search reload reported is =
-    elim (cases_Bool (has_node name state)) [
-      | inl taken ↦ rw taken tt
-      | inr new ↦
-          rw new (
-          follow_after before said (asks.Consumer name source search reload) state source search (with_consumer state (new_consumer_node name source search reload)) (provider_node_named source state) refl
-          (λ r e below room. consumer_tracked rest_is before said state name source search reload r (is_new state name new) (left_for_new name state said new reported.of_nodes) e below is room)
-          )
-    ]
+    let order = asks.Consumer name source search reload in
+    let after = with_consumer state (new_consumer_node name source search reload) in
+    lookup.consumer_declared (After before said order) (λ cause. tt) state name source search after (λ new r e below room.
+    (nothing_said (before ++ order ∷ []) said after (consumer_tracked rest_is before said state name source search reload r (is_new state name new) (left_for_new name state said new reported.of_nodes) e below is room), tt))
 
 pub replica_after : FreshIsSource → RestIsFed → (before : List Order) (said : List ReportLine) (state : WorldState) (name source : List ℕ) (search : Search) (reload : Bool) → AreReported state said → Tracks before said state
     → After before said (asks.Replica name source search reload) (declare_consumer_node state name source search (with_replica state (new_consumer_node name source search reload)))
 replica_after fresh_is rest_is before said state name source search reload reported is =
-    elim (cases_Bool (has_node name state)) [
-      | inl taken ↦ rw taken tt
-      | inr new ↦
-          rw new (
-          follow_after before said (asks.Replica name source search reload) state source search (with_replica state (new_consumer_node name source search reload)) (provider_node_named source state) refl
-          (λ r e below room. replica_tracked fresh_is rest_is before said state name source search reload r (is_new state name new) (left_for_new name state said new reported.of_nodes) e below is room)
-          )
-    ]
+    let order = asks.Replica name source search reload in
+    let after = with_replica state (new_consumer_node name source search reload) in
+    lookup.consumer_declared (After before said order) (λ cause. tt) state name source search after (λ new r e below room.
+    (nothing_said (before ++ order ∷ []) said after (replica_tracked fresh_is rest_is before said state name source search reload r (is_new state name new) (left_for_new name state said new reported.of_nodes) e below is room), tt))

@@ -17,13 +17,14 @@ use Rattle.cascade_world.specs.ReportLines.{ReportLine}
 use Rattle.cascade_world.specs.ReportLines.ReportLine.{Clocked, Shown}
 use Rattle.cascade_laws.specs.Run.{Runs}
 use Rattle.cascade_world.specs.Trace.{all_lines}
-use Rattle.cascade_world.specs.World.{WorldState, no_nodes, step, provider_node_named, consumer_node_named, shown_of, show_of}
+use Rattle.cascade_world.specs.World.{WorldState, no_nodes, step, provider_node_named, consumer_node_named, write_to, shown_of, show_of}
 use Rattle.cascade_laws.proofs.Accepted.{time_from-push}
 use Rattle.cascade_laws.proofs.Declarations.{provider_after, consumer_after, replica_after}
 use Rattle.cascade_laws.proofs.Exchanges.{After, exchange_after}
 use Rattle.cascade_laws.proofs.Exchanges as exchanges
 use Rattle.cascade_laws.proofs.Feeding.{PartsAreKept, RespecsAreKept, IdlesRest, RestsAreFed, RestIsFed, FreshIsSource, WritesAreKept, LimitsAreKept, QueuesAreKept, CommitsAreKept}
 use Rattle.cascade_world.proofs.Finding.{provider_nodes_by}
+use Rattle.cascade_world.proofs.Found as lookup
 use Rattle.cascade_world.proofs.Traced.{AreReported, ReportedAfter, step_reported_after}
 use Rattle.cascade_laws.proofs.Growing.{count_same, feeds_more, committers_more}
 use Rattle.cascade_laws.proofs.Ordered.{IsQuiet, all_still, provider_nodes_still, consumers_still, strangers_still, orders_quiet}
@@ -87,10 +88,9 @@ shown_right before said state name None (Some consumer_node) entries r f e is =
     subst (IsShown before said name) same (copy_shown before said state name consumer_node f is)
 shown_right before said state name None None entries r f e is = cc
 
-show_after : (before : List Order) (said : List ReportLine) (state : WorldState) (name : List ℕ) (entries : Option (List Entry)) → shown_of (provider_node_named name state) (consumer_node_named name state) ≡ entries → Tracks before said state
-    → After before said (asks.Show name) (show_of state name entries)
-show_after before said state name None e is = tt
-show_after before said state name (Some entries) e is =
+show_after : (before : List Order) (said : List ReportLine) (state : WorldState) (name : List ℕ) (entries : List Entry) → shown_of (provider_node_named name state) (consumer_node_named name state) ≡ Some entries → Tracks before said state
+    → After before said (asks.Show name) (show_of state name (Some entries))
+show_after before said state name entries e is =
     let order = asks.Show name in
     let lines = Shown name entries ∷ [] in
     let left : (other : List ℕ) → IsLeft other lines = λ other. left_by_one other (Shown name entries) (left_shown other name entries) in
@@ -110,20 +110,22 @@ step_after known before said state (asks.Provider name suffix) reported is = pro
 step_after known before said state (asks.Consumer name source search reload) reported is = consumer_after known.rest before said state name source search reload reported is
 step_after known before said state (asks.Replica name source search reload) reported is = replica_after known.fresh known.rest before said state name source search reload reported is
 step_after known before said state (asks.Clock time) reported is = clock_after before said state time is
-step_after known before said state (asks.Write name change) reported is = write_after known.lasts known.writes before said state name change (provider_node_named name state) refl is
-step_after known before said state (asks.OpenOnce name) reported is = exchange_after (exchanging known) known.parts before said state name (goes.Open RefreshOnly) (consumer_node_named name state) tt refl is
-step_after known before said state (asks.OpenStay name) reported is = exchange_after (exchanging known) known.parts before said state name (goes.Open RefreshAndPersist) (consumer_node_named name state) tt refl is
-step_after known before said state (asks.Send name count) reported is = exchange_after (exchanging known) known.parts before said state name (goes.Send count) (consumer_node_named name state) tt refl is
-step_after known before said state (asks.Take name count) reported is = exchange_after (exchanging known) known.parts before said state name (goes.Take count) (consumer_node_named name state) tt refl is
-step_after known before said state (asks.Cut name) reported is = exchange_after (exchanging known) known.parts before said state name goes.Cut (consumer_node_named name state) tt refl is
-step_after known before said state (asks.Settle name) reported is = exchange_after (exchanging known) known.parts before said state name goes.Settle (consumer_node_named name state) tt refl is
-step_after known before said state (asks.Lose name) reported is = exchange_after (exchanging known) known.parts before said state name goes.Lose (consumer_node_named name state) tt refl is
-step_after known before said state (asks.Cookie name text) reported is = exchange_after (exchanging known) known.parts before said state name (goes.Give text) (consumer_node_named name state) tt refl is
-step_after known before said state (asks.Repoint name source) reported is = repoint_after (pointing known) before said state name source (consumer_node_named name state) refl is
-step_after known before said state (asks.Respec name search) reported is = respec_after (exchanging known) known.respecs before said state name search (consumer_node_named name state) refl is
-step_after known before said state (asks.Log name limit) reported is = log_after known.lasts known.limits before said state name limit (provider_node_named name state) refl is
-step_after known before said state (asks.Queue name limit) reported is = queue_after known.lasts known.queues before said state name limit (provider_node_named name state) refl is
-step_after known before said state (asks.Show name) reported is = show_after before said state name (shown_of (provider_node_named name state) (consumer_node_named name state)) refl is
+step_after known before said state (asks.Write name change) reported is =
+    lookup.if_found (After before said (asks.Write name change)) (write_to state name change) (provider_node_named name state) tt (λ r e. write_after known.lasts known.writes before said state name change r e is)
+step_after known before said state (asks.OpenOnce name) reported is = exchange_after (exchanging known) known.parts before said state name (goes.Open RefreshOnly) tt is
+step_after known before said state (asks.OpenStay name) reported is = exchange_after (exchanging known) known.parts before said state name (goes.Open RefreshAndPersist) tt is
+step_after known before said state (asks.Send name count) reported is = exchange_after (exchanging known) known.parts before said state name (goes.Send count) tt is
+step_after known before said state (asks.Take name count) reported is = exchange_after (exchanging known) known.parts before said state name (goes.Take count) tt is
+step_after known before said state (asks.Cut name) reported is = exchange_after (exchanging known) known.parts before said state name goes.Cut tt is
+step_after known before said state (asks.Settle name) reported is = exchange_after (exchanging known) known.parts before said state name goes.Settle tt is
+step_after known before said state (asks.Lose name) reported is = exchange_after (exchanging known) known.parts before said state name goes.Lose tt is
+step_after known before said state (asks.Cookie name text) reported is = exchange_after (exchanging known) known.parts before said state name (goes.Give text) tt is
+step_after known before said state (asks.Repoint name source) reported is = repoint_after (pointing known) before said state name source is
+step_after known before said state (asks.Respec name search) reported is = respec_after (exchanging known) known.respecs before said state name search is
+step_after known before said state (asks.Log name limit) reported is = log_after known.lasts known.limits before said state name limit is
+step_after known before said state (asks.Queue name limit) reported is = queue_after known.lasts known.queues before said state name limit is
+step_after known before said state (asks.Show name) reported is =
+    lookup.if_found (After before said (asks.Show name)) (show_of state name) (shown_of (provider_node_named name state) (consumer_node_named name state)) tt (λ entries e. show_after before said state name entries e is)
 
 -- ---- runs
 

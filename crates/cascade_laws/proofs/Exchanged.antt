@@ -182,7 +182,7 @@ apart_done consumer_nodes next name f after changed same others is = λ n m g h 
           ]
     ]
 
-module _ (lasts : PromisesLast) (wants : Search → Search) (said : List ReportLine) (state : WorldState) (name : List ℕ) (f : ConsumerNode) (r : ProviderNode) (after : Agreement) (lines : List ReportLine) (e : consumer_nodes_by state.consumer_nodes name ≡ Some f)
+module _ (lasts : PromisesLast) (wants : Search → Search) (said : List ReportLine) (state : WorldState) (f : ConsumerNode) (r : ProviderNode) (after : Agreement) (lines : List ReportLine) (e : consumer_nodes_by state.consumer_nodes f.name ≡ Some f)
     (e' : provider_nodes_by state.provider_nodes f.source ≡ Some r)
     (done : IsDone r.provider.directory.history r.provider.directory.suffix (agreement_of r.provider f (lineage_of state r)) after lines (known_of f.name said)) (keeps : Alters wants (agreement_of r.provider f (lineage_of state r)) after lines)
     (is : Feeds said state) (commits : AreCommitters said state.provider_nodes) where
@@ -198,21 +198,15 @@ module _ (lasts : PromisesLast) (wants : Search → Search) (said : List ReportL
   abbrev pub known' : Known
   known' = fold (known_after f.name) (known_of f.name said) lines
 
-  here : name ≡ f.name
-  here = consumer_node_name state.consumer_nodes name f e
-
   changed : IsChanged (provider_nodes_by state.provider_nodes) (provider_nodes_by next) f.source now
   changed =
       subst (λ n. IsChanged (provider_nodes_by state.provider_nodes) (provider_nodes_by (with_provider n after.provider state.provider_nodes)) f.source now) (sym keeps.source)
       (provider_changed state.provider_nodes f.source r after.provider e')
 
-  named : after.consumer_node.name ≡ name
-  named = keeps.name ∙ sym here
-
-  changed' : IsChanged (consumer_nodes_by state.consumer_nodes) (consumer_nodes_by next') name after.consumer_node
+  changed' : IsChanged (consumer_nodes_by state.consumer_nodes) (consumer_nodes_by next') f.name after.consumer_node
   changed' =
-      subst (λ n. IsChanged (consumer_nodes_by state.consumer_nodes) (consumer_nodes_by (with_consumer_node n after.consumer_node state.consumer_nodes)) name after.consumer_node) (sym named)
-      (consumer_node_changed state.consumer_nodes name f after.consumer_node e named)
+      subst (λ n. IsChanged (consumer_nodes_by state.consumer_nodes) (consumer_nodes_by (with_consumer_node n after.consumer_node state.consumer_nodes)) f.name after.consumer_node) (sym keeps.name)
+      (consumer_node_changed state.consumer_nodes f.name f after.consumer_node e keeps.name)
 
   same : IsSameProviderNode r now
   same = record {
@@ -243,7 +237,7 @@ module _ (lasts : PromisesLast) (wants : Search → Search) (said : List ReportL
   pub pair_becomes : AllBecome (provider_nodes_by state.provider_nodes) (provider_nodes_by next)
   pair_becomes = become
 
-  pub pair_followed : IsChanged (consumer_nodes_by state.consumer_nodes) (consumer_nodes_by next') name after.consumer_node
+  pub pair_followed : IsChanged (consumer_nodes_by state.consumer_nodes) (consumer_nodes_by next') f.name after.consumer_node
   pair_followed = changed'
 
   -- the consumer
@@ -261,14 +255,14 @@ module _ (lasts : PromisesLast) (wants : Search → Search) (said : List ReportL
             let source = is.sources n s was.1 in
             let differs : s.provider.directory.history ≢ r.provider.directory.history =
             λ alike. both_ways (bytes_eq n f.source) was.0 (ap (bytes_eq n) (sym (is.numbered.apart n f.source s r was.1 e' alike)) ∙ itself n) in
-            done.elsewhere s.provider.directory.history s.provider.directory.writes source.first source.small differs ((is.consumer_nodes name f e).promised n s was.1)
+            done.elsewhere s.provider.directory.history s.provider.directory.writes source.first source.small differs ((is.consumer_nodes f.name f e).promised n s was.1)
       ]
 
   undeclared' : (number : ℕ) → state.nodes < number → number ≤ 16 → Promises number after.consumer_node.consumer.spec [] known'
   undeclared' number above low =
       let within = is.numbered.within f.source r e' in
       let differs : number ≢ r.provider.directory.history = λ alike. let low' : number ≤ state.nodes = subst (λ n. n ≤ state.nodes) (sym alike) within in let never : ⊥ = omega (arith, above, low') in never in
-      done.elsewhere number [] (omega (arith, above)) low differs ((is.consumer_nodes name f e).undeclared number above low)
+      done.elsewhere number [] (omega (arith, above)) low differs ((is.consumer_nodes f.name f e).undeclared number above low)
 
   mine : IsConsumerNode (said ++ lines) state.nodes next after.consumer_node
   mine = record {
@@ -280,12 +274,12 @@ module _ (lasts : PromisesLast) (wants : Search → Search) (said : List ReportL
   }
 
   -- the others
-  other_fed : (other : List ℕ) (g : ConsumerNode) → consumer_nodes_by state.consumer_nodes other ≡ Some g → bytes_eq other name ≡ false → g.source ≡ f.source
+  other_fed : (other : List ℕ) (g : ConsumerNode) → consumer_nodes_by state.consumer_nodes other ≡ Some g → bytes_eq other f.name ≡ false → g.source ≡ f.source
       → IsFed r.provider.directory.history after.provider g (known_of g.name said) × AreApart after.consumer_node g
   other_fed other g there differs alike =
-      done.others g (known_of g.name said) (fed_by said state.nodes state.provider_nodes f.source r g e' alike (is.consumer_nodes other g there)) (is.apart name other f g e there differs (sym alike))
+      done.others g (known_of g.name said) (fed_by said state.nodes state.provider_nodes f.source r g e' alike (is.consumer_nodes other g there)) (is.apart f.name other f g e there differs (sym alike))
 
-  other_done : (other : List ℕ) (g : ConsumerNode) → consumer_nodes_by state.consumer_nodes other ≡ Some g → bytes_eq other name ≡ false → IsConsumerNode said state.nodes next g
+  other_done : (other : List ℕ) (g : ConsumerNode) → consumer_nodes_by state.consumer_nodes other ≡ Some g → bytes_eq other f.name ≡ false → IsConsumerNode said state.nodes next g
   other_done other g there differs =
       let was = is.consumer_nodes other g there in
       let promised = promises_grown lasts state.provider_nodes next g.consumer.spec (known_of g.name said) been was.promised in
@@ -311,19 +305,19 @@ module _ (lasts : PromisesLast) (wants : Search → Search) (said : List ReportL
 
   consumer_nodes_done : AreConsumerNodes (said ++ lines) state.nodes next next'
   consumer_nodes_done n g found =
-      elim (found_after (consumer_nodes_by state.consumer_nodes) (consumer_nodes_by next') name after.consumer_node changed' n g found) [
+      elim (found_after (consumer_nodes_by state.consumer_nodes) (consumer_nodes_by next') f.name after.consumer_node changed' n g found) [
         | inl at ↦ subst (IsConsumerNode (said ++ lines) state.nodes next) at.1 mine
         | inr was ↦
             let differs : bytes_eq f.name g.name ≡ false =
-            ap (λ x. bytes_eq x g.name) (sym here) ∙ ap (bytes_eq name) (sym (consumer_node_name state.consumer_nodes n g was.1)) ∙ other_way n name was.0 in
+            ap (bytes_eq f.name) (sym (consumer_node_name state.consumer_nodes n g was.1)) ∙ other_way n f.name was.0 in
             consumer_node_still said lines state.nodes next g (left_by_other g.name f.name lines differs keeps.own) (other_done n g was.1 was.0)
       ]
 
   sources_same : (n : List ℕ) → source_of next' n ≡ source_of state.consumer_nodes n
   sources_same n =
-      elim (cases_Bool (bytes_eq n name)) [
+      elim (cases_Bool (bytes_eq n f.name)) [
         | inl hit ↦
-            let alike : n ≡ name = same_name n name hit in
+            let alike : n ≡ f.name = same_name n f.name hit in
             let was : consumer_nodes_by state.consumer_nodes n ≡ Some f = ap (consumer_nodes_by state.consumer_nodes) alike ∙ e in
             let new : consumer_nodes_by next' n ≡ Some after.consumer_node = ap (consumer_nodes_by next') alike ∙ changed'.here in
             ap (option_map (λ (g : ConsumerNode). g.source)) new ∙ ap Some keeps.source ∙ sym (ap (option_map (λ (g : ConsumerNode). g.source)) was)
@@ -347,9 +341,9 @@ module _ (lasts : PromisesLast) (wants : Search → Search) (said : List ReportL
     sources = sources_changed state.provider_nodes next f.source now changed (source_now r.provider.directory.history r.provider.directory.suffix after.provider done.source) is.sources;
     numbered = numbered_grown state.nodes state.provider_nodes next been is.numbered;
     consumer_nodes = consumer_nodes_done;
-    apart = apart_done state.consumer_nodes next' name f after.consumer_node changed' keeps.source (λ other g there differs alike. (other_fed other g there differs alike).1) is.apart;
-    owned = owned_done state.provider_nodes next state.consumer_nodes next' name f r (lineage_of state r) after e e' changed changed' keeps.source done.owns is.owned;
-    manned = manned_grown state.provider_nodes next state.consumer_nodes next' been (found_still (consumer_nodes_by state.consumer_nodes) (consumer_nodes_by next') name f after.consumer_node e changed') is.manned;
+    apart = apart_done state.consumer_nodes next' f.name f after.consumer_node changed' keeps.source (λ other g there differs alike. (other_fed other g there differs alike).1) is.apart;
+    owned = owned_done state.provider_nodes next state.consumer_nodes next' f.name f r (lineage_of state r) after e e' changed changed' keeps.source done.owns is.owned;
+    manned = manned_grown state.provider_nodes next state.consumer_nodes next' been (found_still (consumer_nodes_by state.consumer_nodes) (consumer_nodes_by next') f.name f after.consumer_node e changed') is.manned;
     climbs = all_climb_same state.consumer_nodes next' sources_same is.climbs;
     rooted = rooted_done;
   }
@@ -358,11 +352,11 @@ module _ (lasts : PromisesLast) (wants : Search → Search) (said : List ReportL
       length_changed = length-first_changed _ _ state.consumer_nodes
 
   -- but for what the consumer's own directory commits
-  pub pair_commits : AreCommittersBut name (said ++ lines) next
+  pub pair_commits : AreCommittersBut f.name (said ++ lines) next
   pair_commits n s found differs =
       let b = found_after (provider_nodes_by state.provider_nodes) (provider_nodes_by next) f.source now changed n s found in
       let was : IsCommitter said s = by s b in
-      let apart : bytes_eq f.name s.name ≡ false = ap (λ x. bytes_eq x s.name) (sym here) ∙ ap (bytes_eq name) (sym (provider_node_name next n s found)) ∙ other_way n name differs in
+      let apart : bytes_eq f.name s.name ≡ false = ap (bytes_eq f.name) (sym (provider_node_name next n s found)) ∙ other_way n f.name differs in
       committer_still said lines s (left_by_other s.name f.name lines apart keeps.own) was
     where
       by : (x : ProviderNode) → ((n ≡ f.source) × (now ≡ x)) ⊎ ((bytes_eq n f.source ≡ false) × (provider_nodes_by state.provider_nodes n ≡ Some x)) → IsCommitter said x

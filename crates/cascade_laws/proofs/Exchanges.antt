@@ -1,5 +1,5 @@
 -- What holds of the nodes after an order for a consumer and its provider, and what its lines report.
-use Rattle.std.proofs.Common.{◌≡◌, ℕ, true, false, Option, Some, None, List, [], ◌∷◌, ◌++◌, refl, ap, sym, subst, ◌∙◌, inl, inr, arith}
+use Rattle.std.proofs.Common.{◌≡◌, ℕ, true, false, Option, Some, List, [], ◌∷◌, ◌++◌, refl, ap, sym, subst, ◌∙◌, inl, inr, arith}
 use Rattle.std.specs.Prelude.{Result, Ok, Err}
 use Rattle.std.specs.Str.{bytes_eq}
 use Rattle.std.proofs.lemmas.Bool.{cases_Bool}
@@ -16,16 +16,17 @@ use Rattle.cascade_nodes.specs.declared.node.ProviderNode.{ProviderNode}
 use Rattle.cascade_nodes.specs.declared.node.ConsumerNode.{ConsumerNode}
 use Rattle.cascade_world.specs.Cookies.{is_later}
 use Rattle.cascade_world.specs.Exchange.{Agreement, ExchangeOutcome, agreement_of, part_of, sent, takes, cut, idle, opens, settles}
-use Rattle.cascade_laws.specs.Headline.{Following, following, followed, known_of, IsConsumer, EachReportsRight}
+use Rattle.cascade_laws.specs.Headline.{Following, following, followed, known_of, EachReportsRight}
 use Rattle.cascade_script.specs.Orders.{Order}
 use Rattle.cascade_script.specs.Orders.{Order as asks}
 use Rattle.cascade_world.specs.ReportLines.{ReportLine, stages_of}
-use Rattle.cascade_world.specs.World.{WorldState, Step, provider_node_named, consumer_node_named, with_pair, commits_in, commits_of, with_lines, with_outcome, lineage_of, between, exchange_of, exchange}
+use Rattle.cascade_world.specs.World.{WorldState, Step, provider_node_named, with_pair, commits_in, commits_of, with_lines, with_outcome, lineage_of, exchange}
 use Rattle.cascade_laws.proofs.Exchanged.{IsDone, done_kept, pair_feeds, pair_commits, pair_changed, pair_becomes, pair_followed}
 use Rattle.cascade_exchange.proofs.Exchanging.{Alters, AltersIn, as_before, sent_keeps, takes_keeps, cut_keeps, idle_keeps, opens_keeps, settles_keeps, lost_keeps, given_keeps}
 use Rattle.cascade_exchange.proofs.Silence.{sent_silent, takes_silent, cut_silent, idle_silent, opens_silent, settles_silent}
-use Rattle.cascade_laws.proofs.Feeding.{Frame, frame_of, LinesAreRightOf, IsKept, PartsAreKept, WantsTheSame, CommitsAreKept}
-use Rattle.cascade_world.proofs.Finding.{IsChanged, provider_nodes_by, consumer_nodes_by, consumer_node_name}
+use Rattle.cascade_laws.proofs.Feeding.{Frame, frame_of, IsKept, PartsAreKept, WantsTheSame, CommitsAreKept}
+use Rattle.cascade_world.proofs.Finding.{IsChanged, provider_nodes_by, consumer_nodes_by}
+use Rattle.cascade_world.proofs.Found as lookup
 use Rattle.cascade_laws.proofs.Finishing.{FinishedIn, finished}
 use Rattle.cascade_laws.proofs.Growing.{AllBecome, become_through, fed_by}
 use Rattle.cascade_laws.proofs.Ordered.{AllStill, all_still_through, still_changed, IsQuiet, orders_asked}
@@ -48,25 +49,25 @@ pub record Known : Type 0 where
 
 -- ---- the state after what a consumer went through with its provider, before the order counts
 
-pub record IsThrough (before : List Order) (order : Order) (said lines : List ReportLine) (state done : WorldState) (name : List ℕ) (f g : ConsumerNode) : Type 0 where
+pub record IsThrough (before : List Order) (order : Order) (said lines : List ReportLine) (state done : WorldState) (f g : ConsumerNode) : Type 0 where
   pub feeds : Feeds (said ++ lines) done
   pub commits : AreCommitters (said ++ lines) done.provider_nodes
   pub provider_nodes : AllStill (provider_nodes_by state.provider_nodes) (provider_nodes_by done.provider_nodes)
   pub become : AllBecome (provider_nodes_by state.provider_nodes) (provider_nodes_by done.provider_nodes)
   pub clock : done.clock ≡ state.clock
   pub nodes : done.nodes ≡ state.nodes
-  pub changed : IsChanged (consumer_nodes_by state.consumer_nodes) (consumer_nodes_by done.consumer_nodes) name g
+  pub changed : IsChanged (consumer_nodes_by state.consumer_nodes) (consumer_nodes_by done.consumer_nodes) f.name g
   pub right : EachReportsRight before order said lines
 
-abbrev pub ThroughIn : List Order → Order → List ReportLine → WorldState → List ℕ → ConsumerNode → ConsumerNode → Step → Type 0
-ThroughIn before order said state name f g (Ok next) = IsThrough before order said next.1 state next.0 name f g
-ThroughIn before order said state name f g (Err cause) = Unit {0}
+abbrev pub ThroughIn : List Order → Order → List ReportLine → WorldState → ConsumerNode → ConsumerNode → Step → Type 0
+ThroughIn before order said state f g (Ok next) = IsThrough before order said next.1 state next.0 f g
+ThroughIn before order said state f g (Err cause) = Unit {0}
 
-pub outcome_through : Known → (wants : Search → Search) (before : List Order) (order : Order) (said : List ReportLine) (state : WorldState) (name : List ℕ) (f : ConsumerNode) (r : ProviderNode) (after : Agreement) (lines : List ReportLine) → GivenLines order lines
-    → consumer_nodes_by state.consumer_nodes name ≡ Some f → provider_nodes_by state.provider_nodes f.source ≡ Some r
+pub outcome_through : Known → (wants : Search → Search) (before : List Order) (order : Order) (said : List ReportLine) (state : WorldState) (f : ConsumerNode) (r : ProviderNode) (after : Agreement) (lines : List ReportLine) → GivenLines order lines
+    → consumer_nodes_by state.consumer_nodes f.name ≡ Some f → provider_nodes_by state.provider_nodes f.source ≡ Some r
     → IsDone r.provider.directory.history r.provider.directory.suffix (agreement_of r.provider f (lineage_of state r)) after lines (known_of f.name said) → Alters wants (agreement_of r.provider f (lineage_of state r)) after lines
-    → Tracks before said state → ThroughIn before order said state name f after.consumer_node (with_outcome state (Ok (after, lines)))
-outcome_through known wants before order said state name f r after lines gives e e' done keeps is =
+    → Tracks before said state → ThroughIn before order said state f after.consumer_node (with_outcome state (Ok (after, lines)))
+outcome_through known wants before order said state f r after lines gives e e' done keeps is =
     by (commits_of mid after.consumer_node (stages_of lines)) finish
   where
     mid : WorldState
@@ -78,40 +79,33 @@ outcome_through known wants before order said state name f r after lines gives e
     number : ℕ
     number = r.provider.directory.history
 
-    here : name ≡ f.name
-    here = consumer_node_name state.consumer_nodes name f e
-
     apart : bytes_eq f.source f.name ≡ false
-    apart = ap (bytes_eq f.source) (sym here) ∙ source_apart state.consumer_nodes name f is.feeds.climbs e
-
-    named : after.consumer_node.name ≡ name
-    named = keeps.name ∙ sym here
+    apart = source_apart state.consumer_nodes f.name f is.feeds.climbs e
 
     frame : Frame
     frame = record (frame_of pair) { spec = after.consumer_node.consumer.spec }
 
     changed : IsChanged (provider_nodes_by state.provider_nodes) (provider_nodes_by mid.provider_nodes) f.source (record r { provider = after.provider })
-    changed = pair_changed known.lasts wants said state name f r after lines e e' done keeps is.feeds is.commits
+    changed = pair_changed known.lasts wants said state f r after lines e e' done keeps is.feeds is.commits
 
     feeds : Feeds (said ++ lines) mid
-    feeds = pair_feeds known.lasts wants said state name f r after lines e e' done keeps is.feeds is.commits
+    feeds = pair_feeds known.lasts wants said state f r after lines e e' done keeps is.feeds is.commits
 
-    own_is : provider_nodes_by mid.provider_nodes name ≡ provider_nodes_by state.provider_nodes name
-    own_is = changed.others name (other_way f.source name (source_apart state.consumer_nodes name f is.feeds.climbs e))
+    own_is : provider_nodes_by mid.provider_nodes f.name ≡ provider_nodes_by state.provider_nodes f.name
+    own_is = changed.others f.name (other_way f.source f.name apart)
 
     finish : FinishedIn (said ++ lines) mid (commits_of mid after.consumer_node (stages_of lines))
     finish =
-        let own = finished known.lasts known.commits known.selected said lines state mid name f number frame after.consumer_node.consumer.spec (is.feeds.sources f.source r e').good (sym here) refl
-        (subst (λ n. LinesAreRightOf number frame (known_of n said) lines) (sym here) done.staged) e is.feeds is.commits refl own_is feeds
-        (pair_commits known.lasts wants said state name f r after lines e e' done keeps is.feeds is.commits) in
-        subst (λ n. FinishedIn (said ++ lines) mid (commits_in mid after.consumer_node.consumer.spec (stages_of lines) (provider_node_named n mid))) (sym named) (own (provider_nodes_by mid.provider_nodes name) refl)
+        let own = finished known.lasts known.commits known.selected said lines state mid f.name f number frame after.consumer_node.consumer.spec (is.feeds.sources f.source r e').good refl refl done.staged e is.feeds is.commits refl own_is feeds
+        (pair_commits known.lasts wants said state f r after lines e e' done keeps is.feeds is.commits) in
+        subst (λ n. FinishedIn (said ++ lines) mid (commits_in mid after.consumer_node.consumer.spec (stages_of lines) (provider_node_named n mid))) (sym keeps.name) (own (provider_nodes_by mid.provider_nodes f.name) refl)
 
     right : EachReportsRight before order said lines
     right =
         lines_right before order said number (frame_of pair) lines apart gives keeps.own
-        (subst (λ n. IsConsumer before n f.source f.consumer.spec f.consumer.reload) here (is.orders.consumers name f e)) (serves_of before said state f r e' is) done.right
+        (is.orders.consumers f.name f e) (serves_of before said state f r e' is) done.right
 
-    by : (outcome : Result WorldState Cause) → FinishedIn (said ++ lines) mid outcome → ThroughIn before order said state name f after.consumer_node (with_lines lines outcome)
+    by : (outcome : Result WorldState Cause) → FinishedIn (said ++ lines) mid outcome → ThroughIn before order said state f after.consumer_node (with_lines lines outcome)
     by (Err cause) finish' = tt
     by (Ok last) finish' = record {
       feeds = finish'.feeds;
@@ -127,12 +121,12 @@ outcome_through known wants before order said state name f r after lines gives e
           })) finish'.provider_nodes;
       become =
           become_through (provider_nodes_by state.provider_nodes) (provider_nodes_by mid.provider_nodes) (provider_nodes_by last.provider_nodes)
-          (pair_becomes known.lasts wants said state name f r after lines e e' done keeps is.feeds is.commits) finish'.become;
+          (pair_becomes known.lasts wants said state f r after lines e e' done keeps is.feeds is.commits) finish'.become;
       clock = finish'.clock;
       nodes = finish'.nodes;
       changed =
-          subst (λ fs. IsChanged (consumer_nodes_by state.consumer_nodes) (consumer_nodes_by fs) name after.consumer_node) (sym finish'.consumer_nodes)
-          (pair_followed known.lasts wants said state name f r after lines e e' done keeps is.feeds is.commits);
+          subst (λ fs. IsChanged (consumer_nodes_by state.consumer_nodes) (consumer_nodes_by fs) f.name after.consumer_node) (sym finish'.consumer_nodes)
+          (pair_followed known.lasts wants said state f r after lines e e' done keeps is.feeds is.commits);
       right = right;
     }
 
@@ -169,21 +163,21 @@ calm_by name goes.Idle same = record { quiet = record { untouched = λ other. tt
 calm_by name (goes.Want spec) same = absurd same
 
 -- what is reported of a cookie is what the order gives
-given_by : (name : List ℕ) (pair : Agreement) (exchange : Exchange) → WantsTheSame exchange → name ≡ pair.consumer_node.name → GivenIn (asked_by name exchange) (part_of exchange pair)
-given_by name pair (goes.Open RefreshOnly) same here = silent_given (asks.OpenOnce name) false refl (opens RefreshOnly pair) (opens_silent false RefreshOnly refl pair)
-given_by name pair (goes.Open RefreshAndPersist) same here = silent_given (asks.OpenStay name) true refl (opens RefreshAndPersist pair) (opens_silent true RefreshAndPersist refl pair)
-given_by name pair (goes.Send count) same here = silent_given (asks.Send name count) false refl (sent count pair) (sent_silent false count pair)
-given_by name pair (goes.Take count) same here = silent_given (asks.Take name count) false refl (takes count pair) (takes_silent false count pair)
-given_by name pair goes.Cut same here = silent_given (asks.Cut name) false refl (cut pair) (cut_silent false pair)
-given_by name pair goes.Settle same here = silent_given (asks.Settle name) false refl (settles pair) (settles_silent false refl pair)
-given_by name pair goes.Lose same here = ((sym here, refl), tt)
-given_by name pair (goes.Give text) same here =
+given_by : (pair : Agreement) (exchange : Exchange) → WantsTheSame exchange → GivenIn (asked_by pair.consumer_node.name exchange) (part_of exchange pair)
+given_by pair (goes.Open RefreshOnly) same = silent_given (asks.OpenOnce pair.consumer_node.name) false refl (opens RefreshOnly pair) (opens_silent false RefreshOnly refl pair)
+given_by pair (goes.Open RefreshAndPersist) same = silent_given (asks.OpenStay pair.consumer_node.name) true refl (opens RefreshAndPersist pair) (opens_silent true RefreshAndPersist refl pair)
+given_by pair (goes.Send count) same = silent_given (asks.Send pair.consumer_node.name count) false refl (sent count pair) (sent_silent false count pair)
+given_by pair (goes.Take count) same = silent_given (asks.Take pair.consumer_node.name count) false refl (takes count pair) (takes_silent false count pair)
+given_by pair goes.Cut same = silent_given (asks.Cut pair.consumer_node.name) false refl (cut pair) (cut_silent false pair)
+given_by pair goes.Settle same = silent_given (asks.Settle pair.consumer_node.name) false refl (settles pair) (settles_silent false refl pair)
+given_by pair goes.Lose same = ((refl, refl), tt)
+given_by pair (goes.Give text) same =
     elim (cases_Bool (is_later pair.consumer_node.consumer.copy.cookie text)) [
       | inl later ↦ rw later tt
-      | inr good ↦ rw good ((sym here, refl), tt)
+      | inr good ↦ rw good ((refl, refl), tt)
     ]
-given_by name pair goes.Idle same here = silent_given (asks.Cut name) false refl (idle pair) (idle_silent false pair)
-given_by name pair (goes.Want spec) same here = absurd same
+given_by pair goes.Idle same = silent_given (asks.Cut pair.consumer_node.name) false refl (idle pair) (idle_silent false pair)
+given_by pair (goes.Want spec) same = absurd same
 
 -- what each keeps
 exchange_keeps : (exchange : Exchange) (pair : Agreement) → WantsTheSame exchange → AltersIn as_before pair (part_of exchange pair)
@@ -197,12 +191,12 @@ exchange_keeps (goes.Give text) pair same = given_keeps text pair
 exchange_keeps goes.Idle pair same = idle_keeps pair
 exchange_keeps (goes.Want spec) pair same = absurd same
 
-outcome_after : Known → PartsAreKept → (before : List Order) (order : Order) (said : List ReportLine) (state : WorldState) (name : List ℕ) (f : ConsumerNode) (r : ProviderNode) (exchange : Exchange) (outcome : ExchangeOutcome) → WantsTheSame exchange → IsCalm order
-    → GivenIn order outcome → consumer_nodes_by state.consumer_nodes name ≡ Some f → provider_nodes_by state.provider_nodes f.source ≡ Some r → part_of exchange (agreement_of r.provider f (lineage_of state r)) ≡ outcome
+outcome_after : Known → PartsAreKept → (before : List Order) (order : Order) (said : List ReportLine) (state : WorldState) (f : ConsumerNode) (r : ProviderNode) (exchange : Exchange) (outcome : ExchangeOutcome) → WantsTheSame exchange → IsCalm order
+    → GivenIn order outcome → consumer_nodes_by state.consumer_nodes f.name ≡ Some f → provider_nodes_by state.provider_nodes f.source ≡ Some r → part_of exchange (agreement_of r.provider f (lineage_of state r)) ≡ outcome
     → AltersIn as_before (agreement_of r.provider f (lineage_of state r)) outcome → Tracks before said state → After before said order (with_outcome state outcome)
-outcome_after known parts before order said state name f r exchange (Err cause) same calm gives e e' p keeps is = tt
-outcome_after known parts before order said state name f r exchange (Ok next) same calm gives e e' p keeps is =
-    by (with_outcome state (Ok next)) (outcome_through known as_before before order said state name f r next.0 next.1 gives e e' (done_kept number suffix pair next.0 next.1 (known_of f.name said) kept keeps) keeps is)
+outcome_after known parts before order said state f r exchange (Err cause) same calm gives e e' p keeps is = tt
+outcome_after known parts before order said state f r exchange (Ok next) same calm gives e e' p keeps is =
+    by (with_outcome state (Ok next)) (outcome_through known as_before before order said state f r next.0 next.1 gives e e' (done_kept number suffix pair next.0 next.1 (known_of f.name said) kept keeps) keeps is)
   where
     pair : Agreement
     pair = agreement_of r.provider f (lineage_of state r)
@@ -215,7 +209,7 @@ outcome_after known parts before order said state name f r exchange (Ok next) sa
 
     kept : IsKept number suffix pair next.0 next.1 (known_of f.name said)
     kept =
-        parts number suffix pair next.0 next.1 (known_of f.name said) exchange same (is.feeds.sources f.source r e') (fed_by said state.nodes state.provider_nodes f.source r f e' refl (is.feeds.consumer_nodes name f e))
+        parts number suffix pair next.0 next.1 (known_of f.name said) exchange same (is.feeds.sources f.source r e') (fed_by said state.nodes state.provider_nodes f.source r f e' refl (is.feeds.consumer_nodes f.name f e))
         (room_of state.provider_nodes state.consumer_nodes f.source r f e' (omega (arith, is.feeds.counted, is.feeds.few)) is.feeds.owned) p
 
     g : ConsumerNode
@@ -226,12 +220,12 @@ outcome_after known parts before order said state name f r exchange (Ok next) sa
         ap (λ s. Some (following s f.consumer.spec f.consumer.reload)) (sym keeps.source) ∙ ap (λ s. Some (following g.source s f.consumer.reload)) (sym keeps.spec)
         ∙ ap (λ b. Some (following g.source g.consumer.spec b)) (sym keeps.reload)
 
-    by : (step' : Step) → ThroughIn before order said state name f g step' → After before said order step'
+    by : (step' : Step) → ThroughIn before order said state f g step' → After before said order step'
     by (Err cause) through = tt
     by (Ok last) through = (
       record {
         orders =
-            orders_asked before order state last.0 name f g calm.quiet (record { others = λ other now apart. calm.same other now }) (calm.same name (Some (following f.source f.consumer.spec f.consumer.reload)) ∙ follows) through.clock through.nodes e
+            orders_asked before order state last.0 f.name f g calm.quiet (record { others = λ other now apart. calm.same other now }) (calm.same f.name (Some (following f.source f.consumer.spec f.consumer.reload)) ∙ follows) through.clock through.nodes e
             through.changed through.provider_nodes is.orders;
         feeds = through.feeds;
         commits = through.commits;
@@ -239,15 +233,9 @@ outcome_after known parts before order said state name f r exchange (Ok next) sa
       through.right,
     )
 
-between_after : Known → PartsAreKept → (before : List Order) (said : List ReportLine) (state : WorldState) (name : List ℕ) (f : ConsumerNode) (exchange : Exchange) (provider_node : Option ProviderNode) → WantsTheSame exchange → consumer_node_named name state ≡ Some f
-    → provider_node_named f.source state ≡ provider_node → Tracks before said state → After before said (asked_by name exchange) (between state f (part_of exchange) provider_node)
-between_after known parts before said state name f exchange None same e r is = tt
-between_after known parts before said state name f exchange (Some provider_node) same e r is =
-    let pair = agreement_of provider_node.provider f (lineage_of state provider_node) in
-    outcome_after known parts before (asked_by name exchange) said state name f provider_node exchange (part_of exchange pair) same (calm_by name exchange same)
-    (given_by name pair exchange same (consumer_node_name state.consumer_nodes name f e)) e r refl (exchange_keeps exchange pair same) is
-
-pub exchange_after : Known → PartsAreKept → (before : List Order) (said : List ReportLine) (state : WorldState) (name : List ℕ) (exchange : Exchange) (found : Option ConsumerNode) → WantsTheSame exchange → consumer_node_named name state ≡ found → Tracks before said state
-    → After before said (asked_by name exchange) (exchange_of state (part_of exchange) found)
-exchange_after known parts before said state name exchange None same e is = tt
-exchange_after known parts before said state name exchange (Some f) same e is = between_after known parts before said state name f exchange (provider_node_named f.source state) same e refl is
+pub exchange_after : Known → PartsAreKept → (before : List Order) (said : List ReportLine) (state : WorldState) (name : List ℕ) (what : Exchange) → WantsTheSame what → Tracks before said state
+    → After before said (asked_by name what) (exchange state name (part_of what))
+exchange_after known parts before said state name what same is =
+    lookup.exchanged (λ n. After before said (asked_by n what)) (λ n cause. tt) state name (part_of what) (λ f r e there.
+    let pair = agreement_of r.provider f (lineage_of state r) in
+    outcome_after known parts before (asked_by f.name what) said state f r what (part_of what pair) same (calm_by f.name what same) (given_by pair what same) e there refl (exchange_keeps what pair same) is)

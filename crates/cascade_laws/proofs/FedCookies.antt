@@ -39,7 +39,6 @@ goes_with number p f opening entries cookie goes = record {
   whole = goes.whole;
   cut = goes.cut;
   lasts = goes.lasts;
-  all = goes.all;
   linked = goes.linked;
   pending = goes.pending;
   left = goes.left;

@@ -129,7 +129,6 @@ module _ (lin : Lineage) (number : ℕ) (suffix : Name) (p : ProviderState) (f :
     whole = refl;
     cut = false;
     lasts = λ bad. absurd (false≢true bad);
-    all = λ waits. omega (arith, counted);
     linked = [];
     pending = ahead;
     left = refl;

@@ -19,6 +19,7 @@ use Rattle.sync_model.proofs.Groups.{heads, tails}
 use Rattle.sync_wire.specs.Sending as wire
 use Rattle.sync_provider.specs.HandingOut.{turn_of_message, turn_of_pending, turn_of_found, turn_at, after_turn}
 use Rattle.sync_provider.specs.HandingOut.Turn.{Hands, Closes}
+use Rattle.sync_provider.specs.Law.{Delivers}
 use Rattle.sync_provider.specs.Machine.{ProviderState}
 use Rattle.sync_provider.specs.Search.{whole_walk, busy_end}
 use Rattle.sync_provider.proofs.Advanced.{Searches, moved, place_of, with_searches}
@@ -32,17 +33,13 @@ use Rattle.cascade_world.specs.Opening.{message_id}
 use Rattle.cascade_world.specs.Origins.{Lineage}
 use Rattle.cascade_world.specs.ReportLines.{ReportLine as reported}
 use Rattle.cascade_laws.proofs.Composing.{promises-still}
-use Rattle.cascade_laws.proofs.Feeding.{Remains, IsSource, GoesOn, IsGoing, IsFed, KeepsPromises, IsKept}
+use Rattle.cascade_laws.proofs.Feeding.{IsSource, GoesOn, IsGoing, IsFed, KeepsPromises, IsKept}
 use Rattle.cascade_laws.proofs.FedCutting.{source-searches}
 use Rattle.cascade_laws.proofs.Sharing.{others-changed}
 use Rattle.cascade_laws.proofs.Streams.{stream_reports}
 
 abbrev Name : Type 0
 Name = List (List TypeAndValue)
-
--- what remains does not change where its parts are moved
-remains-same : (cut : Bool) (ahead left later : List SyncMessage) → later ≡ left → Remains cut ahead left → Remains cut ahead later
-remains-same cut ahead left later same is = subst (Remains cut ahead) (sym same) is
 
 -- ---- the message is in the link then
 
@@ -62,10 +59,9 @@ sent_goes number p searches f own opening entries first rest goes some has = rec
   whole = goes.whole;
   cut = goes.cut;
   lasts = goes.lasts;
-  all = goes.all;
   linked = goes.linked ++ first ∷ [];
   pending = rest;
-  left = remains-same goes.cut goes.ahead (goes.linked ++ goes.pending) ((goes.linked ++ first ∷ []) ++ rest) (moved goes.linked rest goes.pending first some) goes.left;
+  left = subst (λ ms. Delivers goes.cut ms goes.ahead) (sym (moved goes.linked rest goes.pending first some)) goes.left;
   reported =
       ap (λ ms. ms ++ octets_of first ∷ []) goes.reported
       ∙ sym (map-append octets_of (goes.taken ++ goes.linked) (first ∷ []))
@@ -98,10 +94,10 @@ module _ (lin : Lineage) (number : ℕ) (suffix : Name) (p : ProviderState) (f :
   before = goes.taken ++ goes.linked
 
   -- in its place in the Stream, or the end with busy
-  in_place : (cut : Bool) → goes.cut ≡ cut → Remains cut goes.ahead (goes.linked ++ goes.pending) → HasPending p.searches f.consumer.spec opening.persists cut f.search goes.pending
+  in_place : (cut : Bool) → goes.cut ≡ cut → Delivers cut (goes.linked ++ goes.pending) goes.ahead → HasPending p.searches f.consumer.spec opening.persists cut f.search goes.pending
       → Follows opening.persists Stream before first
   in_place false is left has = inl (rest, place_of goes.taken goes.linked goes.pending rest first Stream some (ap (λ ms. goes.taken ++ ms) left ∙ goes.whole))
-  in_place true is left has = inr (left.1, whole, last, goes.lasts is)
+  in_place true is left has = inr (left.left, whole, last, goes.lasts is)
     where
       only : (own : Option ℕ) → HasPending p.searches f.consumer.spec opening.persists true own goes.pending → goes.pending ≡ busy ∷ []
       only None has' = let bad : [] ≡ first ∷ rest = sym has'.0 ∙ some in let never : ⊥ = cc in absurd never
@@ -113,11 +109,11 @@ module _ (lin : Lineage) (number : ℕ) (suffix : Name) (p : ProviderState) (f :
       last : first ≡ busy
       last = heads first busy rest [] (sym some ∙ one)
 
-      prefixes : goes.linked ≡ left.0
-      prefixes = (same_from_push goes.linked left.0 busy busy (ap (λ ms. goes.linked ++ ms) (sym one) ∙ left.2)).0
+      prefixes : goes.linked ≡ left.prefix
+      prefixes = (same_from_push goes.linked left.prefix busy busy (ap (λ ms. goes.linked ++ ms) (sym one) ∙ left.is)).0
 
-      whole : before ++ left.1 ≡ Stream
-      whole = append_assoc goes.taken goes.linked left.1 ∙ ap (λ ms. goes.taken ++ (ms ++ left.1)) prefixes ∙ ap (λ ms. goes.taken ++ ms) left.3 ∙ goes.whole
+      whole : before ++ left.left ≡ Stream
+      whole = append_assoc goes.taken goes.linked left.left ∙ ap (λ ms. goes.taken ++ (ms ++ left.left)) prefixes ∙ ap (λ ms. goes.taken ++ ms) left.split ∙ goes.whole
 
   place : Follows opening.persists Stream before first
   place = in_place goes.cut refl goes.left goes.search
@@ -171,7 +167,7 @@ module _ (lin : Lineage) (number : ℕ) (suffix : Name) (p : ProviderState) (f :
     start = goes.start;
     begins = goes.from;
     count = goes.count;
-    upto = goes.upto;
+    upto = omega (arith, goes.upto);
     earlier = before;
     before = goes.reported;
     message = first;
@@ -251,7 +247,7 @@ module _ (lin : Lineage) (number : ℕ) (suffix : Name) (p : ProviderState) (f :
     cut_is : (own : Option ℕ) (at : ℕ) (cut : Bool) → goes.cut ≡ cut → After own at cut → After own at goes.cut
     cut_is own at cut same now = subst (After own at) (sym same) now
 
-    turn_now : (at : ℕ) → f.search ≡ Some at → (cut : Bool) → goes.cut ≡ cut → Remains cut goes.ahead (goes.linked ++ goes.pending) → IsPending p.searches f.consumer.spec opening.persists cut at goes.pending
+    turn_now : (at : ℕ) → f.search ≡ Some at → (cut : Bool) → goes.cut ≡ cut → Delivers cut (goes.linked ++ goes.pending) goes.ahead → IsPending p.searches f.consumer.spec opening.persists cut at goes.pending
         → IsSentOut (sending_by (agreement_of p f lin) (turn_at p.searches at))
     turn_now at is false open' left has = by (stream_turn operation goes.start opening.writes goes.count before rest first whole)
       where

@@ -33,6 +33,7 @@ use Rattle.sync_model.proofs.Histories.{ascends-state_of}
 use Rattle.sync_model.proofs.Groups.{heads, tails}
 use Rattle.sync_wire.specs.CanBeSent.{CanBeSent}
 use Rattle.sync_wire.proofs.OfSearch.{IsOfSearch}
+use Rattle.sync_provider.specs.Law.{Delivers}
 use Rattle.sync_provider.specs.Machine.{ProviderState}
 use Rattle.sync_provider.specs.Search.{cookie_after}
 use Rattle.sync_provider.proofs.Coming.{StagesOne, IsOver, StoresOne, TakesOne, one_comes}
@@ -50,7 +51,7 @@ use Rattle.cascade_world.specs.ReportLines.{Storing, ReportLine}
 use Rattle.cascade_world.specs.ReportLines.{ReportLine as reported}
 use Rattle.cascade_laws.proofs.Carried.{received_sent}
 use Rattle.cascade_laws.proofs.Composing.{promises-still, kept-reported}
-use Rattle.cascade_laws.proofs.Feeding.{Remains, IsSource, GoesOn, IsGoing, IsFed, IsRightOf, KeepsPromises, IsKept, frame_of}
+use Rattle.cascade_laws.proofs.Feeding.{IsSource, GoesOn, IsGoing, IsFed, IsRightOf, KeepsPromises, IsKept, frame_of}
 use Rattle.cascade_laws.proofs.Sharing.{others-none}
 
 abbrev Name : Type 0
@@ -111,16 +112,16 @@ none_left (m ∷ link) messages same = let never : ⊥ = cc in absurd never
 record IsFirst (cut : Bool) (ahead : List SyncMessage) (m : SyncMessage) (more : List SyncMessage) : Type 0 where
   beyond : List SyncMessage
   next : ahead ≡ m ∷ beyond
-  left : Remains cut beyond more
+  left : Delivers cut more beyond
 
 record IsBusy (cut : Bool) (m : SyncMessage) (more : List SyncMessage) : Type 0 where
   over_is : cut ≡ true
   message : m ≡ busy
   none : more ≡ []
 
-first_left : (cut : Bool) (ahead : List SyncMessage) (m : SyncMessage) (more : List SyncMessage) → Remains cut ahead (m ∷ more) → IsFirst cut ahead m more ⊎ IsBusy cut m more
+first_left : (cut : Bool) (ahead : List SyncMessage) (m : SyncMessage) (more : List SyncMessage) → Delivers cut (m ∷ more) ahead → IsFirst cut ahead m more ⊎ IsBusy cut m more
 first_left false ahead m more left = inl (record { beyond = more; next = sym left; left = refl })
-first_left true ahead m more left = by left.0 left.1 left.2 left.3
+first_left true ahead m more left = by left.prefix left.left left.is left.split
   where
     by : (prefix dropped : List SyncMessage) → m ∷ more ≡ prefix ++ busy ∷ [] → prefix ++ dropped ≡ ahead → IsFirst true ahead m more ⊎ IsBusy true m more
     by [] dropped one all = inr (record { over_is = refl; message = heads m busy more [] one; none = tails m busy more [] one })
@@ -128,7 +129,7 @@ first_left true ahead m more left = by left.0 left.1 left.2 left.3
         inl (record {
           beyond = prefix ++ dropped;
           next = sym all ∙ ap (λ y. y ∷ (prefix ++ dropped)) (sym (heads m x more (prefix ++ busy ∷ []) one));
-          left = (prefix, dropped, tails m x more (prefix ++ busy ∷ []) one, refl);
+          left = record { prefix = prefix; left = dropped; split = refl; is = tails m x more (prefix ++ busy ∷ []) one };
         })
 
 -- the end with busy ends a search that goes on
@@ -190,8 +191,8 @@ module _ (lin : Lineage) (number : ℕ) (suffix : Name) (p : ProviderState) (f :
     abbrev after : Copy → ConsumerNode
     after copy = record (with_copy f copy) { link = left }
 
-    remains : Remains goes.cut goes.ahead (m ∷ (rest ++ goes.pending))
-    remains = subst (λ ms. Remains goes.cut goes.ahead (ms ++ goes.pending)) first goes.left
+    remains : Delivers goes.cut (m ∷ (rest ++ goes.pending)) goes.ahead
+    remains = subst (λ ms. Delivers goes.cut (ms ++ goes.pending) goes.ahead) first goes.left
 
     has_session : HasSession opening.persists held
     has_session = where_session operation goes.start opening.writes goes.count known.entries held goes.taken goes.ahead goes.place
@@ -228,7 +229,6 @@ module _ (lin : Lineage) (number : ℕ) (suffix : Name) (p : ProviderState) (f :
         whole = more_taken;
         cut = goes.cut;
         lasts = goes.lasts;
-        all = goes.all;
         linked = rest;
         pending = goes.pending;
         left = is.left;
@@ -336,7 +336,7 @@ module _ (lin : Lineage) (number : ℕ) (suffix : Name) (p : ProviderState) (f :
         rests over = record { search = own_over p.searches f.search p f opening.persists goes.cut goes.pending none.1 (ap (λ b. waits b goes.cut) over.ends) goes.search; session = over.session; link = ap (map octets_of) none.0 }
           where
             none : (rest ≡ []) × (goes.pending ≡ [])
-            none = none_left rest goes.pending (subst (λ cut. Remains cut is.beyond (rest ++ goes.pending)) (no_more over) is.left ∙ over.none)
+            none = none_left rest goes.pending (subst (λ cut. Delivers cut (rest ++ goes.pending) is.beyond) (no_more over) is.left ∙ over.none)
 
         state_now : IsPast operation opening.writes goes.count (content_after operation now.number) outcome.0 is.beyond ⊎ IsOver operation ascending within sent texts goes.start opening.writes goes.count is.beyond outcome.0
             → GoesOn number p (after outcome.0) opening outcome.0.held ⊎ (IsAtRest (after outcome.0) × ((opening.persists ≡ true) ⊎ (outcome.0.held ≡ content_at number f.consumer.spec writes opening.writes)))

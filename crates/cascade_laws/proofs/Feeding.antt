@@ -1,6 +1,6 @@
 -- What holds of a provider of a script and of each of its consumers at every moment of a run, and what each part of an
 -- event keeps of that.
-use Rattle.std.specs.Prelude.{◌≡◌, ◌≢◌, ◌⊎◌, ℕ, pos, ◌+◌, ◌≤◌, Bool, true, false, Option, Some, None, Ok, List, [], ◌∷◌, ◌++◌, length, map, take, fold}
+use Rattle.std.specs.Prelude.{◌≡◌, ◌≢◌, ◌⊎◌, ℕ, pos, ◌+◌, ◌≤◌, Bool, true, Option, Some, None, Ok, List, [], ◌∷◌, ◌++◌, length, map, take, fold}
 use Rattle.ldap_constants.specs.declared.result_codes.TheConstants.{BUSY, E_SYNC_REFRESH_REQUIRED}
 use Rattle.csn_cookie.specs.Csn.{CsnValue, IsCsn, start}
 use Rattle.csn_cookie.specs.CsnMaker.{next_csn}
@@ -20,6 +20,7 @@ use Rattle.sync_model.specs.Incremental.{number_of}
 use Rattle.sync_model.specs.Message.{SyncMessage}
 use Rattle.sync_model.specs.Stream.{SyncOperation, Start, later}
 use Rattle.sync_provider.specs.Committing.{commit_refusal}
+use Rattle.sync_provider.specs.Law.{Delivers}
 use Rattle.sync_provider.specs.Machine as machine
 use Rattle.sync_provider.specs.Machine.{ProviderState, fresh, log_limited, queue_limited}
 use Rattle.sync_provider.specs.Search.{cookie_after, session_of, pending}
@@ -35,11 +36,11 @@ use Rattle.cascade_exchange.specs.declared.exchange.Exchange.{Exchange}
 use Rattle.cascade_exchange.specs.declared.exchange.Exchange.TheVariants as goes
 use Rattle.cascade_exchange.proofs.Owns.{OwnsNew}
 use Rattle.cascade_nodes.specs.declared.node.ConsumerNode.{ConsumerNode}
-use Rattle.cascade_nodes.proofs.Fed.{waits, HasPending, IsAtRest, AreApart, HasRoom}
+use Rattle.cascade_nodes.proofs.Fed.{HasPending, IsAtRest, AreApart, HasRoom}
 use Rattle.cascade_world.specs.Cookies.{held_cookie}
 use Rattle.cascade_world.specs.Directory.{logged_directory, wrote_change}
 use Rattle.cascade_world.specs.Exchange.{Agreement, part_of, idle, respecs}
-use Rattle.cascade_laws.specs.Headline.{Opening, Known, nothing_known, known_after, IsUnserved, IsOpenedAt, NamesPrefix, BeginsFrom, session_over, stream_over, octets_of, busy, IsNextOf}
+use Rattle.cascade_laws.specs.Headline.{Opening, Known, nothing_known, known_after, IsUnserved, IsOpenedAt, NamesPrefix, BeginsFrom, session_over, stream_over, octets_of, IsNextOf}
 use Rattle.cascade_world.specs.Origins.{Lineage, origin_of}
 use Rattle.cascade_world.specs.ReportLines.{Storing, ReportLine}
 use Rattle.cascade_world.specs.ReportLines.ReportLine.{Opened, Refused, Sent, Stored, Ended, Faulted, Settled, Clocked, Shown}
@@ -66,16 +67,11 @@ session_at number persists search writes = session_of persists number number sea
 abbrev pub Promises : ℕ → Search → List Write → Known → Type 0
 Promises number search writes known = IsPromised number search writes known.entries (held_cookie known.cookie)
 
--- what is left of messages that are to come: all of them, or a prefix of them and the end with busy
-abbrev pub Remains : (cut : Bool) → List SyncMessage → List SyncMessage → Type 0
-Remains false ahead left = left ≡ ahead
-Remains true ahead left = (prefix : List SyncMessage) × (dropped : List SyncMessage) × (left ≡ prefix ++ busy ∷ []) × (prefix ++ dropped ≡ ahead)
-
--- a search of that opening goes on: its messages, up to n writes after the opening, are those that were taken and
--- those to come, of which these are in the link and those are pending
+-- a search of that opening goes on: its messages, up to all writes after the opening, are those that were taken and
+-- those to come; what is in the link and what is pending are those to come, or are cut short
 pub record GoesOn (number : ℕ) (p : ProviderState) (f : ConsumerNode) (opening : Opening) (entries : List Entry) : Type 0 where
   pub count : ℕ
-  pub upto : opening.writes + count ≤ length p.directory.writes
+  pub upto : opening.writes + count ≡ length p.directory.writes
   pub start : Start
   pub from : BeginsFrom number (take opening.writes p.directory.writes) opening.cookie (number_of start)
   pub taken : List SyncMessage
@@ -83,10 +79,9 @@ pub record GoesOn (number : ℕ) (p : ProviderState) (f : ConsumerNode) (opening
   pub whole : taken ++ ahead ≡ stream_over number f.consumer.spec p.directory.writes opening start count
   pub cut : Bool
   pub lasts : cut ≡ true → opening.persists ≡ true
-  pub all : waits opening.persists cut ≡ true → opening.writes + count ≡ length p.directory.writes
   pub linked : List SyncMessage
   pub pending : List SyncMessage
-  pub left : Remains cut ahead (linked ++ pending)
+  pub left : Delivers cut (linked ++ pending) ahead
   pub reported : opening.sent ≡ map octets_of (taken ++ linked)
   pub link : f.link ≡ map octets_of linked
   pub search : HasPending p.searches f.consumer.spec opening.persists cut f.search pending

@@ -1,7 +1,7 @@
 -- What holds of the nodes after a consumer got another provider, or wants something else.
 use Rattle.std.proofs.Common.{◌≡◌, ℕ, true, false, Option, Some, None, List, ◌++◌, length, refl, ap, sym, subst, ◌∙◌, inl, inr, arith}
 use Rattle.std.proofs.lemmas.Bool.{cases_Bool}
-use Rattle.std.specs.Prelude.{Ok, Err, not, option_map}
+use Rattle.std.specs.Prelude.{Ok, Err, option_map}
 use Rattle.std.specs.Str.{bytes_eq}
 use Rattle.dn_names.specs.Names.{is_at_or_below}
 use Rattle.entry_tree.specs.Selection.{Search}
@@ -15,14 +15,14 @@ use Rattle.cascade_world.specs.Nodes.{source_of}
 use Rattle.cascade_script.specs.Orders.{Order}
 use Rattle.cascade_script.specs.Orders.{Order as asks}
 use Rattle.cascade_world.specs.ReportLines.{ReportLine}
-use Rattle.cascade_world.specs.World.{WorldState, Step, is_consumer_node, provider_node_named, consumer_node_named, with_outcome, lineage_of, between, exchange_of, exchange, is_offered, is_fed, pointed, pointed_after, repoint_to, repoint_of, respec_at, respec_of}
-use Rattle.cascade_laws.proofs.Declarations.{inside_is}
+use Rattle.cascade_world.specs.World.{WorldState, Step, is_consumer_node, provider_node_named, consumer_node_named, with_outcome, lineage_of, between, exchange_of, exchange, is_offered, is_fed, pointed, pointed_after, repoint, respec}
 use Rattle.cascade_laws.proofs.Exchanged.{done_kept, done_respecced}
 use Rattle.cascade_laws.proofs.Exchanges.{After, Known, ThroughIn, outcome_through}
 use Rattle.cascade_exchange.proofs.Exchanging.{Alters, AltersIn, as_before, idle_keeps, respecs_alters}
 use Rattle.cascade_exchange.proofs.Silence.{idle_silent}
 use Rattle.cascade_laws.proofs.Feeding.{IsKept, IsRespecced, PartsAreKept, RespecsAreKept, IdlesRest, RestsAreFed}
-use Rattle.cascade_world.proofs.Finding.{IsChanged, found_after, found_still, provider_nodes_by, consumer_nodes_by, consumer_node_name, pointed_changed, length-first_changed}
+use Rattle.cascade_world.proofs.Finding.{IsChanged, found_after, found_still, provider_nodes_by, consumer_nodes_by, pointed_changed, length-first_changed}
+use Rattle.cascade_world.proofs.Found as lookup
 use Rattle.cascade_laws.proofs.Growing.{HasBecome, been_itself, manned_grown, fed_by}
 use Rattle.cascade_laws.proofs.Ordered.{IsQuiet, orders_asked}
 use Rattle.cascade_laws.proofs.Reporting.{GivenIn, silent_given}
@@ -113,25 +113,25 @@ pub record Pointing : Type 0 where
 quiet_repoint : (name source : List ℕ) → IsQuiet (asks.Repoint name source)
 quiet_repoint name source = record { untouched = λ other. tt; still = λ time. refl; undeclared = refl }
 
-module _ (p : Pointing) (before : List Order) (said : List ReportLine) (state : WorldState) (name source : List ℕ) (f : ConsumerNode) (r s : ProviderNode) (e : consumer_nodes_by state.consumer_nodes name ≡ Some f) (e' : provider_nodes_by state.provider_nodes f.source ≡ Some r)
-    (there : provider_nodes_by state.provider_nodes source ≡ Some s) (free : is_fed state name source ≡ false) (offered : is_offered f.consumer.spec s ≡ true) (is : Tracks before said state) where
+module _ (p : Pointing) (before : List Order) (said : List ReportLine) (state : WorldState) (source : List ℕ) (f : ConsumerNode) (r s : ProviderNode) (e : consumer_nodes_by state.consumer_nodes f.name ≡ Some f) (e' : provider_nodes_by state.provider_nodes f.source ≡ Some r)
+    (there : provider_nodes_by state.provider_nodes source ≡ Some s) (free : is_fed state f.name source ≡ false) (offered : is_offered f.consumer.spec s ≡ true) (is : Tracks before said state) where
   abbrev order : Order
-  order = asks.Repoint name source
+  order = asks.Repoint f.name source
 
   abbrev pair : Agreement
   pair = agreement_of r.provider f (lineage_of state r)
 
   -- once it is idle
   through_pointed : (after : Agreement) (lines : List ReportLine) → Alters as_before pair after lines → IsAtRest after.consumer_node → (next : Step) → next ≡ with_outcome state (Ok (after, lines))
-      → ThroughIn before order said state name f after.consumer_node next → After before said order (pointed_after name source next)
+      → ThroughIn before order said state f after.consumer_node next → After before said order (pointed_after f.name source next)
   through_pointed after lines keeps rest (Err cause) same through = tt
   through_pointed after lines keeps rest (Ok next) same through = (
     record {
       orders =
-          orders_asked before order state (pointed name source done) name f (pointed_at source g) (quiet_repoint name source) (record { others = λ other now apart. rw apart refl }) follows through.clock through.nodes e
-          (changed_twice (consumer_nodes_by state.consumer_nodes) (consumer_nodes_by done.consumer_nodes) (consumer_nodes_by (pointed name source done).consumer_nodes) name g (pointed_at source g) through.changed
-          (pointed_changed done.consumer_nodes name source g through.changed.here)) through.provider_nodes is.orders;
-      feeds = pointed_feeds p.rests (said ++ next.1) done name source g b.now through.feeds through.changed.here rest b.there below climbs;
+          orders_asked before order state (pointed f.name source done) f.name f (pointed_at source g) (quiet_repoint f.name source) (record { others = λ other now apart. rw apart refl }) follows through.clock through.nodes e
+          (changed_twice (consumer_nodes_by state.consumer_nodes) (consumer_nodes_by done.consumer_nodes) (consumer_nodes_by (pointed f.name source done).consumer_nodes) f.name g (pointed_at source g) through.changed
+          (pointed_changed done.consumer_nodes f.name source g through.changed.here)) through.provider_nodes is.orders;
+      feeds = pointed_feeds p.rests (said ++ next.1) done f.name source g b.now through.feeds through.changed.here rest b.there below climbs;
       commits = through.commits;
     },
     through.right,
@@ -151,94 +151,78 @@ module _ (p : Pointing) (before : List Order) (said : List ReportLine) (state : 
 
       sources : (n : List ℕ) → source_of done.consumer_nodes n ≡ source_of state.consumer_nodes n
       sources n =
-          elim (cases_Bool (bytes_eq n name)) [
+          elim (cases_Bool (bytes_eq n f.name)) [
             | inl hit ↦
-                let alike : n ≡ name = same_name n name hit in
+                let alike : n ≡ f.name = same_name n f.name hit in
                 let was : consumer_nodes_by state.consumer_nodes n ≡ Some f = ap (consumer_nodes_by state.consumer_nodes) alike ∙ e in
                 let new : consumer_nodes_by done.consumer_nodes n ≡ Some g = ap (consumer_nodes_by done.consumer_nodes) alike ∙ through.changed.here in
                 ap (option_map (λ (h : ConsumerNode). h.source)) new ∙ ap Some keeps.source ∙ sym (ap (option_map (λ (h : ConsumerNode). h.source)) was)
             | inr miss ↦ ap (option_map (λ (h : ConsumerNode). h.source)) (through.changed.others n miss)
           ]
 
-      climbs : AllClimb (pointed name source done).consumer_nodes
+      climbs : AllClimb (pointed f.name source done).consumer_nodes
       climbs =
           let way = is.feeds.climbs source in
-          let above = unfed (length state.consumer_nodes) state.consumer_nodes name source way.0 way.1 way.2 (few_above way.0 state.consumer_nodes source way.1 way.2) free in
-          let at = pointed_changed done.consumer_nodes name source g through.changed.here in
-          all_climb_rerouted done.consumer_nodes (pointed name source done).consumer_nodes name source way.0 way.1
+          let above = unfed (length state.consumer_nodes) state.consumer_nodes f.name source way.0 way.1 way.2 (few_above way.0 state.consumer_nodes source way.1 way.2) free in
+          let at = pointed_changed done.consumer_nodes f.name source g through.changed.here in
+          all_climb_rerouted done.consumer_nodes (pointed f.name source done).consumer_nodes f.name source way.0 way.1
           (record { here = ap (option_map (λ (h : ConsumerNode). h.source)) at.here; others = λ other miss. ap (option_map (λ (h : ConsumerNode). h.source)) (at.others other miss) })
           (climbs_same state.consumer_nodes done.consumer_nodes sources source way.0 way.1 way.2) above through.feeds.climbs
 
-      follows : followed name (Some (following f.source f.consumer.spec f.consumer.reload)) order ≡ Some (following source g.consumer.spec g.consumer.reload)
+      follows : followed f.name (Some (following f.source f.consumer.spec f.consumer.reload)) order ≡ Some (following source g.consumer.spec g.consumer.reload)
       follows =
-          let hit = itself name in
+          let hit = itself f.name in
           rw hit (ap (λ w. Some (following source w f.consumer.reload)) (sym keeps.spec) ∙ ap (λ b'. Some (following source g.consumer.spec b')) (sym keeps.reload))
 
-  outcome_pointed : (outcome : ExchangeOutcome) → idle pair ≡ outcome → AltersIn as_before pair outcome → GivenIn order outcome → After before said order (pointed_after name source (with_outcome state outcome))
+  outcome_pointed : (outcome : ExchangeOutcome) → idle pair ≡ outcome → AltersIn as_before pair outcome → GivenIn order outcome → After before said order (pointed_after f.name source (with_outcome state outcome))
   outcome_pointed (Err cause) same keeps gives = tt
   outcome_pointed (Ok next) same keeps gives =
       let number = r.provider.directory.history in
       let suffix = r.provider.directory.suffix in
       let reported = known_of f.name said in
       let kept : IsKept number suffix pair next.0 next.1 reported =
-      p.parts number suffix pair next.0 next.1 reported goes.Idle tt (is.feeds.sources f.source r e') (fed_by said state.nodes state.provider_nodes f.source r f e' refl (is.feeds.consumer_nodes name f e))
+      p.parts number suffix pair next.0 next.1 reported goes.Idle tt (is.feeds.sources f.source r e') (fed_by said state.nodes state.provider_nodes f.source r f e' refl (is.feeds.consumer_nodes f.name f e))
       (room_of state.provider_nodes state.consumer_nodes f.source r f e' (omega (arith, is.feeds.counted, is.feeds.few)) is.feeds.owned) same in
       through_pointed next.0 next.1 keeps (p.idles pair next.0 next.1 same) (with_outcome state (Ok next)) refl
-      (outcome_through p.known as_before before order said state name f r next.0 next.1 gives e e' (done_kept number suffix pair next.0 next.1 reported kept keeps) keeps is)
+      (outcome_through p.known as_before before order said state f r next.0 next.1 gives e e' (done_kept number suffix pair next.0 next.1 reported kept keeps) keeps is)
 
-  pub repointed : After before said order (pointed_after name source (exchange state name idle))
+  pub repointed : After before said order (pointed_after f.name source (exchange state f.name idle))
   repointed =
-      subst (λ x. After before said order (pointed_after name source x)) (sym (through_found state name idle f r e e'))
+      subst (λ x. After before said order (pointed_after f.name source x)) (sym (through_found state f.name idle f r e e'))
       (outcome_pointed (idle pair) refl (idle_keeps pair) (silent_given order false refl (idle pair) (idle_silent false pair)))
 
-repoint_to_after : Pointing → (before : List Order) (said : List ReportLine) (state : WorldState) (name source : List ℕ) (f : ConsumerNode) (found : Option ProviderNode) → consumer_nodes_by state.consumer_nodes name ≡ Some f → provider_nodes_by state.provider_nodes source ≡ found
-    → Tracks before said state → After before said (asks.Repoint name source) (repoint_to state name source f found)
-repoint_to_after p before said state name source f None e there is = tt
-repoint_to_after p before said state name source f (Some s) e there is =
-    elim (cases_Bool (is_fed state name source)) [
-      | inl circle ↦ rw circle tt
-      | inr free ↦
-          rw free (
-          elim (cases_Bool (not (is_offered f.consumer.spec s))) [
-            | inl outside ↦ rw outside tt
-            | inr inside ↦
-                let was = is.feeds.consumer_nodes name f e in
-                rw inside (repointed p before said state name source f was.provider_node s e was.there there free (inside_is (is_offered f.consumer.spec s) inside) is)
-          ]
-          )
-    ]
-
-pub repoint_after : Pointing → (before : List Order) (said : List ReportLine) (state : WorldState) (name source : List ℕ) (found : Option ConsumerNode) → consumer_nodes_by state.consumer_nodes name ≡ found → Tracks before said state
-    → After before said (asks.Repoint name source) (repoint_of state name source found)
-repoint_after p before said state name source None e is = tt
-repoint_after p before said state name source (Some f) e is = repoint_to_after p before said state name source f (provider_node_named source state) e refl is
+-- a consumer that gets another provider
+pub repoint_after : Pointing → (before : List Order) (said : List ReportLine) (state : WorldState) (name source : List ℕ) → Tracks before said state → After before said (asks.Repoint name source) (repoint state name source)
+repoint_after p before said state name source is =
+    lookup.repointed (λ n. After before said (asks.Repoint n source)) (λ n cause. tt) state name source (λ f s e there free inside.
+    let was = is.feeds.consumer_nodes f.name f e in repointed p before said state source f was.provider_node s e was.there there free inside is)
 
 -- ---- something else is wanted
 
 quiet_respec : (name : List ℕ) (search : Search) → IsQuiet (asks.Respec name search)
 quiet_respec name search = record { untouched = λ other. tt; still = λ time. refl; undeclared = refl }
 
-given_respec : (name : List ℕ) (search : Search) (pair : Agreement) → name ≡ pair.consumer_node.name → GivenIn (asks.Respec name search) (respecs search pair)
-given_respec name search pair here =
+given_respec : (search : Search) (pair : Agreement) → GivenIn (asks.Respec pair.consumer_node.name search) (respecs search pair)
+given_respec search pair =
     elim (cases_Bool (is_busy pair.consumer_node)) [
-      | inl busy ↦ rw busy (tt, ((sym here, refl), tt))
-      | inr free ↦ rw free ((sym here, refl), tt)
+      | inl busy ↦ rw busy (tt, ((refl, refl), tt))
+      | inr free ↦ rw free ((refl, refl), tt)
     ]
 
-module _ (known : Known) (kept : RespecsAreKept) (before : List Order) (said : List ReportLine) (state : WorldState) (name : List ℕ) (search : Search) (f : ConsumerNode) (r : ProviderNode) (e : consumer_nodes_by state.consumer_nodes name ≡ Some f)
+module _ (known : Known) (kept : RespecsAreKept) (before : List Order) (said : List ReportLine) (state : WorldState) (search : Search) (f : ConsumerNode) (r : ProviderNode) (e : consumer_nodes_by state.consumer_nodes f.name ≡ Some f)
     (e' : provider_nodes_by state.provider_nodes f.source ≡ Some r) (offered : is_offered search r ≡ true) (is : Tracks before said state) where
   abbrev wish : Order
-  wish = asks.Respec name search
+  wish = asks.Respec f.name search
 
   abbrev two : Agreement
   two = agreement_of r.provider f (lineage_of state r)
 
-  through_respecced : (after : Agreement) (lines : List ReportLine) → Alters (λ s. search) two after lines → (next : Step) → ThroughIn before wish said state name f after.consumer_node next → After before said wish next
+  through_respecced : (after : Agreement) (lines : List ReportLine) → Alters (λ s. search) two after lines → (next : Step) → ThroughIn before wish said state f after.consumer_node next → After before said wish next
   through_respecced after lines keeps (Err cause) through = tt
   through_respecced after lines keeps (Ok next) through = (
     record {
       orders =
-          orders_asked before wish state next.0 name f g (quiet_respec name search) (record { others = λ other now apart. rw apart refl }) follows through.clock through.nodes e through.changed through.provider_nodes is.orders;
+          orders_asked before wish state next.0 f.name f g (quiet_respec f.name search) (record { others = λ other now apart. rw apart refl }) follows through.clock through.nodes e through.changed through.provider_nodes is.orders;
       feeds = through.feeds;
       commits = through.commits;
     },
@@ -248,9 +232,9 @@ module _ (known : Known) (kept : RespecsAreKept) (before : List Order) (said : L
       g : ConsumerNode
       g = after.consumer_node
 
-      follows : followed name (Some (following f.source f.consumer.spec f.consumer.reload)) wish ≡ Some (following g.source g.consumer.spec g.consumer.reload)
+      follows : followed f.name (Some (following f.source f.consumer.spec f.consumer.reload)) wish ≡ Some (following g.source g.consumer.spec g.consumer.reload)
       follows =
-          let hit = itself name in
+          let hit = itself f.name in
           rw hit (
           ap (λ s. Some (following s search f.consumer.reload)) (sym keeps.source) ∙ ap (λ w. Some (following g.source w f.consumer.reload)) (sym keeps.spec)
           ∙ ap (λ b. Some (following g.source g.consumer.spec b)) (sym keeps.reload)
@@ -263,26 +247,17 @@ module _ (known : Known) (kept : RespecsAreKept) (before : List Order) (said : L
       let suffix = r.provider.directory.suffix in
       let reported = known_of f.name said in
       let done : IsRespecced number suffix search two next.0 next.1 reported =
-      kept number suffix search two next.0 next.1 reported offered (is.feeds.sources f.source r e') (fed_by said state.nodes state.provider_nodes f.source r f e' refl (is.feeds.consumer_nodes name f e))
+      kept number suffix search two next.0 next.1 reported offered (is.feeds.sources f.source r e') (fed_by said state.nodes state.provider_nodes f.source r f e' refl (is.feeds.consumer_nodes f.name f e))
       (room_of state.provider_nodes state.consumer_nodes f.source r f e' (omega (arith, is.feeds.counted, is.feeds.few)) is.feeds.owned) same in
       through_respecced next.0 next.1 keeps (with_outcome state (Ok next))
-      (outcome_through known (λ s. search) before wish said state name f r next.0 next.1 gives e e' (done_respecced number suffix search two next.0 next.1 reported done same) keeps is)
+      (outcome_through known (λ s. search) before wish said state f r next.0 next.1 gives e e' (done_respecced number suffix search two next.0 next.1 reported done same) keeps is)
 
-  pub respecced : After before said wish (exchange state name (respecs search))
+  pub respecced : After before said wish (exchange state f.name (respecs search))
   respecced =
-      subst (After before said wish) (sym (through_found state name (respecs search) f r e e'))
-      (outcome_respecced (respecs search two) refl (respecs_alters search two) (given_respec name search two (consumer_node_name state.consumer_nodes name f e)))
+      subst (After before said wish) (sym (through_found state f.name (respecs search) f r e e'))
+      (outcome_respecced (respecs search two) refl (respecs_alters search two) (given_respec search two))
 
-respec_at_after : Known → RespecsAreKept → (before : List Order) (said : List ReportLine) (state : WorldState) (name : List ℕ) (search : Search) (f : ConsumerNode) (found : Option ProviderNode) → consumer_nodes_by state.consumer_nodes name ≡ Some f
-    → provider_nodes_by state.provider_nodes f.source ≡ found → Tracks before said state → After before said (asks.Respec name search) (respec_at state name search found)
-respec_at_after known kept before said state name search f None e there is = tt
-respec_at_after known kept before said state name search f (Some r) e there is =
-    elim (cases_Bool (not (is_offered search r))) [
-      | inl outside ↦ rw outside tt
-      | inr inside ↦ rw inside (respecced known kept before said state name search f r e there (inside_is (is_offered search r) inside) is)
-    ]
-
-pub respec_after : Known → RespecsAreKept → (before : List Order) (said : List ReportLine) (state : WorldState) (name : List ℕ) (search : Search) (found : Option ConsumerNode) → consumer_nodes_by state.consumer_nodes name ≡ found → Tracks before said state
-    → After before said (asks.Respec name search) (respec_of state name search found)
-respec_after known kept before said state name search None e is = tt
-respec_after known kept before said state name search (Some f) e is = respec_at_after known kept before said state name search f (provider_node_named f.source state) e refl is
+-- a consumer that wants something else
+pub respec_after : Known → RespecsAreKept → (before : List Order) (said : List ReportLine) (state : WorldState) (name : List ℕ) (search : Search) → Tracks before said state → After before said (asks.Respec name search) (respec state name search)
+respec_after known kept before said state name search is =
+    lookup.respecced (λ n. After before said (asks.Respec n search)) (λ n cause. tt) state name search (λ f r e there inside. respecced known kept before said state search f r e there inside is)

@@ -1,25 +1,18 @@
 -- Each order gives its lines, in whatever state it is done.
-use Rattle.std.proofs.Common.{◌≡◌, ℕ, Bool, true, false, cond, Option, Some, None, List, [], ◌∷◌, ◌++◌, refl, sym, subst}
-use Rattle.std.specs.Prelude.{not, nat_le, Result, Ok, Err}
-use Rattle.dn_names.specs.Names.{TypeAndValue}
-use Rattle.entry_tree.specs.Selection.{Search}
+use Rattle.std.proofs.Common.{◌≡◌, ℕ, Some, None, List, [], ◌∷◌, ◌++◌, refl, subst}
+use Rattle.std.specs.Prelude.{Result, Ok, Err}
 use Rattle.entry_tree.specs.declared.entry.Entry.{Entry}
-use Rattle.schema_rules.specs.declared.raw.Change.{Change}
 use Rattle.sync_messages.specs.declared.request.Mode.TheVariants.{RefreshOnly, RefreshAndPersist}
 use Rattle.sync_provider.specs.Machine.{ProviderState, log_limited, queue_limited}
 use Rattle.cascade_script.specs.declared.fault.Cause.{Cause}
-use Rattle.cascade_script.specs.declared.fault.Cause.TheVariants.{NameTaken, OutsideSuffix, LimitReached, Circle}
 use Rattle.cascade_script.specs.Orders.{Order}
 use Rattle.cascade_script.specs.Orders.{Order as asks}
 use Rattle.cascade_script.specs.Reader.{Reader}
-use Rattle.cascade_nodes.specs.declared.node.ProviderNode.{ProviderNode}
-use Rattle.cascade_nodes.specs.declared.node.ConsumerNode.{ConsumerNode}
-use Rattle.cascade_world.specs.Cookies.{most_nodes}
-use Rattle.cascade_world.specs.Exchange.{Agreement, ExchangeOutcome, sent, takes, cut, idle, opens, settles, lost, given, respecs}
+use Rattle.cascade_world.specs.Exchange.{Agreement, ExchangeOutcome, agreement_of, sent, takes, cut, idle, opens, settles, lost, given, respecs}
 use Rattle.cascade_world.specs.ReportLines.{ReportLine, stages_of}
 use Rattle.cascade_world.specs.ReportLines.{ReportLine as reported}
-use Rattle.cascade_world.specs.World.{WorldState, Step, no_nodes, has_node, provider_node_named, consumer_node_named, is_fed, where_room, with_root, declare_root, new_consumer_node, with_consumer, with_replica, is_offered, follow, declare_consumer_node, declare_consumer, declare_replica, write_to, limited, limit_log, limit_queue, with_pair, commits_of, with_lines, with_outcome, lineage_of, between, exchange_of, exchange, pointed_after, repoint_to, repoint_of, respec_at, respec_of, shown_of, show_of, step}
-use Rattle.cascade_world.proofs.Finding.{consumer_node_name}
+use Rattle.cascade_world.specs.World.{WorldState, Step, no_nodes, provider_node_named, consumer_node_named, declare_root, new_consumer_node, with_consumer, with_replica, declare_consumer, declare_replica, write_to, limited, limit_log, limit_queue, with_pair, commits_of, with_lines, with_outcome, lineage_of, exchange, pointed_after, repoint, respec, shown_of, show_of, step}
+use Rattle.cascade_world.proofs.Found as lookup
 use Rattle.cascade_laws.specs.Headline.{EachReportsRight, LinesAreRight}
 use Rattle.cascade_laws.specs.Reports.{IsSending, IsTaking, IsAtMost, AreUpTo, IsOpening, IsReportOf, AreReportsOf}
 use Rattle.cascade_laws.specs.Run.{Runs}
@@ -32,41 +25,16 @@ abbrev Reports : (List ReportLine → Type 0) → Step → Type 0
 Reports P (Ok next) = P next.1
 Reports P (Err cause) = Unit {0}
 
-reports_if : (P : List ReportLine → Type 0) (b : Bool) (one other : Step) → Reports P one → Reports P other → Reports P (cond b one other)
-reports_if P true one other h k = h
-reports_if P false one other h k = k
-
 abbrev IsSilence : List ReportLine → Type 0
 IsSilence lines = lines ≡ []
-
--- ---- declarations
-
-room_reports : (state after : WorldState) → Reports IsSilence (where_room state after)
-room_reports state after = reports_if IsSilence (nat_le most_nodes state.nodes) (Err (LimitReached most_nodes)) (Ok (after, [])) tt refl
-
-follow_reports : (state : WorldState) (search : Search) (after : WorldState) (found : Option ProviderNode) → Reports IsSilence (follow state search after found)
-follow_reports state search after None = tt
-follow_reports state search after (Some provider_node) = reports_if IsSilence (not (is_offered search provider_node)) (Err OutsideSuffix) (where_room state after) tt (room_reports state after)
-
-root_reports : (state : WorldState) (name : List ℕ) (suffix : List (List TypeAndValue)) → Reports IsSilence (declare_root state name suffix)
-root_reports state name suffix = reports_if IsSilence (has_node name state) (Err NameTaken) (where_room state (with_root state name suffix)) tt (room_reports state (with_root state name suffix))
-
-declared_reports : (state : WorldState) (name source : List ℕ) (search : Search) (after : WorldState) → Reports IsSilence (declare_consumer_node state name source search after)
-declared_reports state name source search after =
-    reports_if IsSilence (has_node name state) (Err NameTaken) (follow state search after (provider_node_named source state)) tt (follow_reports state search after (provider_node_named source state))
 
 -- ---- providers
 
 abbrev IsWriting : List ℕ → List ReportLine → Type 0
 IsWriting name lines = (code : ℕ) × (writes : ℕ) × (lines ≡ reported.Wrote name code writes ∷ [])
 
-write_reports : (state : WorldState) (name : List ℕ) (change : Change) (found : Option ProviderNode) → Reports (IsWriting name) (write_to state name change found)
-write_reports state name change None = tt
-write_reports state name change (Some provider_node) = (_, _, refl)
-
-limited_reports : (state : WorldState) (name : List ℕ) (change : ProviderState → ProviderState) (found : Option ProviderNode) → Reports IsSilence (limited state name change found)
-limited_reports state name change None = tt
-limited_reports state name change (Some provider_node) = refl
+limited_reports : (state : WorldState) (name : List ℕ) (change : ProviderState → ProviderState) → Reports IsSilence (limited state name change (provider_node_named name state))
+limited_reports state name change = lookup.if_found (Reports IsSilence) (limited state name change) (provider_node_named name state) tt (λ r e. refl)
 
 -- ---- consumers
 
@@ -79,49 +47,16 @@ outcome_reports P state name (Ok next) h = lines_report P next.1 (commits_of (wi
 outcome_reports P state name (Err cause) h = tt
 
 exchange_reports : (P : List ℕ → List ReportLine → Type 0) (state : WorldState) (name : List ℕ) (part : Agreement → ExchangeOutcome) → GivesAll P part → Reports (P name) (exchange state name part)
-exchange_reports P state name part gives = by (consumer_node_named name state) refl
-  where
-    by_source : (f : ConsumerNode) (found : Option ProviderNode) → name ≡ f.name → Reports (P name) (between state f part found)
-    by_source f None here = tt
-    by_source f (Some provider_node) here =
-        let pair : Agreement = record { provider = provider_node.provider; consumer_node = f; lineage = lineage_of state provider_node } in outcome_reports (P name) state name (part pair) (gives name pair (sym here))
-
-    by : (found : Option ConsumerNode) → consumer_node_named name state ≡ found → Reports (P name) (exchange_of state part found)
-    by None e = tt
-    by (Some f) e = by_source f (provider_node_named f.source state) (consumer_node_name state.consumer_nodes name f e)
+exchange_reports P state name part gives =
+    lookup.exchanged (λ n. Reports (P n)) (λ n cause. tt) state name part (λ f r e there.
+    let pair = agreement_of r.provider f (lineage_of state r) in outcome_reports (P f.name) state f.name (part pair) (gives f.name pair refl))
 
 pointed_reports : (P : List ReportLine → Type 0) (name source : List ℕ) (done : Step) → Reports P done → Reports P (pointed_after name source done)
 pointed_reports P name source (Ok next) h = h
 pointed_reports P name source (Err cause) h = tt
 
-repoint_reports : (state : WorldState) (name source : List ℕ) (found : Option ConsumerNode) → Reports (IsAtMost (reported.Cut name)) (repoint_of state name source found)
-repoint_reports state name source None = tt
-repoint_reports state name source (Some f) = by (provider_node_named source state)
-  where
-    moved : Reports (IsAtMost (reported.Cut name)) (pointed_after name source (exchange state name idle))
-    moved = pointed_reports (IsAtMost (reported.Cut name)) name source (exchange state name idle) (exchange_reports (λ n. IsAtMost (reported.Cut n)) state name idle idle_gives)
-
-    by : (to : Option ProviderNode) → Reports (IsAtMost (reported.Cut name)) (repoint_to state name source f to)
-    by None = tt
-    by (Some provider_node) =
-        reports_if (IsAtMost (reported.Cut name)) (is_fed state name source) (Err Circle) (cond (not (is_offered f.consumer.spec provider_node)) (Err OutsideSuffix) (pointed_after name source (exchange state name idle))) tt
-        (reports_if (IsAtMost (reported.Cut name)) (not (is_offered f.consumer.spec provider_node)) (Err OutsideSuffix) (pointed_after name source (exchange state name idle)) tt moved)
-
-respec_reports : (state : WorldState) (name : List ℕ) (search : Search) (found : Option ConsumerNode) → Reports (IsRespeccing name) (respec_of state name search found)
-respec_reports state name search None = tt
-respec_reports state name search (Some f) = by (provider_node_named f.source state)
-  where
-    by : (to : Option ProviderNode) → Reports (IsRespeccing name) (respec_at state name search to)
-    by None = tt
-    by (Some provider_node) =
-        reports_if (IsRespeccing name) (not (is_offered search provider_node)) (Err OutsideSuffix) (exchange state name (respecs search)) tt (exchange_reports IsRespeccing state name (respecs search) (respecs_gives search))
-
 abbrev IsShowing : List ℕ → List ReportLine → Type 0
 IsShowing name lines = (entries : List Entry) × (lines ≡ reported.Shown name entries ∷ [])
-
-show_reports : (state : WorldState) (name : List ℕ) (found : Option (List Entry)) → Reports (IsShowing name) (show_of state name found)
-show_reports state name None = tt
-show_reports state name (Some entries) = (entries, refl)
 
 -- ---- each order
 
@@ -142,16 +77,18 @@ exchanged_reports : (P : List ℕ → List ReportLine → Type 0) (order : Order
 exchanged_reports P order state name part turns gives = anyhow (P name) order (exchange state name part) turns (exchange_reports P state name part gives)
 
 order_reports : (state : WorldState) (order : Order) → Reports (IsReportIfRight order) (step state order)
-order_reports state (asks.Provider name suffix) = anyhow IsSilence (asks.Provider name suffix) (declare_root state name suffix) (λ lines h. h) (root_reports state name suffix)
+order_reports state (asks.Provider name suffix) =
+    anyhow IsSilence (asks.Provider name suffix) (declare_root state name suffix) (λ lines h. h) (lookup.root_declared (Reports IsSilence) (λ cause. tt) state name suffix (λ new room. refl))
 order_reports state (asks.Consumer name source search reload) =
     anyhow IsSilence (asks.Consumer name source search reload) (declare_consumer state name source search reload) (λ lines h. h)
-    (declared_reports state name source search (with_consumer state (new_consumer_node name source search reload)))
+    (lookup.consumer_declared (Reports IsSilence) (λ cause. tt) state name source search (with_consumer state (new_consumer_node name source search reload)) (λ new r there inside room. refl))
 order_reports state (asks.Replica name source search reload) =
     anyhow IsSilence (asks.Replica name source search reload) (declare_replica state name source search reload) (λ lines h. h)
-    (declared_reports state name source search (with_replica state (new_consumer_node name source search reload)))
+    (lookup.consumer_declared (Reports IsSilence) (λ cause. tt) state name source search (with_replica state (new_consumer_node name source search reload)) (λ new r there inside room. refl))
 order_reports state (asks.Clock time) = λ before said right. refl
 order_reports state (asks.Write name change) =
-    let found = provider_node_named name state in anyhow (IsWriting name) (asks.Write name change) (write_to state name change found) (λ lines h. h) (write_reports state name change found)
+    let found = provider_node_named name state in
+    anyhow (IsWriting name) (asks.Write name change) (write_to state name change found) (λ lines h. h) (lookup.if_found (Reports (IsWriting name)) (write_to state name change) found tt (λ r e. (_, _, refl)))
 order_reports state (asks.OpenOnce name) = exchanged_reports IsOpening (asks.OpenOnce name) state name (opens RefreshOnly) (λ lines h. h) (opens_gives RefreshOnly)
 order_reports state (asks.OpenStay name) = exchanged_reports IsOpening (asks.OpenStay name) state name (opens RefreshAndPersist) (λ lines h. h) (opens_gives RefreshAndPersist)
 order_reports state (asks.Send name count) = exchanged_reports (λ n. AreUpTo count n (IsSending n)) (asks.Send name count) state name (sent count) (λ lines h. h) (sent_gives count)
@@ -161,18 +98,17 @@ order_reports state (asks.Settle name) = settled_reports name (exchange state na
 order_reports state (asks.Lose name) = exchanged_reports (IsHolding None) (asks.Lose name) state name lost (λ lines h. h) lost_gives
 order_reports state (asks.Cookie name text) = exchanged_reports (IsHolding (Some text)) (asks.Cookie name text) state name (given text) (λ lines h. h) (given_gives text)
 order_reports state (asks.Repoint name source) =
-    let found = consumer_node_named name state in
-    anyhow (IsAtMost (reported.Cut name)) (asks.Repoint name source) (repoint_of state name source found) (λ lines h. h) (repoint_reports state name source found)
+    anyhow (IsAtMost (reported.Cut name)) (asks.Repoint name source) (repoint state name source) (λ lines h. h)
+    (lookup.repointed (λ n. Reports (IsAtMost (reported.Cut n))) (λ n cause. tt) state name source (λ f s e there free inside.
+    pointed_reports (IsAtMost (reported.Cut f.name)) f.name source (exchange state f.name idle) (exchange_reports (λ n. IsAtMost (reported.Cut n)) state f.name idle idle_gives)))
 order_reports state (asks.Respec name search) =
-    let found = consumer_node_named name state in
-    anyhow (IsRespeccing name) (asks.Respec name search) (respec_of state name search found) (λ lines h. h) (respec_reports state name search found)
-order_reports state (asks.Log name limit) =
-    anyhow IsSilence (asks.Log name limit) (limit_log state name limit) (λ lines h. h) (limited_reports state name (λ provider. log_limited provider limit) (provider_node_named name state))
-order_reports state (asks.Queue name limit) =
-    anyhow IsSilence (asks.Queue name limit) (limit_queue state name limit) (λ lines h. h) (limited_reports state name (λ provider. queue_limited provider limit) (provider_node_named name state))
+    anyhow (IsRespeccing name) (asks.Respec name search) (respec state name search) (λ lines h. h)
+    (lookup.respecced (λ n. Reports (IsRespeccing n)) (λ n cause. tt) state name search (λ f r e there inside. exchange_reports IsRespeccing state f.name (respecs search) (respecs_gives search)))
+order_reports state (asks.Log name limit) = anyhow IsSilence (asks.Log name limit) (limit_log state name limit) (λ lines h. h) (limited_reports state name (λ provider. log_limited provider limit))
+order_reports state (asks.Queue name limit) = anyhow IsSilence (asks.Queue name limit) (limit_queue state name limit) (λ lines h. h) (limited_reports state name (λ provider. queue_limited provider limit))
 order_reports state (asks.Show name) =
     let found = shown_of (provider_node_named name state) (consumer_node_named name state) in
-    anyhow (IsShowing name) (asks.Show name) (show_of state name found) (λ lines h. h) (show_reports state name found)
+    anyhow (IsShowing name) (asks.Show name) (show_of state name found) (λ lines h. h) (lookup.if_found (Reports (IsShowing name)) (show_of state name) found tt (λ entries e. (entries, refl)))
 
 -- ---- runs
 

@@ -28,7 +28,6 @@ going-other number p later g opening entries stays goes = record {
   whole = goes.whole;
   cut = goes.cut;
   lasts = goes.lasts;
-  all = goes.all;
   linked = goes.linked;
   pending = goes.pending;
   left = goes.left;

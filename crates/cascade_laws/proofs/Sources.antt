@@ -1,9 +1,9 @@
 -- A provider without writes is a source, a new consumer is fed by it, and a write and a commit keep both.
 use Rattle.std.proofs.Common.{◌≡◌, ◌+◌, ◌<◌, ◌≤◌, ℕ, zero, suc, Bool, true, false, cond, List, [], ◌∷◌, ◌++◌, length, take, Option, Some, None, refl, ap, sym, ◌∙◌, inl, inr, arith, append_assoc, append-nil, subst}
-use Rattle.std.specs.Prelude.{◌⊎◌, ◌&&◌, not, Result, Ok, Err, IfSome, option_map, is_none, nat_lt, nat_le}
+use Rattle.std.specs.Prelude.{◌⊎◌, Result, Ok, Err, IfSome, option_map, is_none, nat_lt, nat_le}
 use Rattle.std.specs.Option.{option_or}
 use Rattle.std.proofs.Math.Seq.{take-length}
-use Rattle.std.proofs.lemmas.Bool.{and_parts, le-ltb, ltb-true, false≢true}
+use Rattle.std.proofs.lemmas.Bool.{and_parts, le-ltb, ltb-true, true≢false}
 use Rattle.std.proofs.lemmas.List.{length-append}
 use Rattle.ldap_constants.specs.declared.result_codes.TheConstants.{ADMIN_LIMIT_EXCEEDED}
 use Rattle.csn_cookie.specs.Csn.{IsCsn, start, is_before}
@@ -23,7 +23,7 @@ use Rattle.directory_writes.proofs.Commits.{commit_open}
 use Rattle.directory_writes.proofs.Judged.{IsJudged, judged_is}
 use Rattle.directory_writes.proofs.Csns.{rises-none, rises-push, next_rises}
 use Rattle.directory_writes.proofs.Writes.{entries_after-push, last_csn-push}
-use Rattle.directory_writes.proofs.Distinct.{changed-at, changed-was, distinct-changed}
+use Rattle.directory_writes.proofs.Distinct.{changed-was, distinct-changed}
 use Rattle.directory_writes.proofs.Promised.{IsPromised, prefix-push, prefixes-push, promised-push}
 use Rattle.entry_tree.specs.Codes.{code_of}
 use Rattle.entry_tree.specs.Effects.{committed, effect}
@@ -43,24 +43,25 @@ use Rattle.sync_model.specs.Stream.{SyncOperation, group, later}
 use Rattle.sync_model.proofs.NextMessages.{HasNext}
 use Rattle.sync_wire.proofs.Servable.{CanBeServed}
 use Rattle.sync_provider.specs.Committing.{fault_of, commit_refusal}
-use Rattle.sync_provider.specs.HandingOut.{search_at}
+use Rattle.sync_provider.specs.Law.{Delivers}
 use Rattle.sync_provider.specs.Machine.{ProviderState, each_informed, after_judged, judged_by, after_commit, log_limited, queue_limited}
-use Rattle.sync_provider.specs.Queueing.{group_of, pushed, informed}
-use Rattle.sync_provider.specs.Search.{SearchState, session_of, refresh_from, pending}
+use Rattle.sync_provider.specs.Queueing.{group_of, informed}
+use Rattle.sync_provider.specs.Search.{SearchState, session_of, pending}
 use Rattle.sync_provider.specs.declared.provider.Kind.{Kind}
 use Rattle.sync_provider.specs.declared.provider.Kind.TheVariants.{Root, Replica}
 use Rattle.sync_provider.specs.declared.writing.CommitFault.{CommitFault}
 use Rattle.sync_provider.specs.declared.writing.CommitFault.TheVariants as fault
 use Rattle.sync_provider.proofs.Commits.{unopposed}
-use Rattle.sync_provider.proofs.Informed.{Grows, Ends, IsPushed, pushed_is}
+use Rattle.sync_provider.proofs.Growing.{informed_at, stream_more}
+use Rattle.sync_provider.proofs.Informed.{pending_over, IsSame, informed_same, informed_ends, delivers_longer, informed_delivers}
 use Rattle.sync_provider.proofs.Longer.{new, stream_same, place_longer, place_grows}
 use Rattle.sync_provider.proofs.Whereabouts.{IsWhere}
 use Rattle.cascade_nodes.specs.declared.node.ConsumerNode.{ConsumerNode}
-use Rattle.cascade_nodes.proofs.Fed.{waits, cut_waits, IsPending, HasPending, IsAtRest}
+use Rattle.cascade_nodes.proofs.Fed.{waits, IsPending, HasPending, IsAtRest}
 use Rattle.cascade_world.specs.Cookies.{held_cookie}
 use Rattle.cascade_world.specs.Directory.{logged_directory, wrote_read}
 use Rattle.cascade_laws.specs.Headline.{Opening, Known, BeginsFrom, session_over, stream_over, busy}
-use Rattle.cascade_laws.proofs.Feeding.{Remains, IsSource, GoesOn, IsGoing, IsFed, RestIsFed, RestsAreFed, FreshIsSource, KeepsAll, WritesAreKept, LimitsAreKept, QueuesAreKept, IsCommitted, CommitIs, CommitsAreKept}
+use Rattle.cascade_laws.proofs.Feeding.{IsSource, GoesOn, IsGoing, IsFed, RestIsFed, RestsAreFed, FreshIsSource, KeepsAll, WritesAreKept, LimitsAreKept, QueuesAreKept, IsCommitted, CommitIs, CommitsAreKept}
 
 abbrev Name : Type 0
 Name = List (List TypeAndValue)
@@ -150,174 +151,141 @@ module _ (number : ℕ) (suffix : Name) (p : ProviderState) (w : Write) (source 
   abbrev longer : SyncOperation
   longer = new number opening.persists g.consumer.spec writes w
 
-  abbrev change : SearchState → SearchState
-  change s = informed p.queue_limit p.directory w s
-
-  abbrev more : List SyncMessage
-  more = group longer (length writes)
-
   grown : length (writes ++ w ∷ []) ≡ length writes + 1
   grown = length-append writes (w ∷ [])
+
+  within : opening.writes + goes.count ≤ length writes
+  within = omega (arith, goes.upto)
 
   from_now : BeginsFrom number (take opening.writes (writes ++ w ∷ [])) opening.cookie (number_of goes.start)
   from_now =
       subst (λ ws. BeginsFrom number ws opening.cookie (number_of goes.start)) (sym (prefix-push writes w opening.writes (omega (arith, goes.upto)))) goes.from
 
   whole_now : goes.taken ++ goes.ahead ≡ stream_over number g.consumer.spec (writes ++ w ∷ []) opening goes.start goes.count
-  whole_now = goes.whole ∙ sym (stream_same number opening.persists g.consumer.spec writes w goes.start opening.writes goes.count goes.upto)
+  whole_now = goes.whole ∙ sym (stream_same number opening.persists g.consumer.spec writes w goes.start opening.writes goes.count within)
 
   place_now : IsWhere longer goes.start opening.writes goes.count entries g.consumer.copy goes.taken goes.ahead
-  place_now = place_longer number opening.persists g.consumer.spec writes w goes.start opening.writes goes.count goes.upto entries g.consumer.copy goes.taken goes.ahead goes.place
+  place_now = place_longer number opening.persists g.consumer.spec writes w goes.start opening.writes goes.count within entries g.consumer.copy goes.taken goes.ahead goes.place
 
-  -- what is pending is as it was, or is the end
-  still_goes : (cut : Bool) (messages : List SyncMessage) → waits opening.persists cut ≡ false → (cut ≡ true → opening.persists ≡ true) → Remains cut goes.ahead (goes.linked ++ messages)
-      → HasPending after.searches g.consumer.spec opening.persists cut g.search messages → GoesOn number after g opening entries
-  still_goes cut messages ends lasts left has = record {
-    count = goes.count;
-    upto = omega (arith, goes.upto, grown);
-    start = goes.start;
-    from = from_now;
-    taken = goes.taken;
-    ahead = goes.ahead;
-    whole = whole_now;
-    cut = cut;
-    lasts = lasts;
-    all = λ waiting. let bad : true ≡ false = sym waiting ∙ ends in let never : ⊥ = cc in absurd never;
-    linked = goes.linked;
-    pending = messages;
-    left = left;
-    reported = goes.reported;
-    link = goes.link;
-    search = has;
-    place = place_now;
-  }
+  -- ---- what is in the link and what is pending, after the write
 
-  -- a search without a queue
-  idle_search : (cut : Bool) (messages : List SyncMessage) → waits opening.persists cut ≡ false → (own : Option ℕ) → HasPending p.searches g.consumer.spec opening.persists cut own messages
-      → HasPending after.searches g.consumer.spec opening.persists cut own messages
-  idle_search cut messages ends None has = has
-  idle_search cut messages ends (Some at) has = record {
-    search = has.search;
-    found = changed-at change p.searches at has.search has.found ∙ ap Some same;
-    id = has.id;
-    spec = has.spec;
-    persists = has.persists;
-    over = has.over;
-    same = has.same;
-    some = has.some;
+  -- what the write sends
+  abbrev next : List SyncMessage
+  next = cond opening.persists (group longer (opening.writes + goes.count)) []
+
+  record IsInformed : Type 0 where
+    cut : Bool
+    lasts : cut ≡ true → opening.persists ≡ true
+    pending : List SyncMessage
+    left : Delivers cut (goes.linked ++ pending) (goes.ahead ++ next)
+    search : HasPending after.searches g.consumer.spec opening.persists cut g.search pending
+
+  -- a search that is over at the provider, whose last messages are in the link
+  closed_informed : g.search ≡ None → waits opening.persists goes.cut ≡ false → HasPending p.searches g.consumer.spec opening.persists goes.cut None goes.pending → IsInformed
+  closed_informed own ends has = record {
+    cut = goes.cut;
+    lasts = goes.lasts;
+    pending = goes.pending;
+    left = by opening.persists goes.cut refl ends;
+    search = subst (λ o. HasPending after.searches g.consumer.spec opening.persists goes.cut o goes.pending) (sym own) has;
   }
     where
-      same : change has.search ≡ has.search
-      same =
-          (λ i. cond (has.persists i && not (has.over i)) (pushed p.queue_limit (group_of p.directory has.search w) has.search) has.search)
-          ∙ ap (λ b. cond b (pushed p.queue_limit (group_of p.directory has.search w) has.search) has.search) ends
+      by : (persists cut : Bool) → goes.cut ≡ cut → waits persists cut ≡ false
+          → Delivers goes.cut (goes.linked ++ goes.pending) (goes.ahead ++ cond persists (group longer (opening.writes + goes.count)) [])
+      by false cut is ends = subst (Delivers goes.cut (goes.linked ++ goes.pending)) (sym (append-nil goes.ahead)) goes.left
+      by true true is ends = delivers_longer goes.cut (goes.linked ++ goes.pending) goes.ahead (group longer (opening.writes + goes.count)) is goes.left
+      by true false is bad = absurd (true≢false bad)
 
-  -- ---- one with a queue
+  -- a search that is open
+  module _ (at : ℕ) (own : g.search ≡ Some at) (has : IsPending p.searches g.consumer.spec opening.persists goes.cut at goes.pending) where
+    abbrev now : SearchState
+    now = informed p.queue_limit p.directory w has.search
 
-  module _ (cut_is : goes.cut ≡ false) (persists_is : opening.persists ≡ true) (at : ℕ) (own : g.search ≡ Some at) (has : IsPending p.searches g.consumer.spec opening.persists goes.cut at goes.pending) where
-    whole_count : opening.writes + goes.count ≡ length writes
-    whole_count = goes.all ((λ i. waits (persists_is i) (cut_is i)) ∙ refl)
+    is_same : IsSame has.search now
+    is_same = informed_same p.queue_limit p.directory w has.search
 
-    open_is : has.search.over ≡ false
-    open_is = has.over ∙ cut_is
-
-    group_is : group_of p.directory has.search w ≡ more
+    group_is : group_of p.directory has.search w ≡ group longer (length writes)
     group_is =
         (λ i. group (session_of (has.persists i) p.directory.sid p.directory.history (has.spec i) (writes ++ w ∷ [])) (length writes))
         ∙ (λ i. group (session_of opening.persists (ap (λ (d : DirectoryState). d.sid) source.directory i) (ap (λ (d : DirectoryState). d.history) source.directory i) g.consumer.spec (writes ++ w ∷ [])) (length writes))
 
-    abbrev now : SearchState
-    now = pushed p.queue_limit more has.search
+    sent_is : cond has.search.persists (group_of p.directory has.search w) [] ≡ next
+    sent_is = λ i. cond (has.persists i) ((group_is ∙ ap (group longer) (sym goes.upto)) i) []
 
-    is_pushed : IsPushed has.search now more
-    is_pushed = pushed_is p.queue_limit has.search more open_is
+    delivers_now : Delivers now.over (goes.linked ++ pending now) (goes.ahead ++ next)
+    delivers_now =
+        subst (λ sent. Delivers now.over (goes.linked ++ pending now) (goes.ahead ++ sent)) sent_is
+        (informed_delivers p.queue_limit p.directory w has.search goes.linked goes.ahead
+        (subst (λ o. Delivers o (goes.linked ++ pending has.search) goes.ahead) (sym has.over)
+        (subst (λ ms. Delivers goes.cut (goes.linked ++ ms) goes.ahead) (sym has.same) goes.left)))
 
-    change_is : change has.search ≡ now
-    change_is =
-        (λ i. cond ((has.persists ∙ persists_is) i && not (open_is i)) (pushed p.queue_limit (group_is i) has.search) has.search)
+    -- one that ends with its refresh is as before
+    still : opening.persists ≡ false → now ≡ has.search
+    still ends = informed_ends p.queue_limit p.directory w has.search (has.persists ∙ ends)
 
-    found_now : search_at after.searches at ≡ Some now
-    found_now = changed-at change p.searches at has.search has.found ∙ ap Some change_is
+    lasts_now : now.over ≡ true → opening.persists ≡ true
+    lasts_now on = by opening.persists refl
+      where
+        by : (persists : Bool) → opening.persists ≡ persists → opening.persists ≡ true
+        by true is = is
+        by false is = goes.lasts (sym (ap (λ (s : SearchState). s.over) (still is) ∙ has.over) ∙ on)
 
-    left_is : goes.linked ++ goes.pending ≡ goes.ahead
-    left_is = subst (λ cut. Remains cut goes.ahead (goes.linked ++ goes.pending)) cut_is goes.left
+    some_now : waits opening.persists now.over ≡ false → HasNext (pending now)
+    some_now none = by opening.persists refl now.over refl
+      where
+        by : (persists : Bool) → opening.persists ≡ persists → (over : Bool) → now.over ≡ over → HasNext (pending now)
+        by true mode true on = record { next = busy; later = []; same = pending_over now on }
+        by true mode false off = absurd (true≢false (sym (λ i. waits (mode i) (off i)) ∙ none))
+        by false mode over is = subst HasNext (sym (ap pending (still mode) ∙ has.same)) (has.some (ap (λ b. waits b goes.cut) mode))
 
-    has_now : (cut : Bool) (messages : List SyncMessage) → now.over ≡ cut → pending now ≡ messages → (waits opening.persists cut ≡ false → HasNext messages)
-        → HasPending after.searches g.consumer.spec opening.persists cut g.search messages
-    has_now cut messages over same some =
-        subst (λ o. HasPending after.searches g.consumer.spec opening.persists cut o messages) (sym own) (record {
-          search = now;
-          found = found_now;
-          id = is_pushed.is.id ∙ has.id;
-          spec = is_pushed.is.spec ∙ has.spec;
-          persists = is_pushed.is.persists ∙ has.persists;
-          over = over;
-          same = same;
-          some = some;
-        })
-
-    -- the messages of the write are pending
-    grows_on : Grows has.search now more → GoesOn number after g opening entries
-    grows_on grows = record {
-      count = suc goes.count;
-      upto = omega (arith, whole_count, grown);
-      start = goes.start;
-      from = from_now;
-      taken = goes.taken;
-      ahead = goes.ahead ++ next;
-      whole =
-          sym (append_assoc goes.taken goes.ahead next)
-          ∙ ap (λ ms. ms ++ next) (whole_now ∙ ap (λ b. refresh_from longer goes.start opening.writes ++ cond b (later longer opening.writes goes.count) []) persists_is)
-          ∙ append_assoc (refresh_from longer goes.start opening.writes) (later longer opening.writes goes.count) next
-          ∙ ap (λ b. refresh_from longer goes.start opening.writes ++ cond b (later longer opening.writes goes.count ++ next) []) (sym persists_is);
-      cut = false;
-      lasts = λ bad. absurd (false≢true bad);
-      all = λ waiting. omega (arith, whole_count, grown);
-      linked = goes.linked;
-      pending = goes.pending ++ next;
-      left = sym (append_assoc goes.linked goes.pending next) ∙ ap (λ ms. ms ++ next) left_is;
-      reported = goes.reported;
-      link = goes.link;
+    open_informed : IsInformed
+    open_informed = record {
+      cut = now.over;
+      lasts = lasts_now;
+      pending = pending now;
+      left = delivers_now;
       search =
-          has_now false (goes.pending ++ next) grows.over (grows.same ∙ (λ i. has.same i ++ ap (group longer) (sym whole_count) i))
-          (λ idle. let bad : true ≡ false = ap (λ b. waits b false) (sym persists_is) ∙ idle in let never : ⊥ = cc in absurd never);
-      place = place_grows longer persists_is goes.start opening.writes goes.count entries g.consumer.copy goes.taken goes.ahead place_now;
+          subst (λ o. HasPending after.searches g.consumer.spec opening.persists now.over o (pending now)) (sym own) (record {
+            search = now;
+            found = informed_at p.queue_limit p.directory w p.searches at has.search has.found;
+            id = is_same.id ∙ has.id;
+            spec = is_same.spec ∙ has.spec;
+            persists = is_same.persists ∙ has.persists;
+            over = refl;
+            same = refl;
+            some = some_now;
+          });
     }
-      where
-        next : List SyncMessage
-        next = group longer (opening.writes + goes.count)
 
-    -- or the end is
-    ends_on : Ends now → GoesOn number after g opening entries
-    ends_on ends =
-        still_goes true (busy ∷ []) (cut_waits opening.persists) (λ cut. persists_is) (goes.linked, goes.pending, refl, left_is)
-        (has_now true (busy ∷ []) ends.over ends.same (λ idle. record { next = busy; later = []; same = refl }))
-
-    queue_goes : GoesOn number after g opening entries
-    queue_goes = by is_pushed.then
-      where
-        by : Grows has.search now more ⊎ Ends now → GoesOn number after g opening entries
-        by (inl grows) = grows_on grows
-        by (inr ends) = ends_on ends
+  is_informed : IsInformed
+  is_informed = by g.search refl goes.search
+    where
+      by : (own : Option ℕ) → g.search ≡ own → HasPending p.searches g.consumer.spec opening.persists goes.cut own goes.pending → IsInformed
+      by None own has = closed_informed own has.1 has
+      by (Some at) own has = open_informed at own has
 
   pub going-push : GoesOn number after g opening entries
-  going-push = by goes.cut refl opening.persists refl
-    where
-      idle : waits opening.persists goes.cut ≡ false → GoesOn number after g opening entries
-      idle ends = still_goes goes.cut goes.pending ends goes.lasts goes.left (idle_search goes.cut goes.pending ends g.search goes.search)
-
-      waiting : goes.cut ≡ false → opening.persists ≡ true → (own : Option ℕ) → g.search ≡ own → HasPending p.searches g.consumer.spec opening.persists goes.cut own goes.pending → GoesOn number after g opening entries
-      waiting cut persists None is has =
-          let bad : true ≡ false = sym ((λ i. waits (persists i) (cut i))) ∙ has.1 in
-          let never : ⊥ = cc in
-          absurd never
-      waiting cut persists (Some at) is has = queue_goes cut persists at is has
-
-      by : (cut : Bool) → goes.cut ≡ cut → (mode : Bool) → opening.persists ≡ mode → GoesOn number after g opening entries
-      by false cut true mode = waiting cut mode g.search refl goes.search
-      by false cut false mode = idle (λ i. waits (mode i) (cut i))
-      by true cut true mode = idle (λ i. waits (mode i) (cut i))
-      by true cut false mode = idle (λ i. waits (mode i) (cut i))
+  going-push = record {
+    count = suc goes.count;
+    upto = omega (arith, goes.upto, grown);
+    start = goes.start;
+    from = from_now;
+    taken = goes.taken;
+    ahead = goes.ahead ++ next;
+    whole =
+        sym (append_assoc goes.taken goes.ahead next)
+        ∙ ap (λ ms. ms ++ next) whole_now
+        ∙ sym (stream_more longer goes.start opening.writes goes.count);
+    cut = is_informed.cut;
+    lasts = is_informed.lasts;
+    linked = goes.linked;
+    pending = is_informed.pending;
+    left = is_informed.left;
+    reported = goes.reported;
+    link = goes.link;
+    search = is_informed.search;
+    place = place_grows longer goes.start opening.writes goes.count entries g.consumer.copy goes.taken goes.ahead place_now;
+  }
 
 fed-push : (number : ℕ) (suffix : Name) (p : ProviderState) (w : Write) → IsSource number suffix p → (g : ConsumerNode) (known : Known) → IsFed number p g known → IsFed number (written_once p w) g known
 fed-push number suffix p w source g known fed = record {
@@ -537,7 +505,7 @@ going-limited : (number : ℕ) (p q : ProviderState) (g : ConsumerNode) (opening
     → GoesOn number p g opening entries → GoesOn number q g opening entries
 going-limited number p q g opening entries writes searches goes = record {
   count = goes.count;
-  upto = subst (λ ws. opening.writes + goes.count ≤ length ws) (sym writes) goes.upto;
+  upto = goes.upto ∙ ap (λ (ws : List Write). length ws) (sym writes);
   start = goes.start;
   from = subst (λ ws. BeginsFrom number (take opening.writes ws) opening.cookie (number_of goes.start)) (sym writes) goes.from;
   taken = goes.taken;
@@ -545,7 +513,6 @@ going-limited number p q g opening entries writes searches goes = record {
   whole = goes.whole ∙ ap (λ ws. stream_over number g.consumer.spec ws opening goes.start goes.count) (sym writes);
   cut = goes.cut;
   lasts = goes.lasts;
-  all = λ waiting. goes.all waiting ∙ ap (λ (ws : List Write). length ws) (sym writes);
   linked = goes.linked;
   pending = goes.pending;
   left = goes.left;

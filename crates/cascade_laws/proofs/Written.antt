@@ -22,11 +22,12 @@ use Rattle.cascade_script.specs.Orders.{Order}
 use Rattle.cascade_script.specs.Orders.{Order as asks}
 use Rattle.cascade_world.specs.ReportLines.{ReportLine}
 use Rattle.cascade_world.specs.ReportLines.ReportLine.{Wrote}
-use Rattle.cascade_world.specs.World.{WorldState, provider_node_named, with_provider, write_to, limited}
+use Rattle.cascade_world.specs.World.{WorldState, provider_node_named, with_provider, write_to, limited, limit_log, limit_queue}
 use Rattle.cascade_laws.proofs.Accepted.{time_from-append, accepted_from-push, declared-push}
 use Rattle.cascade_laws.proofs.Exchanges.{After}
 use Rattle.cascade_laws.proofs.Feeding.{IsSource, KeepsAll, WritesAreKept, LimitsAreKept, QueuesAreKept}
 use Rattle.cascade_world.proofs.Finding.{IsChanged, found_after, provider_nodes_by, provider_node_name, provider_changed}
+use Rattle.cascade_world.proofs.Found as lookup
 use Rattle.cascade_laws.proofs.Growing.{count_same, feeds_changed, feeds_more, committer_same, committers_changed, committers_but, committers_more}
 use Rattle.cascade_laws.proofs.Ordered.{IsStill, still_changed, IsQuiet, time_still, provider_node_kept, consumers_still, strangers_still, orders_quiet}
 use Rattle.cascade_laws.proofs.Saying.{IsLeft, left_by_one, left_wrote, clock_more}
@@ -145,29 +146,25 @@ limited_tracked lasts before order said state name r p e quiet same writes kept 
           (committers_but name said state.provider_nodes is.commits);
     }
 
-pub log_after : PromisesLast → LimitsAreKept → (before : List Order) (said : List ReportLine) (state : WorldState) (name : List ℕ) (limit : ℕ) (found : Option ProviderNode) → provider_node_named name state ≡ found → Tracks before said state
-    → After before said (asks.Log name limit) (limited state name (λ provider. log_limited provider limit) found)
-log_after lasts kept before said state name limit None e is = tt
-log_after lasts kept before said state name limit (Some r) e is =
-    let order = asks.Log name limit in
-    let p = log_limited r.provider limit in
-    let all = kept r.provider.directory.history r.provider.directory.suffix r.provider limit (is.feeds.sources name r e) in (
-      subst (λ s. Tracks (before ++ order ∷ []) s (record state { provider_nodes = with_provider name p state.provider_nodes })) (sym (append-nil said))
-          (limited_tracked lasts before order said state name r p e (record { still = λ t. refl; undeclared = refl; untouched = λ other. tt }) (λ consumer now. refl) refl all is),
+limit_after : PromisesLast → (before : List Order) (order : Order) (said : List ReportLine) (state : WorldState) (name : List ℕ) (change : ProviderState → ProviderState) → IsQuiet order → ((consumer : List ℕ) (now : Option Following) → followed consumer now order ≡ now)
+    → ((p : ProviderState) → (change p).directory.writes ≡ p.directory.writes) → ((p : ProviderState) → IsSource p.directory.history p.directory.suffix p → KeepsAll p.directory.history p.directory.suffix p (change p))
+    → Tracks before said state → After before said order (limited state name change (provider_node_named name state))
+limit_after lasts before order said state name change quiet same writes kept is =
+    lookup.if_found (After before said order) (limited state name change) (provider_node_named name state) tt (λ r e. (
+      subst (λ s. Tracks (before ++ order ∷ []) s (record state { provider_nodes = with_provider name (change r.provider) state.provider_nodes })) (sym (append-nil said))
+          (limited_tracked lasts before order said state name r (change r.provider) e quiet same (writes r.provider) (kept r.provider (is.feeds.sources name r e)) is),
       tt,
-    )
+    ))
 
-pub queue_after : PromisesLast → QueuesAreKept → (before : List Order) (said : List ReportLine) (state : WorldState) (name : List ℕ) (limit : ℕ) (found : Option ProviderNode) → provider_node_named name state ≡ found → Tracks before said state
-    → After before said (asks.Queue name limit) (limited state name (λ provider. queue_limited provider limit) found)
-queue_after lasts kept before said state name limit None e is = tt
-queue_after lasts kept before said state name limit (Some r) e is =
-    let order = asks.Queue name limit in
-    let p = queue_limited r.provider limit in
-    let all = kept r.provider.directory.history r.provider.directory.suffix r.provider limit (is.feeds.sources name r e) in (
-      subst (λ s. Tracks (before ++ order ∷ []) s (record state { provider_nodes = with_provider name p state.provider_nodes })) (sym (append-nil said))
-          (limited_tracked lasts before order said state name r p e (record { still = λ t. refl; undeclared = refl; untouched = λ other. tt }) (λ consumer now. refl) refl all is),
-      tt,
-    )
+pub log_after : PromisesLast → LimitsAreKept → (before : List Order) (said : List ReportLine) (state : WorldState) (name : List ℕ) (limit : ℕ) → Tracks before said state → After before said (asks.Log name limit) (limit_log state name limit)
+log_after lasts kept before said state name limit is =
+    limit_after lasts before (asks.Log name limit) said state name (λ provider. log_limited provider limit) (record { still = λ t. refl; undeclared = refl; untouched = λ other. tt }) (λ consumer now. refl) (λ p. refl)
+    (λ p source. kept p.directory.history p.directory.suffix p limit source) is
+
+pub queue_after : PromisesLast → QueuesAreKept → (before : List Order) (said : List ReportLine) (state : WorldState) (name : List ℕ) (limit : ℕ) → Tracks before said state → After before said (asks.Queue name limit) (limit_queue state name limit)
+queue_after lasts kept before said state name limit is =
+    limit_after lasts before (asks.Queue name limit) said state name (λ provider. queue_limited provider limit) (record { still = λ t. refl; undeclared = refl; untouched = λ other. tt }) (λ consumer now. refl) (λ p. refl)
+    (λ p source. kept p.directory.history p.directory.suffix p limit source) is
 
 -- ---- a write
 
@@ -269,10 +266,9 @@ write_tracked lasts before said state name change r e kept is = record {
               provider_node_kept before order x apart (is.orders.provider_nodes n x was.1)
         ]
 
-pub write_after : PromisesLast → WritesAreKept → (before : List Order) (said : List ReportLine) (state : WorldState) (name : List ℕ) (change : Change) (found : Option ProviderNode) → provider_node_named name state ≡ found → Tracks before said state
-    → After before said (asks.Write name change) (write_to state name change found)
-write_after lasts kept before said state name change None e is = tt
-write_after lasts kept before said state name change (Some r) e is =
+pub write_after : PromisesLast → WritesAreKept → (before : List Order) (said : List ReportLine) (state : WorldState) (name : List ℕ) (change : Change) (r : ProviderNode) → provider_node_named name state ≡ Some r → Tracks before said state
+    → After before said (asks.Write name change) (write_to state name change (Some r))
+write_after lasts kept before said state name change r e is =
     let p = wrote_change r.provider state.clock change in
     let line' = Wrote name (change_code r.provider state.clock change) (length p.directory.writes) in
     let all = kept r.provider.directory.history r.provider.directory.suffix r.provider state.clock change (is.feeds.sources name r e) in

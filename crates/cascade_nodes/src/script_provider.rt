@@ -1,15 +1,13 @@
 //! A provider of a script.
-ghost use Rattle.std.specs.Prelude.{◌≡◌, ◌≢◌, ◌<◌, ◌^◌, true, false, length, is_some, None, IfOk, IfErr, IfSome, OnOk, OnErr};
+ghost use Rattle.std.specs.Prelude.{◌≡◌, ◌<◌, ◌^◌, true, false, length, IfOk};
 ghost use Rattle.csn_cookie.specs.Csn as csn_specs;
 ghost use Rattle.entry_tree.specs.Selection.{search_of};
 ghost use Rattle.entry_tree.specs.Fitting.{is_light};
 ghost use Rattle.entry_tree.specs.Sound.{is_commit, is_sound_op, is_sound_put};
 ghost use Rattle.std.specs.List.{list_all};
-ghost use Rattle.ldap_constants.specs.declared.result_codes.TheConstants.{OTHER};
-ghost use Rattle.sync_provider.specs.Committing.{Opposes};
 ghost use Rattle.sync_provider.specs.Accepting as accepting;
 ghost use Rattle.directory_writes.specs.Directory as directory;
-ghost use Rattle.sync_provider.specs.HandingOut as handing;
+ghost use Rattle.sync_provider.specs.Answering.{WriteLeaves, CommitsLeave, HandOutLeaves, DropLeaves};
 ghost use Rattle.sync_provider.specs.Machine as machine;
 ghost use Rattle.sync_provider.specs.Returning.{snapshot_of, HasNoWriteSince};
 ghost use Rattle.cascade_nodes.specs.Opening.{answer_to, after_accepted};
@@ -110,10 +108,7 @@ impl ScriptProvider {
     pub fn write(&mut self, op: Op, now: u64) -> Reply
         requires sound { is_sound_op op ≡ true }
         requires asked { is_commit op ≡ false }
-        ensures code { result.code ≢ OTHER → result.code ≡ machine.write_code self.old op now }
-        ensures state { result.code ≢ OTHER → self.new ≡ machine.wrote self.old op now }
-        ensures err { result.code ≡ OTHER → self.new ≡ self.old }
-        ensures number { result.number ≡ length self.new.directory.writes }
+        ensures leaves { WriteLeaves self.old op now result self.new }
     {
         self.provider.write(op, now)
     }
@@ -126,12 +121,7 @@ impl ScriptProvider {
         requires sound { list_all (λ commit. list_all is_sound_put commit.puts) commits.items
             ≡ true }
         requires light { list_all (λ commit. list_all is_light commit.puts) commits.items ≡ true }
-        ensures accepted { OnOk result (machine.refusal_of_each self.old commits.items now ≡ None) }
-        ensures refused { IfErr result
-            (Opposes (machine.refusal_of_each self.old commits.items now)) }
-        ensures state { OnOk result (self.new ≡ machine.committed_each self.old commits.items now) }
-        ensures err { OnErr result (self.new ≡ self.old) }
-        ensures number { IfOk result (λ number. number ≡ length self.new.directory.writes) }
+        ensures leaves { CommitsLeave self.old commits.items now result self.new }
     {
         self.provider.commit_each(commits, now)
     }
@@ -150,7 +140,8 @@ impl ScriptProvider {
         self.provider.set_queue_limit(limit);
     }
 
-    /// Opens a search for what is wanted with this value of its control, or reports what rejects it.
+    /// Opens a search for what is wanted with this value of its control, or reports what rejects
+    /// it.
     #[tactic(auto, using(crate::proofs::Asked::answered, crate::proofs::Asked::accepted_state, crate::proofs::Asked::accepted_ours))]
     pub fn accept(&mut self, wanted: Spec, control: Octets) -> Accepted
         ensures answer { accepting.Answers result (answer_to self.old (search_of wanted) control) }
@@ -168,13 +159,7 @@ impl ScriptProvider {
     /// message none is asked for.
     #[tactic(auto, using(crate::proofs::Asked::turn_ours))]
     pub fn hand_out(&mut self, number: u64) -> Handed
-        ensures turn { IfSome (handing.turn_of result)
-            (λ turn. turn ≡ handing.turn_at self.old.searches number) }
-        ensures memory { result ≡ Handed.NoMemory
-            → handing.has_message (handing.turn_at self.old.searches number) ≡ true }
-        ensures state { self.new ≡ record self.old {
-          searches = handing.after_answer self.old.searches number (handing.turn_of result);
-        } }
+        ensures leaves { HandOutLeaves self.old number result self.new }
         ensures spelled { IsSpelled result }
     {
         self.provider.hand_out(number)
@@ -202,8 +187,7 @@ impl ScriptProvider {
     /// Closes the search with this number. False where none is open.
     #[tactic(auto, using(crate::proofs::Asked::dropped_ours))]
     pub fn drop_search(&mut self, number: u64) -> bool
-        ensures open { result ≡ is_some (handing.search_at self.old.searches number) }
-        ensures state { self.new ≡ machine.dropped self.old number }
+        ensures leaves { DropLeaves self.old number result self.new }
     {
         self.provider.drop_search(number)
     }

@@ -1,5 +1,5 @@
 -- Refusals of a script.
-use Rattle.std.specs.Prelude.{◌≡◌, ℕ, Option, Some, None, Result, Ok, Err}
+use Rattle.std.specs.Prelude.{◌≡◌, ℕ, Option, None, Result, Err}
 use Rattle.cascade_script.specs.declared.fault.ScriptFault.{ScriptFault}
 use Rattle.cascade_script.specs.declared.fault.Cause.{Cause}
 use Rattle.cascade_script.specs.declared.fault.Cause.TheVariants.{BadCommand, NoMemory}
@@ -14,10 +14,9 @@ IsBadCommand line at BadCommand read = (read ≡ None) × (at ≡ line)
 IsBadCommand line at NoMemory read = Unit {0}
 IsBadCommand line at _ read = ⊥
 
--- the view of a function's answer is what that line holds
-abbrev pub Gives : {X Y : Type 0} → ℕ → (X → Y) → Result X ScriptFault → Option Y → Type 0
-Gives line view (Ok x) read = read ≡ Some (view x)
-Gives line view (Err fault) read = IsBadCommand line fault.line fault.cause read
+-- the fault is that of the line
+abbrev pub Fails : {Y : Type 0} → ℕ → ScriptFault → Option Y → Type 0
+Fails line fault read = IsBadCommand line fault.line fault.cause read
 
 -- out of memory says nothing, and any other cause is that of the answer, at that line
 abbrev pub RefusedAt : {Y : Type 0} → ℕ → ℕ → Cause → Result Y Cause → Type 0

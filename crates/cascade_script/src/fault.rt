@@ -22,8 +22,8 @@ pub enum Cause {
     Circle,
     /// The base of a consumer is not at or below its provider's suffix.
     OutsideSuffix,
-    /// A consumer would get a cookie that names more of a node's history than the one that it holds:
-    /// the text of its own, where it has one, and the text that it would get.
+    /// A consumer would get a cookie that names more of a node's history than the one that it
+    /// holds: the text of its own, where it has one, and the text that it would get.
     LaterCookie(Option<Octets>, Octets),
     NoMemory,
 }

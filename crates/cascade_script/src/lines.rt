@@ -26,8 +26,8 @@ fn length_up_to_last(bytes: &[u8], mark: u8) -> usize
     length
 }
 
-/// How many bytes of a text are kept: all, or those of the lines before the one that holds the first
-/// byte beyond the most.
+/// How many bytes of a text are kept: all, or those of the lines before the one that holds the
+/// first byte beyond the most.
 fn kept_length(text: &[u8], most: usize) -> usize
     ensures kept { take result text.now ≡ spec.kept_bytes most text.now }
     ensures within { result ≤ length text.now }
@@ -71,7 +71,8 @@ fn length_of_lines(text: &[u8], most: u64) -> Option<usize>
     if at < text.len() { Some(at) } else { None }
 }
 
-/// How many bytes of a script stand in the lines before the first that passes a limit, and that limit.
+/// How many bytes of a script stand in the lines before the first that passes a limit, and that
+/// limit.
 pub fn within_limits(text: &[u8]) -> (usize, Option<u64>)
     ensures lines { lines (take result.0 text.now) ≡ spec.script_lines text.now }
     ensures limit { result.1 ≡ spec.limit_passed text.now }

@@ -128,7 +128,7 @@ pub no_write : (state mid view : WorldState) (j i : ℕ) (part : Agreement → E
 no_write state mid view j i part done r low at same is =
     let r_is : r ≡ record at.provider_node { provider = at.provider } = provider_node_after state mid j i part (Ok done) at r low (subst (λ (s : WorldState). r ≡ get_or s.provider_nodes j r) same is) in
     subst (λ (s : ProviderNode). HasNoWriteSince s.provider.directory done.before.searches) (sym r_is)
-    (no_write_came at.provider_node.provider at.provider.directory done.before.searches at.before.same_searches at.before.same_directory)
+    (no_write_came at.provider_node.provider at.provider.directory done.before.searches at.before.same_searches at.before.same_provider.directory)
 
 -- an exchange that is taken back leaves the nodes as they were
 pub taken_back : (state mid view : WorldState) (j i : ℕ) (part : Agreement → ExchangeOutcome) (done : Performed) (r : ProviderNode) (p' : ProviderState) (f' : ConsumerNode) → j < length state.provider_nodes → i < length state.consumer_nodes
@@ -138,7 +138,7 @@ taken_back state mid view j i part done r p' f' low low' at same is p_is f_is =
     let r_is : r ≡ record at.provider_node { provider = at.provider } = provider_node_after state mid j i part (Ok done) at r low (subst (λ (s : WorldState). r ≡ get_or s.provider_nodes j r) same is) in
     let restored : p' ≡ record at.provider { searches = done.before.searches.searches } = p_is ∙ ap (λ (s : ProviderNode). record s.provider { searches = done.before.searches.searches }) r_is in
     let provider : p' ≡ at.provider_node.provider =
-    back at.provider_node.provider at.provider p' done.before.searches at.before.same_directory at.before.same_limit at.before.same_kind at.before.same_searches restored in
+    back at.provider_node.provider at.provider p' done.before.searches at.before.same_provider at.before.same_searches restored in
     let provider_node : record r { provider = p' } ≡ at.provider_node = ap (λ (s : ProviderNode). record s { provider = p' }) r_is ∙ ap (λ p. record at.provider_node { provider = p }) provider in
     let consumer_node : f' ≡ at.consumer_node = f_is ∙ at.before.same_consumer_node in
     let before : placed state j i at.provider_node at.provider at.consumer ≡ view = sym (same ∙ at.after) in

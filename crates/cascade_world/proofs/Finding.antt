@@ -1,5 +1,5 @@
 -- Nodes by their names, where one more is declared or one is changed.
-use Rattle.std.proofs.Common.{◌≡◌, ◌⊎◌, ℕ, Bool, true, false, Option, Some, None, List, [], ◌∷◌, ◌++◌, length, suc, refl, ap, sym, ◌∙◌, inl, inr}
+use Rattle.std.proofs.Common.{◌≡◌, ◌⊎◌, ℕ, Bool, true, false, ◌||◌, Option, Some, None, List, [], ◌∷◌, ◌++◌, length, suc, refl, ap, sym, ◌∙◌, inl, inr}
 use Rattle.std.proofs.lemmas.Bool.{cases_Bool, or_parts}
 use Rattle.std.specs.List.{list_any}
 use Rattle.std.specs.Prelude.{find, is_some}
@@ -7,7 +7,7 @@ use Rattle.std.specs.Str.{bytes_eq}
 use Rattle.sync_provider.specs.Machine.{ProviderState}
 use Rattle.cascade_nodes.specs.declared.node.ProviderNode.{ProviderNode}
 use Rattle.cascade_nodes.specs.declared.node.ConsumerNode.{ConsumerNode}
-use Rattle.cascade_world.specs.World.{is_provider_node, is_consumer_node, first_changed, with_consumer_node, with_provider, with_provider_node}
+use Rattle.cascade_world.specs.World.{WorldState, is_provider_node, is_consumer_node, has_node, first_changed, with_consumer_node, with_provider, with_provider_node}
 use Rattle.cascade_world.proofs.SameNames.{same_name, itself, pointed_at}
 
 -- ---- any list
@@ -194,6 +194,34 @@ find-nowhere test [] none = refl
 find-nowhere test (z ∷ zs) none =
     let parts = or_parts (test z) (list_any test zs) none in
     rw parts.0 (find-nowhere test zs parts.1)
+
+-- one passes where one is found
+pub list_any-found : {X : Type 0} (test : X → Bool) (xs : List X) (x : X) → find test xs ≡ Some x → list_any test xs ≡ true
+list_any-found test xs x e =
+    elim (cases_Bool (list_any test xs)) [
+      | inl there ↦ there
+      | inr none ↦ let bad : None ≡ Some x = sym (find-nowhere test xs none) ∙ e in cc
+    ]
+
+-- whether one passes stays where the change of the first that the test picks leaves that
+pub list_any-changed : {X : Type 0} (test other : X → Bool) (change : X → X) (xs : List X) → ((x : X) → test x ≡ true → other (change x) ≡ other x) → list_any other (first_changed test change xs) ≡ list_any other xs
+list_any-changed test other change [] same = refl
+list_any-changed test other change (x ∷ xs) same =
+    elim (cases_Bool (test x)) [
+      | inl hit ↦ rw hit (ap (λ b. b || list_any other xs) (same x hit))
+      | inr miss ↦ rw miss (ap (λ b. other x || b) (list_any-changed test other change xs same))
+    ]
+
+-- the name of a node to come is nowhere
+pub record IsNew (state : WorldState) (name : List ℕ) : Type 0 where
+  pub provider_node : provider_nodes_by state.provider_nodes name ≡ None
+  pub consumer_node : consumer_nodes_by state.consumer_nodes name ≡ None
+
+-- a name that no node has is new
+pub is_new : (state : WorldState) (name : List ℕ) → has_node name state ≡ false → IsNew state name
+is_new state name new =
+    let parts = or_parts (list_any (is_provider_node name) state.provider_nodes) (list_any (is_consumer_node name) state.consumer_nodes) new in
+    record { provider_node = find-nowhere (is_provider_node name) state.provider_nodes parts.0; consumer_node = find-nowhere (is_consumer_node name) state.consumer_nodes parts.1 }
 
 -- one more node of a new name
 pub provider_node_pushed : (provider_nodes : List ProviderNode) (s : ProviderNode) → provider_nodes_by provider_nodes s.name ≡ None → IsChanged (provider_nodes_by provider_nodes) (provider_nodes_by (provider_nodes ++ s ∷ [])) s.name s

@@ -1,15 +1,13 @@
 -- Each step leaves the directories of replicas in step with their consumers.
-use Rattle.std.proofs.Common.{◌≡◌, ◌⊎◌, ◌+◌, ℕ, Bool, true, false, cond, Option, Some, None, List, [], ◌∷◌, ◌++◌, refl, ap, sym, subst, ◌∙◌, inl, inr}
-use Rattle.std.proofs.lemmas.Bool.{cases_Bool, true≢false, or_parts}
-use Rattle.std.specs.List.{list_any}
-use Rattle.std.specs.Prelude.{Result, Ok, Err, OnErr, find, not, nat_le}
+use Rattle.std.proofs.Common.{◌≡◌, ◌⊎◌, ◌+◌, ℕ, Bool, false, Option, Some, None, List, [], ◌∷◌, ◌++◌, refl, ap, sym, subst, ◌∙◌, inl, inr}
+use Rattle.std.proofs.lemmas.Bool.{cases_Bool, true≢false}
+use Rattle.std.specs.Prelude.{Result, Ok, Err, OnErr, find}
 use Rattle.std.specs.Str.{bytes_eq}
 use Rattle.directory_writes.specs.Directory.{entries_of, judged, with_judged}
 use Rattle.dn_names.specs.Names.{TypeAndValue}
 use Rattle.entry_tree.specs.History.{state_from}
 use Rattle.entry_tree.specs.Reading.{read_change}
 use Rattle.entry_tree.specs.Selection.{Search}
-use Rattle.entry_tree.specs.declared.entry.Entry.{Entry}
 use Rattle.entry_tree.specs.declared.op.Op.{Op}
 use Rattle.schema_rules.specs.declared.raw.Change.{Change}
 use Rattle.sync_consumer.specs.Committing.{stage_in, IsKept}
@@ -19,33 +17,29 @@ use Rattle.sync_provider.specs.Machine.{ProviderState, fresh, judged_by, log_lim
 use Rattle.sync_provider.specs.declared.provider.Kind.{Kind}
 use Rattle.sync_provider.specs.declared.provider.Kind.TheVariants.{Root, Replica}
 use Rattle.cascade_script.specs.declared.fault.Cause.{Cause}
-use Rattle.cascade_script.specs.declared.fault.Cause.TheVariants.{BadCommand, UnknownNode, NameTaken, BadRecord, LimitReached, OutsideSuffix, LaterCookie, Circle, NoMemory}
+use Rattle.cascade_script.specs.declared.fault.Cause.TheVariants.{BadCommand, UnknownNode, BadRecord, LaterCookie, NoMemory}
 use Rattle.cascade_script.specs.Orders.{Order}
 use Rattle.cascade_script.specs.Orders.{Order as asks}
 use Rattle.cascade_nodes.specs.declared.node.ProviderNode.{ProviderNode}
 use Rattle.cascade_nodes.specs.declared.node.ConsumerNode.{ConsumerNode}
 use Rattle.cascade_nodes.specs.Commits.{commits_all, with_stages, AreHeldAfter, CanCommit}
 use Rattle.cascade_nodes.proofs.Commits.{HasCommitted, has_committed}
-use Rattle.cascade_exchange.specs.Cookies.{most_nodes}
-use Rattle.cascade_exchange.specs.Exchange.{Agreement, ExchangeOutcome, agreement_of, part_of, respecs}
+use Rattle.cascade_exchange.specs.Exchange.{Agreement, ExchangeOutcome, agreement_of, part_of, idle, respecs}
 use Rattle.cascade_exchange.specs.declared.exchange.Exchange.{Exchange}
 use Rattle.cascade_exchange.specs.declared.exchange.Exchange.TheVariants as goes
 use Rattle.cascade_exchange.proofs.Carrying.{Carries, IsCarried, CarriedIn, part_carried, respecs_carried}
-use Rattle.cascade_exchange.proofs.Names.{SameNames, NamedIn, part_named, respecs_named}
+use Rattle.cascade_exchange.proofs.Exchanging.{Alters, AltersIn, wants_of, part_alters, respecs_alters}
 use Rattle.cascade_report.specs.ReportLines.{StoredStage, ReportLine, stages_of}
 use Rattle.cascade_world.specs.Directory.{wrote_read, wrote_change}
 use Rattle.cascade_world.specs.InStep.{IsInStep, IsSteady, AreInStep, OwnCanCommit}
-use Rattle.cascade_world.specs.World.{WorldState, Step, IsStep, Does, no_nodes, step, is_provider_node, is_consumer_node, has_node, provider_node_named, consumer_node_named, first_changed, with_provider, with_consumer_node, with_provider_node, where_room, new_provider_node, with_root, declare_root, with_consumer, with_replica, new_consumer_node, is_offered, follow, declare_consumer_node, write_to, limited, with_pair, with_own, commits_in, commits_of, with_lines, with_outcome, lineage_of, between, exchange_of, exchange, pointed, pointed_after, is_fed, repoint_to, repoint_of, respec_at, respec_of, shown_of, show_of}
-use Rattle.cascade_world.proofs.Finding.{find-push, find-nowhere, IsChanged, found_after, provider_nodes_by, consumer_nodes_by, provider_node_name, consumer_node_name, provider_changed, consumer_node_changed, provider_node_changed, pointed_changed}
+use Rattle.cascade_world.specs.World.{WorldState, Step, IsStep, Does, no_nodes, step, is_provider_node, is_consumer_node, provider_node_named, consumer_node_named, first_changed, with_provider, with_consumer_node, with_provider_node, new_provider_node, with_consumer, with_replica, new_consumer_node, write_to, limited, with_pair, with_own, commits_in, commits_of, with_lines, with_outcome, lineage_of, exchange, pointed, pointed_after, shown_of, show_of}
+use Rattle.cascade_world.proofs.Finding.{find-push, IsChanged, found_after, provider_nodes_by, consumer_nodes_by, provider_node_name, consumer_node_name, provider_changed, consumer_node_changed, provider_node_changed, pointed_changed, IsNew, is_new}
+use Rattle.cascade_world.proofs.Found as lookup
 use Rattle.cascade_world.proofs.SameNames.{itself, pointed_at}
 
 abbrev pub StepKeeps : Step → Type 0
 StepKeeps (Ok next) = AreInStep next.0
 StepKeeps (Err cause) = Unit {0}
-
-if_keeps : (b : Bool) (one other : Step) → StepKeeps one → StepKeeps other → StepKeeps (cond b one other)
-if_keeps true one other h k = h
-if_keeps false one other h k = k
 
 -- what is nowhere is not found by an equal name
 clash : {X : Type 0} (by_name : List ℕ → Option X) (name other : List ℕ) (x : X) → name ≡ other → by_name other ≡ None → by_name name ≡ Some x → ⊥
@@ -84,19 +78,14 @@ wrote_stays now change r f is = by (read_change change)
     }
     by (Err code) = record { kind = is.kind; entries = is.entries }
 
-written : (state : WorldState) (name : List ℕ) (change : Change) (found : Option ProviderNode) → provider_node_named name state ≡ found → AreInStep state → StepKeeps (write_to state name change found)
-written state name change None e steady = tt
-written state name change (Some r) e steady = provider_stays state name r (wrote_change r.provider state.clock change) e (wrote_stays state.clock change r) steady
+written : (state : WorldState) (name : List ℕ) (change : Change) → AreInStep state → StepKeeps (write_to state name change (provider_node_named name state))
+written state name change steady =
+    lookup.if_found StepKeeps (write_to state name change) (provider_node_named name state) tt (λ r e. provider_stays state name r (wrote_change r.provider state.clock change) e (wrote_stays state.clock change r) steady)
 
-log_kept : (state : WorldState) (name : List ℕ) (limit : ℕ) (found : Option ProviderNode) → provider_node_named name state ≡ found → AreInStep state → StepKeeps (limited state name (λ provider. log_limited provider limit) found)
-log_kept state name limit None e steady = tt
-log_kept state name limit (Some r) e steady =
-    provider_stays state name r (log_limited r.provider limit) e (λ f is. record { kind = is.kind; entries = is.entries }) steady
-
-queue_kept : (state : WorldState) (name : List ℕ) (limit : ℕ) (found : Option ProviderNode) → provider_node_named name state ≡ found → AreInStep state → StepKeeps (limited state name (λ provider. queue_limited provider limit) found)
-queue_kept state name limit None e steady = tt
-queue_kept state name limit (Some r) e steady =
-    provider_stays state name r (queue_limited r.provider limit) e (λ f is. record { kind = is.kind; entries = is.entries }) steady
+limit_kept : (state : WorldState) (name : List ℕ) (change : ProviderState → ProviderState) → ((r : ProviderNode) → Stays r (record r { provider = change r.provider })) → AreInStep state
+    → StepKeeps (limited state name change (provider_node_named name state))
+limit_kept state name change stays steady =
+    lookup.if_found StepKeeps (limited state name change) (provider_node_named name state) tt (λ r e. provider_stays state name r (change r.provider) e (stays r) steady)
 
 -- ---- one more node
 
@@ -129,59 +118,28 @@ fresh_holds : (suffix : List (List TypeAndValue)) (sid history : ℕ) (kind : Ki
 unfolding state_from
 fresh_holds suffix sid history kind = refl
 
--- the name of a node to come is nowhere
-pub record IsNew (state : WorldState) (name : List ℕ) : Type 0 where
-  pub provider_nodes : provider_nodes_by state.provider_nodes name ≡ None
-  pub consumer_nodes : consumer_nodes_by state.consumer_nodes name ≡ None
-
-is_new : (state : WorldState) (name : List ℕ) → has_node name state ≡ false → IsNew state name
-is_new state name none =
-    let parts = or_parts (list_any (is_provider_node name) state.provider_nodes) (list_any (is_consumer_node name) state.consumer_nodes) none in
-    record { provider_nodes = find-nowhere (is_provider_node name) state.provider_nodes parts.0; consumer_nodes = find-nowhere (is_consumer_node name) state.consumer_nodes parts.1 }
-
-room_kept : (state after : WorldState) → AreInStep after → StepKeeps (where_room state after)
-room_kept state after steady = if_keeps (nat_le most_nodes state.nodes) (Err (LimitReached most_nodes)) (Ok (after, [])) tt steady
-
-root_kept : (state : WorldState) (name : List ℕ) (suffix : List (List TypeAndValue)) → AreInStep state → StepKeeps (declare_root state name suffix)
-root_kept state name suffix steady = by (has_node name state) refl
-  where
-    by : (taken : Bool) → has_node name state ≡ taken → StepKeeps (cond taken (Err NameTaken) (where_room state (with_root state name suffix)))
-    by true is = tt
-    by false is = room_kept state (with_root state name suffix) (provider_node_declared state (state.nodes + 1) (new_provider_node state Root name suffix) (is_new state name is).consumer_nodes steady)
-
-followed : (state : WorldState) (name source : List ℕ) (search : Search) (after : WorldState) → (IsNew state name → AreInStep after) → StepKeeps (declare_consumer_node state name source search after)
-followed state name source search after steady = by (has_node name state) refl
-  where
-    by_source : IsNew state name → (found : Option ProviderNode) → StepKeeps (follow state search after found)
-    by_source new None = tt
-    by_source new (Some r) = if_keeps (not (is_offered search r)) (Err OutsideSuffix) (where_room state after) tt (room_kept state after (steady new))
-
-    by : (taken : Bool) → has_node name state ≡ taken → StepKeeps (cond taken (Err NameTaken) (follow state search after (provider_node_named source state)))
-    by true is = tt
-    by false is = by_source (is_new state name is) (provider_node_named source state)
-
 consumer_kept : (state : WorldState) (name source : List ℕ) (search : Search) (reload : Bool) → AreInStep state → IsNew state name → AreInStep (with_consumer state (new_consumer_node name source search reload))
 consumer_kept state name source search reload steady new =
     consumer_node_declared state (state.nodes + 1) (new_consumer_node name source search reload)
-    (record { kept = nothing_kept [] refl; own = λ s e. absurd (clash (provider_nodes_by state.provider_nodes) name name s refl new.provider_nodes e) }) steady
+    (record { kept = nothing_kept [] refl; own = λ s e. absurd (clash (provider_nodes_by state.provider_nodes) name name s refl new.provider_node e) }) steady
 
 replica_kept : (state : WorldState) (name source : List ℕ) (search : Search) (reload : Bool) → AreInStep state → IsNew state name → AreInStep (with_replica state (new_consumer_node name source search reload))
 replica_kept state name source search reload steady new =
     consumer_node_declared (record state { nodes = state.nodes + 1; provider_nodes = state.provider_nodes ++ own ∷ [] }) (state.nodes + 1) (new_consumer_node name source search reload)
     (record { kept = nothing_kept [] refl; own = λ s e. by s (find-push (is_provider_node name) state.provider_nodes own s e) })
-    (provider_node_declared state (state.nodes + 1) own new.consumer_nodes steady)
+    (provider_node_declared state (state.nodes + 1) own new.consumer_node steady)
   where
     own : ProviderNode
     own = new_provider_node state Replica name []
 
     by : (s : ProviderNode) → (provider_nodes_by state.provider_nodes name ≡ Some s) ⊎ (own ≡ s) → IsInStep (new_consumer_node name source search reload) s
-    by s (inl was) = absurd (clash (provider_nodes_by state.provider_nodes) name name s refl new.provider_nodes was)
+    by s (inl was) = absurd (clash (provider_nodes_by state.provider_nodes) name name s refl new.provider_node was)
     by s (inr is) = subst (IsInStep (new_consumer_node name source search reload)) is (record { kind = refl; entries = fresh_holds [] (state.nodes + 1) (state.nodes + 1) Replica })
 
 -- ---- an exchange, and the commits of a replica
 
 module _ (state : WorldState) (name : List ℕ) (f : ConsumerNode) (r : ProviderNode) (e : consumer_node_named name state ≡ Some f) (found : provider_node_named f.source state ≡ Some r)
-    (next : Agreement) (lines : List ReportLine) (carried : IsCarried (agreement_of r.provider f (lineage_of state r)) next lines) (named : SameNames (agreement_of r.provider f (lineage_of state r)) next) (steady : AreInStep state) where
+    (next : Agreement) (lines : List ReportLine) (carried : IsCarried (agreement_of r.provider f (lineage_of state r)) next lines) (wants : Search → Search) (alters : Alters wants (agreement_of r.provider f (lineage_of state r)) next lines) (steady : AreInStep state) where
   abbrev mid : WorldState
   mid = with_pair state next
 
@@ -192,11 +150,11 @@ module _ (state : WorldState) (name : List ℕ) (f : ConsumerNode) (r : Provider
   stages = stages_of lines
 
   name_is : name ≡ g.name
-  name_is = consumer_node_name state.consumer_nodes name f e ∙ sym named.name
+  name_is = consumer_node_name state.consumer_nodes name f e ∙ sym alters.name
 
   provider_nodes_are : IsChanged (provider_nodes_by state.provider_nodes) (provider_nodes_by mid.provider_nodes) f.source (record r { provider = next.provider })
   provider_nodes_are =
-      subst (λ n. IsChanged (provider_nodes_by state.provider_nodes) (provider_nodes_by (with_provider n next.provider state.provider_nodes)) f.source (record r { provider = next.provider })) (sym named.source)
+      subst (λ n. IsChanged (provider_nodes_by state.provider_nodes) (provider_nodes_by (with_provider n next.provider state.provider_nodes)) f.source (record r { provider = next.provider })) (sym alters.source)
       (provider_changed state.provider_nodes f.source r next.provider found)
 
   consumer_nodes_are : IsChanged (consumer_nodes_by state.consumer_nodes) (consumer_nodes_by mid.consumer_nodes) name g
@@ -224,8 +182,8 @@ module _ (state : WorldState) (name : List ℕ) (f : ConsumerNode) (r : Provider
       by (inl here) = record {
         was = r;
         there = ap (provider_nodes_by state.provider_nodes) here.0 ∙ found;
-        kind = ap (λ (x : ProviderNode). x.provider.kind) (sym here.1) ∙ carried.kind;
-        entries = ap (λ (x : ProviderNode). entries_of x.provider.directory) (sym here.1) ∙ ap entries_of carried.directory;
+        kind = ap (λ (x : ProviderNode). x.provider.kind) (sym here.1) ∙ alters.kind;
+        entries = ap (λ (x : ProviderNode). entries_of x.provider.directory) (sym here.1) ∙ ap entries_of alters.directory;
       }
       by (inr same) = record { was = s; there = same.1; kind = refl; entries = refl }
 
@@ -319,26 +277,17 @@ module _ (state : WorldState) (name : List ℕ) (f : ConsumerNode) (r : Provider
   pub pair_keeps : StepKeeps (with_lines lines (commits_of mid g stages))
   pair_keeps = committed_keeps (provider_node_named g.name mid) refl
 
-part_keeps : (part : Agreement → ExchangeOutcome) → ((p : Agreement) → CarriedIn p (part p)) → ((p : Agreement) → NamedIn p (part p)) → (state : WorldState) (name : List ℕ) → AreInStep state → StepKeeps (exchange state name part)
-part_keeps part carries named state name steady = by_consumer_node (consumer_node_named name state) refl
+part_keeps : (wants : Search → Search) (part : Agreement → ExchangeOutcome) → ((p : Agreement) → CarriedIn p (part p)) → ((p : Agreement) → AltersIn wants p (part p)) → (state : WorldState) (name : List ℕ) → AreInStep state → StepKeeps (exchange state name part)
+part_keeps wants part carries alters state name steady =
+    lookup.exchanged (λ n. StepKeeps) (λ n cause. tt) state name part (λ f r e there. let pair = agreement_of r.provider f (lineage_of state r) in by f r e there (part pair) (carries pair) (alters pair))
   where
-    by_outcome : (f : ConsumerNode) (r : ProviderNode) → consumer_node_named name state ≡ Some f → provider_node_named f.source state ≡ Some r → (outcome : ExchangeOutcome) → CarriedIn (agreement_of r.provider f (lineage_of state r)) outcome
-        → NamedIn (agreement_of r.provider f (lineage_of state r)) outcome → StepKeeps (with_outcome state outcome)
-    by_outcome f r e found (Ok next) carried same = pair_keeps state name f r e found next.0 next.1 carried same steady
-    by_outcome f r e found (Err cause) carried same = tt
-
-    by_provider_node : (f : ConsumerNode) → consumer_node_named name state ≡ Some f → (found : Option ProviderNode) → provider_node_named f.source state ≡ found → StepKeeps (between state f part found)
-    by_provider_node f e None none = tt
-    by_provider_node f e (Some r) found =
-        let pair = agreement_of r.provider f (lineage_of state r) in
-        by_outcome f r e found (part pair) (carries pair) (named pair)
-
-    by_consumer_node : (found : Option ConsumerNode) → consumer_node_named name state ≡ found → StepKeeps (exchange_of state part found)
-    by_consumer_node None none = tt
-    by_consumer_node (Some f) e = by_provider_node f e (provider_node_named f.source state) refl
+    by : (f : ConsumerNode) (r : ProviderNode) → consumer_node_named f.name state ≡ Some f → provider_node_named f.source state ≡ Some r → (outcome : ExchangeOutcome) → CarriedIn (agreement_of r.provider f (lineage_of state r)) outcome
+        → AltersIn wants (agreement_of r.provider f (lineage_of state r)) outcome → StepKeeps (with_outcome state outcome)
+    by f r e there (Ok next) carried same = pair_keeps state f.name f r e there next.0 next.1 carried wants same steady
+    by f r e there (Err cause) carried same = tt
 
 exchange_keeps : (what : Exchange) (state : WorldState) (name : List ℕ) → AreInStep state → StepKeeps (exchange state name (part_of what))
-exchange_keeps what = part_keeps (part_of what) (part_carried what) (part_named what)
+exchange_keeps what = part_keeps (wants_of what) (part_of what) (part_carried what) (part_alters what)
 
 -- ---- other providers, and other wishes
 
@@ -379,42 +328,17 @@ after_keeps : (name source : List ℕ) (next : Step) → StepKeeps next → Step
 after_keeps name source (Ok next) steady = pointed_keeps name source next.0 steady
 after_keeps name source (Err cause) steady = tt
 
-repoint_keeps : (state : WorldState) (name source : List ℕ) (found : Option ConsumerNode) → AreInStep state → StepKeeps (repoint_of state name source found)
-repoint_keeps state name source None steady = tt
-repoint_keeps state name source (Some f) steady = by (provider_node_named source state)
-  where
-    idles : StepKeeps (pointed_after name source (exchange state name (part_of goes.Idle)))
-    idles = after_keeps name source (exchange state name (part_of goes.Idle)) (exchange_keeps goes.Idle state name steady)
-
-    by : (supplied : Option ProviderNode) → StepKeeps (repoint_to state name source f supplied)
-    by None = tt
-    by (Some r) =
-        if_keeps (is_fed state name source) (Err Circle) (cond (not (is_offered f.consumer.spec r)) (Err OutsideSuffix) (pointed_after name source (exchange state name (part_of goes.Idle)))) tt
-        (if_keeps (not (is_offered f.consumer.spec r)) (Err OutsideSuffix) (pointed_after name source (exchange state name (part_of goes.Idle))) tt idles)
-
-respec_keeps : (state : WorldState) (name : List ℕ) (search : Search) (found : Option ConsumerNode) → AreInStep state → StepKeeps (respec_of state name search found)
-respec_keeps state name search None steady = tt
-respec_keeps state name search (Some f) steady = by (provider_node_named f.source state)
-  where
-    by : (supplied : Option ProviderNode) → StepKeeps (respec_at state name search supplied)
-    by None = tt
-    by (Some r) =
-        if_keeps (not (is_offered search r)) (Err OutsideSuffix) (exchange state name (respecs search)) tt (part_keeps (respecs search) (respecs_carried search) (respecs_named search) state name steady)
-
-shown_keeps : (state : WorldState) (name : List ℕ) (found : Option (List Entry)) → AreInStep state → StepKeeps (show_of state name found)
-shown_keeps state name None steady = tt
-shown_keeps state name (Some entries) steady = steady
-
 -- ---- each order
 
 pub step_keeps : (state : WorldState) (order : Order) → AreInStep state → StepKeeps (step state order)
-step_keeps state (asks.Provider name suffix) steady = root_kept state name suffix steady
+step_keeps state (asks.Provider name suffix) steady =
+    lookup.root_declared StepKeeps (λ cause. tt) state name suffix (λ new room. provider_node_declared state (state.nodes + 1) (new_provider_node state Root name suffix) (is_new state name new).consumer_node steady)
 step_keeps state (asks.Consumer name source search reload) steady =
-    followed state name source search (with_consumer state (new_consumer_node name source search reload)) (consumer_kept state name source search reload steady)
+    lookup.consumer_declared StepKeeps (λ cause. tt) state name source search (with_consumer state (new_consumer_node name source search reload)) (λ new r there inside room. consumer_kept state name source search reload steady (is_new state name new))
 step_keeps state (asks.Replica name source search reload) steady =
-    followed state name source search (with_replica state (new_consumer_node name source search reload)) (replica_kept state name source search reload steady)
+    lookup.consumer_declared StepKeeps (λ cause. tt) state name source search (with_replica state (new_consumer_node name source search reload)) (λ new r there inside room. replica_kept state name source search reload steady (is_new state name new))
 step_keeps state (asks.Clock time) steady = λ name f found. record { kept = (steady name f found).kept; own = (steady name f found).own }
-step_keeps state (asks.Write name change) steady = written state name change (provider_node_named name state) refl steady
+step_keeps state (asks.Write name change) steady = written state name change steady
 step_keeps state (asks.OpenOnce name) steady = exchange_keeps (goes.Open RefreshOnly) state name steady
 step_keeps state (asks.OpenStay name) steady = exchange_keeps (goes.Open RefreshAndPersist) state name steady
 step_keeps state (asks.Send name count) steady = exchange_keeps (goes.Send count) state name steady
@@ -423,11 +347,13 @@ step_keeps state (asks.Cut name) steady = exchange_keeps goes.Cut state name ste
 step_keeps state (asks.Settle name) steady = exchange_keeps goes.Settle state name steady
 step_keeps state (asks.Lose name) steady = exchange_keeps goes.Lose state name steady
 step_keeps state (asks.Cookie name text) steady = exchange_keeps (goes.Give text) state name steady
-step_keeps state (asks.Repoint name source) steady = repoint_keeps state name source (consumer_node_named name state) steady
-step_keeps state (asks.Respec name search) steady = respec_keeps state name search (consumer_node_named name state) steady
-step_keeps state (asks.Log name limit) steady = log_kept state name limit (provider_node_named name state) refl steady
-step_keeps state (asks.Queue name limit) steady = queue_kept state name limit (provider_node_named name state) refl steady
-step_keeps state (asks.Show name) steady = shown_keeps state name (shown_of (provider_node_named name state) (consumer_node_named name state)) steady
+step_keeps state (asks.Repoint name source) steady =
+    lookup.repointed (λ n. StepKeeps) (λ n cause. tt) state name source (λ f s e there free inside. after_keeps f.name source (exchange state f.name idle) (exchange_keeps goes.Idle state f.name steady))
+step_keeps state (asks.Respec name search) steady =
+    lookup.respecced (λ n. StepKeeps) (λ n cause. tt) state name search (λ f r e there inside. part_keeps (λ wish. search) (respecs search) (respecs_carried search) (respecs_alters search) state f.name steady)
+step_keeps state (asks.Log name limit) steady = limit_kept state name (λ provider. log_limited provider limit) (λ r f is. record { kind = is.kind; entries = is.entries }) steady
+step_keeps state (asks.Queue name limit) steady = limit_kept state name (λ provider. queue_limited provider limit) (λ r f is. record { kind = is.kind; entries = is.entries }) steady
+step_keeps state (asks.Show name) steady = lookup.if_found StepKeeps (show_of state name) (shown_of (provider_node_named name state) (consumer_node_named name state)) tt (λ entries e. steady)
 
 -- ---- the world
 

@@ -2,6 +2,7 @@ pub mod AtPlaces
 pub mod Climbing
 pub mod Declaring
 pub mod Finding
+pub mod Found
 pub mod Keeping
 pub mod OwnCommits
 pub mod Owning

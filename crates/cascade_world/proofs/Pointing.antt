@@ -17,10 +17,11 @@ use Rattle.cascade_nodes.specs.Commits.{commits_all}
 use Rattle.cascade_exchange.specs.Exchange.{Agreement, ExchangeOutcome, agreement_of, part_of, idle, respecs}
 use Rattle.cascade_world.specs.Places.{ArePlaces}
 use Rattle.cascade_report.specs.ReportLines.{StoredStage, ReportLine, stages_of}
-use Rattle.cascade_world.specs.World.{WorldState, Step, Does, IsStep, is_provider_node, is_consumer_node, consumer_node_named, provider_node_named, first_changed, with_consumer_node, with_pair, with_own, with_lines, with_outcome, commits_in, commits_of, lineage_of, between, exchange_of, exchange, is_fed, is_offered, pointed, pointed_after, repoint_to, repoint_of, repoint, respec_at, respec_of, respec}
+use Rattle.cascade_world.specs.World.{WorldState, Step, Does, IsStep, is_provider_node, is_consumer_node, provider_node_named, first_changed, with_consumer_node, with_pair, with_own, with_lines, with_outcome, commits_in, commits_of, lineage_of, exchange, is_fed, is_offered, pointed, pointed_after, repoint_to, repoint_of, repoint, respec_at, respec_of, respec}
 use Rattle.cascade_world.proofs.AtPlaces.{element}
-use Rattle.cascade_world.proofs.Finding.{length-first_changed, consumer_node_name}
-use Rattle.cascade_exchange.proofs.Names.{NamedIn, part_named}
+use Rattle.cascade_world.proofs.Finding.{length-first_changed}
+use Rattle.cascade_world.proofs.Found as lookup
+use Rattle.cascade_exchange.proofs.Exchanging.{AltersIn, wants_of, part_alters}
 use Rattle.cascade_world.proofs.Places.{position_is, found_at, changed_at}
 
 -- ---- what an order for another provider comes to
@@ -133,29 +134,21 @@ lines_at : (name : List ℕ) (i : ℕ) (consumer_nodes : List ConsumerNode) (lin
 lines_at name i consumer_nodes lines (Ok state) e same = ap (position (is_consumer_node name)) same ∙ e
 lines_at name i consumer_nodes lines (Err cause) e same = tt
 
-outcome_at : (state : WorldState) (name : List ℕ) (i : ℕ) (before : Agreement) (outcome : ExchangeOutcome) → position (is_consumer_node name) state.consumer_nodes ≡ Some i → name ≡ before.consumer_node.name → NamedIn before outcome
+outcome_at : (wants : Search → Search) (state : WorldState) (name : List ℕ) (i : ℕ) (before : Agreement) (outcome : ExchangeOutcome) → position (is_consumer_node name) state.consumer_nodes ≡ Some i → name ≡ before.consumer_node.name → AltersIn wants before outcome
     → IsAt name i (with_outcome state outcome)
-outcome_at state name i before (Ok next) e named kept =
+outcome_at wants state name i before (Ok next) e named kept =
     let same : name ≡ next.0.consumer_node.name = named ∙ sym kept.name in
     let picks : is_consumer_node name next.0.consumer_node ≡ true = (bytes_eq-Decides name next.0.consumer_node.name).1 same in
     let changed : position (is_consumer_node name) (with_consumer_node name next.0.consumer_node state.consumer_nodes) ≡ Some i = place_kept (is_consumer_node name) next.0.consumer_node state.consumer_nodes picks ∙ e in
     let changed' = subst (λ n. position (is_consumer_node name) (with_consumer_node n next.0.consumer_node state.consumer_nodes) ≡ Some i) same changed in
     lines_at name i (with_pair state next.0).consumer_nodes next.1 (commits_of (with_pair state next.0) next.0.consumer_node (stages_of next.1)) changed'
     (commits_kept (with_pair state next.0) next.0.consumer_node (stages_of next.1))
-outcome_at state name i before (Err cause) e named kept = tt
+outcome_at wants state name i before (Err cause) e named kept = tt
 
 exchanged_at : (state : WorldState) (name : List ℕ) (i : ℕ) (what : Exchange) → position (is_consumer_node name) state.consumer_nodes ≡ Some i → IsAt name i (exchange state name (part_of what))
-exchanged_at state name i what e = by (consumer_node_named name state) refl
-  where
-    by : (found : Option ConsumerNode) → consumer_node_named name state ≡ found → IsAt name i (exchange_of state (part_of what) found)
-    by None is = tt
-    by (Some f) is = supplied (provider_node_named f.source state)
-      where
-        supplied : (found : Option ProviderNode) → IsAt name i (between state f (part_of what) found)
-        supplied None = tt
-        supplied (Some r) =
-            let pair = agreement_of r.provider f (lineage_of state r) in
-            outcome_at state name i pair (part_of what pair) e (consumer_node_name state.consumer_nodes name f is) (part_named what pair)
+exchanged_at state name i what e =
+    lookup.exchanged (λ n next. position (is_consumer_node n) state.consumer_nodes ≡ Some i → IsAt n i next) (λ n cause at. tt) state name (part_of what) (λ f r is there at.
+    let pair = agreement_of r.provider f (lineage_of state r) in outcome_at (wants_of what) state f.name i pair (part_of what pair) at refl (part_alters what pair)) e
 
 step_at : (name : List ℕ) (i : ℕ) (next : Step) (mid : WorldState) (text : List ℕ) → IsAt name i next → IsStep next mid text → position (is_consumer_node name) mid.consumer_nodes ≡ Some i
 step_at name i (Ok next) mid text at h = ap (λ (s : WorldState). position (is_consumer_node name) s.consumer_nodes) h.0 ∙ at

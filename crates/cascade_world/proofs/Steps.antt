@@ -21,7 +21,7 @@ use Rattle.cascade_world.specs.Places.{ArePlaces, placed, PerformsAt, Writes}
 use Rattle.cascade_report.specs.ReportLines.{stages_of}
 use Rattle.cascade_world.specs.World.{WorldState, Step, Does, IsStep, is_provider_node, is_consumer_node, provider_node_named, consumer_node_named, with_provider, with_consumer_node, with_pair, with_lines, with_outcome, commits_of, lineage_of, between, exchange_of, exchange, write_to, limited, limit_log, limit_queue}
 use Rattle.cascade_exchange.proofs.Carrying.{IsCarried, CarriedIn, part_carried}
-use Rattle.cascade_exchange.proofs.Names.{SameNames, NamedIn, part_named}
+use Rattle.cascade_exchange.proofs.Exchanging.{Alters, AltersIn, wants_of, part_alters}
 use Rattle.cascade_world.proofs.AtPlaces.{consumer_after}
 use Rattle.cascade_world.proofs.Keeping.{can_commit}
 use Rattle.cascade_world.proofs.OwnCommits.{commits_none}
@@ -85,30 +85,34 @@ exchange_is : (state : WorldState) (name : List ℕ) (j i : ℕ) (r : ProviderNo
 exchange_is state name j i r f part is = ap (exchange_of state part) is.found ∙ ap (between state f part) is.supplied
 
 -- the state after an exchange, whose consumer has its name and its provider
-placed_is : (state : WorldState) (name : List ℕ) (j i : ℕ) (r : ProviderNode) (f f' : ConsumerNode) (p' : ProviderState) (lin : Lineage) → Between state name j i r f → SameNames (pair_at state r f) (agreement_of p' f' lin)
+placed_is : (state : WorldState) (name : List ℕ) (j i : ℕ) (r : ProviderNode) (f f' : ConsumerNode) (p' : ProviderState) (lin : Lineage) → Between state name j i r f → f'.name ≡ f.name → f'.source ≡ f.source
     → placed state j i r p' f' ≡ with_pair state (agreement_of p' f' lin)
-placed_is state name j i r f f' p' lin is kept =
-    let named : name ≡ f'.name = consumer_node_name state.consumer_nodes name f is.found ∙ sym kept.name in
+placed_is state name j i r f f' p' lin is named' sourced =
+    let named : name ≡ f'.name = consumer_node_name state.consumer_nodes name f is.found ∙ sym named' in
     let provider_nodes : set state.provider_nodes j (record r { provider = p' }) ≡ with_provider f'.source p' state.provider_nodes =
-    changed_at state.provider_nodes (is_provider_node f.source) (λ (provider_node : ProviderNode). record provider_node { provider = p' }) j r is.at_provider_node is.provider_node_is ∙ ap (λ s. with_provider s p' state.provider_nodes) (sym kept.source) in
+    changed_at state.provider_nodes (is_provider_node f.source) (λ (provider_node : ProviderNode). record provider_node { provider = p' }) j r is.at_provider_node is.provider_node_is ∙ ap (λ s. with_provider s p' state.provider_nodes) (sym sourced) in
     let consumer_nodes : set state.consumer_nodes i f' ≡ with_consumer_node f'.name f' state.consumer_nodes =
     changed_at state.consumer_nodes (is_consumer_node name) (λ (g : ConsumerNode). f') i f is.at_consumer_node is.consumer_node_is ∙ ap (λ n. with_consumer_node n f' state.consumer_nodes) named in
     λ k. record state { provider_nodes = provider_nodes k; consumer_nodes = consumer_nodes k }
 
--- what is done and then committed
-pub exchange_done : (state mid new : WorldState) (name : List ℕ) (j i : ℕ) (what : Exchange) (done : Performed) → ArePlaces state name (j, i) → (at : PerformsAt state j i (part_of what) mid (Ok done))
-    → commits_of mid at.consumer done.stages.items ≡ Ok new → Does (exchange state name (part_of what)) new (Ok done.text.items)
-exchange_done state mid new name j i what done places at commits =
+-- what is done, and then committed
+exchange_committed : (state mid : WorldState) (name : List ℕ) (j i : ℕ) (what : Exchange) (done : Performed) → ArePlaces state name (j, i) → (at : PerformsAt state j i (part_of what) mid (Ok done))
+    → exchange state name (part_of what) ≡ with_lines at.does.0 (commits_of mid at.consumer done.stages.items)
+exchange_committed state mid name j i what done places at =
     let is = between_of state name j i at.provider_node at.consumer_node places at.at_consumer_node at.at_provider_node in
     let pair = pair_at state at.provider_node at.consumer_node in
     let lin = lineage_of state at.provider_node in
-    let kept : SameNames pair (agreement_of at.provider at.consumer lin) = subst (NamedIn pair) at.does.1 (part_named what pair) in
-    let mid_is : mid ≡ with_pair state (agreement_of at.provider at.consumer lin) = at.after ∙ placed_is state name j i at.provider_node at.consumer_node at.consumer at.provider lin is kept in
-    let whole : commits_of (with_pair state (agreement_of at.provider at.consumer lin)) at.consumer (stages_of at.does.0) ≡ Ok new =
-    ap (λ s. commits_of s at.consumer (stages_of at.does.0)) (sym mid_is) ∙ ap (commits_of mid at.consumer) (sym at.does.3) ∙ commits in
-    let step' : exchange state name (part_of what) ≡ Ok (new, at.does.0) =
-    exchange_is state name j i at.provider_node at.consumer_node (part_of what) is ∙ ap (with_outcome state) at.does.1 ∙ ap (with_lines at.does.0) whole in
-    subst (λ s. IsStep s new done.text.items) (sym step') (refl, at.does.2)
+    let kept : Alters (wants_of what) pair (agreement_of at.provider at.consumer lin) at.does.0 = subst (AltersIn (wants_of what) pair) at.does.1 (part_alters what pair) in
+    let mid_is : mid ≡ with_pair state (agreement_of at.provider at.consumer lin) = at.after ∙ placed_is state name j i at.provider_node at.consumer_node at.consumer at.provider lin is kept.name kept.source in
+    let commits : commits_of (with_pair state (agreement_of at.provider at.consumer lin)) at.consumer (stages_of at.does.0) ≡ commits_of mid at.consumer done.stages.items =
+    ap (λ s. commits_of s at.consumer (stages_of at.does.0)) (sym mid_is) ∙ ap (commits_of mid at.consumer) (sym at.does.3) in
+    exchange_is state name j i at.provider_node at.consumer_node (part_of what) is ∙ ap (with_outcome state) at.does.1 ∙ ap (with_lines at.does.0) commits
+
+-- where the commits are done too
+pub exchange_done : (state mid new : WorldState) (name : List ℕ) (j i : ℕ) (what : Exchange) (done : Performed) → ArePlaces state name (j, i) → (at : PerformsAt state j i (part_of what) mid (Ok done))
+    → commits_of mid at.consumer done.stages.items ≡ Ok new → Does (exchange state name (part_of what)) new (Ok done.text.items)
+exchange_done state mid new name j i what done places at commits =
+    subst (λ s. IsStep s new done.text.items) (sym (exchange_committed state mid name j i what done places at ∙ ap (with_lines at.does.0) commits)) (refl, at.does.2)
 
 -- what can be committed then
 pub exchange_can : (state mid : WorldState) (j i : ℕ) (what : Exchange) (done : Performed) → AreInStep state → ((name : List ℕ) × ArePlaces state name (j, i)) → (at : PerformsAt state j i (part_of what) mid (Ok done))
@@ -118,25 +122,17 @@ exchange_can state mid j i what done steady stand at low =
     let pair = pair_at state at.provider_node at.consumer_node in
     let lin = lineage_of state at.provider_node in
     let next = agreement_of at.provider at.consumer lin in
-    let kept : SameNames pair next = subst (NamedIn pair) at.does.1 (part_named what pair) in
+    let kept : Alters (wants_of what) pair next at.does.0 = subst (AltersIn (wants_of what) pair) at.does.1 (part_alters what pair) in
     let carried : IsCarried pair next at.does.0 = subst (CarriedIn pair) at.does.1 (part_carried what pair) in
-    let mid_is : mid ≡ with_pair state next = at.after ∙ placed_is state stand.0 j i at.provider_node at.consumer_node at.consumer at.provider lin is kept in
-    let can : OwnCanCommit (with_pair state next) (stages_of at.does.0) at.consumer = can_commit state stand.0 at.consumer_node at.provider_node is.found is.supplied next at.does.0 carried kept steady in
+    let mid_is : mid ≡ with_pair state next = at.after ∙ placed_is state stand.0 j i at.provider_node at.consumer_node at.consumer at.provider lin is kept.name kept.source in
+    let can : OwnCanCommit (with_pair state next) (stages_of at.does.0) at.consumer = can_commit state stand.0 at.consumer_node at.provider_node is.found is.supplied next at.does.0 carried (wants_of what) kept steady in
     subst (λ found. IfSome found (OwnCanCommit mid done.stages.items)) (sym (consumer_after state mid j i (part_of what) (Ok done) at low))
     (subst (λ (s : WorldState). OwnCanCommit s done.stages.items at.consumer) (sym mid_is) (subst (λ stages. OwnCanCommit (with_pair state next) stages at.consumer) (sym at.does.3) can))
 
 -- a commit that is refused refuses the event
 pub exchange_uncommitted : (state mid new : WorldState) (name : List ℕ) (j i : ℕ) (what : Exchange) (done : Performed) (cause : Cause) → ArePlaces state name (j, i) → (at : PerformsAt state j i (part_of what) mid (Ok done))
     → commits_of mid at.consumer done.stages.items ≡ Err cause → exchange state name (part_of what) ≡ Err cause
-exchange_uncommitted state mid new name j i what done cause places at commits =
-    let is = between_of state name j i at.provider_node at.consumer_node places at.at_consumer_node at.at_provider_node in
-    let pair = pair_at state at.provider_node at.consumer_node in
-    let lin = lineage_of state at.provider_node in
-    let kept : SameNames pair (agreement_of at.provider at.consumer lin) = subst (NamedIn pair) at.does.1 (part_named what pair) in
-    let mid_is : mid ≡ with_pair state (agreement_of at.provider at.consumer lin) = at.after ∙ placed_is state name j i at.provider_node at.consumer_node at.consumer at.provider lin is kept in
-    let whole : commits_of (with_pair state (agreement_of at.provider at.consumer lin)) at.consumer (stages_of at.does.0) ≡ Err cause =
-    ap (λ s. commits_of s at.consumer (stages_of at.does.0)) (sym mid_is) ∙ ap (commits_of mid at.consumer) (sym at.does.3) ∙ commits in
-    exchange_is state name j i at.provider_node at.consumer_node (part_of what) is ∙ ap (with_outcome state) at.does.1 ∙ ap (with_lines at.does.0) whole
+exchange_uncommitted state mid new name j i what done cause places at commits = exchange_committed state mid name j i what done places at ∙ ap (with_lines at.does.0) commits
 
 -- where no stage took effect, nothing is committed
 pub exchange_through : (state mid : WorldState) (name : List ℕ) (j i : ℕ) (what : Exchange) (done : Performed) → ArePlaces state name (j, i) → PerformsAt state j i (part_of what) mid (Ok done) → done.stages.items ≡ []

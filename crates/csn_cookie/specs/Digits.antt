@@ -38,7 +38,8 @@ lower_number_at base width text =
 
 -- the text after these bytes, where it begins with them
 unfoldable pub after : List ℕ → List ℕ → Option (List ℕ)
-after prefix text = if starts_with nat_eq text prefix then Some (drop (length prefix) text) else None
+after prefix text =
+    if starts_with nat_eq text prefix then Some (drop (length prefix) text) else None
 
 -- the value that was read, where no text is left
 abbrev pub whole : {A : Type 0} → A × List ℕ → Option A

@@ -12,7 +12,7 @@ use Rattle.dn_names.specs.Sound.{IsName, is_rdn}
 use Rattle.entry_tree.specs.declared.edit.Edit.{Edit}
 use Rattle.entry_tree.specs.declared.op.Op.{Op}
 use Rattle.entry_tree.specs.declared.op.Op.TheVariants.{Add, Delete, Modify, Rename}
-use Rattle.entry_tree.specs.Reading.{and_then, or_34, read_name, read_rdn, read_superior, read_edits, read_change}
+use Rattle.entry_tree.specs.Reading.{and_then, or_invalid_dn_syntax, read_name, read_rdn, read_superior, read_edits, read_change}
 use Rattle.entry_tree.specs.Sound.{is_sound_op, is_sound_edit}
 use Rattle.directory_laws.specs.Accepted.{IsWellFormed}
 use Rattle.directory_laws.proofs.ReadAttributes.{IsSoundList, read_attributes-sound}
@@ -33,18 +33,18 @@ gives-and_then P Q (Err code) next first second b same = absurd (cc)
 gives-this : {A : Type 0} (P : A → Type 0) (a : A) → P a → Gives P (Ok a)
 gives-this P a fact b same = subst P (value_is a b same) fact
 
-gives-or_34 : {A : Type 0} (P : A → Type 0) (read : Result A NameFault) → ((a : A) → read ≡ Ok a → P a) → Gives P (or_34 read)
-gives-or_34 {A} P (Ok a) first b same = gives-this P a (first a refl) b same
-gives-or_34 P (Err fault) first b same = absurd (cc)
+gives-or_invalid_dn_syntax : {A : Type 0} (P : A → Type 0) (read : Result A NameFault) → ((a : A) → read ≡ Ok a → P a) → Gives P (or_invalid_dn_syntax read)
+gives-or_invalid_dn_syntax {A} P (Ok a) first b same = gives-this P a (first a refl) b same
+gives-or_invalid_dn_syntax P (Err fault) first b same = absurd (cc)
 
 gives-name : (text : List ℕ) → Gives IsName (read_name text)
-gives-name text = gives-or_34 IsName (name_of_text text) (name_of_text-sound text)
+gives-name text = gives-or_invalid_dn_syntax IsName (name_of_text text) (name_of_text-sound text)
 
 abbrev IsRdn : List TypeAndValue → Type 0
 IsRdn rdn = is_rdn rdn ≡ true
 
 gives-rdn : (text : List ℕ) → Gives IsRdn (read_rdn text)
-gives-rdn text = gives-or_34 IsRdn (rdn_of_text text) (rdn_of_text-sound text)
+gives-rdn text = gives-or_invalid_dn_syntax IsRdn (rdn_of_text text) (rdn_of_text-sound text)
 
 abbrev IsAbove : Option (List (List TypeAndValue)) → Type 0
 IsAbove superior = IfSome superior IsName

@@ -926,3 +926,27 @@ fn selected(rt: HostRuntime) -> Result<(), Fail> {
     }
     Ok(())
 }
+
+/// Entries beside `ou=b,o=x`: the one's value begins as that one's does, and the other's RDN has
+/// its pair with another.
+const BESIDE: [&str; 2] = [
+    "add ou=bb,o=x|objectClass=organizationalUnit|ou=bb",
+    "add cn=b+ou=b,o=x|objectClass=inetOrgPerson|cn=b|sn=s|ou=b",
+];
+
+const SELECTED_BESIDE: [Selected; 3] = [
+    ("OU=B,o=x", Scope::Sub, "objectClass", &[3]),
+    ("ou=bb,o=x", Scope::Sub, "objectClass", &[6]),
+    ("ou=b+cn=b,o=x", Scope::Sub, "objectClass", &[7]),
+];
+
+#[test]
+fn a_base_beside_others(rt: HostRuntime) -> Result<(), Fail> {
+    let mut tree = first_tree(rt.alloc())?;
+    write(rt.alloc(), &mut tree, BESIDE[0], 6)?;
+    write(rt.alloc(), &mut tree, BESIDE[1], 7)?;
+    for row in &SELECTED_BESIDE {
+        check_selected(&rt, rt.alloc(), &tree, row)?;
+    }
+    Ok(())
+}

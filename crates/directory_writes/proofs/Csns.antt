@@ -1,16 +1,17 @@
 -- The CSNs of a directory's writes rise, and each reports how many writes led to its content.
-use Rattle.std.proofs.Common.{◌≡◌, ◌<◌, ◌≤◌, ◌+◌, min, ℕ, zero, suc, Bool, true, false, cond, nat_lt, List, [], ◌∷◌, ◌++◌, length, take, Option, Some, None, refl, ap, sym, ◌∙◌, arith}
-use Rattle.std.specs.List.{AllByRecursion, count_by}
-use Rattle.std.specs.List.Sorted.{IsStrictlySortedBy}
+use Rattle.std.proofs.Common.{◌≡◌, ◌<◌, ◌≤◌, ◌+◌, min, ℕ, zero, suc, Bool, true, false, cond, nat_lt, List, [], ◌∷◌, ◌++◌, length, take, get_or, Option, Some, None, refl, ap, sym, ◌∙◌, arith}
+use Rattle.std.specs.List.{AllByRecursion}
+use Rattle.std.specs.List.Sorted.{IsStrictlySortedBy, IsPartitionedBy, IsPartitionPoint}
 use Rattle.std.specs.Ordering.{nat_cmp, ordering_then, is_lt}
 use Rattle.std.specs.declared.cmp.Ordering.TheVariants.{Less}
 use Rattle.std.proofs.lemmas.Bool.{ltb-true}
 use Rattle.std.proofs.lemmas.List.{length-map}
-use Rattle.std.proofs.lemmas.List.Sums.{count_by-le-length, sum_by-cons}
+use Rattle.std.proofs.lemmas.List.Sums.{count_by-le-length}
 use Rattle.std.proofs.lemmas.Map.Keys.{sorted_head, sorted_tail}
 use Rattle.csn_cookie.specs.Csn.{CsnValue, start, csn_cmp, is_before, is_upto, upto, greatest_micros}
 use Rattle.csn_cookie.specs.CsnMaker.{next_csn, csn_from, greatest_count}
 use Rattle.csn_cookie.proofs.OrderLemmas.{csn_cmp_total, csn_cmp-before, is_upto-itself, is_upto-before, upto-cons, upto-rising}
+use Rattle.csn_cookie.proofs.UptoLemmas.{is_upto_then}
 use Rattle.entry_tree.specs.declared.op.Write.{Write}
 use Rattle.directory_writes.specs.Directory.{last_csn, csns, CsnsRise}
 use Rattle.directory_writes.proofs.Keyed.{less_cmp, same_cmp}
@@ -81,13 +82,42 @@ upto_csn sid writes rise count few =
     upto-cons (start sid) last (csns writes) ∙ ap (λ b. cond b 1 0 + upto (csns writes) last) (not_above (start sid) writes rise count) in
     omega (arith, with_first, first)
 
--- the writes whose CSNs are not above one are as many as those CSNs
-pub upto_writes : (csn : CsnValue) (writes : List Write) → count_by (λ write. is_upto write.csn csn) writes ≡ upto (csns writes) csn
-upto_writes csn [] = refl
-upto_writes csn (w ∷ writes) =
-    sum_by-cons (λ (write : Write). cond (is_upto write.csn csn) 1 0) w writes
-    ∙ ap (λ n. cond (is_upto w.csn csn) 1 0 + n) (upto_writes csn writes)
-    ∙ sym (upto-cons w.csn csn (csns writes))
+-- ---- how many writes have a CSN that is not above one
+
+above_at : (first : CsnValue) (writes : List Write) → Above first (csns writes) → (j : ℕ) (d : Write) → j < length writes → csn_cmp first (get_or writes j d).csn ≡ Less
+above_at first [] each j d low = absurd (omega (arith, low))
+above_at first (w ∷ writes) each zero d low = each.0
+above_at first (w ∷ writes) each (suc j) d low = above_at first writes each.1 j d (omega (arith, low))
+
+-- where CSNs rise, those that are not above one come before all others
+pub upto_parted : (csn first : CsnValue) (writes : List Write) → IsStrictlySortedBy csn_cmp (first ∷ csns writes) → IsPartitionedBy (λ (write : Write). is_upto write.csn csn) writes
+upto_parted csn first [] rise i j d order low h = absurd (omega (arith, low))
+upto_parted csn first (w ∷ writes) rise zero zero d order low h = h
+upto_parted csn first (w ∷ writes) rise zero (suc j) d order low h =
+    let rest = sorted_tail csn_cmp first (csns (w ∷ writes)) rise in
+    let less : csn_cmp w.csn (get_or writes j d).csn ≡ Less = above_at w.csn writes (sorted_head csn_cmp w.csn (csns writes) rest) j d (omega (arith, low)) in
+    is_upto_then w.csn (get_or writes j d).csn csn (is_upto-before w.csn (get_or writes j d).csn less) h
+upto_parted csn first (w ∷ writes) rise (suc i) zero d order low h = absurd (omega (arith, order))
+upto_parted csn first (w ∷ writes) rise (suc i) (suc j) d order low h =
+    upto_parted csn w.csn writes (sorted_tail csn_cmp first (csns (w ∷ writes)) rise) i j d (omega (arith, order)) (omega (arith, low)) h
+
+-- where the writes before a place alone have a CSN that is not above one, they are as many as such CSNs
+pub upto_at : (csn : CsnValue) (writes : List Write) (i : ℕ) → i ≤ length writes
+    → IsPartitionPoint (λ (write : Write). is_upto write.csn csn ≡ true) (λ (write : Write). is_upto write.csn csn ≡ false) writes i → i ≡ upto (csns writes) csn
+upto_at csn [] i low point = let none : i ≡ 0 = omega (arith, low) in none
+upto_at csn (w ∷ writes) zero low point =
+    let far : is_upto w.csn csn ≡ false = point.1 zero w (omega arith) (omega arith) in
+    let rest : 0 ≡ upto (csns writes) csn =
+    upto_at csn writes zero (omega arith) ((λ k d above below. absurd (omega (arith, below))), (λ k d above below. point.1 (suc k) d (omega arith) (omega (arith, below)))) in
+    let all : upto (csns (w ∷ writes)) csn ≡ upto (csns writes) csn = upto-cons w.csn csn (csns writes) ∙ ap (λ b. cond b 1 0 + upto (csns writes) csn) far ∙ omega arith in
+    omega (arith, all, rest)
+upto_at csn (w ∷ writes) (suc i) low point =
+    let near : is_upto w.csn csn ≡ true = point.0 zero w (omega arith) (omega arith) in
+    let rest : i ≡ upto (csns writes) csn =
+    upto_at csn writes i (omega (arith, low))
+    ((λ k d above below. point.0 (suc k) d (omega arith) (omega (arith, below))), (λ k d above below. point.1 (suc k) d (omega (arith, above)) (omega (arith, below)))) in
+    let all : upto (csns (w ∷ writes)) csn ≡ 1 + upto (csns writes) csn = upto-cons w.csn csn (csns writes) ∙ ap (λ b. cond b 1 0 + upto (csns writes) csn) near in
+    omega (arith, all, rest)
 
 -- ---- the CSNs that are drawn rise
 

@@ -1,7 +1,7 @@
 -- What was accepted stays so, and what a write that is accepted leaves.
-use Rattle.std.proofs.Common.{◌≡◌, ◌+◌, ℕ, Bool, true, false, cond, List, [], ◌∷◌, ◌++◌, Option, Some, None, refl, ap, sym, ◌∙◌}
-use Rattle.std.specs.Prelude.{Result, Ok, Err}
-use Rattle.ldap_constants.specs.declared.result_codes.TheConstants.{ADMIN_LIMIT_EXCEEDED}
+use Rattle.std.proofs.Common.{◌≡◌, ◌+◌, ℕ, Bool, true, false, cond, List, [], ◌∷◌, ◌++◌, Option, Some, None, refl, ap, sym, subst, ◌∙◌}
+use Rattle.std.specs.Prelude.{Result, Ok, Err, IfOk, OnOk}
+use Rattle.ldap_constants.specs.declared.result_codes.TheConstants.{SUCCESS, ADMIN_LIMIT_EXCEEDED}
 use Rattle.csn_cookie.specs.Csn.{CsnValue}
 use Rattle.dn_names.specs.Names.{TypeAndValue}
 use Rattle.entry_tree.specs.Codes.{code_of}
@@ -10,9 +10,11 @@ use Rattle.entry_tree.specs.Fitting.{fits}
 use Rattle.entry_tree.specs.History.{identity, state_from}
 use Rattle.entry_tree.specs.Sound.{is_sound_op}
 use Rattle.entry_tree.specs.declared.entry.Entry.{Entry}
+use Rattle.entry_tree.specs.declared.fault.OpFault.{OpFault}
+use Rattle.entry_tree.specs.declared.fault.OpFault.TheVariants.{Code}
 use Rattle.entry_tree.specs.declared.op.Op.{Op}
 use Rattle.entry_tree.specs.declared.op.Write.{Write}
-use Rattle.directory_writes.specs.Directory.{DirectoryState, entries_of, csn_of_next_write, has_room, judged_code, judged_at, judged, with_judged, IsAccepted, AreAcceptedFrom, AreAccepted, CsnsRise}
+use Rattle.directory_writes.specs.Directory.{DirectoryState, entries_of, csn_of_next_write, has_room, judged_code, judged_at, judged, with_write, with_judged, written, code_of_judged, write_code, Refuses, IsAccepted, AreAcceptedFrom, AreAccepted, CsnsRise}
 use Rattle.directory_writes.proofs.Csns.{rises-push, next_rises}
 
 abbrev Name : Type 0
@@ -98,3 +100,29 @@ pub record IsSameDirectory (was is : DirectoryState) : Type 0 where
 pub judged_same : (d : DirectoryState) (outcome : Result Write ℕ) → IsSameDirectory d (with_judged d outcome)
 judged_same d (Ok w) = record { suffix = refl; sid = refl; history = refl }
 judged_same d (Err code) = record { suffix = refl; sid = refl; history = refl }
+
+-- ---- what a write answers and leaves
+
+-- a write that is judged good leaves the directory with it
+pub written_good : (d after : DirectoryState) (op : Op) (now : ℕ) (w : Write) → judged d op now ≡ Ok w → after ≡ with_write d w → after ≡ written d op now
+written_good d after op now w good is = is ∙ ap (with_judged d) (sym good)
+
+-- and answers success
+pub code_good : (d : DirectoryState) (op : Op) (now : ℕ) (w : Write) → judged d op now ≡ Ok w → SUCCESS ≡ write_code d op now
+code_good d op now w good = ap code_of_judged (sym good)
+
+-- a fault that reports a code is that of a write with this code
+pub refused_with : (d : DirectoryState) (op : Op) (now code : ℕ) (fault : OpFault) → Refuses (judged d op now) fault → fault ≡ Code code → judged d op now ≡ Err code
+refused_with d op now code fault refuses is = subst (Refuses (judged d op now)) is refuses
+
+-- a write that is refused answers the code that its fault reports
+pub refused_code : {E : Type 0} (d : DirectoryState) (op : Op) (now : ℕ) (fault : OpFault) (r : Result ℕ E) → Refuses (judged d op now) fault → IfOk r (λ code. fault ≡ Code code)
+    → IfOk r (λ code. code ≡ write_code d op now)
+refused_code d op now fault (Ok code) refuses is = sym (ap code_of_judged (refused_with d op now code fault refuses is))
+refused_code d op now fault (Err e) refuses is = tt
+
+-- and leaves the directory as it was
+pub refused_same : {E : Type 0} (d : DirectoryState) (op : Op) (now : ℕ) (fault : OpFault) (r : Result ℕ E) → Refuses (judged d op now) fault → IfOk r (λ code. fault ≡ Code code)
+    → OnOk r (d ≡ written d op now)
+refused_same d op now fault (Ok code) refuses is = sym (ap (with_judged d) (refused_with d op now code fault refuses is))
+refused_same d op now fault (Err e) refuses is = tt

@@ -1,15 +1,14 @@
 -- Lemmas of the crate.
 pub mod Commits
 pub mod Distinct
-pub mod Effects
 pub mod Judged
 pub mod Keyed
 pub mod LastCsns
 pub mod Places
 pub mod Promised
 pub mod Pushed
-pub mod Reached
 pub mod Served
+pub mod SortedIdentities
 pub mod Csns
 pub mod Notified
 pub mod TouchedBy

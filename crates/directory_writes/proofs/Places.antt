@@ -7,10 +7,9 @@ use Rattle.std.specs.Ordering.{nat_cmp}
 use Rattle.std.proofs.lemmas.Bool.{cases_eq, ne_eqb, and_parts, and_from, false≢true}
 use Rattle.std.proofs.lemmas.List.{map_more}
 use Rattle.std.proofs.lemmas.List.Folds.{list_all-append}
-use Rattle.entry_tree.specs.declared.entry.Entry.{Entry}
-use Rattle.entry_tree.specs.Touched.{identities}
+use Rattle.entry_tree.specs.declared.touched.EntryChange.{EntryChange}
 use Rattle.sync_model.specs.Stream.{among}
-use Rattle.directory_writes.specs.Touches.{Numbers, number_at, KeepsNumbers, KeepsPlaces, HavePlaces}
+use Rattle.directory_writes.specs.Touches.{Numbers, uuids_of, number_at, renewed, KeepsNumbers, KeepsPlaces, HavePlaces, IsRenewed}
 use Rattle.directory_writes.proofs.Keyed.{opened-same, opened-other, closed-other, closed_at}
 
 -- it is made where there was none
@@ -38,26 +37,25 @@ places_itself numbers = record { place = λ u here. here }
 
 -- ---- the places of several
 
--- one identity has a place
-pub have_one : (numbers : Numbers) (u : ℕ) → is_some (number_at numbers u) ≡ true → HavePlaces numbers (u ∷ [])
+have_one : (numbers : Numbers) (u : ℕ) → is_some (number_at numbers u) ≡ true → HavePlaces numbers (u ∷ [])
 have_one numbers u here = ap (λ b. b && true) here
 
-pub have_kept : (one two : Numbers) (uuids : List ℕ) → KeepsPlaces one two → HavePlaces one uuids → HavePlaces two uuids
+have_kept : (one two : Numbers) (uuids : List ℕ) → KeepsPlaces one two → HavePlaces one uuids → HavePlaces two uuids
 have_kept one two [] keeps have = refl
 have_kept one two (u ∷ uuids) keeps have =
     let parts = and_parts (is_some (number_at one u)) (list_all (λ uuid. is_some (number_at one uuid)) uuids) have in
     and_from (is_some (number_at two u)) (list_all (λ uuid. is_some (number_at two uuid)) uuids) (keeps.place u parts.0) (have_kept one two uuids keeps parts.1)
 
-pub have_more : (one two : Numbers) (uuids : List ℕ) (u : ℕ) → KeepsPlaces one two → HavePlaces one uuids → is_some (number_at two u) ≡ true → HavePlaces two (uuids ++ u ∷ [])
+have_more : (one two : Numbers) (uuids : List ℕ) (u : ℕ) → KeepsPlaces one two → HavePlaces one uuids → is_some (number_at two u) ≡ true → HavePlaces two (uuids ++ u ∷ [])
 have_more one two uuids u keeps have here =
     list_all-append (λ uuid. is_some (number_at two uuid)) uuids (u ∷ [])
     ∙ and_from (list_all (λ uuid. is_some (number_at two uuid)) uuids) (list_all (λ uuid. is_some (number_at two uuid)) (u ∷ [])) (have_kept one two uuids keeps have) (have_one two u here)
 
--- the identities of one more entry have places
-pub next_place : (one two : Numbers) (entries : List Entry) (i : ℕ) (e : Entry) → i < length entries → KeepsPlaces one two → HavePlaces one (identities (take i entries))
-    → is_some (number_at two (get_or entries i e).uuid) ≡ true → HavePlaces two (identities (take (i + 1) entries))
-next_place one two entries i e low keeps have here =
-    subst (HavePlaces two) (sym (map_more (λ (e : Entry). e.uuid) entries i e low)) (have_more one two (identities (take i entries)) (get_or entries i e).uuid keeps have here)
+-- the identities of one more change have places
+pub next_place : (one two : Numbers) (touches : List EntryChange) (i : ℕ) (t : EntryChange) → i < length touches → KeepsPlaces one two → HavePlaces one (uuids_of (take i touches))
+    → is_some (number_at two (get_or touches i t).uuid) ≡ true → HavePlaces two (uuids_of (take (i + 1) touches))
+next_place one two touches i t low keeps have here =
+    subst (HavePlaces two) (sym (map_more (λ (t : EntryChange). t.uuid) touches i t low)) (have_more one two (uuids_of (take i touches)) (get_or touches i t).uuid keeps have here)
 
 -- each of them has one
 pub place_among : (numbers : Numbers) (uuids : List ℕ) (u : ℕ) → HavePlaces numbers uuids → among u uuids ≡ true → is_some (number_at numbers u) ≡ true
@@ -85,3 +83,10 @@ place_left numbers u none = record { number = λ v number low found. closed-othe
       where
         never : 0 ≡ number → ⊥
         never q = omega (arith, q, low)
+
+-- ---- the numbers of what a write touched
+
+-- once each identity that was touched has a place, their numbers can be renewed
+pub renews : (number : ℕ) (touches : List EntryChange) (old made new : Numbers) → HavePlaces made (uuids_of touches) → KeepsNumbers old made → new ≡ renewed number made touches
+    → IsRenewed number touches old new
+renews number touches old made new places kept done = record { made = made; places = places; kept = kept; done = done }

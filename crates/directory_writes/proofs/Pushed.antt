@@ -8,19 +8,16 @@ use Rattle.entry_tree.specs.declared.entry.Entry.{Entry}
 use Rattle.entry_tree.specs.declared.op.Write.{Write}
 use Rattle.entry_tree.specs.declared.touched.EntryChange.{EntryChange}
 use Rattle.entry_tree.specs.Bytes.{is_one_found}
-use Rattle.entry_tree.specs.Effects.{effect}
 use Rattle.entry_tree.specs.History.{state_from, state_of, differing_over}
-use Rattle.entry_tree.specs.State.{ascends, entry_at}
+use Rattle.entry_tree.specs.State.{entry_at}
 use Rattle.entry_tree.specs.Touched.{identities, joined, change_at, is_change, touched}
 use Rattle.session_log.specs.Calls.{IsLogOf}
 use Rattle.session_log.specs.Log.{Log}
 use Rattle.sync_model.specs.Stream.{among}
 use Rattle.sync_model.proofs.Gather.{Each}
-use Rattle.sync_model.proofs.Histories.{ascends-state_of}
-use Rattle.sync_model.proofs.Steps.{among-differing, steady_within}
+use Rattle.sync_model.proofs.Steps.{among-differing, same_outside, steady_within}
 use Rattle.directory_writes.specs.Directory.{entries_after}
-use Rattle.directory_writes.specs.Touches.{Numbers, uuids_of, last_touch, logged, notes_of, all_notes, IsLogged, arrivals, number_at, renewed_at, renewed, KeepsNumbers, IsRenewed, AreNumbered}
-use Rattle.directory_writes.proofs.Effects.{IsThere, found_before}
+use Rattle.directory_writes.specs.Touches.{Numbers, uuids_of, last_touch, logged, notes_of, all_notes, IsLogged, number_at, renewed_at, renewed, KeepsNumbers, IsRenewed, AreNumbered}
 use Rattle.directory_writes.proofs.Keyed.{closed-other, put_on, put_on-same, put_on-other}
 use Rattle.directory_writes.proofs.Places.{place_among}
 use Rattle.directory_writes.proofs.Notified.{Agree, agree-longer, notes-agree, last-agree, last-shows, noted_each-is}
@@ -152,43 +149,23 @@ numbered-kept history writes entries old new made keeps each u e found =
     (last-some history writes u e (ap (λ es. entry_at es u) (whole history writes ∙ sym made) ∙ found)) (each u e found)
 
 -- each entry has its number after one more write
-pub numbered-push : (history : ℕ) (writes : List Write) (w : Write) (uuid : ℕ) (old new : List Entry) (numbers later : Numbers)
-    → old ≡ entries_after history writes → new ≡ entries_after history (writes ++ w ∷ []) → new ≡ effect old w.op uuid w.csn
-    → IsRenewed (length writes + 1) (arrivals w.op uuid) (touched old new) numbers later → AreNumbered history writes old numbers → AreNumbered history (writes ++ w ∷ []) new later
-numbered-push history writes w uuid old new numbers later is_old is_new made renews each u e found =
-    renews.left.number u last positive (at_renewed (touched old new) (length writes + 1) renews.made new u e (each-now old new (joined (identities old) (identities new))) found place ∙ chosen)
+pub numbered-push : (history : ℕ) (writes : List Write) (w : Write) (old new : List Entry) (numbers later : Numbers)
+    → old ≡ entries_after history writes → new ≡ entries_after history (writes ++ w ∷ [])
+    → IsRenewed (length writes + 1) (touched old new) numbers later → AreNumbered history writes old numbers → AreNumbered history (writes ++ w ∷ []) new later
+numbered-push history writes w old new numbers later is_old is_new renews each u e found =
+    ap (λ ns. number_at ns u) renews.done
+    ∙ at_renewed (touched old new) (length writes + 1) renews.made new u e (each-now old new (joined (identities old) (identities new))) found (place (among u (uuids_of (touched old new))) refl)
+    ∙ chosen
   where
-    f : ℕ → List Entry
-    f = state_of history writes
-
-    g : ℕ → List Entry
-    g = state_of history (writes ++ w ∷ [])
-
-    last : ℕ
-    last = last_touch (state_of history (writes ++ w ∷ [])) (length (writes ++ w ∷ [])) u
-
-    positive : 0 < last_touch (state_of history (writes ++ w ∷ [])) (length (writes ++ w ∷ [])) u
-    positive = last-some history (writes ++ w ∷ []) u e (ap (λ es. entry_at es u) (whole history (writes ++ w ∷ []) ∙ sym is_new) ∙ found)
-
-    asc : ascends old ≡ true
-    asc = ap ascends (is_old ∙ sym (whole history writes)) ∙ ascends-state_of history writes (length writes)
-
     -- what was kept before the write for an entry that there was
     was : (before : Entry) → entry_at old u ≡ Some before → number_at renews.made u ≡ Some (last_touch (state_of history writes) (length writes) u)
     was before at =
         renews.kept.number u (last_touch (state_of history writes) (length writes) u)
         (last-some history writes u before (ap (λ es. entry_at es u) (whole history writes ∙ sym is_old) ∙ at)) (each u before at)
 
-    there : (o : Option Entry) → entry_at old u ≡ o → is_some o ≡ true → is_some (number_at renews.made u) ≡ true
-    there None at h = absurd (false≢true h)
-    there (Some before) at h = ap is_some (was before at)
-
-    placed : IsThere old (arrivals w.op uuid) u → is_some (number_at renews.made u) ≡ true
-    placed (inl here) = there (entry_at old u) refl here
-    placed (inr comes) = place_among renews.made (arrivals w.op uuid) u renews.places comes
-
-    place : is_some (number_at renews.made u) ≡ true
-    place = placed (found_before w.op old uuid w.csn u asc (ap (λ es. is_some (entry_at es u)) (sym made) ∙ ap is_some found))
+    place : (b : Bool) → among u (uuids_of (touched old new)) ≡ b → is_some (number_at renews.made u) ≡ true
+    place true here = place_among renews.made (uuids_of (touched old new)) u renews.places here
+    place false off = ap is_some (was e (same_outside old new u off ∙ found))
 
     -- it is unchanged only where it was there
     step : (o : Option Entry) → entry_at old u ≡ o → (b : Bool) → is_one_found o (Some e) ≡ b

@@ -14,7 +14,7 @@ use Rattle.sync_model.specs.Stream.Start.{DeletePhase, PresentPhase}
 use Rattle.directory_writes.specs.Directory.{DirectoryState}
 use Rattle.directory_writes.specs.Starting.{IsServed}
 use Rattle.entry_tree.specs.declared.touched.EntryChange.{EntryChange}
-use Rattle.directory_writes.specs.Touches.{Numbers, last_touch, IsLogged, number_at, renewed_at, renewed_by, renewed, KeepsNumbers, IsRenewed, AreNumbered}
+use Rattle.directory_writes.specs.Touches.{Numbers, last_touch, IsLogged, number_at, renewed_at, renewed_by, KeepsNumbers, AreNumbered}
 use Rattle.directory_writes.proofs.Notified.{log-shows}
 
 -- the log reports the walk of a covered number
@@ -47,12 +47,6 @@ keeps_itself numbers = record { number = λ uuid number low found. found }
 pub keeps_both : (one two three : Numbers) → KeepsNumbers one two → KeepsNumbers two three → KeepsNumbers one three
 keeps_both one two three first second =
     record { number = λ uuid number low found. second.number uuid number low (first.number uuid number low found) }
-
--- taking back places leaves what was renewed
-pub renews_left : (number : ℕ) (uuids : List ℕ) (touches : List EntryChange) (old new left : Numbers) → IsRenewed number uuids touches old new → KeepsNumbers new left
-    → IsRenewed number uuids touches old left
-renews_left number uuids touches old new left is keeps =
-    record { made = is.made; places = is.places; kept = is.kept; left = keeps_both (renewed number is.made touches) new left is.left keeps }
 
 -- where an entry has no place nothing is renewed
 renewed_none : (numbers : Numbers) (uuid number : ℕ) → number_at numbers uuid ≡ None → set_value (is_at (nat_cmp uuid)) numbers number ≡ numbers

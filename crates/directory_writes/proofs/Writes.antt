@@ -2,32 +2,30 @@
 use Rattle.std.proofs.Common.{◌≡◌, ◌<◌, ◌+◌, ◌-◌, ◌^◌, min, ℕ, List, [], ◌∷◌, ◌++◌, length, take, refl, ap, sym, ◌∙◌, arith, subst}
 use Rattle.std.specs.Prelude.{◌≤◌, ◌&&◌, nat_lt, nat_le, true, cond, Option, Some, None, Result, Ok, Err}
 use Rattle.std.proofs.Math.Seq.{take-append_seam}
-use Rattle.std.proofs.lemmas.List.{append-nil}
 use Rattle.std.proofs.lemmas.List.Sums.{sum_by-append}
 use Rattle.std.proofs.lemmas.Bool.{and_parts, leb-true}
 use Rattle.std.proofs.lemmas.Bool.Decides.{nat_tests}
 use Rattle.ldap_constants.specs.declared.result_codes.TheConstants.{SUCCESS, ADMIN_LIMIT_EXCEEDED, OTHER}
 use Rattle.csn_cookie.specs.Csn.{CsnValue, start, is_before}
-use Rattle.csn_cookie.specs.CsnMaker.{next_csn}
 use Rattle.dn_names.specs.Names.{TypeAndValue}
 use Rattle.entry_tree.specs.Codes.{code_of}
 use Rattle.entry_tree.specs.Effects.{effect}
 use Rattle.entry_tree.specs.History.{identity, state_from, state_of}
-use Rattle.entry_tree.specs.State.{ascends, entry_at}
-use Rattle.entry_tree.specs.Touched.{touched}
+use Rattle.entry_tree.specs.State.{entry_at}
+use Rattle.entry_tree.specs.Touched.{touched, with_changes, CanBeMade}
 use Rattle.entry_tree.specs.declared.entry.Entry.{Entry}
 use Rattle.entry_tree.specs.declared.op.Op.{Op}
 use Rattle.entry_tree.specs.declared.op.Write.{Write}
 use Rattle.entry_tree.specs.declared.touched.EntryChange.{EntryChange}
-use Rattle.directory_writes.specs.Directory.{DirectoryState, entries_after, entries_of, last_csn, last_csn_of, csn_of_next_write, most_writes, most_writes_weight, has_room, judged_code, judged_at, judged, with_write, with_judged, written, code_of_judged, write_code, IsAccepted, IsKept}
-use Rattle.directory_writes.specs.Touches.{Numbers, arrivals, logged, all_notes, IsLogged, KeepsNumbers, IsRenewed, AreNumbered}
+use Rattle.directory_writes.specs.Directory.{DirectoryState, entries_after, entries_of, last_csn, last_csn_of, csn_of_next_write, most_writes, most_writes_weight, has_room, judged_code, judged_at, judged, with_write, with_judged, written, code_of_judged, write_code, IsAccepted, IsPlanned, IsKept}
+use Rattle.directory_writes.specs.Touches.{Numbers, uuids_of, noted_each, logged, all_notes, IsLogged, KeepsNumbers, IsRenewed, AreNumbered}
+use Rattle.directory_writes.specs.declared.preview.Preview.{Preview}
 use Rattle.directory_writes.specs.Weights.{op_weight, kept_weight}
 use Rattle.session_log.specs.Log.{Log, fresh, trimmed}
 use Rattle.session_log.proofs.Covering.{IsLogOf-fresh, IsLogOf-trimmed}
-use Rattle.sync_model.proofs.Histories.{ascends-state_of}
 use Rattle.directory_writes.proofs.Judged.{accepted-push}
 use Rattle.directory_writes.proofs.Pushed.{logged-push, numbered-kept, numbered-push}
-use Rattle.directory_writes.proofs.Csns.{rises-none, rises-push}
+use Rattle.directory_writes.proofs.Csns.{rises-none, rises-push, next_rises}
 
 state_from-push : (history : ℕ) (entries : List Entry) (before : ℕ) (writes : List Write) (write : Write)
     → state_from history entries before (writes ++ write ∷ [])
@@ -108,18 +106,19 @@ room_is writes op weight capped =
     ap (λ b. nat_lt (length writes) most_writes && b)
     (ap (λ w. nat_le (kept_weight writes + w) most_writes_weight) capped ∙ capped_room (kept_weight writes) (op_weight op))
 
--- what has room weighs what it weighs uncapped, and keeps within the limit
-pub record IsWeighed (kept weight : ℕ) (writes : List Write) (op : Op) : Type 0 where
-  pub weighed : kept + weight ≡ kept_weight writes + op_weight op
-  pub light : kept + weight ≤ most_writes_weight
+-- what the kept writes weigh with a write that there is room for, whose weight is capped
+pub total_is : (writes : List Write) (op : Op) (kept weight : ℕ) → kept ≡ kept_weight writes → weight ≡ min (op_weight op) (2 ^ 64 - 1)
+    → (nat_lt (length writes) most_writes && nat_le (kept_weight writes + weight) most_writes_weight) ≡ true → kept + weight ≡ kept_weight writes + op_weight op
+total_is writes op kept weight is capped within =
+    let parts = and_parts (nat_lt (length writes) most_writes) (nat_le (kept_weight writes + weight) most_writes_weight) within in
+    let light : kept_weight writes + weight ≤ most_writes_weight = leb-true (kept_weight writes + weight) most_writes_weight parts.1 in
+    omega (arith, is, capped, light)
 
--- the kept writes weigh no more than their limit after a write with room
-pub room_weighs : (writes : List Write) (op : Op) (kept weight : ℕ) → kept ≡ kept_weight writes → weight ≡ min (op_weight op) (2 ^ 64 - 1) → has_room writes op ≡ true
-    → IsWeighed kept weight writes op
-room_weighs writes op kept weight is capped room =
-    let parts = and_parts (nat_lt (length writes) most_writes) (nat_le (kept_weight writes + op_weight op) most_writes_weight) room in
-    let light : kept_weight writes + op_weight op ≤ most_writes_weight = leb-true (kept_weight writes + op_weight op) most_writes_weight parts.1 in
-    record { weighed = omega (arith, is, capped, light); light = omega (arith, is, capped, light) }
+-- the kept writes weigh no more than their limit with a write that there is room for
+room_light : (writes : List Write) (op : Op) → has_room writes op ≡ true → kept_weight writes + op_weight op ≤ most_writes_weight
+room_light writes op room =
+    leb-true (kept_weight writes + op_weight op) most_writes_weight
+    (and_parts (nat_lt (length writes) most_writes) (nat_le (kept_weight writes + op_weight op) most_writes_weight) room).1
 
 -- ---- what is judged of an operation
 
@@ -132,15 +131,7 @@ pub judged_good : (d : DirectoryState) (op : Op) (now : ℕ) (csn : CsnValue) (c
     → code_of d.suffix (entries_of d) op ≡ code → judged d op now ≡ judged_code op csn code
 judged_good d op now csn code room next is = judged_next d op now (Some csn) room next ∙ ap (judged_code op csn) is
 
--- ---- what is kept after a write that is judged good
-
--- what a write makes of the parts that are kept
-pub record IsPushed (d : DirectoryState) (entries after : List Entry) (numbers later : Numbers) (log : Log) (uuid : ℕ) (w : Write) : Type 0 where
-  pub made : after ≡ effect entries w.op uuid w.csn
-  pub good : IsAccepted d.suffix entries w.op
-  pub same : uuid ≡ identity d.history (length d.writes + 1)
-  pub notes : log ≡ logged (length d.writes + 1) entries after d.log
-  pub renews : IsRenewed (length d.writes + 1) (arrivals w.op uuid) (touched entries after) numbers later
+-- ---- what is previewed of an operation
 
 after_is : (d : DirectoryState) (entries after : List Entry) (uuid : ℕ) (w : Write) → entries ≡ entries_of d → after ≡ effect entries w.op uuid w.csn
     → uuid ≡ identity d.history (length d.writes + 1) → after ≡ entries_after d.history (d.writes ++ w ∷ [])
@@ -157,42 +148,85 @@ pub touches_are : (d : DirectoryState) (op : Op) (csn : CsnValue) (entries : Lis
 touches_are d op csn entries uuid touches made same is =
     is ∙ (λ i. touched (made i) (after_is d entries (effect entries op uuid csn) uuid (record { csn = csn; op = op }) made refl same i))
 
--- the log of the directory after the write is the one that is kept
-pub log_is : (d : DirectoryState) (entries after : List Entry) (last : CsnValue) (kept : ℕ) (numbers later : Numbers) (log : Log) (uuid : ℕ) (w : Write) → IsKept d entries last kept numbers
-    → IsPushed d entries after numbers later log uuid w → log ≡ (with_write d w).log
-log_is d entries after last kept numbers later log uuid w was push =
-    push.notes
-    ∙ (λ i. logged (length d.writes + 1) (was.made i) (after_is d entries after uuid w was.made push.made push.same i) d.log)
-
-kept_push : (d : DirectoryState) (entries after : List Entry) (last : CsnValue) (kept weight : ℕ) (numbers later : Numbers) (log : Log) (uuid : ℕ) (w : Write) → IsKept d entries last kept numbers
-    → IsWeighed kept weight d.writes w.op → is_before last w.csn ≡ true → IsPushed d entries after numbers later log uuid w
-    → IsKept (record d { writes = d.writes ++ w ∷ []; log = log }) after w.csn (kept + weight) later
-kept_push d entries after last kept weight numbers later log uuid w was weighs before push = record {
-  made = after_is d entries after uuid w was.made push.made push.same;
-  stamped = sym (last_csn-push (start d.sid) d.writes w);
-  weighed = weighs.weighed ∙ sym (kept_weight-push d.writes w);
-  light = weighs.light;
-  numbered = was.numbered;
-  accepted = accepted-push d.suffix d.history d.writes w (subst (λ es. IsAccepted d.suffix es w.op) was.made push.good) was.accepted;
-  rises = rises-push d.sid d.writes w (ap (λ s. is_before s w.csn) (sym was.stamped) ∙ before) was.rises;
-  logged = subst (IsLogged d.history (d.writes ++ w ∷ [])) (sym (log_is d entries after last kept numbers later log uuid w was push)) (logged-push d.history d.writes w d.log was.logged);
-  touched = numbered-push d.history d.writes w uuid entries after numbers later was.made (after_is d entries after uuid w was.made push.made push.same) push.made push.renews was.touched;
+-- an operation that is accepted is previewed so
+pub planned_is : (d : DirectoryState) (op : Op) (now : ℕ) (preview : Preview) (entries : List Entry) (uuid : ℕ) → entries ≡ entries_of d → uuid ≡ identity d.history (length d.writes + 1)
+    → IsAccepted d.suffix (entries_of d) op → has_room d.writes op ≡ true → csn_of_next_write d now ≡ Some preview.csn → preview.csn_maker ≡ preview.csn
+    → preview.weight ≡ kept_weight d.writes + op_weight op → with_changes entries preview.touched ≡ effect entries op uuid preview.csn → CanBeMade entries preview.touched
+    → IsPlanned d op preview
+planned_is d op now preview entries uuid made same good room next drawn weighs leads fit = record {
+  accepted = good;
+  room = room;
+  later = next_rises now (last_csn_of d) preview.csn next;
+  drawn = drawn;
+  weighed = weighs;
+  leads =
+      ap (λ es. with_changes es preview.touched) (sym made)
+      ∙ after_is d entries (with_changes entries preview.touched) uuid (record { csn = preview.csn; op = op }) made leads same;
+  fit = subst (λ es. CanBeMade es preview.touched) made fit;
 }
 
--- a directory keeps its invariant after one more write
-pub kept_after : (d : DirectoryState) (entries after : List Entry) (last drawn : CsnValue) (kept weight : ℕ) (numbers later : Numbers) (log : Log) (uuid : ℕ) (w : Write) (writes : List Write)
-    → writes ≡ d.writes ++ w ∷ [] → drawn ≡ w.csn → IsKept d entries last kept numbers
-    → IsWeighed kept weight d.writes w.op → is_before last w.csn ≡ true → IsPushed d entries after numbers later log uuid w
-    → IsKept (record d { writes = writes; log = log }) after drawn (kept + weight) later
-kept_after d entries after last drawn kept weight numbers later log uuid w writes all is was weighs before push =
-    subst (λ ws. IsKept (record d { writes = ws; log = log }) after drawn (kept + weight) later) (sym all)
-    (subst (λ s. IsKept (record d { writes = d.writes ++ w ∷ []; log = log }) after s (kept + weight) later) (sym is)
-    (kept_push d entries after last kept weight numbers later log uuid w was weighs before push))
+-- the changes that were previewed are what differs before and after the write
+pub planned_touches : (d : DirectoryState) (op : Op) (preview : Preview) → IsPlanned d op preview
+    → preview.touched ≡ touched (entries_of d) (entries_after d.history (d.writes ++ (record { csn = preview.csn; op = op }) ∷ []))
+planned_touches d op preview plan = plan.fit.exact ∙ ap (touched (entries_of d)) plan.leads
 
--- the entries are in ascending order of identity
-pub kept_ascends : (d : DirectoryState) (entries : List Entry) (last : CsnValue) (kept : ℕ) (numbers : Numbers) → IsKept d entries last kept numbers → ascends entries ≡ true
-kept_ascends d entries last kept numbers was =
-    ap ascends (was.made ∙ sym (state_now d d.writes [] (append-nil d.writes))) ∙ ascends-state_of d.history d.writes (length d.writes)
+-- ---- what is kept after a write that was previewed
+
+-- what a write makes of the parts that are kept
+pub record IsPushed (d : DirectoryState) (entries after : List Entry) (numbers later : Numbers) (log : Log) (w : Write) : Type 0 where
+  pub leads : after ≡ entries_after d.history (d.writes ++ w ∷ [])
+  pub good : IsAccepted d.suffix (entries_of d) w.op
+  pub notes : log ≡ logged (length d.writes + 1) entries after d.log
+  pub renews : IsRenewed (length d.writes + 1) (touched entries after) numbers later
+
+-- what making the changes that were previewed makes of them
+pub planned_push : (d : DirectoryState) (op : Op) (preview : Preview) (entries after : List Entry) (numbers later : Numbers) (log : Log) → entries ≡ entries_of d → IsPlanned d op preview
+    → after ≡ with_changes entries preview.touched → log ≡ noted_each (length d.writes + 1) (uuids_of preview.touched) d.log
+    → IsRenewed (length d.writes + 1) preview.touched numbers later → IsPushed d entries after numbers later log (record { csn = preview.csn; op = op })
+planned_push d op preview entries after numbers later log was plan made notes renews = record {
+  leads = leads;
+  good = plan.accepted;
+  notes = notes ∙ ap (λ ts. noted_each (length d.writes + 1) (uuids_of ts) d.log) touches;
+  renews = subst (λ ts. IsRenewed (length d.writes + 1) ts numbers later) touches renews;
+}
+  where
+    leads : after ≡ entries_after d.history (d.writes ++ (record { csn = preview.csn; op = op }) ∷ [])
+    leads = made ∙ ap (λ es. with_changes es preview.touched) was ∙ plan.leads
+
+    touches : preview.touched ≡ touched entries after
+    touches = planned_touches d op preview plan ∙ (λ i. touched (sym was i) (sym leads i))
+
+-- the log of the directory after the write is the one that is kept
+pub log_is : (d : DirectoryState) (entries after : List Entry) (numbers later : Numbers) (log : Log) (w : Write) → entries ≡ entries_of d
+    → IsPushed d entries after numbers later log w → log ≡ (with_write d w).log
+log_is d entries after numbers later log w was push = push.notes ∙ (λ i. logged (length d.writes + 1) (was i) (push.leads i) d.log)
+
+kept_push : (d : DirectoryState) (entries after : List Entry) (last : CsnValue) (kept total : ℕ) (numbers later : Numbers) (log : Log) (w : Write) → IsKept d entries last kept numbers
+    → total ≡ kept_weight d.writes + op_weight w.op → has_room d.writes w.op ≡ true → is_before (last_csn_of d) w.csn ≡ true → IsPushed d entries after numbers later log w
+    → IsKept (record d { writes = d.writes ++ w ∷ []; log = log }) after w.csn total later
+kept_push d entries after last kept total numbers later log w was weighs room before push =
+    let light : kept_weight d.writes + op_weight w.op ≤ most_writes_weight = room_light d.writes w.op room in
+    record {
+      made = push.leads;
+      stamped = sym (last_csn-push (start d.sid) d.writes w);
+      weighed = weighs ∙ sym (kept_weight-push d.writes w);
+      light = omega (arith, weighs, light);
+      numbered = was.numbered;
+      accepted = accepted-push d.suffix d.history d.writes w push.good was.accepted;
+      rises = rises-push d.sid d.writes w before was.rises;
+      logged = subst (IsLogged d.history (d.writes ++ w ∷ [])) (sym (log_is d entries after numbers later log w was.made push)) (logged-push d.history d.writes w d.log was.logged);
+      touched = numbered-push d.history d.writes w entries after numbers later was.made push.leads push.renews was.touched;
+    }
+
+-- a directory keeps its invariant after a write that was previewed
+pub kept_after : (d : DirectoryState) (op : Op) (preview : Preview) (entries after : List Entry) (last drawn : CsnValue) (kept : ℕ) (numbers later : Numbers) (log : Log) (writes : List Write)
+    → IsKept d entries last kept numbers → IsPlanned d op preview → writes ≡ d.writes ++ (record { csn = preview.csn; op = op }) ∷ [] → drawn ≡ preview.csn
+    → IsPushed d entries after numbers later log (record { csn = preview.csn; op = op }) → IsKept (record d { writes = writes; log = log }) after drawn preview.weight later
+kept_after d op preview entries after last drawn kept numbers later log writes was plan all is push =
+    let w : Write = record { csn = preview.csn; op = op } in
+    subst (λ ws. IsKept (record d { writes = ws; log = log }) after drawn preview.weight later) (sym all)
+    (subst (λ s. IsKept (record d { writes = d.writes ++ w ∷ []; log = log }) after s preview.weight later) (sym is)
+    (kept_push d entries after last kept preview.weight numbers later log w was plan.weighed plan.room plan.later push))
 
 -- a write that is refused leaves what is kept, but for places that are made and taken back
 pub kept_refused : (d : DirectoryState) (entries after : List Entry) (last : CsnValue) (kept : ℕ) (numbers later : Numbers) (log : Log) (writes : List Write) → IsKept d entries last kept numbers
@@ -230,13 +264,10 @@ kept_trimmed d entries after last kept numbers later log limit was left is same 
     })
 
 -- the directory that is kept after a write is the one that the write makes
-pub written_is : (d : DirectoryState) (entries after : List Entry) (last : CsnValue) (kept : ℕ) (numbers later : Numbers) (log : Log) (uuid : ℕ) (op : Op) (csn : CsnValue) (now : ℕ) (writes : List Write)
-    → IsKept d entries last kept numbers → has_room d.writes op ≡ true → next_csn now last ≡ Some csn → code_of d.suffix entries op ≡ None
-    → writes ≡ d.writes ++ (record { csn = csn; op = op }) ∷ [] → IsPushed d entries after numbers later log uuid (record { csn = csn; op = op })
-    → record d { writes = writes; log = log } ≡ written d op now
-written_is d entries after last kept numbers later log uuid op csn now writes was room next free all push =
-    (λ i. record d { writes = all i; log = log_is d entries after last kept numbers later log uuid (record { csn = csn; op = op }) was push i })
-    ∙ ap (with_judged d) (sym (judged_good d op now csn None room (ap (next_csn now) (sym was.stamped) ∙ next) (ap (λ es. code_of d.suffix es op) (sym was.made) ∙ free)))
+pub put_is : (d : DirectoryState) (entries after : List Entry) (numbers later : Numbers) (log : Log) (w : Write) (writes : List Write) → entries ≡ entries_of d
+    → writes ≡ d.writes ++ w ∷ [] → IsPushed d entries after numbers later log w → record d { writes = writes; log = log } ≡ with_write d w
+put_is d entries after numbers later log w writes was all push =
+    λ i. record d { writes = all i; log = log_is d entries after numbers later log w was push i }
 
 -- out of memory, which other reports, is no code of a write, so what has it leaves the directory
 pub unwritten : (d : DirectoryState) (op : Op) (now : ℕ) → write_code d op now ≡ OTHER → written d op now ≡ d

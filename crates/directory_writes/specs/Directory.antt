@@ -2,7 +2,7 @@
 use Rattle.std.specs.Prelude.{◌≡◌, ⊤, ℕ, ◌+◌, ◌<◌, ◌≤◌, Bool, true, ◌&&◌, nat_lt, nat_le, List, [], ◌∷◌, ◌++◌, length, map, Option, Some, None, Result, Ok, Err, if◌then◌else◌}
 use Rattle.std.specs.List.Sorted.{IsStrictlySortedBy}
 use Rattle.ldap_constants.specs.declared.result_codes.TheConstants.{SUCCESS, ADMIN_LIMIT_EXCEEDED}
-use Rattle.csn_cookie.specs.Csn.{CsnValue, start, csn_cmp}
+use Rattle.csn_cookie.specs.Csn.{CsnValue, start, csn_cmp, is_before}
 use Rattle.csn_cookie.specs.CsnMaker.{next_csn}
 use Rattle.csn_cookie.specs.Cookie.{cookie_text}
 use Rattle.csn_cookie.specs.declared.cookie.Cookie.{Cookie}
@@ -17,7 +17,9 @@ use Rattle.entry_tree.specs.declared.fault.OpFault.{OpFault}
 use Rattle.entry_tree.specs.declared.fault.OpFault.TheVariants.{Code, NoMemory}
 use Rattle.entry_tree.specs.declared.op.Op.{Op}
 use Rattle.entry_tree.specs.declared.op.Write.{Write}
+use Rattle.entry_tree.specs.Touched.{with_changes, CanBeMade}
 use Rattle.session_log.specs.Log.{Log, fresh, trimmed}
+use Rattle.directory_writes.specs.declared.preview.Preview.{Preview}
 use Rattle.directory_writes.specs.Touches.{Numbers, logged, IsLogged, AreNumbered}
 use Rattle.directory_writes.specs.Weights.{op_weight, kept_weight}
 
@@ -148,6 +150,20 @@ pub record IsAccepted
   pub sound : is_sound_op op ≡ true
   pub unopposed : code_of suffix entries op ≡ None
   pub fitting : fits entries op ≡ true
+
+-- an operation was previewed so: it is accepted and there is room for it, its CSN, which its maker
+-- drew last, is after the last one, so much the kept writes weigh with it, and its changes can be
+-- made and lead to the entries after it
+pub record IsPlanned (d : DirectoryState) (op : Op) (preview : Preview) : Type 0 where
+  pub accepted : IsAccepted d.suffix (entries_of d) op
+  pub room : has_room d.writes op ≡ true
+  pub later : is_before (last_csn_of d) preview.csn ≡ true
+  pub drawn : preview.csn_maker ≡ preview.csn
+  pub weighed : preview.weight ≡ kept_weight d.writes + op_weight op
+  pub leads :
+      with_changes (entries_of d) preview.touched
+      ≡ entries_after d.history (d.writes ++ record { csn = preview.csn; op = op } ∷ [])
+  pub fit : CanBeMade (entries_of d) preview.touched
 
 -- each write is accepted on the entries before it, from these entries and n writes on
 abbrev pub AreAcceptedFrom : List (List TypeAndValue) → ℕ → List Entry → ℕ → List Write → Type 0

@@ -1,19 +1,17 @@
 -- Which writes touch an entry: those after which what its identity has differs
 -- from what it had before.
-use Rattle.std.specs.Prelude.{◌≡◌, ℕ, ◌<◌, zero, suc, ◌+◌, true, cond, is_some, List, [], ◌∷◌, ◌++◌, length, map, Option, Some, None}
+use Rattle.std.specs.Prelude.{◌≡◌, ℕ, ◌<◌, zero, suc, ◌+◌, true, cond, is_some, List, [], ◌++◌, length, map, Option, Some, None}
 use Rattle.std.specs.List.{fold, list_all}
 use Rattle.std.specs.Ordering.{nat_cmp}
 use Rattle.std.specs.Map.{lookup, remove_entry, set_value}
 use Rattle.std.specs.BTreeMap.{is_at}
 use Rattle.entry_tree.specs.declared.entry.Entry.{Entry}
-use Rattle.entry_tree.specs.declared.op.Op.{Op}
-use Rattle.entry_tree.specs.declared.op.Op.TheVariants.{Add, Delete, Modify, Rename, Commit}
 use Rattle.entry_tree.specs.declared.op.Write.{Write}
 use Rattle.entry_tree.specs.declared.touched.EntryChange.{EntryChange}
 use Rattle.entry_tree.specs.Bytes.{is_one_found}
 use Rattle.entry_tree.specs.History.{state_of}
 use Rattle.entry_tree.specs.State.{entry_at}
-use Rattle.entry_tree.specs.Touched.{identities, touched}
+use Rattle.entry_tree.specs.Touched.{touched}
 use Rattle.session_log.specs.declared.note.Note.{Note}
 use Rattle.session_log.specs.Calls.{IsLogOf}
 use Rattle.session_log.specs.Log.{Log, noted}
@@ -90,13 +88,12 @@ HavePlaces numbers uuids = list_all (λ uuid. is_some (number_at numbers uuid)) 
 pub record KeepsPlaces (old new : Numbers) : Type 0 where
   pub place : (uuid : ℕ) → is_some (number_at old uuid) ≡ true → is_some (number_at new uuid) ≡ true
 
--- some identities got places, then what a write touched was renewed
-pub record IsRenewed
-    (number : ℕ) (uuids : List ℕ) (touches : List EntryChange) (old new : Numbers) : Type 0 where
+-- each identity that a write touched got a place, then their numbers were renewed
+pub record IsRenewed (number : ℕ) (touches : List EntryChange) (old new : Numbers) : Type 0 where
   pub made : Numbers
-  pub places : HavePlaces made uuids
+  pub places : HavePlaces made (uuids_of touches)
   pub kept : KeepsNumbers old made
-  pub left : KeepsNumbers (renewed number made touches) new
+  pub done : new ≡ renewed number made touches
 
 -- each entry has its number
 abbrev pub AreNumbered : ℕ → List Write → List Entry → Numbers → Type 0
@@ -104,23 +101,7 @@ AreNumbered history writes entries numbers =
     (uuid : ℕ) (entry : Entry) → entry_at entries uuid ≡ Some entry
     → number_at numbers uuid ≡ Some (last_touch (state_of history writes) (length writes) uuid)
 
--- ---- what a write may need room for
-
--- the identities of the entries that it may add
-abbrev pub arrivals : Op → ℕ → List ℕ
-arrivals (Add name attrs) uuid = uuid ∷ []
-arrivals (Delete name) uuid = []
-arrivals (Modify name edits) uuid = []
-arrivals (Rename name rdn deletes superior) uuid = []
-arrivals (Commit puts drops) uuid = identities puts
-
--- it touches no more identities than these
-abbrev pub most_touched : List Entry → Op → ℕ
-most_touched entries (Add name attrs) = 1
-most_touched entries (Delete name) = length entries
-most_touched entries (Modify name edits) = length entries
-most_touched entries (Rename name rdn deletes superior) = length entries
-most_touched entries (Commit puts drops) = length puts + length drops
+-- ---- how it is kept
 
 -- the log with how many notes it has room for, and the numbers
 pub record TouchState : Type 0 where

@@ -14,11 +14,12 @@ ghost use Rattle.directory_writes.specs.Starting as starting;
 ghost use Rattle.directory_writes.specs.Directory as directory;
 ghost use Rattle.directory_writes.specs.Starting.{start_of, IsServed};
 ghost use Rattle.directory_writes.specs.Touches.{last_touch};
+ghost use Rattle.directory_writes.specs.Weights as weights;
 ghost use Rattle.directory_writes.specs.Weights.{kept_weight};
 
 use crate::NoMemory;
 use crate::commit::CommitFault;
-use crate::held::{Held, Mark};
+use crate::held::Held;
 use crate::preview::Preview;
 use crate::start::Start;
 use crate::touches::Touches;
@@ -54,6 +55,15 @@ pub struct Directory {
     pub(crate) weight: u64,
     pub(crate) csn_maker: CsnMaker,
     pub(crate) held: Held,
+}
+
+/// What an operation draws that there is room for: its change number, the maker that drew it, and
+/// what the kept writes weigh with it.
+#[derive(Drop)]
+struct Drawn {
+    csn: Csn,
+    csn_maker: CsnMaker,
+    weight: u64,
 }
 
 impl Model for Directory {
@@ -133,10 +143,8 @@ impl Directory {
     pub fn upto(&self, csn: Csn) -> u64
         ensures { result ≡ csn_specs.upto (directory.csns self.now.writes) csn }
     {
-        self.accepted
-            .iter()
-            .filter(|write| write.csn <= csn)
-            .count() as u64
+        let writes = self.accepted.as_slice();
+        writes.partition_point(|write| write.csn <= csn) as u64
     }
 
     /// The cookie of the content after all writes.
@@ -231,6 +239,7 @@ impl Directory {
     /// Applies a write where the clock shows `now`, in microseconds from the first moment of 1970
     /// on, and answers its code. A write with another code than success leaves the directory as it
     /// was.
+    #[tactic(auto, using(crate::proofs::Judged::written_good, crate::proofs::Judged::code_good, crate::proofs::Judged::refused_code, crate::proofs::Judged::refused_same))]
     pub fn write(&mut self, op: Op, now: u64) -> Result<u32, NoMemory>
         requires sound { is_sound_op op ≡ true }
         requires fits { fits (directory.entries_of self.old) op ≡ true }
@@ -238,25 +247,16 @@ impl Directory {
         ensures ok { OnOk result (self.new ≡ directory.written self.old op now) }
         ensures err { OnErr result (self.new ≡ self.old) }
     {
-        let weight = op_weight(&op)?;
-        if !self.has_room(weight) {
-            return Ok(ADMIN_LIMIT_EXCEEDED);
+        match self.preview(&op, now) {
+            Ok(preview) => {
+                self.put(op, &preview)?;
+                Ok(SUCCESS)
+            }
+            Err(fault) => {
+                discard(op);
+                code_of(fault)
+            }
         }
-        let mut csn_maker = self.csn_maker.copy();
-        let Ok(csn) = csn_maker.next(now) else {
-            return Ok(ADMIN_LIMIT_EXCEEDED);
-        };
-        let number = self.accepted.len() as u64 + 1;
-        let uuid = identity(self.history, number);
-        self.accepted.reserve(1)?;
-        let mark = Mark { number, uuid, csn };
-        if let Err(fault) = self.held.apply(&op, &self.suffix, mark) {
-            return code_of(fault);
-        }
-        self.accepted.push_reserved(Write { csn, op });
-        self.weight += weight;
-        self.csn_maker = csn_maker;
-        Ok(SUCCESS)
     }
 
     /// What `write` would do where the clock shows `now`, or the code that it would answer. The
@@ -270,13 +270,40 @@ impl Directory {
             ≡ touched (directory.entries_of self.now)
             (directory.entries_after self.now.history
             (self.now.writes ++ record { csn = preview.csn; op = op.now } ∷ []))) }
+        ensures planned { IfOk result (directory.IsPlanned self.now op.now) }
         ensures refused { IfErr result (directory.Refuses (directory.judged self.now op.now now)) }
     {
-        let csn = self.next_csn(op, now)?;
+        let drawn = self.draw(op, now)?;
         let number = self.accepted.len() as u64 + 1;
         let uuid = identity(self.history, number);
-        let touched = self.held.tree.preview(op, &self.suffix, uuid, csn)?;
-        Ok(Preview { csn, touched })
+        let touched = self.held.tree.preview(op, &self.suffix, uuid, drawn.csn)?;
+        Ok(Preview {
+            csn: drawn.csn,
+            csn_maker: drawn.csn_maker,
+            weight: drawn.weight,
+            touched,
+        })
+    }
+
+    /// Makes a write that was previewed, which is not judged again. Room for it is made first, and
+    /// then the changes of the entries, after which nothing takes memory. Where memory runs out the
+    /// directory is as it was.
+    pub fn put(&mut self, op: Op, preview: &Preview) -> Result<(), NoMemory>
+        requires { directory.IsPlanned self.old op preview.now }
+        ensures ok { OnOk result (self.new
+            ≡ directory.with_write self.old (record { csn = preview.now.csn; op = op })) }
+        ensures err { OnErr result (self.new ≡ self.old) }
+    {
+        let number = self.accepted.len() as u64 + 1;
+        self.accepted.reserve(1)?;
+        self.held.put(number, &preview.touched)?;
+        self.accepted.push_reserved(Write {
+            csn: preview.csn,
+            op,
+        });
+        self.weight = preview.weight;
+        self.csn_maker = preview.csn_maker.copy();
+        Ok(())
     }
 
     /// Whether a commit that puts these entries and drops these identities may be kept where the
@@ -311,17 +338,27 @@ impl Directory {
 
     /// The change number that this operation would get, or adminLimitExceeded where it cannot be
     /// kept.
-    fn next_csn(&self, op: &Op, now: u64) -> Result<Csn, OpFault>
+    #[tactic(auto, using(crate::proofs::Writes::total_is))]
+    fn draw(&self, op: &Op, now: u64) -> Result<Drawn, OpFault>
         ensures room { OnOk result (directory.has_room self.now.writes op.now ≡ true) }
-        ensures value { IfOk result (λ csn. directory.csn_of_next_write self.now now ≡ Some csn) }
+        ensures value { IfOk result (λ drawn.
+            directory.csn_of_next_write self.now now ≡ Some drawn.csn) }
+        ensures maker { IfOk result (λ drawn. drawn.csn_maker ≡ drawn.csn) }
+        ensures weight { IfOk result (λ drawn.
+            drawn.weight ≡ kept_weight self.now.writes + weights.op_weight op.now) }
         ensures refused { IfErr result (directory.Refuses (directory.judged self.now op.now now)) }
     {
-        if !self.has_room(op_weight(op)?) {
+        let weight = op_weight(op)?;
+        if !self.has_room(weight) {
             return Err(OpFault::Code(ADMIN_LIMIT_EXCEEDED));
         }
         let mut csn_maker = self.csn_maker.copy();
         match csn_maker.next(now) {
-            Ok(csn) => Ok(csn),
+            Ok(csn) => Ok(Drawn {
+                csn,
+                csn_maker,
+                weight: self.weight + weight,
+            }),
             Err(_) => Err(OpFault::Code(ADMIN_LIMIT_EXCEEDED)),
         }
     }
@@ -334,6 +371,9 @@ impl Directory {
         self.accepted.len() < MOST_WRITES && weight <= MOST_WRITES_WEIGHT - self.weight
     }
 }
+
+/// Drops a value.
+fn discard<T: Drop>(_value: T) {}
 
 /// The code that a fault reports.
 fn code_of(fault: OpFault) -> Result<u32, NoMemory>

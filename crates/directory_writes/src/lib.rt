@@ -1,6 +1,6 @@
-//! A directory by its accepted writes: its entries, the change number of each write, what each write
-//! touched (the session log, and for each entry the number of its last touch), and where a search
-//! with content synchronisation begins on it (RFC 4533, section 3.3).
+//! A directory by its accepted writes: its entries, the change number of each write, what each
+//! write touched (the session log, and for each entry the number of its last touch), and where a
+//! search with content synchronisation begins on it (RFC 4533, section 3.3).
 #![tactic(auto)]
 
 mod commit;

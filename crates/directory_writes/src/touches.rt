@@ -1,15 +1,14 @@
 //! What is known of which write touched which entry.
 
-ghost use Rattle.std.specs.Prelude.{◌≡◌, ◌≤◌, [], ◌∷◌, length, is_some, true, OnOk, IfOk};
+ghost use Rattle.std.specs.Prelude.{◌≡◌, ◌≤◌, [], length, is_some, true, OnOk, IfOk};
 ghost use Rattle.std.specs.List.Sorted.{IsStrictlySortedBy};
 ghost use Rattle.std.specs.Ordering.{nat_cmp};
-ghost use Rattle.entry_tree.specs.Touched.{identities};
 ghost use Rattle.session_log.specs.Log as log;
 ghost use Rattle.directory_writes.specs.Touches as spec;
 ghost use Rattle.directory_writes.specs.Touches.{number_at};
 
 use crate::NoMemory;
-use entry_tree::{Entry, EntryChange};
+use entry_tree::EntryChange;
 use session_log::SessionLog;
 use std::alloc::Global;
 use std::collections::BTreeMap;
@@ -67,41 +66,23 @@ impl Touches {
         self.log.reserve(notes)
     }
 
-    /// Makes a place for an entry of this identity.
-    #[tactic(auto, using(crate::proofs::Places::have_one))]
-    pub(crate) fn make_place(&mut self, uuid: u128) -> Result<(), NoMemory>
+    /// Makes a place for each identity that these changes touch.
+    pub(crate) fn make_places(&mut self, touched: &[EntryChange]) -> Result<(), NoMemory>
         ensures log { self.new.log ≡ self.old.log }
         ensures room { self.new.spare ≡ self.old.spare }
-        ensures place { OnOk result (spec.HavePlaces self.new.numbers (uuid ∷ [])) }
+        ensures places { OnOk result
+            (spec.HavePlaces self.new.numbers (spec.uuids_of touched.now)) }
         ensures numbers { spec.KeepsNumbers self.old.numbers self.new.numbers }
     {
-        make_place(&mut self.numbers, uuid)
+        make_each(&mut self.numbers, touched)
     }
 
-    /// Makes a place for each of these entries.
-    pub(crate) fn make_places(&mut self, entries: &[Entry]) -> Result<(), NoMemory>
-        ensures log { self.new.log ≡ self.old.log }
-        ensures room { self.new.spare ≡ self.old.spare }
-        ensures places { OnOk result (spec.HavePlaces self.new.numbers (identities entries.now)) }
-        ensures numbers { spec.KeepsNumbers self.old.numbers self.new.numbers }
-    {
-        make_each(&mut self.numbers, entries)
-    }
-
-    /// Takes back the place of this identity, where it has no number yet.
-    pub(crate) fn leave_place(&mut self, uuid: u128)
+    /// Takes back the places of these identities that have no number yet.
+    pub(crate) fn leave_places(&mut self, touched: &[EntryChange])
         ensures log { self.new.log ≡ self.old.log }
         ensures numbers { spec.KeepsNumbers self.old.numbers self.new.numbers }
     {
-        leave_place(&mut self.numbers, uuid);
-    }
-
-    /// Takes back the places of these entries that have no number yet.
-    pub(crate) fn leave_places(&mut self, entries: &[Entry])
-        ensures log { self.new.log ≡ self.old.log }
-        ensures numbers { spec.KeepsNumbers self.old.numbers self.new.numbers }
-    {
-        leave_each(&mut self.numbers, entries);
+        leave_each(&mut self.numbers, touched);
     }
 
     /// Notes what a write changed. It takes no memory.
@@ -160,12 +141,13 @@ fn make_place(numbers: &mut BTreeMap<u128, u64>, uuid: u128) -> Result<(), NoMem
 }
 
 #[tactic(auto, using(crate::proofs::Served::keeps_itself, crate::proofs::Served::keeps_both, crate::proofs::Places::next_place))]
-fn make_each(numbers: &mut BTreeMap<u128, u64>, entries: &[Entry]) -> Result<(), NoMemory>
-    ensures places { OnOk result (spec.HavePlaces numbers.new.entries (identities entries.now)) }
+fn make_each(numbers: &mut BTreeMap<u128, u64>, touched: &[EntryChange]) -> Result<(), NoMemory>
+    ensures places { OnOk result
+        (spec.HavePlaces numbers.new.entries (spec.uuids_of touched.now)) }
     ensures numbers { spec.KeepsNumbers numbers.old.entries numbers.new.entries }
 {
-    for entry in entries {
-        make_place(numbers, entry.uuid)?;
+    for entry_change in touched {
+        make_place(numbers, entry_change.uuid)?;
     }
     Ok(())
 }
@@ -180,11 +162,11 @@ fn leave_place(numbers: &mut BTreeMap<u128, u64>, uuid: u128)
 }
 
 #[tactic(auto, using(crate::proofs::Served::keeps_itself, crate::proofs::Served::keeps_both))]
-fn leave_each(numbers: &mut BTreeMap<u128, u64>, entries: &[Entry])
+fn leave_each(numbers: &mut BTreeMap<u128, u64>, touched: &[EntryChange])
     ensures { spec.KeepsNumbers numbers.old.entries numbers.new.entries }
 {
-    for entry in entries {
-        leave_place(numbers, entry.uuid);
+    for entry_change in touched {
+        leave_place(numbers, entry_change.uuid);
     }
 }
 

@@ -7,7 +7,7 @@ use Rattle.std.proofs.lemmas.Slice.Eq.{bytes_eq-Decides}
 use Rattle.dn_names.specs.Names.{TypeAndValue, pair_key, same_pair, has_pair, same_rdn, same_name, suffix_of, is_at_or_below, is_child_of}
 
 -- two tests of which each passes where the other does are one
-both_or_none : (one other : Bool) → (one ≡ true → other ≡ true) → (other ≡ true → one ≡ true) → one ≡ other
+pub both_or_none : (one other : Bool) → (one ≡ true → other ≡ true) → (other ≡ true → one ≡ true) → one ≡ other
 both_or_none true other there back = sym (there refl)
 both_or_none false true there back = back refl
 both_or_none false false there back = refl

@@ -69,35 +69,13 @@ same-from_mark one other known_one known_other same =
     let kinds : one.kind ≡ other.kind = (cc) in
     and_from (nat_eq one.kind other.kind) (pointwise nat_eq (pair_key one) (pair_key other)) (eq-eqb one.kind other.kind kinds) ((bytes_decides (pair_key one) (pair_key other)).1 keys.0)
 
-mark_is_in : (pairs : List TypeAndValue) (pair : TypeAndValue) → has_pair pairs pair ≡ true → In (pair_mark pair) (map pair_mark pairs)
-mark_is_in [] pair has = (cc)
-mark_is_in (p ∷ ps) pair has =
-    elim (or_cases (same_pair pair p) (list_any (same_pair pair) ps) has) [
-      | inl first ↦ inl (mark-from_same pair p first)
-      | inr rest ↦ inr (mark_is_in ps pair rest)
-    ]
+-- ---- sets of texts
 
-pair_is_in : (pairs : List TypeAndValue) (pair : TypeAndValue) → IsKnown pair → AreKnown pairs → In (pair_mark pair) (map pair_mark pairs) → has_pair pairs pair ≡ true
-pair_is_in [] pair known are member = absurd member
-pair_is_in (p ∷ ps) pair known are (inl first) = or_left (same_pair pair p) (list_any (same_pair pair) ps) (same-from_mark pair p known are.0 first)
-pair_is_in (p ∷ ps) pair known are (inr rest) = or_right (same_pair pair p) (list_any (same_pair pair) ps) (pair_is_in ps pair known are.1 rest)
+-- the texts of pairs as a set: in ascending order, and each once
+abbrev pub set_by : (TypeAndValue → List ℕ) → List TypeAndValue → List (List ℕ)
+set_by text pairs = fold (insert_key (slice_cmp nat_cmp)) [] (map text pairs)
 
-marks_are_in : (pairs wanted : List TypeAndValue) → list_all (has_pair pairs) wanted ≡ true → (m : List ℕ) → In m (map pair_mark wanted) → In m (map pair_mark pairs)
-marks_are_in pairs [] all m member = absurd member
-marks_are_in pairs (w ∷ ws) all m (inl first) =
-    rw first (mark_is_in pairs w (and_parts (has_pair pairs w) (list_all (has_pair pairs) ws) all).0)
-marks_are_in pairs (w ∷ ws) all m (inr rest) =
-    marks_are_in pairs ws (and_parts (has_pair pairs w) (list_all (has_pair pairs) ws) all).1 m rest
-
-pairs_are_in : (pairs wanted : List TypeAndValue) → AreKnown pairs → AreKnown wanted → ((m : List ℕ) → In m (map pair_mark wanted) → In m (map pair_mark pairs)) → list_all (has_pair pairs) wanted ≡ true
-pairs_are_in pairs [] known known_wanted all = refl
-pairs_are_in pairs (w ∷ ws) known known_wanted all =
-    and_from (has_pair pairs w) (list_all (has_pair pairs) ws) (pair_is_in pairs w known_wanted.0 known (all (pair_mark w) (inl refl)))
-    (pairs_are_in pairs ws known known_wanted.1 (λ m member. all m (inr member)))
-
--- ---- the set of the marks
-
-put_in : (marks set : List (List ℕ)) (m : List ℕ) → In m (fold (insert_key (slice_cmp nat_cmp)) set marks) → In m set ⊎ In m marks
+put_in : (texts set : List (List ℕ)) (m : List ℕ) → In m (fold (insert_key (slice_cmp nat_cmp)) set texts) → In m set ⊎ In m texts
 put_in [] set m member = inl member
 put_in (k ∷ ks) set m member =
     elim (put_in ks (insert_key (slice_cmp nat_cmp) set k) m member) [
@@ -105,7 +83,7 @@ put_in (k ∷ ks) set m member =
       | inr late ↦ inr (inr late)
     ]
 
-kept_in : (marks set : List (List ℕ)) (m : List ℕ) → In m set ⊎ In m marks → In m (fold (insert_key (slice_cmp nat_cmp)) set marks)
+kept_in : (texts set : List (List ℕ)) (m : List ℕ) → In m set ⊎ In m texts → In m (fold (insert_key (slice_cmp nat_cmp)) set texts)
 kept_in [] set m (inl early) = early
 kept_in [] set m (inr late) = absurd late
 kept_in (k ∷ ks) set m (inl early) = kept_in ks (insert_key (slice_cmp nat_cmp) set k) m (inl (old_is_in nat_list_cmp_total exact_bytes m k set early))
@@ -113,28 +91,17 @@ kept_in (k ∷ ks) set m (inr (inl first)) =
     kept_in ks (insert_key (slice_cmp nat_cmp) set k) m (inl (rw first (new_is_in nat_list_cmp_total exact_bytes k set)))
 kept_in (k ∷ ks) set m (inr (inr rest)) = kept_in ks (insert_key (slice_cmp nat_cmp) set k) m (inr rest)
 
-sorted-fold : (marks set : List (List ℕ)) → Sorted (slice_cmp nat_cmp) set → Sorted (slice_cmp nat_cmp) (fold (insert_key (slice_cmp nat_cmp)) set marks)
+sorted-fold : (texts set : List (List ℕ)) → Sorted (slice_cmp nat_cmp) set → Sorted (slice_cmp nat_cmp) (fold (insert_key (slice_cmp nat_cmp)) set texts)
 sorted-fold [] set sorted = sorted
 sorted-fold (k ∷ ks) set sorted = sorted-fold ks (insert_key (slice_cmp nat_cmp) set k) (sorted-insert nat_list_cmp_total exact_bytes set k sorted)
 
-from_set : (pairs : List TypeAndValue) (m : List ℕ) → In m (pair_set pairs) → In m (map pair_mark pairs)
-from_set pairs m member = elim (put_in (map pair_mark pairs) [] m member) [ inl none ↦ absurd none | inr there ↦ there ]
+-- a text of the set is that of a pair
+pub from_texts : (text : TypeAndValue → List ℕ) (pairs : List TypeAndValue) (m : List ℕ) → In m (set_by text pairs) → In m (map text pairs)
+from_texts text pairs m member = elim (put_in (map text pairs) [] m member) [ inl none ↦ absurd none | inr there ↦ there ]
 
-into_set : (pairs : List TypeAndValue) (m : List ℕ) → In m (map pair_mark pairs) → In m (pair_set pairs)
-into_set pairs m member = kept_in (map pair_mark pairs) [] m (inr member)
-
-sets-from_same : (one other : List TypeAndValue) → same_rdn one other ≡ true → pair_set one ≡ pair_set other
-sets-from_same one other same =
-    let both = and_parts (list_all (has_pair other) one) (list_all (has_pair one) other) same in
-    same_members nat_list_cmp_total exact_bytes (pair_set one) (pair_set other) (sorted-fold (map pair_mark one) [] tt) (sorted-fold (map pair_mark other) [] tt)
-    (λ m member. into_set other m (marks_are_in other one both.0 m (from_set one m member)))
-    (λ m member. into_set one m (marks_are_in one other both.1 m (from_set other m member)))
-
-same-from_sets : (one other : List TypeAndValue) → AreKnown one → AreKnown other → pair_set one ≡ pair_set other → same_rdn one other ≡ true
-same-from_sets one other known_one known_other sets =
-    and_from (list_all (has_pair other) one) (list_all (has_pair one) other)
-    (pairs_are_in other one known_other known_one (λ m member. from_set other m (let P : List (List ℕ) → Type 0 = λ set. In m set in subst P sets (into_set one m member))))
-    (pairs_are_in one other known_one known_other (λ m member. from_set one m (let P : List (List ℕ) → Type 0 = λ set. In m set in subst P (sym sets) (into_set other m member))))
+-- the text of each pair is in the set
+pub into_texts : (text : TypeAndValue → List ℕ) (pairs : List TypeAndValue) (m : List ℕ) → In m (map text pairs) → In m (set_by text pairs)
+into_texts text pairs m member = kept_in (map text pairs) [] m (inr member)
 
 -- ---- names
 
@@ -153,34 +120,88 @@ known_name [] sound = tt
 known_name (rdn ∷ rdns) sound =
     (known_pairs rdn (rdn-keyed rdn (sound 0 rdn (omega arith))), known_name rdns (λ k d within. sound (suc k) d (omega arith)))
 
-all_sets-from_same : (one other : List (List TypeAndValue)) → length one ≡ length other → list_all (λ rdns. same_rdn rdns.0 rdns.1) (zip one other) ≡ true → map pair_set one ≡ map pair_set other
-all_sets-from_same [] [] long same = refl
-all_sets-from_same [] (q ∷ qs) long same = absurd (omega arith)
-all_sets-from_same (r ∷ rs) [] long same = absurd (omega arith)
-all_sets-from_same (r ∷ rs) (q ∷ qs) long same =
-    let both = and_parts (same_rdn r q) (list_all (λ rdns. same_rdn rdns.0 rdns.1) (zip rs qs)) same in
-    let first : pair_set r ≡ pair_set q = sets-from_same r q both.0 in
-    let rest : map pair_set rs ≡ map pair_set qs = all_sets-from_same rs qs (omega arith) both.1 in
-    cc
+-- ---- pairs that have one text exactly where they match
 
-all_same-from_sets : (one other : List (List TypeAndValue)) → AllKnown one → AllKnown other → map pair_set one ≡ map pair_set other → list_all (λ rdns. same_rdn rdns.0 rdns.1) (zip one other) ≡ true
-all_same-from_sets [] other known_one known_other sets = refl
-all_same-from_sets (r ∷ rs) [] known_one known_other sets = refl
-all_same-from_sets (r ∷ rs) (q ∷ qs) known_one known_other sets =
-    let first : pair_set r ≡ pair_set q = (cc) in
-    let rest : map pair_set rs ≡ map pair_set qs = (cc) in
-    and_from (same_rdn r q) (list_all (λ rdns. same_rdn rdns.0 rdns.1) (zip rs qs)) (same-from_sets r q known_one.0 known_other.0 first)
-    (all_same-from_sets rs qs known_one.1 known_other.1 rest)
+module _ (text : TypeAndValue → List ℕ)
+    (matching_text : (one other : TypeAndValue) → same_pair one other ≡ true → text one ≡ text other)
+    (text_matches : (one other : TypeAndValue) → IsKnown one → IsKnown other → text one ≡ text other → same_pair one other ≡ true) where
+  text_is_in : (pairs : List TypeAndValue) (pair : TypeAndValue) → has_pair pairs pair ≡ true → In (text pair) (map text pairs)
+  text_is_in [] pair has = (cc)
+  text_is_in (p ∷ ps) pair has =
+      elim (or_cases (same_pair pair p) (list_any (same_pair pair) ps) has) [
+        | inl first ↦ inl (matching_text pair p first)
+        | inr rest ↦ inr (text_is_in ps pair rest)
+      ]
+
+  pair_is_in : (pairs : List TypeAndValue) (pair : TypeAndValue) → IsKnown pair → AreKnown pairs → In (text pair) (map text pairs) → has_pair pairs pair ≡ true
+  pair_is_in [] pair known are member = absurd member
+  pair_is_in (p ∷ ps) pair known are (inl first) = or_left (same_pair pair p) (list_any (same_pair pair) ps) (text_matches pair p known are.0 first)
+  pair_is_in (p ∷ ps) pair known are (inr rest) = or_right (same_pair pair p) (list_any (same_pair pair) ps) (pair_is_in ps pair known are.1 rest)
+
+  texts_are_in : (pairs wanted : List TypeAndValue) → list_all (has_pair pairs) wanted ≡ true → (m : List ℕ) → In m (map text wanted) → In m (map text pairs)
+  texts_are_in pairs [] all m member = absurd member
+  texts_are_in pairs (w ∷ ws) all m (inl first) =
+      rw first (text_is_in pairs w (and_parts (has_pair pairs w) (list_all (has_pair pairs) ws) all).0)
+  texts_are_in pairs (w ∷ ws) all m (inr rest) =
+      texts_are_in pairs ws (and_parts (has_pair pairs w) (list_all (has_pair pairs) ws) all).1 m rest
+
+  pairs_are_in : (pairs wanted : List TypeAndValue) → AreKnown pairs → AreKnown wanted → ((m : List ℕ) → In m (map text wanted) → In m (map text pairs)) → list_all (has_pair pairs) wanted ≡ true
+  pairs_are_in pairs [] known known_wanted all = refl
+  pairs_are_in pairs (w ∷ ws) known known_wanted all =
+      and_from (has_pair pairs w) (list_all (has_pair pairs) ws) (pair_is_in pairs w known_wanted.0 known (all (text w) (inl refl)))
+      (pairs_are_in pairs ws known known_wanted.1 (λ m member. all m (inr member)))
+
+  sets-from_same : (one other : List TypeAndValue) → same_rdn one other ≡ true → set_by text one ≡ set_by text other
+  sets-from_same one other same =
+      let both = and_parts (list_all (has_pair other) one) (list_all (has_pair one) other) same in
+      same_members nat_list_cmp_total exact_bytes (set_by text one) (set_by text other) (sorted-fold (map text one) [] tt) (sorted-fold (map text other) [] tt)
+      (λ m member. into_texts text other m (texts_are_in other one both.0 m (from_texts text one m member)))
+      (λ m member. into_texts text one m (texts_are_in one other both.1 m (from_texts text other m member)))
+
+  same-from_sets : (one other : List TypeAndValue) → AreKnown one → AreKnown other → set_by text one ≡ set_by text other → same_rdn one other ≡ true
+  same-from_sets one other known_one known_other sets =
+      and_from (list_all (has_pair other) one) (list_all (has_pair one) other)
+      (pairs_are_in other one known_other known_one (λ m member. from_texts text other m (let P : List (List ℕ) → Type 0 = λ set. In m set in subst P sets (into_texts text one m member))))
+      (pairs_are_in one other known_one known_other (λ m member. from_texts text one m (let P : List (List ℕ) → Type 0 = λ set. In m set in subst P (sym sets) (into_texts text other m member))))
+
+  all_sets-from_same : (one other : List (List TypeAndValue)) → length one ≡ length other → list_all (λ rdns. same_rdn rdns.0 rdns.1) (zip one other) ≡ true → map (set_by text) one ≡ map (set_by text) other
+  all_sets-from_same [] [] long same = refl
+  all_sets-from_same [] (q ∷ qs) long same = absurd (omega arith)
+  all_sets-from_same (r ∷ rs) [] long same = absurd (omega arith)
+  all_sets-from_same (r ∷ rs) (q ∷ qs) long same =
+      let both = and_parts (same_rdn r q) (list_all (λ rdns. same_rdn rdns.0 rdns.1) (zip rs qs)) same in
+      let first : set_by text r ≡ set_by text q = sets-from_same r q both.0 in
+      let rest : map (set_by text) rs ≡ map (set_by text) qs = all_sets-from_same rs qs (omega arith) both.1 in
+      cc
+
+  all_same-from_sets : (one other : List (List TypeAndValue)) → AllKnown one → AllKnown other → map (set_by text) one ≡ map (set_by text) other → list_all (λ rdns. same_rdn rdns.0 rdns.1) (zip one other) ≡ true
+  all_same-from_sets [] other known_one known_other sets = refl
+  all_same-from_sets (r ∷ rs) [] known_one known_other sets = refl
+  all_same-from_sets (r ∷ rs) (q ∷ qs) known_one known_other sets =
+      let first : set_by text r ≡ set_by text q = (cc) in
+      let rest : map (set_by text) rs ≡ map (set_by text) qs = (cc) in
+      and_from (same_rdn r q) (list_all (λ rdns. same_rdn rdns.0 rdns.1) (zip rs qs)) (same-from_sets r q known_one.0 known_other.0 first)
+      (all_same-from_sets rs qs known_one.1 known_other.1 rest)
+
+  -- equal names have the same sets of texts
+  pub sets_by-from_same : (one other : List (List TypeAndValue)) → same_name one other ≡ true → map (set_by text) one ≡ map (set_by text) other
+  sets_by-from_same one other same =
+      let both = and_parts (nat_eq (length one) (length other)) (list_all (λ rdns. same_rdn rdns.0 rdns.1) (zip one other)) same in
+      all_sets-from_same one other (eqb-true (length one) (length other) both.0) both.1
+
+  -- names with the same sets of texts are equal
+  pub same-from_sets_by : (one other : List (List TypeAndValue)) → IsName one → IsName other → map (set_by text) one ≡ map (set_by text) other → same_name one other ≡ true
+  same-from_sets_by one other sound_one sound_other sets =
+      let long : length one ≡ length other = sym (length-map one (set_by text)) ∙ ap length sets ∙ length-map other (set_by text) in
+      and_from (nat_eq (length one) (length other)) (list_all (λ rdns. same_rdn rdns.0 rdns.1) (zip one other)) (eq-eqb (length one) (length other) long)
+      (all_same-from_sets one other (known_name one sound_one.rdns) (known_name other sound_other.rdns) sets)
+
+-- ---- names
 
 -- equal names have the same sets of pairs
 pub sets-from_same_name : (one other : List (List TypeAndValue)) → same_name one other ≡ true → map pair_set one ≡ map pair_set other
-sets-from_same_name one other same =
-    let both = and_parts (nat_eq (length one) (length other)) (list_all (λ rdns. same_rdn rdns.0 rdns.1) (zip one other)) same in
-    all_sets-from_same one other (eqb-true (length one) (length other) both.0) both.1
+sets-from_same_name one other same = sets_by-from_same pair_mark mark-from_same same-from_mark one other same
 
 -- names with the same sets of pairs are equal
 pub same_name-from_sets : (one other : List (List TypeAndValue)) → IsName one → IsName other → map pair_set one ≡ map pair_set other → same_name one other ≡ true
-same_name-from_sets one other sound_one sound_other sets =
-    let long : length one ≡ length other = sym (length-map one pair_set) ∙ ap length sets ∙ length-map other pair_set in
-    and_from (nat_eq (length one) (length other)) (list_all (λ rdns. same_rdn rdns.0 rdns.1) (zip one other)) (eq-eqb (length one) (length other) long)
-    (all_same-from_sets one other (known_name one sound_one.rdns) (known_name other sound_other.rdns) sets)
+same_name-from_sets one other sound_one sound_other sets = same-from_sets_by pair_mark mark-from_same same-from_mark one other sound_one sound_other sets

@@ -6,6 +6,8 @@ pub mod Equality
 pub mod KeyTexts
 pub mod Marks
 pub mod PairSets
+pub mod PathKeys
+pub mod PathPieces
 pub mod Pieces
 pub mod Rereading
 pub mod SignLists

@@ -8,7 +8,7 @@ use Rattle.std.specs.BTreeSet.{insert_key}
 use Rattle.std.proofs.lemmas.List.{map-append, take_more}
 use Rattle.std.proofs.lemmas.List.Sums.{fold-append}
 use Rattle.dn_names.specs.Names.{TypeAndValue}
-use Rattle.dn_names.specs.Keys.{pair_set, pair_mark}
+use Rattle.dn_names.proofs.Equality.{set_by}
 
 -- keys that are compared by what they show are put in as that is
 pub map-insert_key : {K L : Type 0} (show : K → L) (cmp : L → L → Ordering) (keys : List K) (key : K)
@@ -20,12 +20,13 @@ map-insert_key show cmp (k ∷ ks) key =
     ≡ match_ordering o (show key ∷ show k ∷ map show ks) (show k ∷ map show ks) (show k ∷ insert_key cmp (map show ks) (show key)))
     [ Less ↦ refl | Equal ↦ refl | Greater ↦ ap (λ rest. show k ∷ rest) (map-insert_key show cmp ks key) ]
 
-pub pair_set-push : (pairs : List TypeAndValue) (pair : TypeAndValue) → pair_set (pairs ++ pair ∷ []) ≡ insert_key (slice_cmp nat_cmp) (pair_set pairs) (pair_mark pair)
-pair_set-push pairs pair =
-    ap (fold (insert_key (slice_cmp nat_cmp)) []) (map-append pair_mark pairs (pair ∷ []))
-    ∙ fold-append (insert_key (slice_cmp nat_cmp)) [] (map pair_mark pairs) (pair_mark pair ∷ [])
+set_by-push : (text : TypeAndValue → List ℕ) (pairs : List TypeAndValue) (pair : TypeAndValue)
+    → set_by text (pairs ++ pair ∷ []) ≡ insert_key (slice_cmp nat_cmp) (set_by text pairs) (text pair)
+set_by-push text pairs pair =
+    ap (fold (insert_key (slice_cmp nat_cmp)) []) (map-append text pairs (pair ∷ []))
+    ∙ fold-append (insert_key (slice_cmp nat_cmp)) [] (map text pairs) (text pair ∷ [])
 
--- the set of some pairs with one more
-pub pair_set_more : (pairs : List TypeAndValue) (i : ℕ) (d : TypeAndValue) → i < length pairs
-    → pair_set (take (i + 1) pairs) ≡ insert_key (slice_cmp nat_cmp) (pair_set (take i pairs)) (pair_mark (get_or pairs i d))
-pair_set_more pairs i d within = ap pair_set (take_more pairs i d within) ∙ pair_set-push (take i pairs) (get_or pairs i d)
+-- the set of the texts of some pairs with one more
+pub set_by_more : (text : TypeAndValue → List ℕ) (pairs : List TypeAndValue) (i : ℕ) (d : TypeAndValue) → i < length pairs
+    → set_by text (take (i + 1) pairs) ≡ insert_key (slice_cmp nat_cmp) (set_by text (take i pairs)) (text (get_or pairs i d))
+set_by_more text pairs i d within = ap (set_by text) (take_more pairs i d within) ∙ set_by-push text (take i pairs) (get_or pairs i d)

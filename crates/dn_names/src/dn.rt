@@ -1,50 +1,65 @@
 //! Distinguished names (RFC 4514, section 2.1).
 ghost use Rattle.std.specs.Prelude.{◌≡◌, ◌<◌, ◌↔◌, true, List, [], ◌∷◌, ◌++◌, length, Ok, IfOk, IfErr, OnOk};
-ghost use Rattle.std.specs.List.{list_all, zip};
 ghost use Rattle.dn_names.specs.Keys.{name_key};
-ghost use Rattle.dn_names.specs.Names.{TypeAndValue, same_rdn, same_name, is_at_or_below, is_child_of, parent_of, moved_name};
+ghost use Rattle.dn_names.specs.Names.{TypeAndValue, same_name, is_at_or_below, is_child_of, parent_of, moved_name};
+ghost use Rattle.dn_names.specs.Paths.{path_key, HasPath, ShowsNames};
 ghost use Rattle.dn_names.specs.Reading.{name_of_text, rdns_of, signs_width, limited, IsFaultOf};
 ghost use Rattle.dn_names.specs.Sound.{IsName, most_rdns};
 ghost use Rattle.dn_names.specs.Writing.{name_text};
 
 use crate::fault::NameFault;
 use crate::keys::append_rdn_key;
-use crate::rdn::{Rdn, is_same_rdn};
+use crate::name::Name;
+use crate::rdn::Rdn;
 use crate::signs::{Sign, cut, signs_of, width_of, without_leading_spaces};
 use crate::writing::append_rdns;
 use ldap_ber::{NoMemory, Octets};
 use std::alloc::Global;
 use std::marker::Model;
+use std::sync::Arc;
 
 /// The most RDNs of a name.
 const MOST_RDNS: usize = 32;
 
-/// RDNs, the entry's own first, and at most 32.
+/// RDNs, the entry's own first, and at most 32. A copy shares them.
 #[derive(Drop)]
 pub struct Dn {
-    rdns: Vec<Rdn>,
+    alloc: Global,
+    /// Nothing where the name was made without RDNs.
+    name: Option<Arc<Name>>,
 }
 
 impl Model for Dn {
     ghost use Rattle.std.specs.Prelude.{List};
     ghost use Rattle.dn_names.specs.Names.{TypeAndValue};
-    ghost use Rattle.dn_names.specs.Sound.{IsName};
+    ghost use Rattle.dn_names.specs.Paths.{HasPath};
+    ghost use Rattle.dn_names.specs.Sharing.{rdns_in};
 
     ghost Value = { List (List TypeAndValue) };
 
-    ghost view = { λ d. d.rdns.items };
+    ghost view = { λ d. rdns_in d.name };
 
-    ghost invariant = { λ d. IsName d.rdns.items };
+    ghost invariant = { λ d. HasPath (rdns_in d.name) };
 }
 
 impl Dn {
-    /// The empty name.
+    /// The empty name, which takes no memory.
     pub fn empty(alloc: Global) -> Dn
         ensures { result ≡ [] }
     {
-        Dn {
-            rdns: Vec::new(alloc),
-        }
+        Dn { alloc, name: None }
+    }
+
+    /// The name of these RDNs, which takes them over.
+    fn of(alloc: Global, rdns: Vec<Rdn>) -> Result<Dn, NoMemory>
+        requires { IsName rdns.items }
+        ensures { IfOk result (λ dn. dn ≡ rdns.items) }
+    {
+        let name = Name::shared(alloc, rdns)?;
+        Ok(Dn {
+            alloc,
+            name: Some(name),
+        })
     }
 
     /// Reads a name. The first refused RDN is reported.
@@ -56,9 +71,8 @@ impl Dn {
             return Ok(Dn::empty(alloc));
         }
         let signs = signs_of(alloc, text)?;
-        Ok(Dn {
-            rdns: read_rdns(alloc, text.len(), signs.as_slice())?,
-        })
+        let rdns = read_rdns(alloc, text.len(), signs.as_slice())?;
+        Ok(Dn::of(alloc, rdns)?)
     }
 
     /// Lends the RDNs of the name (RFC 4514, section 2.1): the entry's own first, that at the root
@@ -67,15 +81,24 @@ impl Dn {
         ensures value { result.now ≡ self.now }
         ensures sound { IsName self.now }
     {
-        self.rdns.as_slice()
+        match &self.name {
+            Some(name) => name.rdns(),
+            None => &[],
+        }
     }
 
-    /// Makes the same name a second time. It is `NoMemory` where memory runs out.
+    /// The same name, whose RDNs are shared with this one. It is `NoMemory` where no more copies can
+    /// be counted.
     pub fn copy(&self) -> Result<Dn, NoMemory>
         ensures { IfOk result (λ dn. dn ≡ self.now) }
     {
+        let name = match &self.name {
+            Some(name) => Some(name.clone()?),
+            None => None,
+        };
         Ok(Dn {
-            rdns: copies(*self.rdns.allocator(), self.rdns())?,
+            alloc: self.alloc,
+            name,
         })
     }
 
@@ -84,7 +107,7 @@ impl Dn {
         ensures text { IfOk result (λ octets. octets ≡ name_text self.now) }
         ensures again { IfOk result (λ octets. name_of_text octets ≡ Ok self.now) }
     {
-        let mut text = Vec::new(*self.rdns.allocator());
+        let mut text = Vec::new(self.alloc);
         append_rdns(&mut text, self.rdns())?;
         Ok(Octets::from(text))
     }
@@ -93,38 +116,53 @@ impl Dn {
     pub fn key(&self) -> Result<Vec<u8>, NoMemory>
         ensures { IfOk result (λ key. key.items ≡ name_key self.now) }
     {
-        let alloc = *self.rdns.allocator();
-        let mut key = Vec::new(alloc);
+        let mut key = Vec::new(self.alloc);
         for rdn in self.rdns() {
-            append_rdn_key(alloc, &mut key, rdn.list())?;
+            append_rdn_key(self.alloc, &mut key, rdn.list())?;
         }
         Ok(key)
+    }
+
+    /// Lends the path key, with which another name's begins exactly where that name is at or below
+    /// this one.
+    pub fn path(&self) -> &[u8]
+        ensures value { result.now ≡ path_key self.now }
+        ensures sound { HasPath self.now }
+    {
+        match &self.name {
+            Some(name) => name.path(),
+            None => &[],
+        }
+    }
+
+    /// The path key, made a second time. It is `NoMemory` where memory runs out.
+    pub fn path_key(&self) -> Result<Vec<u8>, NoMemory>
+        ensures { IfOk result (λ path. path.items ≡ path_key self.now) }
+    {
+        let mut path = Vec::new(self.alloc);
+        path.extend_from_slice(self.path())?;
+        Ok(path)
     }
 
     /// Whether the names are equal.
     pub fn same(&self, other: &Dn) -> bool
         ensures { result ≡ same_name self.now other.now }
     {
-        is_same_name(self.rdns(), other.rdns())
+        self.path() == other.path()
     }
 
     /// Whether the other name equals a suffix of this one.
     pub fn is_at_or_below(&self, other: &Dn) -> bool
         ensures { result ≡ is_at_or_below self.now other.now }
     {
-        let rdns = self.rdns();
-        let others = other.rdns();
-        others.len() <= rdns.len() && is_same_name(&rdns[rdns.len() - others.len()..], others)
+        self.path().starts_with(other.path())
     }
 
     /// Whether the other name is this one without its own RDN.
     pub fn is_child_of(&self, other: &Dn) -> bool
         ensures { result ≡ is_child_of self.now other.now }
     {
-        match self.rdns() {
-            [] => false,
-            [_, above @ ..] => is_same_name(above, other.rdns()),
-        }
+        self.rdns().len() == other.rdns().len() + 1 && self.is_at_or_below(other)
     }
 
     /// The name without its own RDN.
@@ -132,9 +170,8 @@ impl Dn {
         requires { 0 < length self.now }
         ensures { IfOk result (λ dn. dn ≡ parent_of self.now) }
     {
-        Ok(Dn {
-            rdns: copies(*self.rdns.allocator(), &self.rdns()[1..])?,
-        })
+        let above = copies(self.alloc, &self.rdns()[1..])?;
+        Dn::of(self.alloc, above)
     }
 
     /// The name of the entry with this RDN directly below. It is `TooLong`, with the place 0, where
@@ -143,13 +180,13 @@ impl Dn {
         ensures ok { IfOk result (λ dn. limited (rdn.now ∷ self.now) ≡ Ok dn) }
         ensures fault { IfErr result (IsFaultOf (limited (rdn.now ∷ self.now))) }
     {
-        if self.rdns.len() >= MOST_RDNS {
+        if self.rdns().len() >= MOST_RDNS {
             return Err(NameFault::TooLong(0));
         }
-        let mut rdns = Vec::new(*self.rdns.allocator());
+        let mut rdns = Vec::new(self.alloc);
         rdns.push(rdn.copy()?)?;
         append_copies(&mut rdns, self.rdns())?;
-        Ok(Dn { rdns })
+        Ok(Dn::of(self.alloc, rdns)?)
     }
 
     /// The name with `to` in place of its suffix that equals `from`. It is `TooLong`, with the
@@ -159,14 +196,15 @@ impl Dn {
         ensures ok { IfOk result (λ dn. limited (moved_name self.now from.now to.now) ≡ Ok dn) }
         ensures fault { IfErr result (IsFaultOf (limited (moved_name self.now from.now to.now))) }
     {
-        let kept = &self.rdns()[..self.rdns.len() - from.rdns.len()];
-        if kept.len() + to.rdns.len() > MOST_RDNS {
+        let own = self.rdns();
+        let kept = &own[..own.len() - from.rdns().len()];
+        if kept.len() + to.rdns().len() > MOST_RDNS {
             return Err(NameFault::TooLong(0));
         }
-        let mut rdns = Vec::new(*self.rdns.allocator());
+        let mut rdns = Vec::new(self.alloc);
         append_copies(&mut rdns, kept)?;
         append_copies(&mut rdns, to.rdns())?;
-        Ok(Dn { rdns })
+        Ok(Dn::of(self.alloc, rdns)?)
     }
 }
 
@@ -194,20 +232,6 @@ fn read_rdns(alloc: Global, bytes: usize, signs: &[Sign]) -> Result<Vec<Rdn>, Na
     }
 }
 
-/// Whether there are as many RDNs, equal in pairs.
-fn is_same_name(one: &[Rdn], other: &[Rdn]) -> bool
-    ensures { result ≡ same_name one.now other.now }
-{
-    one.len() == other.len() && all_same(one, other)
-}
-
-/// Whether the RDNs are equal in pairs, as far as both lists go.
-fn all_same(one: &[Rdn], other: &[Rdn]) -> bool
-    ensures { result ≡ list_all (λ rdns. same_rdn rdns.0 rdns.1) (zip one.now other.now) }
-{
-    one.iter().zip(other).all(|(a, b)| is_same_rdn(a, b))
-}
-
 fn copies(alloc: Global, rdns: &[Rdn]) -> Result<Vec<Rdn>, NoMemory>
     ensures { IfOk result (λ copied. copied.items ≡ rdns.now) }
 {
@@ -230,4 +254,11 @@ fn append_copies(to: &mut Vec<Rdn>, rdns: &[Rdn]) -> Result<(), NoMemory>
 pub fn keys_show_names()
     ensures { (one other : List (List TypeAndValue)) → IsName one → IsName other
         → (name_key one ≡ name_key other) ↔ (same_name one other ≡ true) }
+{}
+
+/// The law of path keys: one begins with another exactly where its name is at or below the other's,
+/// and is the same bytes exactly where the names are equal.
+pub fn paths_show_names()
+    ensures { (one other : List (List TypeAndValue)) → HasPath one → HasPath other
+        → ShowsNames one other }
 {}

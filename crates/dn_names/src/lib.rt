@@ -5,14 +5,16 @@
 mod dn;
 mod fault;
 mod keys;
+mod name;
 mod pair;
+mod paths;
 mod rdn;
 mod reading;
 mod signs;
 mod values;
 mod writing;
 
-pub use dn::{Dn, keys_show_names};
+pub use dn::{Dn, keys_show_names, paths_show_names};
 pub use fault::NameFault;
 pub use pair::Pair;
 pub use rdn::Rdn;

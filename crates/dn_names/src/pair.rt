@@ -1,7 +1,6 @@
 //! Pairs of a type and a value (RFC 4514, section 2.3).
 ghost use Rattle.std.specs.Prelude.{◌≡◌, Some, IfOk};
 ghost use Rattle.schema_rules.specs.Keys.{key_of};
-ghost use Rattle.dn_names.specs.Names.{has_pair, same_pair};
 
 use ldap_ber::{NoMemory, Octets};
 use schema_rules::AttributeType;
@@ -52,18 +51,4 @@ impl Pair {
             key: self.key.copy()?,
         })
     }
-
-    /// Whether the types are one and the values match.
-    pub(crate) fn is_same(&self, other: &Pair) -> bool
-        ensures { result ≡ same_pair self.now other.now }
-    {
-        self.kind == other.kind && self.key == other.key
-    }
-}
-
-/// Whether a pair like this one is among the pairs.
-pub(crate) fn has_pair(pairs: &[Pair], pair: &Pair) -> bool
-    ensures { result ≡ has_pair pairs.now pair.now }
-{
-    pairs.iter().any(|other| pair.is_same(other))
 }

@@ -1,14 +1,13 @@
 //! Relative distinguished names (RFC 4514, section 2.2).
 ghost use Rattle.std.specs.Prelude.{◌≡◌, true, nat_lt, Ok, IfOk, IfErr};
-ghost use Rattle.std.specs.List.{list_all, prefix_len};
-ghost use Rattle.dn_names.specs.Names.{has_pair, same_rdn};
+ghost use Rattle.std.specs.List.{prefix_len};
 ghost use Rattle.dn_names.specs.Reading.{rdn_of, rdn_of_text, is_plain, IsFaultOf};
 ghost use Rattle.dn_names.specs.Sound.{is_rdn};
 ghost use Rattle.dn_names.specs.Writing.{rdn_text};
 
 use crate::fault::NameFault;
 use crate::keys::has_double;
-use crate::pair::{Pair, has_pair};
+use crate::pair::Pair;
 use crate::reading::read_pairs;
 use crate::signs::{Sign, signs_of};
 use crate::writing::append_pairs;
@@ -103,20 +102,6 @@ impl Rdn {
         append_pairs(&mut text, self.list())?;
         Ok(Octets::from(text))
     }
-}
-
-/// Whether the RDNs are equal as sets of pairs.
-pub(crate) fn is_same_rdn(one: &Rdn, other: &Rdn) -> bool
-    ensures { result ≡ same_rdn one.now other.now }
-{
-    has_all(other.list(), one.list()) && has_all(one.list(), other.list())
-}
-
-/// Whether each of the wanted pairs is among the pairs.
-fn has_all(pairs: &[Pair], wanted: &[Pair]) -> bool
-    ensures { result ≡ list_all (has_pair pairs.now) wanted.now }
-{
-    wanted.iter().all(|pair| has_pair(pairs, pair))
 }
 
 fn begins_with_space(signs: &[Sign]) -> bool

@@ -17,7 +17,8 @@ use Rattle.entry_writes.specs.State.{ascends, entry_at, put, is_crowded, same_na
 use Rattle.entry_writes.specs.Touched.{identities, joined, change_at, is_change, touched}
 use Rattle.entry_tree.proofs.Directory.{ascends_filter}
 use Rattle.entry_writes.proofs.Identities.{above}
-use Rattle.entry_tree.proofs.Putting.{ascends_put, entry_at_put, found_same}
+use Rattle.entry_writes.proofs.Same.{one_found-same}
+use Rattle.entry_tree.proofs.Putting.{ascends_put, entry_at_put}
 use Rattle.entry_tree.proofs.Rising.{below_all, rises, among, rises-joined, among-joined, same_passing}
 use Rattle.schema_rules.proofs.Lists.{option_or-assoc}
 
@@ -106,7 +107,8 @@ stays_committed es puts drops u asc off =
 
 -- ---- what differs
 
-changes_at : (t : ℕ → EntryChange) (us : List ℕ) → filter is_change (map t us) ≡ map t (filter (λ u. is_change (t u)) us)
+-- those that differ are the changes at the identities that differ
+pub changes_at : (t : ℕ → EntryChange) (us : List ℕ) → filter is_change (map t us) ≡ map t (filter (λ u. is_change (t u)) us)
 changes_at t [] = refl
 changes_at t (u ∷ us) = by (is_change (t u)) (changes_at t us)
   where
@@ -115,7 +117,8 @@ changes_at t (u ∷ us) = by (is_change (t u)) (changes_at t us)
     by true rest = ap (λ ts. t u ∷ ts) rest
     by false rest = rest
 
-nowhere : (es : List Entry) (u : ℕ) → among u (identities es) ≡ false → entry_at es u ≡ None
+-- an identity that no entry has is nowhere
+pub nowhere : (es : List Entry) (u : ℕ) → among u (identities es) ≡ false → entry_at es u ≡ None
 nowhere [] u off = refl
 nowhere (e ∷ es) u off =
     let p = or_parts (nat_eq u e.uuid) (among u (identities es)) off in
@@ -126,12 +129,13 @@ above_identities : (u : ℕ) (es : List Entry) → below_all u (identities es) �
 above_identities u [] = refl
 above_identities u (e ∷ es) = ap (λ b. nat_lt u e.uuid && b) (above_identities u es)
 
-rises-identities : (es : List Entry) → rises (identities es) ≡ ascends es
+-- entries ascend where their identities do
+pub rises-identities : (es : List Entry) → rises (identities es) ≡ ascends es
 rises-identities [] = refl
 rises-identities (e ∷ es) = λ i. above_identities e.uuid es i && rises-identities es i
 
 no_change : (uuid : ℕ) (was now : Option Entry) → was ≡ now → is_change (record { uuid = uuid; before = was; after = now }) ≡ false
-no_change uuid was now same = ap (λ found. not (is_one_found was found)) (sym same) ∙ ap not (found_same was)
+no_change uuid was now same = ap (λ found. not (is_one_found was found)) (sym same) ∙ ap not (one_found-same was)
 
 -- what differs is found at identities that have all of those that do not keep what they have
 pub touched_by : (old new : List Entry) (us : List ℕ) → ascends old ≡ true → rises us ≡ true → ((u : ℕ) → among u us ≡ false → entry_at old u ≡ entry_at new u)
@@ -186,10 +190,6 @@ room es free =
     by : (b : Bool) → not b ≡ true → b ≡ false
     by true h = sym h
     by false h = refl
-
--- entries that may be held are not too heavy
-pub held_light : (es : List Entry) → may_be_held es ≡ true → total_weight es ≤ most_weight
-held_light es held = (room es (and_parts (not (is_crowded es)) (is_none (same_named es)) held).0).1
 
 -- entries after a commit that may be held are those of a directory
 pub directory_committed : (es puts : List Entry) (drops : List ℕ) (weight : ℕ) → ascends es ≡ true → may_be_held (committed es puts drops) ≡ true → weight ≡ total_weight (committed es puts drops)

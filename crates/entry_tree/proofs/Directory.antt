@@ -1,11 +1,11 @@
 -- What a filter keeps of a directory.
-use Rattle.std.proofs.Common.{◌≡◌, ◌≤◌, ◌+◌, ◌-◌, ◌<◌, ℕ, Bool, true, not, nat_lt, List, [], ◌∷◌, length, take, get_or, ap, refl, arith}
+use Rattle.std.proofs.Common.{◌≡◌, ◌+◌, ◌-◌, ℕ, Bool, true, not, nat_lt, List, [], ◌∷◌, length, ap, refl, arith}
 use Rattle.std.specs.List.{filter}
 use Rattle.std.proofs.lemmas.Bool.{and_parts, and_from, cond_both}
 use Rattle.std.proofs.lemmas.List.Filters.{length-filter_both, sum_by-filter_both}
-use Rattle.std.proofs.lemmas.List.Sums.{sum_by_more_le}
 use Rattle.schema_rules.specs.Attributes.{weight_of}
 use Rattle.entry_writes.specs.declared.entry.Entry.{Entry}
+use Rattle.entry_writes.specs.Effects.{is_one_of}
 use Rattle.entry_writes.specs.State.{ascends, total_weight, IsDirectory}
 use Rattle.entry_writes.proofs.Identities.{above}
 use Rattle.entry_writes.proofs.Passing.{list_all-filter}
@@ -23,16 +23,15 @@ ascends_filter p (e ∷ es) h =
     cond_both (p e) (e ∷ filter p es) (filter p es) (λ xs. ascends xs ≡ true)
     (λ _. and_from (above e.uuid (filter p es)) (ascends (filter p es)) (above_filter p e.uuid es parts.0) rest) (λ _. rest)
 
+-- without identities that are dropped all stay
+pub none_dropped : (drops : List ℕ) (es : List Entry) → length drops ≡ 0 → filter (λ e. not (is_one_of drops e)) es ≡ es
+none_dropped [] [] none = refl
+none_dropped [] (e ∷ es) none = ap (λ xs. e ∷ xs) (none_dropped [] es none)
+none_dropped (u ∷ drops) es none = absurd (omega (arith, none))
+
 -- what goes and what is left weigh as much as all
 pub total_parts : (p : Entry → Bool) (es : List Entry) → total_weight (filter p es) + total_weight (filter (λ e. not (p e)) es) ≡ total_weight es
 total_parts p es = sum_by-filter_both p (λ e. not (p e)) (λ _. refl) (λ (e : Entry). weight_of e.attrs) es
-
--- those of the first entries that pass, and the next, weigh no more than all
-pub passing_more_le : (p : Entry → Bool) (es : List Entry) (i : ℕ) (e : Entry) → i < length es → e ≡ get_or es i e
-    → total_weight (filter p (take i es)) + weight_of e.attrs ≤ total_weight es
-passing_more_le p es i e low at =
-    let same : weight_of e.attrs ≡ weight_of (get_or es i e).attrs = ap (λ (x : Entry). weight_of x.attrs) at in
-    omega (arith, same, total_parts p (take i es), sum_by_more_le (λ (x : Entry). weight_of x.attrs) es i e low)
 
 -- a directory without the entries that pass
 pub without_passing : (p : Entry → Bool) (es : List Entry) (weight : ℕ) → IsDirectory es weight

@@ -16,11 +16,13 @@ use Rattle.dn_names.specs.declared.fault.NameFault.TheVariants.{TooLong}
 use Rattle.dn_names.specs.Reading.{limited}
 use Rattle.dn_names.specs.Sound.{most_rdns}
 use Rattle.entry_writes.specs.declared.entry.Entry.{Entry}
+use Rattle.entry_writes.specs.declared.touched.EntryChange.{EntryChange}
 use Rattle.entry_writes.specs.Codes.{target_code, weight_code, length_code}
 use Rattle.entry_writes.specs.Edits.{with_rdn}
 use Rattle.entry_writes.specs.Effects.{moved, new_name, new_attributes}
 use Rattle.entry_writes.specs.State.{ascends, entry_at, is_identified, own_pairs, total_weight, weight_with, most_weight, IsDirectory}
-use Rattle.entry_writes.proofs.Identities.{above, none_at}
+use Rattle.entry_writes.specs.Touched.{is_change, IsPlan}
+use Rattle.entry_writes.proofs.Identities.{above, none_at, stepped, touched_mapped}
 use Rattle.entry_writes.proofs.Same.{bytes_same}
 use Rattle.entry_tree.proofs.Limits.{weight_code-shown}
 use Rattle.entry_tree.proofs.Replacing.{ascends_mapped}
@@ -163,6 +165,17 @@ module _ (top : Entry) (name : List (List TypeAndValue)) (attrs : List Attribute
         weighed = omega (arith, was, total_moved es h.ascends held, weighed);
         few = omega (arith, few, length-map es step);
         light = omega (arith, light, was, weighed, others_weight es top h.ascends held);
+      }
+
+  -- the plan of a Rename
+  pub moved_plan : (es read : List Entry) (weight : ℕ) (changes : List EntryChange) → IsDirectory es weight → entry_at es top.uuid ≡ Some top → weight_with es top (weight_of attrs) ≤ most_weight
+      → read ≡ es → changes ≡ filter is_change (map (stepped (λ e. Some (moved top name attrs csn e))) read) → IsPlan es (map (moved top name attrs csn) es) changes
+  moved_plan es read weight changes h held light same are =
+      let was = h.weighed in
+      record {
+        ordered = h.ascends;
+        exact = are ∙ ap (λ xs. filter is_change (map (stepped (λ e. Some (step e))) xs)) same ∙ sym (touched_mapped step moved_keeps es h.ascends);
+        directory = moved_directory es weight (total_weight (map step es)) h held light (omega (arith, was, total_moved es h.ascends held));
       }
 
 -- ---- too long a name

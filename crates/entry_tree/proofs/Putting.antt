@@ -1,5 +1,5 @@
 -- An entry that is put in its place.
-use Rattle.std.proofs.Common.{◌≡◌, ◌<◌, ◌≤◌, ◌+◌, ℕ, zero, suc, Bool, true, false, not, cond, nat_eq, nat_lt, List, [], ◌∷◌, ◌++◌, length, map, get_or, set, Option, Some, None, option_map, unwrap_or, ap, sym, ◌∙◌, refl, ◌⊎◌, inl, inr, arith}
+use Rattle.std.proofs.Common.{◌≡◌, ◌<◌, ◌≤◌, ◌+◌, ℕ, zero, suc, Bool, true, false, not, cond, nat_eq, nat_lt, List, [], ◌∷◌, ◌++◌, length, map, get_or, set, Some, Option, ap, sym, ◌∙◌, refl, ◌⊎◌, inl, inr, arith}
 use Rattle.std.specs.Cmp.{nat_cmp_is}
 use Rattle.std.specs.List.{filter, insert, list_all}
 use Rattle.std.specs.Ordering.{nat_cmp, match_ordering}
@@ -11,13 +11,12 @@ use Rattle.std.proofs.lemmas.List.Sums.{AllPass-from_list_all, fold-append, sum_
 use Rattle.schema_rules.specs.Attributes.{weight_of}
 use Rattle.entry_writes.specs.declared.entry.Entry.{Entry}
 use Rattle.entry_writes.specs.declared.touched.EntryChange.{EntryChange}
-use Rattle.entry_writes.specs.State.{ascends, entry_at, put, total_weight, most_entries, most_weight, IsDirectory}
+use Rattle.entry_writes.specs.State.{ascends, entry_at, found_weight, put, total_weight, most_entries, most_weight, IsDirectory}
 use Rattle.entry_writes.specs.Touched.{identities, joined, change_at, is_change, touched}
-use Rattle.entry_writes.specs.Bytes.{is_one_found}
 use Rattle.entry_tree.proofs.Directory.{above_filter}
 use Rattle.entry_writes.proofs.Identities.{above, above_lower, holds, insert_same, each_held, none_at}
 use Rattle.entry_writes.proofs.Passing.{list_all-filter}
-use Rattle.entry_writes.proofs.Same.{entry_same}
+use Rattle.entry_writes.proofs.Same.{one_found-same}
 
 abbrev lower : ℕ → List Entry → List Entry
 lower u es = filter (λ x. nat_lt x.uuid u) es
@@ -102,10 +101,6 @@ length_put e (x ∷ es) asc =
     by later rest (inr (inl less)) = omega (arith, rest, ap length (put_after e x es less))
     by later rest (inr (inr more)) = omega (arith, ap length (put_before e x es more later))
 
--- what the entry that is found weighs
-abbrev pub found_weight : Option Entry → ℕ
-found_weight found = unwrap_or (option_map (λ (e : Entry). weight_of e.attrs) found) 0
-
 abbrev weight : Entry → ℕ
 weight e = weight_of e.attrs
 
@@ -129,15 +124,6 @@ total_put e (x ∷ es) asc =
     by later rest (inr (inr more)) =
         let found : found_weight (entry_at (x ∷ es) e.uuid) ≡ 0 = ap found_weight (none_at (x ∷ es) e.uuid (above_all e.uuid x es more later)) in
         omega (arith, found, ap total_weight (put_before e x es more later), sum_by-cons weight e (x ∷ es))
-
--- the entry of an identity weighs no more than all
-pub found_le : (es : List Entry) (u : ℕ) → found_weight (entry_at es u) ≤ total_weight es
-found_le [] u = omega arith
-found_le (x ∷ es) u = by (found_le es u) (nat_eq x.uuid u)
-  where
-    by : found_weight (entry_at es u) ≤ total_weight es → (b : Bool) → found_weight (cond b (Some x) (entry_at es u)) ≤ total_weight (x ∷ es)
-    by rest true = omega (arith, sum_by-cons weight x es)
-    by rest false = omega (arith, rest, sum_by-cons weight x es)
 
 -- a directory with the entry, which weighs as much more as the entry does more than one that it replaces
 pub put_directory : (e : Entry) (es : List Entry) (before after : ℕ) → IsDirectory es before → length es < most_entries → total_weight es + weight_of e.attrs ≤ most_weight
@@ -256,11 +242,6 @@ one_change t e stays (x ∷ es) asc =
     by later rest (inr (inr more)) =
         ap (λ xs. filter is_change (map t (identities xs))) (put_before e x es more later) ∙ alone (x ∷ es) (above_all e.uuid x es more later)
 
--- an entry or none is compared as one with itself
-pub found_same : (found : Option Entry) → is_one_found found found ≡ true
-found_same None = refl
-found_same (Some e) = entry_same e
-
 -- what the identity had, and the entry
 abbrev pub put_change : Option Entry → Entry → EntryChange
 put_change was e = record { uuid = e.uuid; before = was; after = Some e }
@@ -277,7 +258,7 @@ touched_put e old asc =
     stays v other =
         ap (λ found. let t : EntryChange = record { uuid = v; before = entry_at old v; after = found } in is_change t)
         (entry_at_put e old v asc ∙ ap (λ b. cond b (Some e) (entry_at old v)) other)
-        ∙ ap (λ b. not b) (found_same (entry_at old v))
+        ∙ ap (λ b. not b) (one_found-same (entry_at old v))
 
 -- ---- the write
 

@@ -73,7 +73,8 @@ rises-filter p (n ∷ ns) up =
     let rest = rises-filter p ns parts.1 in
     cond_both (p n) (n ∷ filter p ns) (filter p ns) (λ xs. rises xs ≡ true) (λ _. and_from (below_all n (filter p ns)) (rises (filter p ns)) (list_all-filter (nat_lt n) p ns parts.0) rest) (λ _. rest)
 
-among-filter : (p : ℕ → Bool) (u : ℕ) (ns : List ℕ) → among u (filter p ns) ≡ (p u && among u ns)
+-- a number is among those that pass where it passes and is there
+pub among-filter : (p : ℕ → Bool) (u : ℕ) (ns : List ℕ) → among u (filter p ns) ≡ (p u && among u ns)
 among-filter p u [] = by (p u)
   where
     by : (b : Bool) → false ≡ (b && false)

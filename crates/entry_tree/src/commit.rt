@@ -1,21 +1,17 @@
 //! Commits: what a replica takes from its provider at one time (RFC 4533, section 3.3).
-ghost use Rattle.std.specs.Prelude.{◌≡◌, ◌≤◌, ◌+◌, true, not, map, filter, fold, length, IfOk, IfErr, OnOk, OnErr};
-ghost use Rattle.std.specs.List.{list_all};
-ghost use Rattle.std.specs.Vec.{vec_capacity, vec_len};
+ghost use Rattle.std.specs.Prelude.{◌≡◌, true, map, filter, IfOk, IfErr, OnOk};
 ghost use Rattle.entry_tree.specs.declared.commit.CommitRefusal.TheVariants.{NoMemory};
-ghost use Rattle.entry_writes.specs.Effects.{committed, is_one_of};
-ghost use Rattle.entry_tree.specs.Fitting.{is_light, may_be_held, Opposes};
+ghost use Rattle.entry_writes.specs.Effects.{committed};
+ghost use Rattle.entry_tree.specs.Fitting.{may_be_held, Opposes};
 ghost use Rattle.entry_writes.specs.State as state;
-ghost use Rattle.entry_writes.specs.Touched.{is_change, change_at, touched};
+ghost use Rattle.entry_writes.specs.Touched.{is_change, change_at, IsPlan};
 
-use crate::add::put_reserved;
-use crate::after::{entries_after, entry_of, has, id_set, ids_of};
+use crate::after::{entries_after, entry_of, ids_of};
 use crate::held::check_held;
 use crate::tree::Tree;
 use entry_writes::{Entry, Touched};
 use ldap_ber::NoMemory;
-use std::alloc::{AllocError, Global};
-use std::collections::{BTreeSet, VecDeque};
+use std::alloc::AllocError;
 
 /// Why the entries after a commit may not be held.
 #[derive(Clone, Copy, Debug, PartialEq, Eq)]
@@ -50,30 +46,11 @@ impl Tree {
         check_held(alloc, &after)
     }
 
-    /// Drops identities, and then puts entries, each in the place of one of its identity. The answer
-    /// is what differs. A refusal leaves the entries.
-    pub(crate) fn commit(&mut self, puts: &[Entry], drops: &[u128]) -> Result<Touched, NoMemory>
-        requires light { list_all is_light puts.now ≡ true }
-        requires held { may_be_held (committed self.old puts.now drops.now) ≡ true }
-        ensures effect { OnOk result (self.new ≡ committed self.old puts.now drops.now) }
-        ensures touched { IfOk result (λ entry_changes. entry_changes ≡ touched self.old self.new) }
-        ensures err { OnErr result (self.new ≡ self.old) }
-    {
-        let alloc = *self.entries.allocator();
-        let entry_changes = self.preview_commit(puts, drops)?;
-        let dropped = id_set(alloc, drops)?;
-        let copied = copies(alloc, puts)?;
-        self.entries.reserve(puts.len())?;
-        remove_each(&mut self.entries, &dropped);
-        put_each(&mut self.entries, copied);
-        self.weight = total_weight(&self.entries);
-        Ok(entry_changes)
-    }
-
-    /// What a commit would change.
-    pub(crate) fn preview_commit(&self, puts: &[Entry], drops: &[u128]) -> Result<Touched, NoMemory>
-        ensures { IfOk result (λ entry_changes.
-            entry_changes ≡ touched self.now (committed self.now puts.now drops.now)) }
+    /// What differs after identities are dropped and then entries are put, each in the place of one
+    /// of its identity.
+    pub(crate) fn judge_commit(&self, puts: &[Entry], drops: &[u128]) -> Result<Touched, NoMemory>
+        requires { may_be_held (committed self.now puts.now drops.now) ≡ true }
+        ensures { IfOk result (IsPlan self.now (committed self.now puts.now drops.now)) }
     {
         let alloc = *self.entries.allocator();
         let after = entries_after(alloc, &self.entries, puts, drops)?;
@@ -94,50 +71,4 @@ impl Tree {
         }
         Ok(entry_changes)
     }
-}
-
-fn copies(alloc: Global, entries: &[Entry]) -> Result<VecDeque<Entry>, NoMemory>
-    ensures { IfOk result (λ copied. copied.items ≡ entries.now) }
-{
-    let mut copied = Vec::new(alloc);
-    for entry in entries {
-        copied.push(entry.copy()?)?;
-    }
-    Ok(VecDeque::from_vec(copied))
-}
-
-/// Removes the entries of these identities.
-fn remove_each(entries: &mut Vec<Entry>, dropped: &BTreeSet<u128>)
-    ensures items { entries.new.items
-        ≡ filter (λ e. not (is_one_of dropped.now.keys e)) entries.old.items }
-    ensures len { vec_len entries.new ≤ vec_len entries.old }
-    ensures capacity { vec_capacity entries.new ≡ vec_capacity entries.old }
-{
-    entries.retain(|entry| !has(dropped, entry));
-}
-
-/// Puts each of these entries, for which there is room, in its place.
-#[tactic(auto, using(crate::proofs::Putting::ascends_put))]
-fn put_each(entries: &mut Vec<Entry>, puts: VecDeque<Entry>)
-    requires ascends { state.ascends entries.old.items ≡ true }
-    requires room { vec_len entries.old + length puts.items ≤ vec_capacity entries.old }
-    ensures { entries.new.items
-        ≡ fold (λ held entry. state.put entry held) entries.old.items puts.items }
-{
-    let mut rest = puts;
-    while let Some(entry) = rest.pop_front() {
-        put_reserved(entries, entry);
-    }
-}
-
-/// What the entries weigh.
-fn total_weight(entries: &[Entry]) -> u64
-    requires { state.total_weight entries.now ≤ state.most_weight }
-    ensures { result ≡ state.total_weight entries.now }
-{
-    let mut total: u64 = 0;
-    for entry in entries {
-        total += entry.attrs.weight();
-    }
-    total
 }

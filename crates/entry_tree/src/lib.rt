@@ -9,6 +9,7 @@ mod copying;
 mod delete;
 mod held;
 mod modify;
+mod put;
 mod rename;
 mod spec;
 mod tree;

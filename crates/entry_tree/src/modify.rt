@@ -1,5 +1,5 @@
 //! The edit of an entry in its place (RFC 4511, section 4.6).
-ghost use Rattle.std.specs.Prelude.{◌≡◌, ◌+◌, ◌≤◌, ◌<◌, true, None, Some, [], ◌∷◌, filter, length, position, set, IfOk, IfErr, OnOk, OnErr};
+ghost use Rattle.std.specs.Prelude.{◌≡◌, ◌+◌, ◌≤◌, true, None, Some, [], ◌∷◌, filter, position, IfOk, IfErr, OnOk};
 ghost use Rattle.std.specs.List.{list_all};
 ghost use Rattle.schema_rules.specs.Attributes.{weight_of};
 ghost use Rattle.entry_writes.specs.Codes as codes;
@@ -7,7 +7,7 @@ ghost use Rattle.entry_writes.specs.Effects as effects;
 ghost use Rattle.entry_writes.specs.Fault.{HasCode};
 ghost use Rattle.entry_writes.specs.Sound.{is_sound_edit};
 ghost use Rattle.entry_writes.specs.State as state;
-ghost use Rattle.entry_writes.specs.Touched.{is_change, touched};
+ghost use Rattle.entry_writes.specs.Touched.{is_change, IsPlan};
 
 use crate::tree::Tree;
 use csn_cookie::Csn;
@@ -18,77 +18,15 @@ use ldap_constants::NO_SUCH_OBJECT;
 use schema_rules::Attrs;
 use std::alloc::Global;
 
-/// The entry of a name after its edits, and its place; what the entries weigh with it there, and
-/// what differs.
-#[derive(Drop)]
-struct Modified {
-    place: usize,
-    entry: Entry,
-    weight: u64,
-    entry_changes: Touched,
-}
-
 impl Tree {
-    /// Edits the entry of that name, which gets the CSN, or reports the first code that rejects
-    /// it. The answer is what differs. A refusal leaves the entries.
-    pub(crate) fn modify(&mut self, dn: &Dn, edits: &Edits, csn: Csn) -> Result<Touched, OpFault>
-        requires { list_all is_sound_edit edits.now ≡ true }
-        ensures accepted { OnOk result
-            (codes.modify_code self.old (state.entry_named self.old dn.now) edits.now ≡ None) }
-        ensures effect { OnOk result
-            (self.new
-            ≡ effects.modified self.old (state.entry_named self.old dn.now) edits.now csn) }
-        ensures touched { IfOk result (λ entry_changes. entry_changes ≡ touched self.old self.new) }
-        ensures refused { IfErr result
-            (HasCode (codes.modify_code self.old (state.entry_named self.old dn.now) edits.now)) }
-        ensures err { OnErr result (self.new ≡ self.old) }
-    {
-        let Modified {
-            place,
-            entry,
-            weight,
-            entry_changes,
-        } = self.modified(dn, edits, csn)?;
-        self.weight = weight;
-        self.entries[place] = entry;
-        Ok(entry_changes)
-    }
-
-    /// What differs after these edits of the entry of that name, or the first code that rejects
-    /// them.
-    pub(crate) fn preview_modify(
-        &self,
-        dn: &Dn,
-        edits: &Edits,
-        csn: Csn,
-    ) -> Result<Touched, OpFault>
+    /// What differs after these edits of the entry of that name, which gets the CSN, or the first
+    /// code that rejects them.
+    pub(crate) fn judge_modify(&self, dn: &Dn, edits: &Edits, csn: Csn) -> Result<Touched, OpFault>
         requires { list_all is_sound_edit edits.now ≡ true }
         ensures accepted { OnOk result
             (codes.modify_code self.now (state.entry_named self.now dn.now) edits.now ≡ None) }
-        ensures touched { IfOk result (λ entry_changes.
-            entry_changes
-            ≡ touched self.now
-            (effects.modified self.now (state.entry_named self.now dn.now) edits.now csn)) }
-        ensures refused { IfErr result
-            (HasCode (codes.modify_code self.now (state.entry_named self.now dn.now) edits.now)) }
-    {
-        let Modified { entry_changes, .. } = self.modified(dn, edits, csn)?;
-        Ok(entry_changes)
-    }
-
-    /// The entry of that name after the edits, or the first code that rejects them.
-    fn modified(&self, dn: &Dn, edits: &Edits, csn: Csn) -> Result<Modified, OpFault>
-        requires { list_all is_sound_edit edits.now ≡ true }
-        ensures accepted { OnOk result
-            (codes.modify_code self.now (state.entry_named self.now dn.now) edits.now ≡ None) }
-        ensures place { IfOk result (λ modified. modified.place < length self.now) }
-        ensures effect { IfOk result (λ modified. set self.now modified.place modified.entry
-            ≡ effects.modified self.now (state.entry_named self.now dn.now) edits.now csn) }
-        ensures directory { IfOk result (λ modified.
-            state.IsDirectory (set self.now modified.place modified.entry) modified.weight) }
-        ensures touched { IfOk result (λ modified.
-            modified.entry_changes
-            ≡ touched self.now
+        ensures plan { IfOk result
+            (IsPlan self.now
             (effects.modified self.now (state.entry_named self.now dn.now) edits.now csn)) }
         ensures refused { IfErr result
             (HasCode (codes.modify_code self.now (state.entry_named self.now dn.now) edits.now)) }
@@ -101,13 +39,7 @@ impl Tree {
         let others = weight_without(self.weight, &was.attrs);
         let entry = edited_entry(alloc, was, others, edits, csn)?;
         let entry_changes = difference(alloc, was, &entry)?;
-        let weight = others + entry.attrs.weight();
-        Ok(Modified {
-            place,
-            entry,
-            weight,
-            entry_changes,
-        })
+        Ok(entry_changes)
     }
 }
 
@@ -119,7 +51,7 @@ fn place_of(entries: &[Entry], dn: &Dn) -> Option<usize>
 }
 
 /// What is left of a weight without that of these attributes, which are part of it.
-fn weight_without(total: u64, attrs: &Attrs) -> u64
+pub(crate) fn weight_without(total: u64, attrs: &Attrs) -> u64
     requires part { weight_of attrs.now ≤ total }
     ensures { result + weight_of attrs.now ≡ total }
 {

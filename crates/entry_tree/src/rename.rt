@@ -1,72 +1,29 @@
 //! The move of an entry with all below it (RFC 4511, section 4.9).
-ghost use Rattle.std.specs.Prelude.{◌≡◌, ◌≤◌, None, Some, IfOk, IfErr, OnOk, OnErr};
+ghost use Rattle.std.specs.Prelude.{◌≡◌, ◌≤◌, None, Some, IfOk, IfErr, OnOk};
 ghost use Rattle.std.specs.Option.{option_or};
 ghost use Rattle.schema_rules.specs.Attributes.{entry_code, weight_of};
 ghost use Rattle.entry_writes.specs.Codes as codes;
 ghost use Rattle.entry_writes.specs.Effects as effects;
 ghost use Rattle.entry_writes.specs.Fault.{HasCode};
 ghost use Rattle.entry_writes.specs.State as state;
-ghost use Rattle.entry_writes.specs.Touched.{touched};
+ghost use Rattle.entry_writes.specs.Touched.{IsPlan};
 
-use crate::add::weight_without;
+use crate::modify::weight_without;
 use crate::tree::Tree;
 use csn_cookie::Csn;
 use dn_names::{Dn, Rdn};
 use entry_writes::{
-    Entry, Moved, OpFault, Renamed, Touched, check_target, check_weight, moved_entries, name_above,
+    Entry, OpFault, Renamed, Touched, check_target, check_weight, moved_entries, name_above,
     name_below, own_pairs, with_new_rdn,
 };
 use ldap_constants::{ADMIN_LIMIT_EXCEEDED, NO_SUCH_OBJECT};
 use schema_rules::check_entry;
 
-/// The entries after a Rename with what differs, and what they weigh.
-#[derive(Drop)]
-struct Renaming {
-    moved: Moved,
-    weight: u64,
-}
-
 impl Tree {
-    /// Gives the entry of that name another RDN, and another superior where one is reported, or reports
-    /// the first code that rejects it. All below it move with it, and each gets the CSN. The
-    /// answer is what differs. A refusal leaves the entries.
-    pub(crate) fn rename(
-        &mut self,
-        suffix: &Dn,
-        dn: &Dn,
-        rdn: &Rdn,
-        deletes: bool,
-        superior: &Option<Dn>,
-        csn: Csn,
-    ) -> Result<Touched, OpFault>
-        ensures accepted { OnOk result
-            (codes.rename_code suffix.now self.old (state.entry_named self.old dn.now) rdn.now
-            deletes superior.now
-            ≡ None) }
-        ensures effect { OnOk result
-            (self.new
-            ≡ effects.renamed self.old (state.entry_named self.old dn.now) rdn.now deletes
-            superior.now csn) }
-        ensures touched { IfOk result (λ entry_changes. entry_changes ≡ touched self.old self.new) }
-        ensures refused { IfErr result
-            (HasCode (codes.rename_code suffix.now self.old (state.entry_named self.old dn.now)
-            rdn.now deletes superior.now)) }
-        ensures err { OnErr result (self.new ≡ self.old) }
-    {
-        let Renaming {
-            moved: Moved {
-                entries,
-                entry_changes,
-            },
-            weight,
-        } = self.renaming(suffix, dn, rdn, deletes, superior, csn)?;
-        self.entries = entries;
-        self.weight = weight;
-        Ok(entry_changes)
-    }
-
-    /// What differs after that rename, or the first code that rejects it.
-    pub(crate) fn preview_rename(
+    /// What differs after the entry of that name gets another RDN, and another superior where one
+    /// is given, or the first code that rejects it. All below it move with it, and each gets the
+    /// CSN.
+    pub(crate) fn judge_rename(
         &self,
         suffix: &Dn,
         dn: &Dn,
@@ -79,42 +36,10 @@ impl Tree {
             (codes.rename_code suffix.now self.now (state.entry_named self.now dn.now) rdn.now
             deletes superior.now
             ≡ None) }
-        ensures touched { IfOk result (λ entry_changes.
-            entry_changes
-            ≡ touched self.now
+        ensures plan { IfOk result
+            (IsPlan self.now
             (effects.renamed self.now (state.entry_named self.now dn.now) rdn.now deletes
             superior.now csn)) }
-        ensures refused { IfErr result
-            (HasCode (codes.rename_code suffix.now self.now (state.entry_named self.now dn.now)
-            rdn.now deletes superior.now)) }
-    {
-        let Renaming { moved, .. } = self.renaming(suffix, dn, rdn, deletes, superior, csn)?;
-        Ok(moved.entry_changes)
-    }
-
-    /// The entries after the one of that name has the RDN and the superior, or the first code that
-    /// rejects them.
-    fn renaming(
-        &self,
-        suffix: &Dn,
-        dn: &Dn,
-        rdn: &Rdn,
-        deletes: bool,
-        superior: &Option<Dn>,
-        csn: Csn,
-    ) -> Result<Renaming, OpFault>
-        ensures accepted { OnOk result
-            (codes.rename_code suffix.now self.now (state.entry_named self.now dn.now) rdn.now
-            deletes superior.now
-            ≡ None) }
-        ensures effect { IfOk result (λ renaming.
-            renaming.moved.entries.items
-            ≡ effects.renamed self.now (state.entry_named self.now dn.now) rdn.now deletes
-            superior.now csn) }
-        ensures directory { IfOk result (λ renaming.
-            state.IsDirectory renaming.moved.entries.items renaming.weight) }
-        ensures touched { IfOk result (λ renaming.
-            renaming.moved.entry_changes ≡ touched self.now renaming.moved.entries.items) }
         ensures refused { IfErr result
             (HasCode (codes.rename_code suffix.now self.now (state.entry_named self.now dn.now)
             rdn.now deletes superior.now)) }
@@ -125,8 +50,7 @@ impl Tree {
         };
         let renamed = self.renamed(suffix, top, rdn, deletes, superior)?;
         let moved = moved_entries(*entries.allocator(), entries, top, &renamed, csn)?;
-        let weight = weight_without(self.weight, Some(top)) + renamed.attrs.weight();
-        Ok(Renaming { moved, weight })
+        Ok(moved)
     }
 
     /// The new name and attributes of an entry of the tree, or the first code against them. That of
@@ -164,7 +88,7 @@ impl Tree {
         check_target(&self.entries, suffix, top, rdn, &above, &name, superior)?;
         let attrs = with_new_rdn(alloc, &top.attrs, own_pairs(&top.dn), rdn, deletes)?;
         check_entry(alloc, &attrs)?;
-        check_weight(attrs.weight(), weight_without(self.weight, Some(top)))?;
+        check_weight(attrs.weight(), weight_without(self.weight, &top.attrs))?;
         match name {
             None => Err(OpFault::Code(ADMIN_LIMIT_EXCEEDED)),
             Some(name) => Ok(Renamed { name, attrs }),

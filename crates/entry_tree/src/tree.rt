@@ -8,7 +8,7 @@ ghost use Rattle.entry_tree.specs.Fitting.{fits};
 ghost use Rattle.entry_tree.specs.Selection.{search_of, select};
 ghost use Rattle.entry_writes.specs.Sound.{is_sound_op};
 ghost use Rattle.entry_writes.specs.State as state;
-ghost use Rattle.entry_writes.specs.Touched.{touched};
+ghost use Rattle.entry_writes.specs.Touched.{touched, with_changes, CanBeMade, IsPlan};
 
 use crate::spec::Spec;
 use csn_cookie::Csn;
@@ -103,34 +103,42 @@ impl Tree {
         ensures refused { IfErr result (HasCode (code_of suffix.now self.old op.now)) }
         ensures err { OnErr result (self.new ≡ self.old) }
     {
-        match op {
-            Op::Add(dn, attrs) => self.add(suffix, dn, attrs, uuid, csn),
-            Op::Delete(dn) => self.delete(dn),
-            Op::Modify(dn, edits) => self.modify(dn, edits, csn),
-            Op::Rename(dn, rdn, deletes, superior) => {
-                self.rename(suffix, dn, rdn, *deletes, superior, csn)
-            }
-            Op::Commit(puts, drops) => Ok(self.commit(puts.list(), drops.list())?),
-        }
+        let entry_changes = self.preview(op, suffix, uuid, csn)?;
+        self.put(&entry_changes)?;
+        Ok(entry_changes)
     }
 
-    /// What `apply` would answer. The entries stay as they are.
+    /// What `apply` would answer, which `put` can put in place. The entries stay as they are.
     pub fn preview(&self, op: &Op, suffix: &Dn, uuid: u128, csn: Csn) -> Result<Touched, OpFault>
         requires sound { is_sound_op op.now ≡ true }
         requires fits { fits self.now op.now ≡ true }
         ensures accepted { OnOk result (code_of suffix.now self.now op.now ≡ None) }
         ensures touched { IfOk result (λ entry_changes.
             entry_changes ≡ touched self.now (effect self.now op.now uuid csn)) }
+        ensures effect { IfOk result (λ entry_changes.
+            with_changes self.now entry_changes ≡ effect self.now op.now uuid csn) }
+        ensures fit { IfOk result (CanBeMade self.now) }
+        ensures refused { IfErr result (HasCode (code_of suffix.now self.now op.now)) }
+    {
+        self.judge(op, suffix, uuid, csn)
+    }
+
+    /// What a write changes, or the first code that rejects it.
+    fn judge(&self, op: &Op, suffix: &Dn, uuid: u128, csn: Csn) -> Result<Touched, OpFault>
+        requires sound { is_sound_op op.now ≡ true }
+        requires fits { fits self.now op.now ≡ true }
+        ensures accepted { OnOk result (code_of suffix.now self.now op.now ≡ None) }
+        ensures plan { IfOk result (IsPlan self.now (effect self.now op.now uuid csn)) }
         ensures refused { IfErr result (HasCode (code_of suffix.now self.now op.now)) }
     {
         match op {
-            Op::Add(dn, attrs) => self.preview_add(suffix, dn, attrs, uuid, csn),
-            Op::Delete(dn) => self.preview_delete(dn),
-            Op::Modify(dn, edits) => self.preview_modify(dn, edits, csn),
+            Op::Add(dn, attrs) => self.judge_add(suffix, dn, attrs, uuid, csn),
+            Op::Delete(dn) => self.judge_delete(dn),
+            Op::Modify(dn, edits) => self.judge_modify(dn, edits, csn),
             Op::Rename(dn, rdn, deletes, superior) => {
-                self.preview_rename(suffix, dn, rdn, *deletes, superior, csn)
+                self.judge_rename(suffix, dn, rdn, *deletes, superior, csn)
             }
-            Op::Commit(puts, drops) => Ok(self.preview_commit(puts.list(), drops.list())?),
+            Op::Commit(puts, drops) => Ok(self.judge_commit(puts.list(), drops.list())?),
         }
     }
 

@@ -1,5 +1,5 @@
 -- What differs where a write keeps, changes or removes each entry by itself.
-use Rattle.std.proofs.Common.{◌≡◌, ◌<◌, ℕ, zero, suc, Bool, true, false, ◌||◌, cond, nat_eq, nat_lt, List, [], ◌∷◌, map, get_or, Option, Some, None, ap, sym, ◌∙◌, refl, ◌⊎◌, inl, inr, arith}
+use Rattle.std.proofs.Common.{◌≡◌, ◌<◌, ◌+◌, ℕ, zero, suc, Bool, true, false, ◌||◌, cond, nat_eq, nat_lt, List, [], ◌∷◌, ◌++◌, length, map, take, get_or, Option, Some, None, ap, sym, ◌∙◌, refl, ◌⊎◌, inl, inr, arith}
 use Rattle.std.specs.Option.{option_and_then}
 use Rattle.std.specs.List.{All, filter, filter_map, cons_option, find, list_all, list_any}
 use Rattle.std.specs.Ordering.{nat_cmp, match_ordering}
@@ -7,6 +7,8 @@ use Rattle.std.specs.declared.cmp.Ordering.TheVariants.{Less, Equal, Greater}
 use Rattle.std.specs.BTreeSet.{insert_key}
 use Rattle.std.proofs.lemmas.Bool.{false≢true, eqb-true, eq-eqb, ne_eqb, ltb-true, lt-ltb, le-ltb, and_parts, and_from, cases_order}
 use Rattle.std.proofs.lemmas.List.Sums.{AllPass-from_list_all, list_all-from_AllPass}
+use Rattle.std.proofs.lemmas.List.{map-append, take_more}
+use Rattle.std.proofs.lemmas.List.Elements.{filter-append}
 use Rattle.std.proofs.lemmas.List.Folds.{list_any_at}
 use Rattle.std.proofs.lemmas.Simd.{map-map}
 use Rattle.entry_writes.specs.declared.entry.Entry.{Entry}
@@ -140,6 +142,18 @@ joined_stepped step keeps old (e ∷ es) asc held =
 -- the change of an entry by a step
 abbrev pub stepped : (Entry → Option Entry) → Entry → EntryChange
 stepped step e = record { uuid = e.uuid; before = Some e; after = step e }
+
+-- the change of an entry to another
+abbrev pub change_to : Entry → Entry → EntryChange
+change_to e new = record { uuid = e.uuid; before = Some e; after = Some new }
+
+-- what differs of some entries and one more
+pub stepped_more : (step : Entry → Option Entry) (es : List Entry) (i : ℕ) (e : Entry) → i < length es → e ≡ get_or es i e
+    → filter is_change (map (stepped step) (take (i + 1) es)) ≡ filter is_change (map (stepped step) (take i es)) ++ filter is_change (stepped step e ∷ [])
+stepped_more step es i e low is =
+    ap (λ xs. filter is_change (map (stepped step) xs)) (take_more es i e low ∙ ap (λ x. take i es ++ x ∷ []) (sym is))
+    ∙ ap (filter is_change) (map-append (stepped step) (take i es) (e ∷ []))
+    ∙ filter-append is_change (map (stepped step) (take i es)) (stepped step e ∷ [])
 
 -- a step of each entry touches those that it changes
 pub touched_stepped : (step : Entry → Option Entry) → Keeps step → (old : List Entry) → ascends old ≡ true

@@ -23,15 +23,15 @@ and_then (Ok a) next = next a
 and_then (Err code) next = Err code
 
 -- invalidDNSyntax in place of each fault
-abbrev pub or_34 : {A : Type 0} → Result A NameFault → Result A ℕ
-or_34 (Ok a) = Ok a
-or_34 (Err fault) = Err INVALID_DN_SYNTAX
+abbrev pub or_invalid_dn_syntax : {A : Type 0} → Result A NameFault → Result A ℕ
+or_invalid_dn_syntax (Ok a) = Ok a
+or_invalid_dn_syntax (Err fault) = Err INVALID_DN_SYNTAX
 
 abbrev pub read_name : List ℕ → Result (List (List TypeAndValue)) ℕ
-read_name text = or_34 (name_of_text text)
+read_name text = or_invalid_dn_syntax (name_of_text text)
 
 abbrev pub read_rdn : List ℕ → Result (List TypeAndValue) ℕ
-read_rdn text = or_34 (rdn_of_text text)
+read_rdn text = or_invalid_dn_syntax (rdn_of_text text)
 
 abbrev pub read_superior : Option (List ℕ) → Result (Option (List (List TypeAndValue))) ℕ
 read_superior None = Ok None

@@ -1,5 +1,5 @@
 -- The entries of a directory, in ascending order of identity (RFC 4512, section 2).
-use Rattle.std.specs.Prelude.{◌≡◌, ◌≤◌, length, ℕ, Bool, true, not, ◌&&◌, ◌||◌, ◌==◌, ◌+◌, nat_lt, List, [], ◌∷◌, ◌++◌, filter, find, sum_by, Option, None, option_map}
+use Rattle.std.specs.Prelude.{◌≡◌, ◌≤◌, length, ℕ, Bool, true, not, ◌&&◌, ◌||◌, ◌==◌, ◌+◌, nat_lt, List, [], ◌∷◌, ◌++◌, filter, find, sum_by, Option, None, option_map, unwrap_or}
 use Rattle.std.specs.Option.{option_or}
 use Rattle.std.specs.List.{list_any, list_all}
 use Rattle.schema_rules.specs.Attributes.{weight_of}
@@ -50,6 +50,10 @@ own_pairs [] = []
 own_pairs (rdn ∷ above) = rdn
 
 -- ---- weights
+
+-- what an entry weighs, where there is one
+abbrev pub found_weight : Option Entry → ℕ
+found_weight found = unwrap_or (option_map (λ (e : Entry). weight_of e.attrs) found) 0
 
 abbrev pub total_weight : List Entry → ℕ
 total_weight entries = sum_by (λ e. weight_of e.attrs) entries

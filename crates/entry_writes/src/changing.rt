@@ -303,7 +303,7 @@ fn after_edit(alloc: Global, attrs: &Attrs, edit: &Edit) -> Result<Attrs, NoMemo
     ensures { IfOk result (λ after. after ≡ spec.after_edit attrs.now edit.now) }
 {
     let items = changed(alloc, attrs.list(), edit)?;
-    Ok(Attrs::of(items))
+    Attrs::of(items)
 }
 
 /// The attributes after the edits, which are made and judged one after the other.
@@ -364,7 +364,7 @@ fn with_pair(alloc: Global, attrs: &Attrs, pair: &Pair) -> Result<Attrs, NoMemor
     }
     let mut items = copies(alloc, attrs.list())?;
     add_values(&mut items, pair.kind, from_ref(&pair.value))?;
-    Ok(Attrs::of(items))
+    Attrs::of(items)
 }
 
 /// The attributes without the values that match the pair's.
@@ -372,7 +372,7 @@ fn without_pair(alloc: Global, attrs: &Attrs, pair: &Pair) -> Result<Attrs, NoMe
     ensures { IfOk result (λ after. after ≡ spec.without_pair attrs.now pair.now) }
 {
     let items = without_values(alloc, attrs.list(), pair.kind, from_ref(&pair.value))?;
-    Ok(Attrs::of(items))
+    Attrs::of(items)
 }
 
 fn with_pairs(alloc: Global, attrs: &Attrs, pairs: &[Pair]) -> Result<Attrs, NoMemory>

@@ -24,6 +24,6 @@ pub use ldap_ber::NoMemory;
 pub use modify::edited_entry;
 pub use op::{Op, Write};
 pub use reading::read_op;
-pub use rename::{Moved, Renamed, moved_entries};
+pub use rename::{Renamed, moved_entries};
 pub use target::{check_target, name_above, name_below};
 pub use touched::{EntryChange, Touched};

@@ -23,25 +23,16 @@ pub struct Renamed {
     pub attrs: Attrs,
 }
 
-/// The entries after a Rename, and what differs.
-#[derive(Drop)]
-pub struct Moved {
-    pub entries: Vec<Entry>,
-    pub entry_changes: Touched,
-}
-
-/// The entries after the one is renamed, or the code of a name that would be too long.
+/// What differs after the one of these entries is renamed, or the code of a name that would be too
+/// long.
 pub fn moved_entries(
     alloc: Global,
     entries: &[Entry],
     top: &Entry,
     renamed: &Renamed,
     csn: Csn,
-) -> Result<Moved, OpFault>
-    ensures entries { IfOk result (λ moved.
-        moved.entries.items
-        ≡ map (effects.moved top.now renamed.now.name renamed.now.attrs csn) entries.now) }
-    ensures entry_changes { IfOk result (λ moved. moved.entry_changes ≡ filter is_change
+) -> Result<Touched, OpFault>
+    ensures entry_changes { IfOk result (λ entry_changes. entry_changes ≡ filter is_change
         (map
         (λ e.
         record {
@@ -53,16 +44,12 @@ pub fn moved_entries(
     ensures refused { IfErr result
         (HasCode (codes.length_code entries.now top.now renamed.now.name)) }
 {
-    let mut moved = Moved {
-        entries: Vec::new(alloc),
-        entry_changes: Touched::new(alloc),
-    };
+    let mut entry_changes = Touched::new(alloc);
     for entry in entries {
         let now = moved_entry(entry, top, renamed, csn)?;
-        moved.entry_changes.push_change(Some(entry), &now)?;
-        moved.entries.push(now)?;
+        entry_changes.push_difference(entry.uuid, Some(entry), Some(&now))?;
     }
-    Ok(moved)
+    Ok(entry_changes)
 }
 
 /// An entry after the one is renamed, or the code of a name that would be too long.

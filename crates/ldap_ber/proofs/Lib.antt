@@ -8,3 +8,4 @@ pub mod SkipLemmas
 pub mod ExactLemmas
 pub mod IntegerLemmas
 pub mod CanonicalLemmas
+pub mod UnfinishedLemmas

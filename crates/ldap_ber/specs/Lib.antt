@@ -6,3 +6,5 @@ pub mod Form
 pub mod Reading
 pub mod Canonical
 pub mod Writer
+pub mod Unfinished
+pub mod Gives

@@ -77,7 +77,9 @@ sequence_at reword tag f stop bytes =
 
 abbrev pub list_at : {X E : Type 0} → (BerFault → E) → ℕ → Reading E X → Reading E (List X)
 list_at reword tag f stop bytes =
-    reworded reword (expect_at tag stop bytes) >>= λ e. many_at f e.0.stop e.0.body >>= λ xs. Ok (xs, e.1)
+    reworded reword (expect_at tag stop bytes) >>= λ e.
+    many_at f e.0.stop e.0.body >>= λ xs.
+    Ok (xs, e.1)
 
 -- the component that all of the bytes are
 abbrev pub whole_at : {X E : Type 0} → (BerFault → E) → Reading E X → List ℕ → Result X E

@@ -1,48 +1,70 @@
 //! Writing elements, each in its one canonical spelling.
 
-ghost use Rattle.std.specs.Prelude.{◌≡◌, ◌≢◌, ◌<◌, ◌^◌, [], ◌∷◌, ◌++◌, length, IsOk, OnOk, OnErr};
+ghost use Rattle.std.specs.Prelude.{◌≡◌, ◌≢◌, ◌<◌, ◌≤◌, ◌+◌, ◌-◌, ◌^◌, [], ◌∷◌, ◌++◌, drop, length, reverse, set, take, IfNone, IfOk, IfSome, IsOk, OnOk, OnErr};
 ghost use Rattle.ldap_ber.specs.Canonical.{element, length_octets, is_needless, shortest, integer_octets, boolean_octets, flag_octets};
+ghost use Rattle.ldap_ber.specs.Unfinished.{assembled, body_of, ended, header_octets, AreBetween, IsBegun, Extends};
 ghost use Rattle.ldap_ber.specs.Writer.{after_bytes, after_begin, after_end, before_begin, IsSmall, EndsSmall};
 
 use crate::octets::{NoMemory, Octets};
 use std::alloc::{AllocError, Global};
 use std::marker::Model;
-use std::mem;
 
 /// The most octets of a body whose whole element has fewer than 2^32.
 const LONGEST_BODY: usize = 4_294_967_289;
 
-/// An element that is not ended: its tag, and what was written before it.
-#[derive(Drop)]
-struct Unfinished {
+/// The most octets of a tag and a length.
+const LONGEST_HEADER: usize = 6;
+
+/// The header of an element that holds others, and where its body starts in the content. Until the
+/// element is ended the length says nothing.
+#[derive(Clone, Copy)]
+struct Header {
     tag: u8,
-    before: Vec<u8>,
+    start: usize,
+    length: usize,
 }
 
-impl Model for Unfinished {
-    ghost use Rattle.ldap_ber.specs.Writer.{Opened};
-
-    ghost Value = { Opened };
-
-    ghost view = { λ u. record { tag = u.tag; before = u.before.items } };
+/// An element that is not ended: its tag, where its body starts in the content, the place of its
+/// header, and how many octets the headers had that were ended before it.
+#[derive(Clone, Copy)]
+struct Begun {
+    tag: u8,
+    start: usize,
+    place: usize,
+    octets: usize,
 }
 
 /// A writer of elements. After an `Err` it is as before; a body that is too long for four length
 /// octets is one too.
+///
+/// How long an element is shows at its end alone. So the headers of elements that hold others are
+/// kept beside their content, and both are put together once, when the outermost element ends.
 #[derive(Drop)]
 pub struct Writer {
-    alloc: Global,
-    unfinished: Vec<Unfinished>,
-    bytes: Vec<u8>,
+    /// What is written outside of the elements that are not ended.
+    done: Vec<u8>,
+    /// The elements that are not ended, the outermost first.
+    begun: Vec<Begun>,
+    /// The headers of the outermost of these and of all in it that hold others, in their order.
+    headers: Vec<Header>,
+    /// What is written in the outermost of these, without those headers.
+    content: Vec<u8>,
+    /// How many octets those headers have whose elements are ended.
+    octets: usize,
 }
 
 impl Model for Writer {
     ghost use Rattle.std.specs.Prelude.{reverse};
     ghost use Rattle.ldap_ber.specs.Writer.{Written};
+    ghost use Rattle.ldap_ber.specs.Unfinished.{written, AreKept};
 
     ghost Value = { Written };
 
-    ghost view = { λ w. record { opened = reverse w.unfinished.items; bytes = w.bytes.items } };
+    ghost view = { λ w.
+        written (reverse w.begun.items) w.headers.items w.content.items w.done.items };
+
+    ghost invariant = { λ w.
+        AreKept (reverse w.begun.items) w.headers.items w.content.items w.octets };
 }
 
 impl Writer {
@@ -51,9 +73,11 @@ impl Writer {
         ensures { result ≡ record { opened = []; bytes = [] } }
     {
         Writer {
-            alloc,
-            unfinished: Vec::new(alloc),
-            bytes: Vec::new(alloc),
+            done: Vec::new(alloc),
+            begun: Vec::new(alloc),
+            headers: Vec::new(alloc),
+            content: Vec::new(alloc),
+            octets: 0,
         }
     }
 
@@ -64,7 +88,12 @@ impl Writer {
         ensures small { OnOk result (IsSmall (element tag bytes.now)) }
         ensures err { OnErr result (self.new ≡ self.old) }
     {
-        put(&mut self.bytes, tag, bytes)
+        if self.begun.is_empty() {
+            put(&mut self.done, tag, bytes)?;
+            return Ok(());
+        }
+        put(&mut self.content, tag, bytes)?;
+        Ok(())
     }
 
     /// Writes an integer with this tag, in the fewest octets (X.690, section 8.3). It is `NoMemory`
@@ -75,7 +104,7 @@ impl Writer {
             (self.new ≡ after_bytes self.old (element tag (integer_octets value))) }
         ensures err { OnErr result (self.new ≡ self.old) }
     {
-        put(&mut self.bytes, tag, shortest(&value.to_be_bytes()))
+        self.octets(tag, shortest(&value.to_be_bytes()))
     }
 
     /// Writes a truth value with this tag (X.690, section 8.2). It is `NoMemory` where memory runs
@@ -86,7 +115,7 @@ impl Writer {
         ensures err { OnErr result (self.new ≡ self.old) }
     {
         let octet = if value { 0xFF } else { 0 };
-        put(&mut self.bytes, tag, &[octet])
+        self.octets(tag, &[octet])
     }
 
     /// Writes a truth value where it is not the usual one.
@@ -106,9 +135,21 @@ impl Writer {
         ensures ok { OnOk result (self.new ≡ after_begin self.old tag) }
         ensures err { OnErr result (self.new ≡ self.old) }
     {
-        self.unfinished.reserve(1)?;
-        let before = mem::replace(&mut self.bytes, Vec::new(self.alloc));
-        self.unfinished.push_reserved(Unfinished { tag, before });
+        let start = self.content.len();
+        let place = self.headers.len();
+        let octets = self.octets;
+        self.begun.reserve(1)?;
+        self.headers.push(Header {
+            tag,
+            start,
+            length: 0,
+        })?;
+        self.begun.push_reserved(Begun {
+            tag,
+            start,
+            place,
+            octets,
+        });
         Ok(())
     }
 
@@ -120,18 +161,19 @@ impl Writer {
         ensures small { OnOk result (EndsSmall self.old) }
         ensures err { OnErr result (self.new ≡ self.old) }
     {
-        match self.unfinished.pop() {
+        match innermost(&self.begun) {
             None => Ok(()),
-            Some(mut last) => match put(&mut last.before, last.tag, &self.bytes) {
-                Err(error) => {
-                    self.unfinished.push_reserved(last);
-                    Err(error)
+            Some(last) => {
+                let count = body_length(&last, self.octets, self.content.len())?;
+                if self.begun.len() == 1 {
+                    put_whole(&mut self.done, &last, count, &self.headers, &self.content)?;
+                    self.drop_innermost();
+                    return Ok(());
                 }
-                Ok(()) => {
-                    self.bytes = last.before;
-                    Ok(())
-                }
-            },
+                end_header(&mut self.headers, &mut self.octets, &last, count)?;
+                self.begun.pop();
+                Ok(())
+            }
         }
     }
 
@@ -149,18 +191,20 @@ impl Writer {
             Err(error) => Err(error),
         };
         if ended.is_err() {
-            self.undo_begin();
+            self.drop_innermost();
         }
         ended
     }
 
     /// Drops the innermost open element with its body.
-    fn undo_begin(&mut self)
+    fn drop_innermost(&mut self)
         requires { self.old.opened ≢ [] }
         ensures { self.new ≡ before_begin self.old }
     {
-        if let Some(last) = self.unfinished.pop() {
-            self.bytes = last.before;
+        if let Some(last) = self.begun.pop() {
+            self.headers.truncate(last.place);
+            self.content.truncate(last.start);
+            self.octets = last.octets;
         }
     }
 
@@ -169,8 +213,135 @@ impl Writer {
         requires { self.opened ≡ [] }
         ensures { result ≡ self.bytes }
     {
-        Octets::from(self.bytes)
+        Octets::from(self.done)
     }
+}
+
+/// The innermost element that is not ended.
+fn innermost(begun: &[Begun]) -> Option<Begun>
+    ensures none { IfNone result (begun.now ≡ []) }
+    ensures some { IfSome result (λ last.
+        reverse begun.now ≡ last ∷ reverse (take (length begun.now - 1) begun.now)) }
+{
+    if begun.is_empty() {
+        return None;
+    }
+    Some(begun[begun.len() - 1])
+}
+
+/// How long the body of the innermost element is, from the octets of the content and of the headers
+/// that are ended. It is `NoMemory` where its whole element would have 2^32 octets or more.
+fn body_length(last: &Begun, octets: usize, content: usize) -> Result<usize, NoMemory>
+    requires { last.now.start + last.now.octets ≤ content + octets }
+    ensures counted { IfOk result (λ count.
+        count + (last.now.start + last.now.octets) ≡ content + octets) }
+    ensures small { IfOk result (λ count. count ≤ 4294967289) }
+{
+    let all = content.checked_add(octets).ok_or(AllocError)?;
+    let count = all - last.start - last.octets;
+    if LONGEST_BODY < count {
+        return Err(AllocError);
+    }
+    Ok(count)
+}
+
+/// Gives the header of the innermost element its length. It is `NoMemory` where the octets of the
+/// headers cannot be counted, and nothing changes.
+fn end_header(
+    headers: &mut Vec<Header>,
+    octets: &mut usize,
+    last: &Begun,
+    count: usize,
+) -> Result<(), NoMemory>
+    requires { last.now.place < length headers.old.items }
+    ensures headers { OnOk result
+        (headers.new.items ≡ set headers.old.items last.now.place (ended last.now count)) }
+    ensures octets { OnOk result
+        (octets.new ≡ octets.old + length (header_octets (ended last.now count))) }
+    ensures err { OnErr result ((headers.new.items ≡ headers.old.items)
+        × (octets.new ≡ octets.old)) }
+{
+    let more = octets.checked_add(header_length(count)).ok_or(AllocError)?;
+    headers[last.place] = Header {
+        tag: last.tag,
+        start: last.start,
+        length: count,
+    };
+    *octets = more;
+    Ok(())
+}
+
+/// Puts the innermost element at the end, whole. After an `Err` the bytes are as before.
+fn put_whole(
+    out: &mut Vec<u8>,
+    last: &Begun,
+    count: usize,
+    headers: &[Header],
+    content: &[u8],
+) -> Result<(), NoMemory>
+    requires listed { last.now.place < length headers.now }
+    requires between { AreBetween last.now.start (length content.now)
+        (drop (last.now.place + 1) headers.now) }
+    requires counted { count ≡ length (body_of last.now headers.now content.now) }
+    requires small { count ≤ 4294967289 }
+    ensures ok { OnOk result (out.new.items
+        ≡ out.old.items ++ element last.now.tag (body_of last.now headers.now content.now)) }
+    ensures err { OnErr result (out.new.items ≡ out.old.items) }
+{
+    let before = out.len();
+    if let Err(error) = put_parts_of_whole(out, last, count, headers, content) {
+        out.truncate(before);
+        return Err(error);
+    }
+    Ok(())
+}
+
+/// Puts the innermost element at the end, whole. After an `Err` a part of it may be there.
+fn put_parts_of_whole(
+    out: &mut Vec<u8>,
+    last: &Begun,
+    count: usize,
+    headers: &[Header],
+    content: &[u8],
+) -> Result<(), NoMemory>
+    requires listed { last.now.place < length headers.now }
+    requires between { AreBetween last.now.start (length content.now)
+        (drop (last.now.place + 1) headers.now) }
+    requires counted { count ≡ length (body_of last.now headers.now content.now) }
+    requires small { count ≤ 4294967289 }
+    ensures ok { OnOk result (out.new.items
+        ≡ out.old.items ++ element last.now.tag (body_of last.now headers.now content.now)) }
+    ensures more { Extends out.old.items out.new.items }
+{
+    out.reserve(count + LONGEST_HEADER)?;
+    put_header(out, last.tag, count)?;
+    let (_, inner) = headers.split_at(last.place + 1);
+    put_assembled(out, last.start, inner, content)?;
+    Ok(())
+}
+
+/// Puts the content from a place on at the end, with the headers in their places. After an `Err` a
+/// part of it may be there.
+fn put_assembled(
+    out: &mut Vec<u8>,
+    start: usize,
+    headers: &[Header],
+    content: &[u8],
+) -> Result<(), NoMemory>
+    requires { AreBetween start (length content.now) headers.now }
+    ensures ok { OnOk result
+        (out.new.items ≡ out.old.items ++ assembled start headers.now content.now) }
+    ensures more { Extends out.old.items out.new.items }
+{
+    let mut from = start;
+    for header in headers {
+        out.extend_from_slice(&content[from..header.start])?;
+        put_header(out, header.tag, header.length)?;
+        from = header.start;
+    }
+    let (_, rest) = content.split_at(from);
+    out.extend_from_slice(rest)?;
+    Ok(())
 }
 
 /// Puts an element at the end. After an `Err` the bytes are as before.
@@ -193,6 +364,7 @@ fn put_parts(out: &mut Vec<u8>, tag: u8, body: &[u8]) -> Result<(), NoMemory>
     ensures err { OnErr result (out.new.items ≡ out.old.items) }
 {
     let start = out.len();
+    out.reserve(body.len() + LONGEST_HEADER)?;
     put_header(out, tag, body.len())?;
     if let Err(error) = out.extend_from_slice(body) {
         out.truncate(start);
@@ -230,6 +402,23 @@ fn put_header(out: &mut Vec<u8>, tag: u8, count: usize) -> Result<(), NoMemory>
             (count / 256 % 256) as u8,
             (count % 256) as u8,
         ])
+    }
+}
+
+/// How many octets the tag and the shortest length of an element have.
+fn header_length(count: usize) -> usize
+    ensures { result ≡ length (length_octets count) + 1 }
+{
+    if count < 128 {
+        2
+    } else if count < 256 {
+        3
+    } else if count < 65_536 {
+        4
+    } else if count < 16_777_216 {
+        5
+    } else {
+        LONGEST_HEADER
     }
 }
 

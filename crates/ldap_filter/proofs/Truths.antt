@@ -1,5 +1,5 @@
 -- The truth of an `and` and of an `or`, part by part.
-use Rattle.std.proofs.Common.{◌≡◌, Bool, true, false, if◌then◌else◌, List, map, refl}
+use Rattle.std.proofs.Common.{List, map}
 use Rattle.schema_rules.specs.declared.attributes.Attribute.{Attribute}
 use Rattle.ldap_filter.specs.declared.filter.Filter.{Filter}
 use Rattle.ldap_filter.specs.declared.truth.Truth.{Truth}
@@ -20,16 +20,6 @@ either False rest = rest
 either Undefined True = True
 either Undefined False = Undefined
 either Undefined Undefined = Undefined
-
-undefined_and : (a b : Bool) → (if a then False else Undefined) ≡ both Undefined (if a then False else (if b then Undefined else True))
-undefined_and true b = refl
-undefined_and false true = refl
-undefined_and false false = refl
-
-undefined_or : (a b : Bool) → (if a then True else Undefined) ≡ either Undefined (if a then True else (if b then Undefined else False))
-undefined_or true b = refl
-undefined_or false true = refl
-undefined_or false false = refl
 
 -- the truth of an `and` and of an `or` of these parts
 abbrev pub all_on : List Attribute → List Filter → Truth

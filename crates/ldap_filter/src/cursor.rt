@@ -1,7 +1,8 @@
 //! A place in a filter's text.
-ghost use Rattle.std.specs.Prelude.{◌≡◌, ◌<◌, ◌≤◌, ◌-◌, ◌==◌, length, drop, take_while, IfOk, OnOk};
+ghost use Rattle.std.specs.Prelude.{◌≡◌, ◌<◌, ◌≤◌, ◌-◌, ◌==◌, length, drop, take_while, Ok, IfOk, OnOk};
 ghost use Rattle.std.specs.Bool.{OnTrue, OnFalse};
-ghost use Rattle.ldap_filter.specs.Fault.{Gives};
+ghost use Rattle.ldap_ber.specs.Gives.{Gives};
+ghost use Rattle.ldap_filter.specs.Fault.{Fails};
 ghost use Rattle.ldap_filter.specs.Grammar as grammar;
 ghost use Rattle.ldap_filter.specs.Reading as spec;
 
@@ -11,12 +12,12 @@ use std::marker::Model;
 
 /// The bytes of a text that are left. Places count from its start.
 #[derive(Drop)]
-pub(crate) struct Cursor<'a> {
+pub(crate) struct FilterCursor<'a> {
     stop: usize,
     left: &'a [u8],
 }
 
-impl<'a> Model for Cursor<'a> {
+impl<'a> Model for FilterCursor<'a> {
     ghost use Rattle.ldap_filter.specs.Place.{Place};
 
     ghost Value = { Place };
@@ -24,12 +25,12 @@ impl<'a> Model for Cursor<'a> {
     ghost view = { λ c. record { stop = c.stop; left = c.left.now } };
 }
 
-impl<'a> Cursor<'a> {
-    pub(crate) fn new(text: &'a [u8]) -> Cursor<'a>
+impl<'a> FilterCursor<'a> {
+    pub(crate) fn new(text: &'a [u8]) -> FilterCursor<'a>
         ensures stop { result.stop ≡ length text.now }
         ensures left { result.left ≡ text.now }
     {
-        Cursor {
+        FilterCursor {
             stop: text.len(),
             left: text,
         }
@@ -77,7 +78,7 @@ impl<'a> Cursor<'a> {
 
     /// Goes past the byte, which has to be the next one.
     pub(crate) fn pass(&mut self, byte: u8) -> Result<(), FilterFault>
-        ensures read { Gives (λ _. self.new.left) result
+        ensures read { Gives Fails (λ _. Ok self.new.left) result
             (spec.past byte self.old.stop self.old.left) }
         ensures stop { self.new.stop ≡ self.old.stop }
         ensures shorter { OnOk result (length self.new.left < length self.old.left) }
@@ -115,7 +116,7 @@ impl<'a> Cursor<'a> {
 
     /// The next byte of a value.
     pub(crate) fn value_byte(&mut self) -> Result<u8, FilterFault>
-        ensures read { Gives (λ byte. (byte, self.new.left)) result
+        ensures read { Gives Fails (λ byte. Ok (byte, self.new.left)) result
             (spec.value_byte_at self.old.stop self.old.left) }
         ensures stop { self.new.stop ≡ self.old.stop }
         ensures shorter { OnOk result (length self.new.left < length self.old.left) }
@@ -137,7 +138,7 @@ impl<'a> Cursor<'a> {
     /// The byte that two hexadecimal digits write.
     #[tactic(auto, unfolding(crate::specs::Reading::escaped_at))]
     fn escaped(&mut self) -> Result<u8, FilterFault>
-        ensures read { Gives (λ byte. (byte, self.new.left)) result
+        ensures read { Gives Fails (λ byte. Ok (byte, self.new.left)) result
             (spec.escaped_at self.old.stop self.old.left) }
         ensures stop { self.new.stop ≡ self.old.stop }
         ensures shorter { OnOk result (length self.new.left < length self.old.left) }
@@ -148,7 +149,7 @@ impl<'a> Cursor<'a> {
     }
 
     fn hex_digit(&mut self) -> Result<u8, FilterFault>
-        ensures read { Gives (λ digit. (digit, self.new.left)) result
+        ensures read { Gives Fails (λ digit. Ok (digit, self.new.left)) result
             (spec.hex_at self.old.stop self.old.left) }
         ensures small { IfOk result (λ digit. digit < 16) }
         ensures stop { self.new.stop ≡ self.old.stop }

@@ -1,10 +1,11 @@
 //! Reading a filter's text (RFC 4515, section 3; RFC 4526).
 ghost use Rattle.std.specs.Prelude.{◌≡◌, ◌<◌, ◌≤◌, ◌-◌, length, map, take, Ok, IfOk, IfErr, OnOk};
-ghost use Rattle.ldap_filter.specs.Fault.{Fails, Gives};
+ghost use Rattle.ldap_ber.specs.Gives.{Gives};
+ghost use Rattle.ldap_filter.specs.Fault.{Fails};
 ghost use Rattle.ldap_filter.specs.Reading as spec;
 ghost use Rattle.ldap_filter.specs.FilterTree.{tree_of, trees, parts_of};
 
-use crate::cursor::Cursor;
+use crate::cursor::FilterCursor;
 use crate::fault::FilterFault;
 use crate::filter::{Filter, FilterList, Pieces};
 use crate::grammar::text_len;
@@ -22,7 +23,7 @@ impl Filter {
     #[tactic(auto, unfolding(crate::specs::Reading::read_filter))]
     pub fn read_text(alloc: Global, text: &[u8]) -> Result<Filter, FilterFault>
         ensures ok { IfOk result (λ filter. spec.read_filter text.now ≡ Ok (tree_of filter)) }
-        ensures fault { IfErr result (Fails (spec.read_filter text.now)) }
+        ensures fault { IfErr result (λ fault. Fails fault (spec.read_filter text.now)) }
     {
         let valid = text_len(text);
         if valid == text.len() {
@@ -38,9 +39,9 @@ impl Filter {
 /// A filter and nothing after it.
 #[tactic(auto, unfolding(crate::specs::Reading::whole_at))]
 fn whole(alloc: Global, text: &[u8]) -> Result<Filter, FilterFault>
-    ensures { Gives tree_of result (spec.whole_at text.now) }
+    ensures { Gives Fails (λ filter. Ok (tree_of filter)) result (spec.whole_at text.now) }
 {
-    let mut cursor = Cursor::new(text);
+    let mut cursor = FilterCursor::new(text);
     let filter = filter_in(alloc, &mut cursor, LEVELS)?;
     if cursor.is_at_end() {
         Ok(filter)
@@ -51,8 +52,8 @@ fn whole(alloc: Global, text: &[u8]) -> Result<Filter, FilterFault>
 
 /// A filter in at most n levels.
 #[cycle(filters)]
-fn filter_in(alloc: Global, cursor: &mut Cursor, levels: usize) -> Result<Filter, FilterFault>
-    ensures read { Gives (λ filter. (tree_of filter, cursor.new.left)) result
+fn filter_in(alloc: Global, cursor: &mut FilterCursor, levels: usize) -> Result<Filter, FilterFault>
+    ensures read { Gives Fails (λ filter. Ok (tree_of filter, cursor.new.left)) result
         (spec.filter_in levels cursor.old.stop cursor.old.left) }
     ensures stop { cursor.new.stop ≡ cursor.old.stop }
     ensures shorter { OnOk result (length cursor.new.left < length cursor.old.left) }
@@ -65,8 +66,8 @@ fn filter_in(alloc: Global, cursor: &mut Cursor, levels: usize) -> Result<Filter
 
 /// Why no filter may stand here.
 #[tactic(auto, unfolding(crate::specs::Reading::filter_in))]
-fn no_level(cursor: &Cursor) -> FilterFault
-    ensures { Fails (spec.filter_in 0 cursor.now.stop cursor.now.left) result }
+fn no_level(cursor: &FilterCursor) -> FilterFault
+    ensures { Fails result (spec.filter_in 0 cursor.now.stop cursor.now.left) }
 {
     if cursor.begins_with(b'(') {
         FilterFault::TooDeep
@@ -77,8 +78,8 @@ fn no_level(cursor: &Cursor) -> FilterFault
 
 /// filter = LPAREN filtercomp RPAREN.
 #[cycle(filters)]
-fn enclosed(alloc: Global, cursor: &mut Cursor, levels: usize) -> Result<Filter, FilterFault>
-    ensures read { Gives (λ filter. (tree_of filter, cursor.new.left)) result
+fn enclosed(alloc: Global, cursor: &mut FilterCursor, levels: usize) -> Result<Filter, FilterFault>
+    ensures read { Gives Fails (λ filter. Ok (tree_of filter, cursor.new.left)) result
         (spec.enclosed_at (spec.filter_in levels) cursor.old.stop cursor.old.left) }
     ensures stop { cursor.new.stop ≡ cursor.old.stop }
     ensures shorter { OnOk result (length cursor.new.left < length cursor.old.left) }
@@ -91,8 +92,8 @@ fn enclosed(alloc: Global, cursor: &mut Cursor, levels: usize) -> Result<Filter,
 
 /// filtercomp = and / or / not / item.
 #[cycle(filters)]
-fn component(alloc: Global, cursor: &mut Cursor, levels: usize) -> Result<Filter, FilterFault>
-    ensures read { Gives (λ filter. (tree_of filter, cursor.new.left)) result
+fn component(alloc: Global, cursor: &mut FilterCursor, levels: usize) -> Result<Filter, FilterFault>
+    ensures read { Gives Fails (λ filter. Ok (tree_of filter, cursor.new.left)) result
         (spec.component_at (spec.filter_in levels) cursor.old.stop cursor.old.left) }
     ensures stop { cursor.new.stop ≡ cursor.old.stop }
     ensures shorter { OnOk result (length cursor.new.left ≤ length cursor.old.left) }
@@ -113,8 +114,12 @@ fn component(alloc: Global, cursor: &mut Cursor, levels: usize) -> Result<Filter
 /// filterlist = *filter.
 #[cycle(filters)]
 #[tactic(auto, unfolding(crate::specs::Reading::filters_at, crate::specs::Reading::many_at))]
-fn filters(alloc: Global, cursor: &mut Cursor, levels: usize) -> Result<FilterList, FilterFault>
-    ensures read { Gives (λ list. (map tree_of (parts_of list), cursor.new.left)) result
+fn filters(
+    alloc: Global,
+    cursor: &mut FilterCursor,
+    levels: usize,
+) -> Result<FilterList, FilterFault>
+    ensures read { Gives Fails (λ list. Ok (map tree_of (parts_of list), cursor.new.left)) result
         (spec.filters_at (spec.filter_in levels) cursor.old.stop cursor.old.left) }
     ensures stop { cursor.new.stop ≡ cursor.old.stop }
     ensures shorter { OnOk result (length cursor.new.left ≤ length cursor.old.left) }
@@ -128,8 +133,8 @@ fn filters(alloc: Global, cursor: &mut Cursor, levels: usize) -> Result<FilterLi
 
 /// item = simple / present / substring.
 #[tactic(auto, unfolding(crate::specs::Reading::item_at))]
-fn item(alloc: Global, cursor: &mut Cursor) -> Result<Filter, FilterFault>
-    ensures read { Gives (λ filter. (tree_of filter, cursor.new.left)) result
+fn item(alloc: Global, cursor: &mut FilterCursor) -> Result<Filter, FilterFault>
+    ensures read { Gives Fails (λ filter. Ok (tree_of filter, cursor.new.left)) result
         (spec.item_at cursor.old.stop cursor.old.left) }
     ensures stop { cursor.new.stop ≡ cursor.old.stop }
     ensures shorter { OnOk result (length cursor.new.left ≤ length cursor.old.left) }
@@ -138,8 +143,8 @@ fn item(alloc: Global, cursor: &mut Cursor) -> Result<Filter, FilterFault>
     item_of(alloc, cursor, name)
 }
 
-fn type_name(alloc: Global, cursor: &mut Cursor) -> Result<Octets, FilterFault>
-    ensures read { Gives (λ name. (name, cursor.new.left)) result
+fn type_name(alloc: Global, cursor: &mut FilterCursor) -> Result<Octets, FilterFault>
+    ensures read { Gives Fails (λ name. Ok (name, cursor.new.left)) result
         (spec.type_at cursor.old.stop cursor.old.left) }
     ensures stop { cursor.new.stop ≡ cursor.old.stop }
     ensures shorter { OnOk result (length cursor.new.left ≤ length cursor.old.left) }
@@ -152,8 +157,8 @@ fn type_name(alloc: Global, cursor: &mut Cursor) -> Result<Octets, FilterFault>
 }
 
 /// What stands after the type of an item.
-fn item_of(alloc: Global, cursor: &mut Cursor, name: Octets) -> Result<Filter, FilterFault>
-    ensures read { Gives (λ filter. (tree_of filter, cursor.new.left)) result
+fn item_of(alloc: Global, cursor: &mut FilterCursor, name: Octets) -> Result<Filter, FilterFault>
+    ensures read { Gives Fails (λ filter. Ok (tree_of filter, cursor.new.left)) result
         (spec.item_of name cursor.old.stop cursor.old.left) }
     ensures stop { cursor.new.stop ≡ cursor.old.stop }
     ensures shorter { OnOk result (length cursor.new.left ≤ length cursor.old.left) }
@@ -175,8 +180,8 @@ fn item_of(alloc: Global, cursor: &mut Cursor, name: Octets) -> Result<Filter, F
 
 /// The value after a sign of two characters, of which the second is `=`.
 #[tactic(auto, unfolding(crate::specs::Reading::compared_at))]
-fn compared(alloc: Global, cursor: &mut Cursor) -> Result<Octets, FilterFault>
-    ensures read { Gives (λ value. (value, cursor.new.left)) result
+fn compared(alloc: Global, cursor: &mut FilterCursor) -> Result<Octets, FilterFault>
+    ensures read { Gives Fails (λ value. Ok (value, cursor.new.left)) result
         (spec.compared_at cursor.old.stop cursor.old.left) }
     ensures stop { cursor.new.stop ≡ cursor.old.stop }
     ensures shorter { OnOk result (length cursor.new.left ≤ length cursor.old.left) }
@@ -187,8 +192,8 @@ fn compared(alloc: Global, cursor: &mut Cursor) -> Result<Octets, FilterFault>
 
 /// An equality, presence, or pieces.
 #[tactic(auto, unfolding(crate::specs::Reading::equal_at))]
-fn equality(alloc: Global, cursor: &mut Cursor, name: Octets) -> Result<Filter, FilterFault>
-    ensures read { Gives (λ filter. (tree_of filter, cursor.new.left)) result
+fn equality(alloc: Global, cursor: &mut FilterCursor, name: Octets) -> Result<Filter, FilterFault>
+    ensures read { Gives Fails (λ filter. Ok (tree_of filter, cursor.new.left)) result
         (spec.equal_at name cursor.old.stop cursor.old.left) }
     ensures stop { cursor.new.stop ≡ cursor.old.stop }
     ensures shorter { OnOk result (length cursor.new.left ≤ length cursor.old.left) }
@@ -255,8 +260,8 @@ fn list_of(alloc: Global, items: Vec<Octets>) -> Result<OctetsList, NoMemory>
 
 /// Values, each after its `*`.
 #[tactic(auto, unfolding(crate::specs::Reading::stars_at, crate::specs::Reading::many_at))]
-fn starred_values(alloc: Global, cursor: &mut Cursor) -> Result<Vec<Octets>, FilterFault>
-    ensures read { Gives (λ values. (values.items, cursor.new.left)) result
+fn starred_values(alloc: Global, cursor: &mut FilterCursor) -> Result<Vec<Octets>, FilterFault>
+    ensures read { Gives Fails (λ values. Ok (values.items, cursor.new.left)) result
         (spec.stars_at cursor.old.stop cursor.old.left) }
     ensures stop { cursor.new.stop ≡ cursor.old.stop }
     ensures shorter { OnOk result (length cursor.new.left ≤ length cursor.old.left) }
@@ -269,8 +274,8 @@ fn starred_values(alloc: Global, cursor: &mut Cursor) -> Result<Vec<Octets>, Fil
 }
 
 #[tactic(auto, unfolding(crate::specs::Reading::starred_at))]
-fn starred(alloc: Global, cursor: &mut Cursor) -> Result<Octets, FilterFault>
-    ensures read { Gives (λ value. (value, cursor.new.left)) result
+fn starred(alloc: Global, cursor: &mut FilterCursor) -> Result<Octets, FilterFault>
+    ensures read { Gives Fails (λ value. Ok (value, cursor.new.left)) result
         (spec.starred_at cursor.old.stop cursor.old.left) }
     ensures stop { cursor.new.stop ≡ cursor.old.stop }
     ensures shorter { OnOk result (length cursor.new.left < length cursor.old.left) }
@@ -281,8 +286,8 @@ fn starred(alloc: Global, cursor: &mut Cursor) -> Result<Octets, FilterFault>
 
 /// assertionvalue = *(normal / escaped).
 #[tactic(auto, unfolding(crate::specs::Reading::value_at, crate::specs::Reading::many_at))]
-fn value(alloc: Global, cursor: &mut Cursor) -> Result<Octets, FilterFault>
-    ensures read { Gives (λ value. (value, cursor.new.left)) result
+fn value(alloc: Global, cursor: &mut FilterCursor) -> Result<Octets, FilterFault>
+    ensures read { Gives Fails (λ value. Ok (value, cursor.new.left)) result
         (spec.value_at cursor.old.stop cursor.old.left) }
     ensures stop { cursor.new.stop ≡ cursor.old.stop }
     ensures shorter { OnOk result (length cursor.new.left ≤ length cursor.old.left) }

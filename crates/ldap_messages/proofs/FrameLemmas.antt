@@ -9,7 +9,7 @@ use Rattle.ldap_ber.specs.Reading.{whole_at}
 use Rattle.ldap_ber.proofs.Steps.{chosen}
 use Rattle.ldap_ber.proofs.LengthLemmas.{seam}
 use Rattle.ldap_ber.proofs.ExactLemmas.{whole_found, whole_only}
-use Rattle.ldap_parts.specs.Gives.{place_of}
+use Rattle.ldap_parts.specs.Faults.{place_of}
 use Rattle.ldap_messages.specs.declared.frame.Frame.{Frame}
 use Rattle.ldap_messages.specs.declared.frame.Frame.TheVariants.{Partial, Refused, Long, Held}
 use Rattle.ldap_messages.specs.declared.fault.MessageFault.{MessageFault}

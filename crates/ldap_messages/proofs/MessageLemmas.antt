@@ -1,6 +1,6 @@
 -- Messages: their reading is exact.
 use Rattle.ldap_ber.proofs.ExactLemmas.{Exact, both_exact, sequence_exact}
-use Rattle.ldap_parts.specs.Gives.{place_of}
+use Rattle.ldap_parts.specs.Faults.{place_of}
 use Rattle.ldap_parts.proofs.ComponentLemmas.{range_exact}
 use Rattle.ldap_parts.proofs.ControlLemmas.{controls_exact}
 use Rattle.ldap_messages.specs.Whole.{MessageForm, message_at}

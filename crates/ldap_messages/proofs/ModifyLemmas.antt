@@ -16,7 +16,7 @@ use Rattle.schema_rules.specs.declared.raw.RawAttribute.{RawAttribute}
 use Rattle.schema_rules.specs.declared.raw.RawEdit.{RawEdit}
 use Rattle.schema_rules.specs.declared.raw.How.{How}
 use Rattle.schema_rules.specs.declared.raw.How.TheVariants.{Add, Delete, Replace}
-use Rattle.ldap_parts.specs.Gives.{place_of}
+use Rattle.ldap_parts.specs.Faults.{place_of}
 use Rattle.ldap_parts.specs.Components.{number_at}
 use Rattle.ldap_parts.specs.Attributes.{AttributeForm, attribute_at, attribute_octets}
 use Rattle.ldap_parts.proofs.ComponentLemmas.{string_exact, number_exact}

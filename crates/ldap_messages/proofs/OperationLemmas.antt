@@ -5,7 +5,7 @@ use Rattle.ldap_ber.specs.Form.{Form, OctetString}
 use Rattle.ldap_ber.specs.Reading.{Reading, made_at}
 use Rattle.ldap_ber.proofs.Steps.{chosen, guard_on}
 use Rattle.ldap_ber.proofs.ExactLemmas.{Exact, made_ok, both_exact, meaning_exact, sequence_exact}
-use Rattle.ldap_parts.specs.Gives.{place_of}
+use Rattle.ldap_parts.specs.Faults.{place_of}
 use Rattle.ldap_parts.specs.Components.{string_at}
 use Rattle.ldap_parts.proofs.ComponentLemmas.{string_exact, number_exact, truth_exact, range_exact, option_exact}
 use Rattle.ldap_parts.proofs.StringLemmas.{strings_exact}

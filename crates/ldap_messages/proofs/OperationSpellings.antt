@@ -1,7 +1,6 @@
 -- The canonical spelling of an operation is one of its spellings.
 use Rattle.std.proofs.Common.{◌≡◌, ◌≢◌, ℕ, ◌<◌, ◌≤◌, ◌%◌, ◌^◌, true, List, [], ◌++◌, length, Option, refl, append_assoc, arith}
-use Rattle.ldap_ber.specs.Form.{Form, OctetString, Both, Sequence}
-use Rattle.ldap_ber.specs.Canonical.{element}
+use Rattle.ldap_ber.specs.Form.{Form, Both}
 use Rattle.ldap_ber.proofs.CanonicalLemmas.{Spelled, Anything, Always, Lacks, octets_spelled, boolean_spelled, both_spelled, sequence_spelled, none_next}
 use Rattle.ldap_ber.proofs.IntegerLemmas.{integer_spelled}
 use Rattle.ldap_ber.proofs.ElementLemmas.{element_spells}
@@ -34,13 +33,6 @@ and_then : {X Y : Type 0} {R : Form X} {S : Form Y} {c : X → List ℕ} {d : Y 
     → Spelled (Both R S) (λ p. c p.0 ++ d p.1) (λ p. F p.0 × G p.1) B
 and_then {X} {Y} {R} {S} {c} {d} {F} {G} {B} p q = both_spelled R S c d F G Anything B p q (λ y rest sound after. tt)
 
--- an element of these components, of which the last one may be optional
-in_sequence : {X : Type 0} {R : Form X} {c : X → List ℕ} {F : X → Type 0} {A : List ℕ → Type 0} (tag : ℕ) → tag % 32 ≢ 31 → Spelled R c F A → A [] → Spelled (Sequence tag R) (λ x. element tag (c x)) F Anything
-in_sequence {X} {R} {c} {F} {A} tag low p ends = sequence_spelled tag R c F A low p ends
-
-string_spelled : (tag : ℕ) → tag % 32 ≢ 31 → Spelled (OctetString tag) (element tag) (Always {X = List ℕ}) Anything
-string_spelled tag low = octets_spelled tag low
-
 -- none of two tags comes next
 abbrev Neither : ℕ → ℕ → List ℕ → Type 0
 Neither one other rest = Lacks one rest × Lacks other rest
@@ -55,17 +47,17 @@ and_option {X} {R} {c} {F} one other ne low p = both_spelled R (OptionForm other
 -- ---- one by one
 
 authentication_goes : (x : Authentication) (rest : List ℕ) → length (authentication_octets x) < 2 ^ 32 → AuthenticationForm (authentication_octets x ++ rest) x rest
-authentication_goes (Simple o) rest small = (string_spelled 128 (omega arith)).spells o rest small tt tt
-authentication_goes (Sasl o) rest small = (string_spelled 163 (omega arith)).spells o rest small tt tt
+authentication_goes (Simple o) rest small = (octets_spelled 128 (omega arith)).spells o rest small tt tt
+authentication_goes (Sasl o) rest small = (octets_spelled 163 (omega arith)).spells o rest small tt tt
 
 authentication_spelled : Spelled AuthenticationForm authentication_octets (Always {X = Authentication}) Anything
 authentication_spelled = record { spells = λ x rest small sound after. authentication_goes x rest small }
 
 bind_spelled : Spelled BindForm bind_octets (λ x. ((1 ≤ x.0) × (x.0 ≤ 127)) × (Unit {0} × Unit {0})) Anything
-bind_spelled = in_sequence 96 (omega arith) (and_then (range_spelled 1 127 2 (omega arith) (omega arith)) (and_then (string_spelled 4 (omega arith)) authentication_spelled)) tt
+bind_spelled = sequence_spelled 96 _ _ _ _ (omega arith) (and_then (range_spelled 1 127 2 (omega arith) (omega arith)) (and_then (octets_spelled 4 (omega arith)) authentication_spelled)) tt
 
 bind_response_spelled : Spelled BindResponseForm bind_response_octets (λ x. IsOutcome x.0 × Unit {0}) Anything
-bind_response_spelled = in_sequence 97 (omega arith) (and_option 163 135 (omega arith) (omega arith) outcome_spelled) (none_next 163, none_next 135)
+bind_response_spelled = sequence_spelled 97 _ _ _ _ (omega arith) (and_option 163 135 (omega arith) (omega arith) outcome_spelled) (none_next 163, none_next 135)
 
 unbind_goes : (rest : List ℕ) → UnbindForm (unbind_octets ++ rest) tt rest
 unbind_goes rest = ([], element_spells 66 [] rest (omega arith) (omega arith), refl)
@@ -82,35 +74,35 @@ IsReach reach =
 
 reach_spelled : Spelled ReachForm reach_octets IsReach Anything
 unfolding reach_octets
-reach_spelled = and_then (string_spelled 4 (omega arith)) (and_then (range_spelled 0 2 10 (omega arith) (omega arith)) (and_then (range_spelled 0 3 10 (omega arith) (omega arith))
+reach_spelled = and_then (octets_spelled 4 (omega arith)) (and_then (range_spelled 0 2 10 (omega arith) (omega arith)) (and_then (range_spelled 0 3 10 (omega arith) (omega arith))
     (and_then (range_spelled 0 2147483647 2 (omega arith) (omega arith)) (and_then (range_spelled 0 2147483647 2 (omega arith) (omega arith)) (boolean_spelled 1 (omega arith))))))
 
 search_spelled : Spelled SearchForm search_octets (λ x. IsReach x.0 × (FitsFilter x.1.0 × Unit {0})) Anything
-search_spelled = in_sequence 99 (omega arith) (and_then reach_spelled (and_then (filter_spelled 32) (strings_spelled 48 (omega arith)))) tt
+search_spelled = sequence_spelled 99 _ _ _ _ (omega arith) (and_then reach_spelled (and_then (filter_spelled 32) (strings_spelled 48 (omega arith)))) tt
 
 entry_spelled : Spelled EntryForm entry_octets (λ x. Unit {0} × Unit {0}) Anything
-entry_spelled = in_sequence 100 (omega arith) (and_then (string_spelled 4 (omega arith)) attributes_spelled) tt
+entry_spelled = sequence_spelled 100 _ _ _ _ (omega arith) (and_then (octets_spelled 4 (omega arith)) attributes_spelled) tt
 
 reference_spelled : Spelled ReferenceForm reference_octets HaveOne Anything
 reference_spelled = uris_spelled 115 (omega arith)
 
 add_spelled : Spelled AddForm add_octets (λ x. Unit {0} × Unit {0}) Anything
-add_spelled = in_sequence 104 (omega arith) (and_then (string_spelled 4 (omega arith)) attributes_spelled) tt
+add_spelled = sequence_spelled 104 _ _ _ _ (omega arith) (and_then (octets_spelled 4 (omega arith)) attributes_spelled) tt
 
 rename_spelled : Spelled RenameForm rename_octets (λ x. Unit {0} × (Unit {0} × (Unit {0} × Unit {0}))) Anything
-rename_spelled = in_sequence 108 (omega arith) (and_then (string_spelled 4 (omega arith)) (and_then (string_spelled 4 (omega arith)) (and_then (boolean_spelled 1 (omega arith)) (option_spelled 128 (omega arith))))) (none_next 128)
+rename_spelled = sequence_spelled 108 _ _ _ _ (omega arith) (and_then (octets_spelled 4 (omega arith)) (and_then (octets_spelled 4 (omega arith)) (and_then (boolean_spelled 1 (omega arith)) (option_spelled 128 (omega arith))))) (none_next 128)
 
 compare_spelled : Spelled CompareForm compare_octets (λ x. Unit {0} × (Unit {0} × Unit {0})) Anything
-compare_spelled = in_sequence 110 (omega arith) (and_then (string_spelled 4 (omega arith)) (assertion_spelled 48 (omega arith))) tt
+compare_spelled = sequence_spelled 110 _ _ _ _ (omega arith) (and_then (octets_spelled 4 (omega arith)) (assertion_spelled 48 (omega arith))) tt
 
 extended_spelled : Spelled ExtendedForm extended_octets (λ x. Unit {0} × Unit {0}) Anything
-extended_spelled = in_sequence 119 (omega arith) (and_then (string_spelled 128 (omega arith)) (option_spelled 129 (omega arith))) (none_next 129)
+extended_spelled = sequence_spelled 119 _ _ _ _ (omega arith) (and_then (octets_spelled 128 (omega arith)) (option_spelled 129 (omega arith))) (none_next 129)
 
 options_spelled : (one other : ℕ) → other ≢ one → one % 32 ≢ 31 → other % 32 ≢ 31 → Spelled (Both (OptionForm one) (OptionForm other)) (λ p. string_octets one p.0 ++ string_octets other p.1) (λ p. Unit {0} × Unit {0}) (Neither one other)
 options_spelled one other ne low below = and_option one other ne below (option_spelled one low)
 
 intermediate_spelled : Spelled IntermediateForm intermediate_octets (λ x. Unit {0} × Unit {0}) Anything
-intermediate_spelled = in_sequence 121 (omega arith) (options_spelled 128 129 (omega arith) (omega arith) (omega arith)) (none_next 128, none_next 129)
+intermediate_spelled = sequence_spelled 121 _ _ _ _ (omega arith) (options_spelled 128 129 (omega arith) (omega arith) (omega arith)) (none_next 128, none_next 129)
 
 -- none of the tags of what may end an ExtendedResponse comes next
 abbrev NoneOfThese : List ℕ → Type 0
@@ -123,7 +115,7 @@ names_lack : (p : Option (List ℕ) × Option (List ℕ)) (rest : List ℕ) → 
 names_lack p rest after = rw (append_assoc (string_octets 138 p.0) (string_octets 139 p.1) rest) (option_lacks 163 138 p.0 (string_octets 139 p.1 ++ rest) (omega arith) (option_lacks 163 139 p.1 rest (omega arith) after))
 
 extended_response_spelled : Spelled ExtendedResponseForm extended_response_octets (λ x. IsOutcome x.0 × (Unit {0} × Unit {0})) Anything
-extended_response_spelled = in_sequence 120 (omega arith)
+extended_response_spelled = sequence_spelled 120 _ _ _ _ (omega arith)
     (both_spelled OutcomeForm (Both (OptionForm 138) (OptionForm 139)) outcome_octets names_octets IsOutcome (λ p. Unit {0} × Unit {0}) (Lacks 163) NoneOfThese
     outcome_spelled (record { spells = λ p rest small sound after. (options_spelled 138 139 (omega arith) (omega arith) (omega arith)).spells p rest small sound after.1 })
     (λ p rest sound after. names_lack p rest after.0))
@@ -140,7 +132,7 @@ operation_goes (unbind x) rest small s = unbind_goes rest
 operation_goes (search x) rest small s = search_spelled.spells x rest small ((tt, ((omega arith, s.1.0), ((omega arith, s.0.0), ((omega arith, s.0.1), ((omega arith, s.0.2), tt))))), ((s.0.3, s.1.1), tt)) tt
 operation_goes (modify x) rest small s = modify_spelled.spells x rest small (tt, tt) tt
 operation_goes (add x) rest small s = add_spelled.spells x rest small (tt, tt) tt
-operation_goes (delete x) rest small s = (string_spelled 74 (omega arith)).spells x rest small tt tt
+operation_goes (delete x) rest small s = (octets_spelled 74 (omega arith)).spells x rest small tt tt
 operation_goes (rename x) rest small s = rename_spelled.spells x rest small (tt, (tt, (tt, tt))) tt
 operation_goes (compare x) rest small s = compare_spelled.spells x rest small (tt, (tt, tt)) tt
 operation_goes (abandon x) rest small s = (integer_spelled 80 (omega arith)).spells x rest small s.1 tt

@@ -8,7 +8,7 @@ use Rattle.ldap_ber.specs.Canonical.{element, integer_octets}
 use Rattle.ldap_ber.proofs.ExactLemmas.{Exact, both_exact, optional_exact, made_exact, sequence_exact}
 use Rattle.ldap_ber.proofs.CanonicalLemmas.{Spelled, Anything, Always, Lacks, octets_spelled, optional_spelled, both_spelled, made_spelled, sequence_spelled, begins_with, none_next}
 use Rattle.ldap_ber.proofs.IntegerLemmas.{integer_spelled}
-use Rattle.ldap_parts.specs.Gives.{place_of}
+use Rattle.ldap_parts.specs.Faults.{place_of}
 use Rattle.ldap_parts.specs.Components.{string_at, number_at}
 use Rattle.ldap_parts.proofs.ComponentLemmas.{string_exact, number_exact}
 use Rattle.ldap_messages.specs.declared.outcome.LdapResult.{LdapResult}

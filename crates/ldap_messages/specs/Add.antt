@@ -4,7 +4,7 @@ use Rattle.ldap_ber.specs.Form.{Form, OctetString, Both, Sequence}
 use Rattle.ldap_ber.specs.Reading.{Reading, both_at, sequence_at}
 use Rattle.ldap_ber.specs.Canonical.{element}
 use Rattle.schema_rules.specs.declared.raw.RawAttribute.{RawAttribute}
-use Rattle.ldap_parts.specs.Gives.{place_of}
+use Rattle.ldap_parts.specs.Faults.{place_of}
 use Rattle.ldap_parts.specs.Components.{string_at}
 use Rattle.ldap_parts.specs.Attributes.{AttributesForm, attributes_at, attributes_octets}
 

@@ -4,7 +4,7 @@ use Rattle.ldap_ber.specs.Reader.{has_tag}
 use Rattle.ldap_ber.specs.Form.{Form, OctetString, Both, Sequence}
 use Rattle.ldap_ber.specs.Reading.{Reading, both_at, made_at, sequence_at}
 use Rattle.ldap_ber.specs.Canonical.{element}
-use Rattle.ldap_parts.specs.Gives.{place_of}
+use Rattle.ldap_parts.specs.Faults.{place_of}
 use Rattle.ldap_parts.specs.Components.{RangeForm, OptionForm, string_at, range_at, option_at, number_octets, string_octets}
 use Rattle.ldap_messages.specs.declared.bind.Authentication.{Authentication}
 use Rattle.ldap_messages.specs.declared.bind.Authentication.TheVariants.{Simple, Sasl}

@@ -3,7 +3,7 @@ use Rattle.std.specs.Prelude.{ℕ, List, ◌++◌, Option}
 use Rattle.ldap_ber.specs.Form.{Form, OctetString, Both, Sequence}
 use Rattle.ldap_ber.specs.Reading.{Reading, both_at, sequence_at}
 use Rattle.ldap_ber.specs.Canonical.{element}
-use Rattle.ldap_parts.specs.Gives.{place_of}
+use Rattle.ldap_parts.specs.Faults.{place_of}
 use Rattle.ldap_parts.specs.Components.{OptionForm, string_at, option_at, string_octets}
 use Rattle.ldap_messages.specs.declared.outcome.LdapResult.{LdapResult}
 use Rattle.ldap_messages.specs.Outcome.{OutcomeForm, outcome_at, outcome_octets}

@@ -2,7 +2,7 @@
 use Rattle.std.specs.Prelude.{◌≡◌, ℕ, ◌+◌, ◌-◌, ◌≤◌, List, [], ◌∷◌, length, take, not, ◌||◌, nat_lt, ◌==◌, if◌then◌else◌, Option, Some, None, Result, Ok, Err}
 use Rattle.ldap_ber.specs.Element.{number_after, Begins}
 use Rattle.ldap_ber.specs.Reading.{whole_at}
-use Rattle.ldap_parts.specs.Gives.{place_of}
+use Rattle.ldap_parts.specs.Faults.{place_of}
 use Rattle.ldap_messages.specs.declared.frame.Frame.{Frame}
 use Rattle.ldap_messages.specs.declared.frame.Frame.TheVariants.{Partial, Refused, Long, Held}
 use Rattle.ldap_messages.specs.declared.fault.MessageFault.{MessageFault}

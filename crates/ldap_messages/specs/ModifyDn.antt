@@ -3,7 +3,7 @@ use Rattle.std.specs.Prelude.{ℕ, List, ◌++◌, Bool, Option}
 use Rattle.ldap_ber.specs.Form.{Form, OctetString, Boolean, Both, Sequence}
 use Rattle.ldap_ber.specs.Reading.{Reading, both_at, sequence_at}
 use Rattle.ldap_ber.specs.Canonical.{element, boolean_octets}
-use Rattle.ldap_parts.specs.Gives.{place_of}
+use Rattle.ldap_parts.specs.Faults.{place_of}
 use Rattle.ldap_parts.specs.Components.{OptionForm, string_at, truth_at, option_at, string_octets}
 
 -- the name, its new first part, whether the values of the old one go, and the new superior

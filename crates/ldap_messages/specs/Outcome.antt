@@ -3,7 +3,7 @@ use Rattle.std.specs.Prelude.{ℕ, List, ◌++◌, Option, ℤ, IfSome}
 use Rattle.ldap_ber.specs.Form.{Form, OctetString, Integer, Optional, Both, MadeOf, Sequence}
 use Rattle.ldap_ber.specs.Reading.{Reading, optional_at, both_at, made_at, sequence_at}
 use Rattle.ldap_ber.specs.Canonical.{element, integer_octets, option_octets}
-use Rattle.ldap_parts.specs.Gives.{place_of}
+use Rattle.ldap_parts.specs.Faults.{place_of}
 use Rattle.ldap_parts.specs.Components.{string_at, number_at}
 use Rattle.ldap_messages.specs.declared.outcome.LdapResult.{LdapResult}
 use Rattle.ldap_messages.specs.Uris.{HaveOne, UrisForm, uris_at, uris_octets}
@@ -12,11 +12,17 @@ abbrev pub Parts : Type 0
 Parts = ℤ × (List ℕ × (List ℕ × Option (List (List ℕ))))
 
 abbrev pub outcome_parts : LdapResult → Parts
-outcome_parts outcome = (outcome.code, (outcome.matched_dn, (outcome.diagnostic_message, outcome.referral)))
+outcome_parts outcome =
+    (outcome.code, (outcome.matched_dn, (outcome.diagnostic_message, outcome.referral)))
 
 abbrev pub outcome_with : Parts → LdapResult
 outcome_with parts =
-    record { code = parts.0; matched_dn = parts.1.0; diagnostic_message = parts.1.1.0; referral = parts.1.1.1 }
+    record {
+      code = parts.0;
+      matched_dn = parts.1.0;
+      diagnostic_message = parts.1.1.0;
+      referral = parts.1.1.1;
+    }
 
 -- the components of an LDAPResult
 abbrev pub OutcomeForm : Form LdapResult

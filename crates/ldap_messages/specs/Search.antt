@@ -5,7 +5,7 @@ use Rattle.ldap_ber.specs.Reading.{Reading, both_at, sequence_at}
 use Rattle.ldap_ber.specs.Canonical.{element, boolean_octets}
 use Rattle.schema_rules.specs.declared.raw.RawAttribute.{RawAttribute}
 use Rattle.ldap_filter.specs.FilterTree.{FilterTree}
-use Rattle.ldap_parts.specs.Gives.{place_of}
+use Rattle.ldap_parts.specs.Faults.{place_of}
 use Rattle.ldap_parts.specs.Components.{RangeForm, StringsForm, string_at, truth_at, range_at, strings_at, number_octets, strings_octets}
 use Rattle.ldap_parts.specs.Attributes.{AttributesForm, attributes_at, attributes_octets}
 use Rattle.ldap_parts.specs.Filters.{FilterIn, filter_in, filter_octets}

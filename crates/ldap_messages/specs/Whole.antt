@@ -4,7 +4,7 @@ use Rattle.ldap_ber.specs.Form.{Form, Both, Sequence}
 use Rattle.ldap_ber.specs.Reading.{Reading, both_at, sequence_at}
 use Rattle.ldap_ber.specs.Canonical.{element}
 use Rattle.ldap_parts.specs.declared.control.Control.{Control}
-use Rattle.ldap_parts.specs.Gives.{place_of}
+use Rattle.ldap_parts.specs.Faults.{place_of}
 use Rattle.ldap_parts.specs.Components.{RangeForm, range_at, number_octets}
 use Rattle.ldap_parts.specs.Controls.{ControlsForm, controls_at, controls_octets}
 use Rattle.ldap_messages.specs.declared.message.Message.{Message}
@@ -25,10 +25,13 @@ message_at stop bytes =
     sequence_at place_of 48
     (both_at (range_at 0 2147483647 2) (both_at operation_at controls_at)) stop bytes
 
+-- the components, one after another
+abbrev pub parts_octets : Whole → List ℕ
+parts_octets whole =
+    number_octets 2 whole.0 ++ (operation_octets whole.1.0 ++ controls_octets whole.1.1)
+
 unfoldable pub message_octets : Whole → List ℕ
-message_octets whole =
-    element 48
-    (number_octets 2 whole.0 ++ (operation_octets whole.1.0 ++ controls_octets whole.1.1))
+message_octets whole = element 48 (parts_octets whole)
 
 -- the message has a spelling, where it is not too long for four length octets
 abbrev pub HasSpelling : Whole → Type 0

@@ -17,11 +17,12 @@
 //!      serverSaslCreds    [7] OCTET STRING OPTIONAL }
 //! ```
 
-ghost use Rattle.std.specs.Prelude.{◌≡◌, OnOk, FitsSigned};
+ghost use Rattle.std.specs.Prelude.{◌≡◌, Ok, OnOk, FitsSigned};
 ghost use Rattle.std.specs.Int.{w64};
 ghost use Rattle.ldap_ber.specs.Reading.{made_at};
 ghost use Rattle.ldap_ber.specs.Writer.{after_bytes};
-ghost use Rattle.ldap_parts.specs.Gives.{Gives};
+ghost use Rattle.ldap_ber.specs.Gives.{Gives};
+ghost use Rattle.ldap_parts.specs.Faults.{Fails};
 ghost use Rattle.ldap_messages.specs.Bind.{authentication_at, bind_at, bind_response_at, authentication_octets, bind_octets, bind_response_octets};
 ghost use Rattle.ldap_messages.specs.Operation.{operation_of, bind, bind_response};
 
@@ -43,7 +44,7 @@ pub enum Authentication {
 /// The BindRequest that comes next.
 #[tactic(auto, unfolding(crate::specs::Bind::bind_at, crate::specs::Operation::operation_of))]
 pub(crate) fn bind_of(alloc: Global, reader: &mut Reader) -> Result<Protocol, PartFault>
-    ensures exact { Gives (λ op. (operation_of op, reader.new.left)) result
+    ensures exact { Gives Fails (λ op. Ok (operation_of op, reader.new.left)) result
         (made_at bind bind_at reader.old.stop reader.old.left) }
     ensures stop { reader.new.stop ≡ reader.old.stop }
 {
@@ -62,7 +63,7 @@ pub(crate) fn bind_of(alloc: Global, reader: &mut Reader) -> Result<Protocol, Pa
 
 #[tactic(auto, unfolding(crate::specs::Bind::authentication_at))]
 fn authentication_of(alloc: Global, reader: &mut Reader) -> Result<Authentication, PartFault>
-    ensures exact { Gives (λ authentication. (authentication, reader.new.left)) result
+    ensures exact { Gives Fails (λ authentication. Ok (authentication, reader.new.left)) result
         (authentication_at reader.old.stop reader.old.left) }
     ensures stop { reader.new.stop ≡ reader.old.stop }
 {
@@ -75,7 +76,7 @@ fn authentication_of(alloc: Global, reader: &mut Reader) -> Result<Authenticatio
 /// The BindResponse that comes next.
 #[tactic(auto, unfolding(crate::specs::Bind::bind_response_at, crate::specs::Operation::operation_of))]
 pub(crate) fn bind_response_of(alloc: Global, reader: &mut Reader) -> Result<Protocol, PartFault>
-    ensures exact { Gives (λ op. (operation_of op, reader.new.left)) result
+    ensures exact { Gives Fails (λ op. Ok (operation_of op, reader.new.left)) result
         (made_at bind_response bind_response_at reader.old.stop reader.old.left) }
     ensures stop { reader.new.stop ≡ reader.old.stop }
 {

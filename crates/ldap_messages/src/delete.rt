@@ -6,9 +6,10 @@
 //! DelResponse ::= [APPLICATION 11] LDAPResult
 //! ```
 
-ghost use Rattle.std.specs.Prelude.{◌≡◌};
+ghost use Rattle.std.specs.Prelude.{◌≡◌, Ok};
 ghost use Rattle.ldap_ber.specs.Reading.{made_at};
-ghost use Rattle.ldap_parts.specs.Gives.{Gives};
+ghost use Rattle.ldap_ber.specs.Gives.{Gives};
+ghost use Rattle.ldap_parts.specs.Faults.{Fails};
 ghost use Rattle.ldap_messages.specs.Delete.{delete_at};
 ghost use Rattle.ldap_messages.specs.Operation.{operation_of, delete};
 
@@ -21,7 +22,7 @@ use std::alloc::Global;
 /// The DelRequest that comes next.
 #[tactic(auto, unfolding(crate::specs::Delete::delete_at, crate::specs::Operation::operation_of))]
 pub(crate) fn delete_of(alloc: Global, reader: &mut Reader) -> Result<Protocol, PartFault>
-    ensures exact { Gives (λ op. (operation_of op, reader.new.left)) result
+    ensures exact { Gives Fails (λ op. Ok (operation_of op, reader.new.left)) result
         (made_at delete delete_at reader.old.stop reader.old.left) }
     ensures stop { reader.new.stop ≡ reader.old.stop }
 {

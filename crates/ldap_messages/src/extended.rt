@@ -11,11 +11,12 @@
 //!      responseValue    [11] OCTET STRING OPTIONAL }
 //! ```
 
-ghost use Rattle.std.specs.Prelude.{◌≡◌, OnOk, FitsSigned};
+ghost use Rattle.std.specs.Prelude.{◌≡◌, Ok, OnOk, FitsSigned};
 ghost use Rattle.std.specs.Int.{w64};
 ghost use Rattle.ldap_ber.specs.Reading.{made_at};
 ghost use Rattle.ldap_ber.specs.Writer.{after_bytes};
-ghost use Rattle.ldap_parts.specs.Gives.{Gives};
+ghost use Rattle.ldap_ber.specs.Gives.{Gives};
+ghost use Rattle.ldap_parts.specs.Faults.{Fails};
 ghost use Rattle.ldap_messages.specs.Extended.{extended_at, extended_response_at, extended_octets, extended_response_octets};
 ghost use Rattle.ldap_messages.specs.Operation.{operation_of, extended, extended_response};
 
@@ -28,7 +29,7 @@ use std::alloc::Global;
 /// The ExtendedRequest that comes next.
 #[tactic(auto, unfolding(crate::specs::Extended::extended_at, crate::specs::Operation::operation_of))]
 pub(crate) fn extended_of(alloc: Global, reader: &mut Reader) -> Result<Protocol, PartFault>
-    ensures exact { Gives (λ op. (operation_of op, reader.new.left)) result
+    ensures exact { Gives Fails (λ op. Ok (operation_of op, reader.new.left)) result
         (made_at extended extended_at reader.old.stop reader.old.left) }
     ensures stop { reader.new.stop ≡ reader.old.stop }
 {
@@ -46,7 +47,7 @@ pub(crate) fn extended_response_of(
     alloc: Global,
     reader: &mut Reader,
 ) -> Result<Protocol, PartFault>
-    ensures exact { Gives (λ op. (operation_of op, reader.new.left)) result
+    ensures exact { Gives Fails (λ op. Ok (operation_of op, reader.new.left)) result
         (made_at extended_response extended_response_at reader.old.stop reader.old.left) }
     ensures stop { reader.new.stop ≡ reader.old.stop }
 {

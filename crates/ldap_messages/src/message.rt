@@ -7,12 +7,13 @@
 //!      controls       [0] Controls OPTIONAL }
 //! ```
 
-ghost use Rattle.std.specs.Prelude.{◌≡◌, ◌≤◌, ℕ, List, [], ◌++◌, length, take, IfOk, IfSome};
+ghost use Rattle.std.specs.Prelude.{◌≡◌, ◌≤◌, ℕ, List, [], ◌++◌, length, take, Ok, IfOk, IfSome, OnOk};
 ghost use Rattle.ldap_ber.specs.Reading.{whole_at};
-ghost use Rattle.ldap_ber.specs.Writer.{IsSmall};
-ghost use Rattle.ldap_parts.specs.Gives.{Gives, place_of};
+ghost use Rattle.ldap_ber.specs.Writer.{after_bytes, IsSmall};
+ghost use Rattle.ldap_ber.specs.Gives.{Gives};
+ghost use Rattle.ldap_parts.specs.Faults.{Fails, place_of};
 ghost use Rattle.ldap_messages.specs.Operation.{operation_of, IsHeld};
-ghost use Rattle.ldap_messages.specs.Whole.{Whole, whole_of, MessageForm, message_at, message_octets, HasSpelling};
+ghost use Rattle.ldap_messages.specs.Whole.{Whole, whole_of, MessageForm, message_at, parts_octets, message_octets, HasSpelling};
 ghost use Rattle.ldap_messages.specs.Frame.{message, read_of, HasMeaning, Spells};
 
 use crate::fault::MessageFault;
@@ -68,11 +69,19 @@ impl Message {
     {
         let mut writer = Writer::new(alloc);
         writer.begin(0x30)?;
-        put_number(&mut writer, 0x02, self.id)?;
-        put_operation(&mut writer, &self.op)?;
-        put_controls(&mut writer, self.controls.list())?;
+        self.put_parts(&mut writer)?;
         writer.end()?;
         Ok(writer.finish())
+    }
+
+    fn put_parts(&self, writer: &mut Writer) -> Result<(), NoMemory>
+        ensures ok { OnOk result
+            (writer.new ≡ after_bytes writer.old (parts_octets (whole_of self.now))) }
+        ensures held { OnOk result (IsHeld (operation_of self.now.op)) }
+    {
+        put_number(writer, 0x02, self.id)?;
+        put_operation(writer, &self.op)?;
+        put_controls(writer, self.controls.list())
     }
 }
 
@@ -98,7 +107,7 @@ fn read_message(alloc: Global, bytes: &[u8]) -> Result<Option<(Message, usize)>,
 
 /// The message that all of the bytes spell.
 fn message_in(alloc: Global, bytes: &[u8]) -> Result<Message, PartFault>
-    ensures { Gives whole_of result (whole_at place_of message_at bytes.now) }
+    ensures { Gives Fails (λ x. Ok (whole_of x)) result (whole_at place_of message_at bytes.now) }
 {
     let mut reader = Reader::new(bytes);
     let message = message_of(alloc, &mut reader)?;
@@ -114,7 +123,7 @@ fn message_in(alloc: Global, bytes: &[u8]) -> Result<Message, PartFault>
 /// The message that comes next.
 #[tactic(auto, unfolding(crate::specs::Whole::message_at))]
 fn message_of(alloc: Global, reader: &mut Reader) -> Result<Message, PartFault>
-    ensures exact { Gives (λ message. (whole_of message, reader.new.left)) result
+    ensures exact { Gives Fails (λ message. Ok (whole_of message, reader.new.left)) result
         (message_at reader.old.stop reader.old.left) }
     ensures stop { reader.new.stop ≡ reader.old.stop }
 {

@@ -14,11 +14,12 @@
 //! ModifyResponse ::= [APPLICATION 7] LDAPResult
 //! ```
 
-ghost use Rattle.std.specs.Prelude.{◌≡◌, ◌<◌, length, OnOk};
+ghost use Rattle.std.specs.Prelude.{◌≡◌, ◌<◌, length, Ok, OnOk};
 ghost use Rattle.std.specs.List.{flat_map};
 ghost use Rattle.ldap_ber.specs.Reading.{made_at, many_at};
 ghost use Rattle.ldap_ber.specs.Writer.{after_bytes};
-ghost use Rattle.ldap_parts.specs.Gives.{Gives};
+ghost use Rattle.ldap_ber.specs.Gives.{Gives};
+ghost use Rattle.ldap_parts.specs.Faults.{Fails};
 ghost use Rattle.ldap_messages.specs.Modify.{how_number, how_at, edit_at, edits_at, modify_at, edit_octets, edits_octets, modify_octets};
 ghost use Rattle.ldap_messages.specs.Operation.{operation_of, modify};
 
@@ -31,7 +32,7 @@ use std::alloc::Global;
 /// The ModifyRequest that comes next.
 #[tactic(auto, unfolding(crate::specs::Modify::modify_at, crate::specs::Operation::operation_of))]
 pub(crate) fn modify_of(alloc: Global, reader: &mut Reader) -> Result<Protocol, PartFault>
-    ensures exact { Gives (λ op. (operation_of op, reader.new.left)) result
+    ensures exact { Gives Fails (λ op. Ok (operation_of op, reader.new.left)) result
         (made_at modify modify_at reader.old.stop reader.old.left) }
     ensures stop { reader.new.stop ≡ reader.old.stop }
 {
@@ -44,7 +45,7 @@ pub(crate) fn modify_of(alloc: Global, reader: &mut Reader) -> Result<Protocol, 
 }
 
 fn edits_of(alloc: Global, reader: &mut Reader) -> Result<EditList, PartFault>
-    ensures exact { Gives (λ edits. (edits, reader.new.left)) result
+    ensures exact { Gives Fails (λ edits. Ok (edits, reader.new.left)) result
         (edits_at reader.old.stop reader.old.left) }
     ensures stop { reader.new.stop ≡ reader.old.stop }
 {
@@ -56,7 +57,7 @@ fn edits_of(alloc: Global, reader: &mut Reader) -> Result<EditList, PartFault>
 /// The edits that are left.
 #[tactic(auto, using(crate::proofs::ModifyLemmas::edits_go_on, crate::proofs::ModifyLemmas::edits_fail, crate::proofs::ModifyLemmas::edits_end))]
 fn edits_in(alloc: Global, reader: &mut Reader) -> Result<EditList, PartFault>
-    ensures { Gives (λ edits. edits) result
+    ensures { Gives Fails (λ edits. Ok edits) result
         (many_at edit_at reader.old.stop reader.old.left) }
 {
     let mut edits = EditList::new(alloc);
@@ -70,7 +71,7 @@ fn edits_in(alloc: Global, reader: &mut Reader) -> Result<EditList, PartFault>
 /// The edit that comes next.
 #[tactic(auto, unfolding(crate::specs::Modify::edit_at))]
 fn edit_of(alloc: Global, reader: &mut Reader) -> Result<RawEdit, PartFault>
-    ensures exact { Gives (λ edit. (edit, reader.new.left)) result
+    ensures exact { Gives Fails (λ edit. Ok (edit, reader.new.left)) result
         (edit_at reader.old.stop reader.old.left) }
     ensures stop { reader.new.stop ≡ reader.old.stop }
     ensures shorter { OnOk result (length reader.new.left < length reader.old.left) }
@@ -84,7 +85,7 @@ fn edit_of(alloc: Global, reader: &mut Reader) -> Result<RawEdit, PartFault>
 }
 
 fn how_of(reader: &mut Reader) -> Result<How, PartFault>
-    ensures exact { Gives (λ how. (how, reader.new.left)) result
+    ensures exact { Gives Fails (λ how. Ok (how, reader.new.left)) result
         (how_at reader.old.stop reader.old.left) }
     ensures stop { reader.new.stop ≡ reader.old.stop }
 {

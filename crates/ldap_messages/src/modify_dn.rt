@@ -10,10 +10,11 @@
 //! ModifyDNResponse ::= [APPLICATION 13] LDAPResult
 //! ```
 
-ghost use Rattle.std.specs.Prelude.{◌≡◌, OnOk};
+ghost use Rattle.std.specs.Prelude.{◌≡◌, Ok, OnOk};
 ghost use Rattle.ldap_ber.specs.Reading.{made_at};
 ghost use Rattle.ldap_ber.specs.Writer.{after_bytes};
-ghost use Rattle.ldap_parts.specs.Gives.{Gives};
+ghost use Rattle.ldap_ber.specs.Gives.{Gives};
+ghost use Rattle.ldap_parts.specs.Faults.{Fails};
 ghost use Rattle.ldap_messages.specs.ModifyDn.{rename_at, rename_octets};
 ghost use Rattle.ldap_messages.specs.Operation.{operation_of, rename};
 
@@ -26,7 +27,7 @@ use std::alloc::Global;
 /// The ModifyDNRequest that comes next.
 #[tactic(auto, unfolding(crate::specs::ModifyDn::rename_at, crate::specs::Operation::operation_of))]
 pub(crate) fn rename_of(alloc: Global, reader: &mut Reader) -> Result<Protocol, PartFault>
-    ensures exact { Gives (λ op. (operation_of op, reader.new.left)) result
+    ensures exact { Gives Fails (λ op. Ok (operation_of op, reader.new.left)) result
         (made_at rename rename_at reader.old.stop reader.old.left) }
     ensures stop { reader.new.stop ≡ reader.old.stop }
 {

@@ -8,10 +8,11 @@
 //!      referral           [3] Referral OPTIONAL }
 //! ```
 
-ghost use Rattle.std.specs.Prelude.{◌≡◌, OnOk, FitsSigned};
+ghost use Rattle.std.specs.Prelude.{◌≡◌, Ok, OnOk, FitsSigned};
 ghost use Rattle.std.specs.Int.{w64};
 ghost use Rattle.ldap_ber.specs.Writer.{after_bytes};
-ghost use Rattle.ldap_parts.specs.Gives.{Gives};
+ghost use Rattle.ldap_ber.specs.Gives.{Gives};
+ghost use Rattle.ldap_parts.specs.Faults.{Fails};
 ghost use Rattle.ldap_messages.specs.Outcome.{referral_at, outcome_at, response_at, referral_octets, outcome_octets, response_octets};
 
 use crate::uris::uris_of;
@@ -37,7 +38,7 @@ pub(crate) fn response_of(
     reader: &mut Reader,
     tag: u8,
 ) -> Result<LdapResult, PartFault>
-    ensures exact { Gives (λ result. (result, reader.new.left)) result
+    ensures exact { Gives Fails (λ result. Ok (result, reader.new.left)) result
         (response_at tag reader.old.stop reader.old.left) }
     ensures stop { reader.new.stop ≡ reader.old.stop }
 {
@@ -51,7 +52,7 @@ pub(crate) fn response_of(
 /// The components of a result that come next.
 #[tactic(auto, unfolding(crate::specs::Outcome::outcome_at))]
 pub(crate) fn outcome_of(alloc: Global, reader: &mut Reader) -> Result<LdapResult, PartFault>
-    ensures exact { Gives (λ outcome. (outcome, reader.new.left)) result
+    ensures exact { Gives Fails (λ outcome. Ok (outcome, reader.new.left)) result
         (outcome_at reader.old.stop reader.old.left) }
     ensures stop { reader.new.stop ≡ reader.old.stop }
 {
@@ -69,7 +70,7 @@ pub(crate) fn outcome_of(alloc: Global, reader: &mut Reader) -> Result<LdapResul
 
 /// The referral, where one comes next.
 fn referral_of(alloc: Global, reader: &mut Reader) -> Result<Option<OctetsList>, PartFault>
-    ensures exact { Gives (λ referral. (referral, reader.new.left)) result
+    ensures exact { Gives Fails (λ referral. Ok (referral, reader.new.left)) result
         (referral_at reader.old.stop reader.old.left) }
     ensures stop { reader.new.stop ≡ reader.old.stop }
 {

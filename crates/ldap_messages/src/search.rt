@@ -31,11 +31,12 @@
 //! SearchResultDone ::= [APPLICATION 5] LDAPResult
 //! ```
 
-ghost use Rattle.std.specs.Prelude.{◌≡◌, ◌≤◌, true, OnOk};
+ghost use Rattle.std.specs.Prelude.{◌≡◌, ◌≤◌, true, Ok, OnOk};
 ghost use Rattle.ldap_ber.specs.Reading.{made_at};
 ghost use Rattle.ldap_ber.specs.Writer.{after_bytes};
 ghost use Rattle.ldap_filter.specs.FilterTree.{tree_of};
-ghost use Rattle.ldap_parts.specs.Gives.{Gives};
+ghost use Rattle.ldap_ber.specs.Gives.{Gives};
+ghost use Rattle.ldap_parts.specs.Faults.{Fails};
 ghost use Rattle.ldap_parts.specs.Filters.{have_piece};
 ghost use Rattle.ldap_messages.specs.Search.{scope_number, scope_at, reach_at, search_at, entry_at, reference_at, reach_octets, search_octets, entry_octets};
 ghost use Rattle.ldap_messages.specs.Operation.{operation_of, search, entry, reference};
@@ -78,7 +79,7 @@ struct Reach {
 
 /// A SearchRequest that is held elsewhere.
 #[derive(Clone, Copy)]
-pub(crate) struct Asked<'a> {
+pub(crate) struct AskedSearch<'a> {
     pub(crate) base: &'a Octets,
     pub(crate) scope: SearchScope,
     pub(crate) deref: u8,
@@ -92,7 +93,7 @@ pub(crate) struct Asked<'a> {
 /// The SearchRequest that comes next.
 #[tactic(auto, unfolding(crate::specs::Search::search_at, crate::specs::Operation::operation_of))]
 pub(crate) fn search_of(alloc: Global, reader: &mut Reader) -> Result<Protocol, PartFault>
-    ensures exact { Gives (λ op. (operation_of op, reader.new.left)) result
+    ensures exact { Gives Fails (λ op. Ok (operation_of op, reader.new.left)) result
         (made_at search search_at reader.old.stop reader.old.left) }
     ensures stop { reader.new.stop ≡ reader.old.stop }
 {
@@ -117,7 +118,7 @@ pub(crate) fn search_of(alloc: Global, reader: &mut Reader) -> Result<Protocol, 
 /// The components in front of the filter, which come next.
 #[tactic(auto, unfolding(crate::specs::Search::reach_at))]
 fn reach_of(alloc: Global, reader: &mut Reader) -> Result<Reach, PartFault>
-    ensures exact { Gives (λ reach. (
+    ensures exact { Gives Fails (λ reach. Ok (
       (
         reach.base,
         (
@@ -150,7 +151,7 @@ fn reach_of(alloc: Global, reader: &mut Reader) -> Result<Reach, PartFault>
 }
 
 fn scope_of(reader: &mut Reader) -> Result<SearchScope, PartFault>
-    ensures exact { Gives (λ scope. (scope_number scope, reader.new.left)) result
+    ensures exact { Gives Fails (λ scope. Ok (scope_number scope, reader.new.left)) result
         (scope_at reader.old.stop reader.old.left) }
     ensures stop { reader.new.stop ≡ reader.old.stop }
 {
@@ -165,7 +166,7 @@ fn scope_of(reader: &mut Reader) -> Result<SearchScope, PartFault>
 /// The SearchResultEntry that comes next.
 #[tactic(auto, unfolding(crate::specs::Search::entry_at, crate::specs::Operation::operation_of))]
 pub(crate) fn entry_of(alloc: Global, reader: &mut Reader) -> Result<Protocol, PartFault>
-    ensures exact { Gives (λ op. (operation_of op, reader.new.left)) result
+    ensures exact { Gives Fails (λ op. Ok (operation_of op, reader.new.left)) result
         (made_at entry entry_at reader.old.stop reader.old.left) }
     ensures stop { reader.new.stop ≡ reader.old.stop }
 {
@@ -180,7 +181,7 @@ pub(crate) fn entry_of(alloc: Global, reader: &mut Reader) -> Result<Protocol, P
 /// The SearchResultReference that comes next.
 #[tactic(auto, unfolding(crate::specs::Operation::operation_of))]
 pub(crate) fn reference_of(alloc: Global, reader: &mut Reader) -> Result<Protocol, PartFault>
-    ensures exact { Gives (λ op. (operation_of op, reader.new.left)) result
+    ensures exact { Gives Fails (λ op. Ok (operation_of op, reader.new.left)) result
         (made_at reference reference_at reader.old.stop reader.old.left) }
     ensures stop { reader.new.stop ≡ reader.old.stop }
 {
@@ -188,7 +189,7 @@ pub(crate) fn reference_of(alloc: Global, reader: &mut Reader) -> Result<Protoco
     Ok(Protocol::SearchResultReference(uris))
 }
 
-pub(crate) fn put_search(writer: &mut Writer, asked: &Asked) -> Result<(), NoMemory>
+pub(crate) fn put_search(writer: &mut Writer, asked: &AskedSearch) -> Result<(), NoMemory>
     ensures ok { OnOk result (writer.new ≡ after_bytes writer.old (search_octets (
       (
         asked.now.base.now,
@@ -214,7 +215,7 @@ pub(crate) fn put_search(writer: &mut Writer, asked: &Asked) -> Result<(), NoMem
 
 /// Writes the components in front of the filter.
 #[tactic(auto, unfolding(crate::specs::Search::reach_octets))]
-fn put_reach(writer: &mut Writer, asked: &Asked) -> Result<(), NoMemory>
+fn put_reach(writer: &mut Writer, asked: &AskedSearch) -> Result<(), NoMemory>
     ensures ok { OnOk result (writer.new ≡ after_bytes writer.old (reach_octets (
       asked.now.base.now,
       (

@@ -4,10 +4,11 @@
 //! UnbindRequest ::= [APPLICATION 2] NULL
 //! ```
 
-ghost use Rattle.std.specs.Prelude.{◌≡◌, OnOk};
+ghost use Rattle.std.specs.Prelude.{◌≡◌, Ok, OnOk};
 ghost use Rattle.ldap_ber.specs.Reading.{made_at};
 ghost use Rattle.ldap_ber.specs.Writer.{after_bytes};
-ghost use Rattle.ldap_parts.specs.Gives.{Gives};
+ghost use Rattle.ldap_ber.specs.Gives.{Gives};
+ghost use Rattle.ldap_parts.specs.Faults.{Fails};
 ghost use Rattle.ldap_messages.specs.Unbind.{unbind_at, unbind_octets};
 ghost use Rattle.ldap_messages.specs.Operation.{operation_of, unbind};
 
@@ -18,7 +19,7 @@ use ldap_parts::PartFault;
 /// The UnbindRequest that comes next.
 #[tactic(auto, unfolding(crate::specs::Unbind::unbind_at, crate::specs::Operation::operation_of))]
 pub(crate) fn unbind_of(reader: &mut Reader) -> Result<Protocol, PartFault>
-    ensures exact { Gives (λ op. (operation_of op, reader.new.left)) result
+    ensures exact { Gives Fails (λ op. Ok (operation_of op, reader.new.left)) result
         (made_at unbind unbind_at reader.old.stop reader.old.left) }
     ensures stop { reader.new.stop ≡ reader.old.stop }
 {

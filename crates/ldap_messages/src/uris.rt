@@ -7,8 +7,9 @@
 //! URI ::= LDAPString
 //! ```
 
-ghost use Rattle.std.specs.Prelude.{◌≡◌};
-ghost use Rattle.ldap_parts.specs.Gives.{Gives};
+ghost use Rattle.std.specs.Prelude.{◌≡◌, Ok};
+ghost use Rattle.ldap_ber.specs.Gives.{Gives};
+ghost use Rattle.ldap_parts.specs.Faults.{Fails};
 ghost use Rattle.ldap_messages.specs.Uris.{uris_at};
 
 use ldap_ber::{OctetsList, Reader};
@@ -18,7 +19,7 @@ use std::alloc::Global;
 /// The URIs that come next, of which there has to be one.
 #[tactic(auto, unfolding(crate::specs::Uris::uris_at))]
 pub(crate) fn uris_of(alloc: Global, reader: &mut Reader, tag: u8) -> Result<OctetsList, PartFault>
-    ensures exact { Gives (λ uris. (uris, reader.new.left)) result
+    ensures exact { Gives Fails (λ uris. Ok (uris, reader.new.left)) result
         (uris_at tag reader.old.stop reader.old.left) }
     ensures stop { reader.new.stop ≡ reader.old.stop }
 {

@@ -9,7 +9,7 @@ use Rattle.ldap_ber.proofs.SkipLemmas.{Begins-shorter}
 use Rattle.ldap_ber.proofs.ExactLemmas.{Exact, Shortens, both_exact, sequence_exact, made_exact, list_exact, advances}
 use Rattle.ldap_ber.proofs.CanonicalLemmas.{Spelled, Anything, Always, octets_spelled, both_spelled, sequence_spelled, list_spelled, made_spelled}
 use Rattle.schema_rules.specs.declared.raw.RawAttribute.{RawAttribute}
-use Rattle.ldap_parts.specs.Gives.{place_of}
+use Rattle.ldap_parts.specs.Faults.{place_of}
 use Rattle.ldap_parts.specs.Components.{StringsForm, string_at, strings_at, strings_octets}
 use Rattle.ldap_parts.specs.Attributes.{attribute_parts, attribute_with, AttributeForm, AttributesForm, attribute_at, attributes_at, attribute_octets, attributes_octets}
 use Rattle.ldap_parts.proofs.ComponentLemmas.{string_exact}

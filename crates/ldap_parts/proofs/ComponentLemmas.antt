@@ -10,7 +10,7 @@ use Rattle.ldap_ber.proofs.SkipLemmas.{Begins-shorter}
 use Rattle.ldap_ber.proofs.ExactLemmas.{Exact, Shortens, reworded_exact, octets_exact, integer_exact, boolean_exact, optional_exact, default_exact, meaning_exact}
 use Rattle.ldap_ber.proofs.CanonicalLemmas.{Spelled, Anything, Always, Lacks, octets_spelled, optional_spelled, meaning_spelled, begins_with, option_sound}
 use Rattle.ldap_ber.proofs.IntegerLemmas.{integer_spelled}
-use Rattle.ldap_parts.specs.Gives.{place_of}
+use Rattle.ldap_parts.specs.Faults.{place_of}
 use Rattle.ldap_parts.specs.Components.{IsWithin, RangeForm, FlagForm, OptionForm, string_at, number_at, truth_at, flag_at, within, range_at, option_at, number_octets, string_octets}
 
 -- ---- read

@@ -9,7 +9,7 @@ use Rattle.ldap_ber.proofs.SkipLemmas.{Begins-shorter}
 use Rattle.ldap_ber.proofs.ExactLemmas.{Exact, Shortens, both_exact, sequence_exact, made_exact, list_exact, default_exact, advances}
 use Rattle.ldap_ber.proofs.CanonicalLemmas.{Spelled, Anything, Always, Lacks, octets_spelled, both_spelled, flag_spelled, sequence_spelled, list_spelled, made_spelled, begins_with, none_next}
 use Rattle.ldap_parts.specs.declared.control.Control.{Control}
-use Rattle.ldap_parts.specs.Gives.{place_of}
+use Rattle.ldap_parts.specs.Faults.{place_of}
 use Rattle.ldap_parts.specs.Components.{FlagForm, OptionForm, string_at, flag_at, option_at, string_octets}
 use Rattle.ldap_parts.specs.Controls.{control_parts, control_with, ControlForm, ControlsForm, control_at, controls_at, control_octets, controls_octets}
 use Rattle.ldap_parts.proofs.ComponentLemmas.{string_exact, flag_exact, option_exact, option_spelled, option_lacks}

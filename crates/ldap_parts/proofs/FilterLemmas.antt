@@ -15,7 +15,7 @@ use Rattle.ldap_filter.specs.Pieces.{has_piece}
 use Rattle.ldap_filter.specs.FilterTree.{FilterTree, Trees, all_of, any_of, negated, equal, substrings, at_least, at_most, present, approx, extensible, no_trees, more_trees, trees, tree_of}
 use Rattle.ldap_parts.specs.declared.fault.PartFault.{PartFault}
 use Rattle.ldap_parts.specs.declared.fault.PartFault.TheVariants.{Refused, NoMemory}
-use Rattle.ldap_parts.specs.Gives.{Fails, place_of}
+use Rattle.ldap_parts.specs.Faults.{Fails, place_of}
 use Rattle.ldap_parts.specs.Components.{OptionForm, string_at, option_at}
 use Rattle.ldap_parts.specs.Filters.{listed, While, while_at, Parts, ArePieces, PiecesForm, SubstringsForm, AssertionForm, FilterIn, pieces_of, parts_at, pieces_at, substrings_at, assertion_at, all_with, any_with, substrings_with, equal_with, at_least_with, at_most_with, approx_with, item_at, filter_in}
 use Rattle.ldap_parts.proofs.ComponentLemmas.{string_exact, string_shortens, option_exact}

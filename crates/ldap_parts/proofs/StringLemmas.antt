@@ -7,7 +7,7 @@ use Rattle.ldap_ber.specs.Canonical.{element}
 use Rattle.ldap_ber.proofs.ManyLemmas.{Advances, with_prefix, many_goes_on, many_fails, many_ended}
 use Rattle.ldap_ber.proofs.ExactLemmas.{Exact, list_exact, advances}
 use Rattle.ldap_ber.proofs.CanonicalLemmas.{Spelled, Anything, Always, octets_spelled, list_spelled}
-use Rattle.ldap_parts.specs.Gives.{place_of}
+use Rattle.ldap_parts.specs.Faults.{place_of}
 use Rattle.ldap_parts.specs.Components.{StringsForm, string_at, strings_at, strings_octets}
 use Rattle.ldap_parts.proofs.ComponentLemmas.{string_exact, string_shortens}
 

@@ -5,7 +5,7 @@ use Rattle.ldap_ber.specs.Form.{Form, OctetString, Both, MadeOf, Sequence, ListO
 use Rattle.ldap_ber.specs.Reading.{Reading, both_at, made_at, sequence_at, list_at}
 use Rattle.ldap_ber.specs.Canonical.{element}
 use Rattle.schema_rules.specs.declared.raw.RawAttribute.{RawAttribute}
-use Rattle.ldap_parts.specs.Gives.{place_of}
+use Rattle.ldap_parts.specs.Faults.{place_of}
 use Rattle.ldap_parts.specs.Components.{StringsForm, string_at, strings_at, strings_octets}
 
 abbrev pub attribute_parts : RawAttribute → List ℕ × List (List ℕ)

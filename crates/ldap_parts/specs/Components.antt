@@ -4,7 +4,7 @@ use Rattle.std.specs.List.{flat_map}
 use Rattle.ldap_ber.specs.Form.{Form, OctetString, Integer, Boolean, Optional, Default, Meaning, ListOf}
 use Rattle.ldap_ber.specs.Reading.{Reading, reworded, octets_at, integer_at, boolean_at, optional_at, default_at, meaning_at, list_at}
 use Rattle.ldap_ber.specs.Canonical.{element, integer_octets, option_octets}
-use Rattle.ldap_parts.specs.Gives.{place_of}
+use Rattle.ldap_parts.specs.Faults.{place_of}
 
 -- ---- how they are spelled
 

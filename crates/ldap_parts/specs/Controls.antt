@@ -5,7 +5,7 @@ use Rattle.ldap_ber.specs.Form.{Form, OctetString, Both, Default, MadeOf, Sequen
 use Rattle.ldap_ber.specs.Reading.{Reading, both_at, made_at, default_at, sequence_at, list_at}
 use Rattle.ldap_ber.specs.Canonical.{element, flag_octets}
 use Rattle.ldap_parts.specs.declared.control.Control.{Control}
-use Rattle.ldap_parts.specs.Gives.{place_of}
+use Rattle.ldap_parts.specs.Faults.{place_of}
 use Rattle.ldap_parts.specs.Components.{FlagForm, OptionForm, string_at, flag_at, option_at, string_octets}
 
 abbrev pub control_parts : Control → List ℕ × (Bool × Option (List ℕ))

@@ -7,7 +7,7 @@ use Rattle.ldap_ber.specs.Reading.{Reading, both_at, meaning_at, made_at, tagged
 use Rattle.ldap_ber.specs.Canonical.{element}
 use Rattle.ldap_filter.specs.FilterTree.{FilterTree, Trees, all_of, any_of, negated, equal, substrings, at_least, at_most, present, approx, extensible, no_trees, more_trees, trees}
 use Rattle.ldap_filter.specs.Pieces.{has_piece}
-use Rattle.ldap_parts.specs.Gives.{place_of}
+use Rattle.ldap_parts.specs.Faults.{place_of}
 use Rattle.ldap_parts.specs.Components.{OptionForm, string_at, option_at, string_octets}
 
 abbrev pub listed : Trees → List FilterTree

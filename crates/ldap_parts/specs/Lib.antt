@@ -1,4 +1,4 @@
-pub mod Gives
+pub mod Faults
 pub mod Components
 pub mod Attributes
 pub mod Controls

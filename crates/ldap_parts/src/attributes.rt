@@ -9,12 +9,13 @@
 //!                      partialAttribute PartialAttribute
 //! ```
 
-ghost use Rattle.std.specs.Prelude.{◌≡◌, ◌<◌, ◌++◌, length, OnOk, OnErr};
+ghost use Rattle.std.specs.Prelude.{◌≡◌, ◌<◌, ◌++◌, length, Ok, OnOk, OnErr};
 ghost use Rattle.std.specs.List.{flat_map};
 ghost use Rattle.ldap_ber.specs.Canonical.{element};
 ghost use Rattle.ldap_ber.specs.Reading.{many_at};
 ghost use Rattle.ldap_ber.specs.Writer.{after_bytes};
-ghost use Rattle.ldap_parts.specs.Gives.{Gives};
+ghost use Rattle.ldap_ber.specs.Gives.{Gives};
+ghost use Rattle.ldap_parts.specs.Faults.{Fails};
 ghost use Rattle.ldap_parts.specs.Components.{strings_octets};
 ghost use Rattle.ldap_parts.specs.Attributes.{attribute_at, attributes_at, attribute_octets, attributes_octets};
 
@@ -29,7 +30,7 @@ use std::alloc::Global;
 /// not so, or `NoMemory`, and the reader is as before.
 #[tactic(auto, unfolding(crate::specs::Attributes::attribute_at))]
 pub fn attribute_of(alloc: Global, reader: &mut Reader) -> Result<RawAttribute, PartFault>
-    ensures exact { Gives (λ attribute. (attribute, reader.new.left)) result
+    ensures exact { Gives Fails (λ attribute. Ok (attribute, reader.new.left)) result
         (attribute_at reader.old.stop reader.old.left) }
     ensures stop { reader.new.stop ≡ reader.old.stop }
     ensures shorter { OnOk result (length reader.new.left < length reader.old.left) }
@@ -48,7 +49,7 @@ pub fn attribute_of(alloc: Global, reader: &mut Reader) -> Result<RawAttribute, 
 /// The list of attributes that comes next. Else it is `Refused` with the place of the first element
 /// that is not so, or `NoMemory`, and the reader is as before.
 pub fn attributes_of(alloc: Global, reader: &mut Reader) -> Result<RawList, PartFault>
-    ensures exact { Gives (λ attributes. (attributes, reader.new.left)) result
+    ensures exact { Gives Fails (λ attributes. Ok (attributes, reader.new.left)) result
         (attributes_at reader.old.stop reader.old.left) }
     ensures stop { reader.new.stop ≡ reader.old.stop }
     ensures err { OnErr result (reader.new ≡ reader.old) }
@@ -64,7 +65,7 @@ pub fn attributes_of(alloc: Global, reader: &mut Reader) -> Result<RawList, Part
 /// The attributes that are left.
 #[tactic(auto, using(crate::proofs::AttributeLemmas::attributes_go_on, crate::proofs::AttributeLemmas::attributes_fail, crate::proofs::AttributeLemmas::attributes_end))]
 fn attributes_in(alloc: Global, reader: &mut Reader) -> Result<RawList, PartFault>
-    ensures { Gives (λ attributes. attributes) result
+    ensures { Gives Fails (λ attributes. Ok attributes) result
         (many_at attribute_at reader.old.stop reader.old.left) }
 {
     let mut attributes = RawList::new(alloc);

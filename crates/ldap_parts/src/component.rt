@@ -15,9 +15,10 @@
 //!                       -- [RFC4514]
 //! ```
 
-ghost use Rattle.std.specs.Prelude.{◌≡◌, ◌<◌, ◌≤◌, length, IfOk, OnOk, OnErr};
+ghost use Rattle.std.specs.Prelude.{◌≡◌, ◌<◌, ◌≤◌, length, Ok, IfOk, OnOk, OnErr};
 ghost use Rattle.ldap_ber.specs.Writer.{after_bytes};
-ghost use Rattle.ldap_parts.specs.Gives.{Gives};
+ghost use Rattle.ldap_ber.specs.Gives.{Gives};
+ghost use Rattle.ldap_parts.specs.Faults.{Fails};
 ghost use Rattle.ldap_parts.specs.Components.{string_at, number_at, truth_at, range_at, option_at, number_octets, string_octets};
 
 use crate::fault::PartFault;
@@ -27,7 +28,7 @@ use std::alloc::Global;
 /// The octet string with this tag that comes next. Else it is `Refused` with the place of the first
 /// element that is not so, or `NoMemory`, and the reader is as before.
 pub fn string_of(alloc: Global, reader: &mut Reader, tag: u8) -> Result<Octets, PartFault>
-    ensures exact { Gives (λ string. (string, reader.new.left)) result
+    ensures exact { Gives Fails (λ string. Ok (string, reader.new.left)) result
         (string_at tag reader.old.stop reader.old.left) }
     ensures stop { reader.new.stop ≡ reader.old.stop }
     ensures shorter { OnOk result (length reader.new.left < length reader.old.left) }
@@ -42,7 +43,7 @@ pub fn string_of(alloc: Global, reader: &mut Reader, tag: u8) -> Result<Octets, 
 /// The octet string with this tag, where one comes next. It is `Refused` with the place of an
 /// element with this tag that is none, or `NoMemory`, and then the reader is as before.
 pub fn option_of(alloc: Global, reader: &mut Reader, tag: u8) -> Result<Option<Octets>, PartFault>
-    ensures exact { Gives (λ option. (option, reader.new.left)) result
+    ensures exact { Gives Fails (λ option. Ok (option, reader.new.left)) result
         (option_at tag reader.old.stop reader.old.left) }
     ensures stop { reader.new.stop ≡ reader.old.stop }
     ensures err { OnErr result (reader.new ≡ reader.old) }
@@ -56,7 +57,7 @@ pub fn option_of(alloc: Global, reader: &mut Reader, tag: u8) -> Result<Option<O
 /// The integer with this tag that comes next. Else it is `Refused` with its place, and the reader
 /// is as before.
 pub fn number_of(reader: &mut Reader, tag: u8) -> Result<i64, PartFault>
-    ensures exact { Gives (λ number. (number, reader.new.left)) result
+    ensures exact { Gives Fails (λ number. Ok (number, reader.new.left)) result
         (number_at tag reader.old.stop reader.old.left) }
     ensures stop { reader.new.stop ≡ reader.old.stop }
     ensures err { OnErr result (reader.new ≡ reader.old) }
@@ -68,7 +69,7 @@ pub fn number_of(reader: &mut Reader, tag: u8) -> Result<i64, PartFault>
 /// The truth value that comes next. Else it is `Refused` with its place, and the reader is as
 /// before.
 pub fn truth_of(reader: &mut Reader) -> Result<bool, PartFault>
-    ensures exact { Gives (λ truth. (truth, reader.new.left)) result
+    ensures exact { Gives Fails (λ truth. Ok (truth, reader.new.left)) result
         (truth_at reader.old.stop reader.old.left) }
     ensures stop { reader.new.stop ≡ reader.old.stop }
     ensures err { OnErr result (reader.new ≡ reader.old) }
@@ -80,7 +81,7 @@ pub fn truth_of(reader: &mut Reader) -> Result<bool, PartFault>
 /// The integer with this tag that comes next, which has to be within these bounds. Else it is
 /// `Refused` with its place, and the reader is as before.
 pub fn range_of(reader: &mut Reader, tag: u8, least: u32, most: u32) -> Result<u32, PartFault>
-    ensures exact { Gives (λ number. (number, reader.new.left)) result
+    ensures exact { Gives Fails (λ number. Ok (number, reader.new.left)) result
         (range_at least most tag reader.old.stop reader.old.left) }
     ensures stop { reader.new.stop ≡ reader.old.stop }
     ensures most { IfOk result (λ number. number ≤ most) }

@@ -9,12 +9,13 @@
 //!      controlValue            OCTET STRING OPTIONAL }
 //! ```
 
-ghost use Rattle.std.specs.Prelude.{◌≡◌, ◌<◌, [], ◌∷◌, ◌++◌, false, length, OnOk, OnErr};
+ghost use Rattle.std.specs.Prelude.{◌≡◌, ◌<◌, [], ◌∷◌, ◌++◌, false, length, Ok, OnOk, OnErr};
 ghost use Rattle.std.specs.List.{flat_map};
 ghost use Rattle.ldap_ber.specs.Canonical.{element, flag_octets};
 ghost use Rattle.ldap_ber.specs.Reading.{many_at};
 ghost use Rattle.ldap_ber.specs.Writer.{after_bytes};
-ghost use Rattle.ldap_parts.specs.Gives.{Gives};
+ghost use Rattle.ldap_ber.specs.Gives.{Gives};
+ghost use Rattle.ldap_parts.specs.Faults.{Fails};
 ghost use Rattle.ldap_parts.specs.Components.{string_octets};
 ghost use Rattle.ldap_parts.specs.Controls.{control_at, controls_at, control_octets, controls_octets};
 
@@ -77,7 +78,7 @@ impl ControlList {
 /// The controls of a message, where they come next, or none. Else it is `Refused` with the place of
 /// the first element that is not so, or `NoMemory`, and the reader is as before.
 pub fn controls_of(alloc: Global, reader: &mut Reader) -> Result<ControlList, PartFault>
-    ensures exact { Gives (λ controls. (controls, reader.new.left)) result
+    ensures exact { Gives Fails (λ controls. Ok (controls, reader.new.left)) result
         (controls_at reader.old.stop reader.old.left) }
     ensures stop { reader.new.stop ≡ reader.old.stop }
     ensures err { OnErr result (reader.new ≡ reader.old) }
@@ -96,7 +97,7 @@ pub fn controls_of(alloc: Global, reader: &mut Reader) -> Result<ControlList, Pa
 /// The controls that are left.
 #[tactic(auto, using(crate::proofs::ControlLemmas::controls_go_on, crate::proofs::ControlLemmas::controls_fail, crate::proofs::ControlLemmas::controls_end))]
 fn controls_in(alloc: Global, reader: &mut Reader) -> Result<ControlList, PartFault>
-    ensures { Gives (λ controls. controls) result
+    ensures { Gives Fails (λ controls. Ok controls) result
         (many_at control_at reader.old.stop reader.old.left) }
 {
     let mut controls = ControlList::new(alloc);
@@ -110,7 +111,7 @@ fn controls_in(alloc: Global, reader: &mut Reader) -> Result<ControlList, PartFa
 /// The control that comes next.
 #[tactic(auto, unfolding(crate::specs::Controls::control_at))]
 fn control_of(alloc: Global, reader: &mut Reader) -> Result<Control, PartFault>
-    ensures exact { Gives (λ control. (control, reader.new.left)) result
+    ensures exact { Gives Fails (λ control. Ok (control, reader.new.left)) result
         (control_at reader.old.stop reader.old.left) }
     ensures stop { reader.new.stop ≡ reader.old.stop }
     ensures shorter { OnOk result (length reader.new.left < length reader.old.left) }

@@ -27,10 +27,11 @@
 //!      }
 //! ```
 
-ghost use Rattle.std.specs.Prelude.{◌≡◌, ◌<◌, ◌≤◌, length, map, IfOk, OnOk, OnErr};
+ghost use Rattle.std.specs.Prelude.{◌≡◌, ◌<◌, ◌≤◌, length, map, Ok, IfOk, OnOk, OnErr};
 ghost use Rattle.ldap_ber.specs.Reading.{many_at, list_at, made_at, tagged_at};
 ghost use Rattle.ldap_filter.specs.FilterTree.{tree_of, parts_of};
-ghost use Rattle.ldap_parts.specs.Gives.{Gives, place_of};
+ghost use Rattle.ldap_ber.specs.Gives.{Gives};
+ghost use Rattle.ldap_parts.specs.Faults.{Fails, place_of};
 ghost use Rattle.ldap_parts.specs.Components.{string_at};
 ghost use Rattle.ldap_parts.specs.Filters.{while_at, pieces_at, substrings_at, substrings_with, assertion_at, item_at, filter_in};
 
@@ -46,7 +47,7 @@ use std::alloc::Global;
 #[cycle(filters)]
 #[tactic(auto, unfolding(crate::specs::Filters::filter_in))]
 pub fn filter_of(alloc: Global, reader: &mut Reader, levels: usize) -> Result<Filter, PartFault>
-    ensures exact { Gives (λ filter. (tree_of filter, reader.new.left)) result
+    ensures exact { Gives Fails (λ filter. Ok (tree_of filter, reader.new.left)) result
         (filter_in levels reader.old.stop reader.old.left) }
     ensures stop { reader.new.stop ≡ reader.old.stop }
     ensures shorter { OnOk result (length reader.new.left < length reader.old.left) }
@@ -79,7 +80,7 @@ fn list_of(
     tag: u8,
     levels: usize,
 ) -> Result<FilterList, PartFault>
-    ensures exact { Gives (λ list. (map tree_of (parts_of list), reader.new.left)) result
+    ensures exact { Gives Fails (λ list. Ok (map tree_of (parts_of list), reader.new.left)) result
         (list_at place_of tag (filter_in levels) reader.old.stop reader.old.left) }
     ensures stop { reader.new.stop ≡ reader.old.stop }
     ensures shorter { OnOk result (length reader.new.left < length reader.old.left) }
@@ -97,7 +98,7 @@ fn list_of(
 #[cycle(filters)]
 #[tactic(auto, using(crate::proofs::FilterLemmas::filters_go_on, crate::proofs::FilterLemmas::filters_fail, crate::proofs::FilterLemmas::filters_end))]
 fn filters_in(alloc: Global, reader: &mut Reader, levels: usize) -> Result<FilterList, PartFault>
-    ensures { Gives (λ list. map tree_of (parts_of list)) result
+    ensures { Gives Fails (λ list. Ok (map tree_of (parts_of list))) result
         (many_at (filter_in levels) reader.old.stop reader.old.left) }
 {
     let mut filters = FilterList::new(alloc);
@@ -111,7 +112,7 @@ fn filters_in(alloc: Global, reader: &mut Reader, levels: usize) -> Result<Filte
 /// The filter in the element of a `not`, whose tag is explicit.
 #[cycle(filters)]
 fn negated_of(alloc: Global, reader: &mut Reader, levels: usize) -> Result<Filter, PartFault>
-    ensures exact { Gives (λ filter. (tree_of filter, reader.new.left)) result
+    ensures exact { Gives Fails (λ filter. Ok (tree_of filter, reader.new.left)) result
         (tagged_at place_of 162 (filter_in levels) reader.old.stop reader.old.left) }
     ensures stop { reader.new.stop ≡ reader.old.stop }
     ensures shorter { OnOk result (length reader.new.left < length reader.old.left) }
@@ -126,7 +127,7 @@ fn negated_of(alloc: Global, reader: &mut Reader, levels: usize) -> Result<Filte
 /// The item that comes next.
 #[tactic(auto, unfolding(crate::specs::Filters::item_at))]
 fn item_of(alloc: Global, reader: &mut Reader) -> Result<Filter, PartFault>
-    ensures exact { Gives (λ filter. (tree_of filter, reader.new.left)) result
+    ensures exact { Gives Fails (λ filter. Ok (tree_of filter, reader.new.left)) result
         (item_at reader.old.stop reader.old.left) }
     ensures stop { reader.new.stop ≡ reader.old.stop }
     ensures shorter { OnOk result (length reader.new.left < length reader.old.left) }
@@ -164,7 +165,7 @@ pub fn assertion_of(
     reader: &mut Reader,
     tag: u8,
 ) -> Result<(Octets, Octets), PartFault>
-    ensures exact { Gives (λ item. (item, reader.new.left)) result
+    ensures exact { Gives Fails (λ item. Ok (item, reader.new.left)) result
         (assertion_at tag reader.old.stop reader.old.left) }
     ensures stop { reader.new.stop ≡ reader.old.stop }
     ensures shorter { OnOk result (length reader.new.left < length reader.old.left) }
@@ -182,7 +183,7 @@ pub fn assertion_of(
 
 /// The substring filter that comes next.
 fn substrings_of(alloc: Global, reader: &mut Reader) -> Result<Filter, PartFault>
-    ensures exact { Gives (λ filter. (tree_of filter, reader.new.left)) result
+    ensures exact { Gives Fails (λ filter. Ok (tree_of filter, reader.new.left)) result
         (made_at substrings_with substrings_at reader.old.stop reader.old.left) }
     ensures stop { reader.new.stop ≡ reader.old.stop }
     ensures shorter { OnOk result (length reader.new.left < length reader.old.left) }
@@ -200,8 +201,8 @@ fn substrings_of(alloc: Global, reader: &mut Reader) -> Result<Filter, PartFault
 
 /// The pieces that come next, one at least.
 fn pieces_of(alloc: Global, reader: &mut Reader) -> Result<Pieces, PartFault>
-    ensures exact { Gives
-        (λ pieces. ((pieces.initial, (pieces.middle, pieces.last)), reader.new.left)) result
+    ensures exact { Gives Fails
+        (λ pieces. Ok ((pieces.initial, (pieces.middle, pieces.last)), reader.new.left)) result
         (pieces_at reader.old.stop reader.old.left) }
     ensures stop { reader.new.stop ≡ reader.old.stop }
 {
@@ -225,7 +226,7 @@ fn pieces_of(alloc: Global, reader: &mut Reader) -> Result<Pieces, PartFault>
 /// The pieces that are neither first nor last, as many as come next.
 #[tactic(auto, using(crate::proofs::FilterLemmas::middle_begins, crate::proofs::FilterLemmas::middle_goes_on, crate::proofs::FilterLemmas::middle_fails, crate::proofs::FilterLemmas::middle_ends))]
 fn middle_of(alloc: Global, reader: &mut Reader) -> Result<OctetsList, PartFault>
-    ensures exact { Gives (λ pieces. (pieces, reader.new.left)) result
+    ensures exact { Gives Fails (λ pieces. Ok (pieces, reader.new.left)) result
         (while_at 129 (string_at 129) reader.old.stop reader.old.left) }
     ensures stop { reader.new.stop ≡ reader.old.stop }
 {

@@ -1,11 +1,12 @@
 //! Lists of octet strings.
 
-ghost use Rattle.std.specs.Prelude.{◌≡◌, OnOk, OnErr};
+ghost use Rattle.std.specs.Prelude.{◌≡◌, Ok, OnOk, OnErr};
 ghost use Rattle.std.specs.List.{flat_map};
 ghost use Rattle.ldap_ber.specs.Reading.{many_at};
 ghost use Rattle.ldap_ber.specs.Canonical.{element};
 ghost use Rattle.ldap_ber.specs.Writer.{after_bytes};
-ghost use Rattle.ldap_parts.specs.Gives.{Gives};
+ghost use Rattle.ldap_ber.specs.Gives.{Gives};
+ghost use Rattle.ldap_parts.specs.Faults.{Fails};
 ghost use Rattle.ldap_parts.specs.Components.{string_at, strings_at, strings_octets};
 
 use crate::component::string_of;
@@ -16,7 +17,7 @@ use std::alloc::Global;
 /// The element with this tag that comes next: octet strings alone. Else it is `Refused` with the
 /// place of the first element that is not so, or `NoMemory`, and the reader is as before.
 pub fn strings_of(alloc: Global, reader: &mut Reader, tag: u8) -> Result<OctetsList, PartFault>
-    ensures exact { Gives (λ strings. (strings, reader.new.left)) result
+    ensures exact { Gives Fails (λ strings. Ok (strings, reader.new.left)) result
         (strings_at tag reader.old.stop reader.old.left) }
     ensures stop { reader.new.stop ≡ reader.old.stop }
     ensures err { OnErr result (reader.new ≡ reader.old) }
@@ -32,7 +33,7 @@ pub fn strings_of(alloc: Global, reader: &mut Reader, tag: u8) -> Result<OctetsL
 /// The octet strings that are left.
 #[tactic(auto, using(crate::proofs::StringLemmas::strings_go_on, crate::proofs::StringLemmas::strings_fail, crate::proofs::StringLemmas::strings_end))]
 fn strings_in(alloc: Global, reader: &mut Reader) -> Result<OctetsList, PartFault>
-    ensures { Gives (λ strings. strings) result
+    ensures { Gives Fails (λ strings. Ok strings) result
         (many_at (string_at 4) reader.old.stop reader.old.left) }
 {
     let mut strings = OctetsList::new(alloc);

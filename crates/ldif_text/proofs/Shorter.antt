@@ -1,24 +1,18 @@
 -- A record takes a line at least.
-use Rattle.std.proofs.Common.{◌≡◌, ◌<◌, ◌≤◌, ℕ, Bool, true, false, ◌||◌, Some, Result, Ok, Err, List, [], ◌∷◌, length, refl, ap, sym, inl, inr, arith}
-use Rattle.std.proofs.lemmas.Bool.{cases_Bool}
+use Rattle.std.proofs.Common.{◌≡◌, ◌<◌, ◌≤◌, ℕ, Bool, true, false, Some, Result, Ok, Err, List, [], ◌∷◌, length, refl, ap, sym, inl, inr, arith}
+use Rattle.std.proofs.lemmas.Bool.{cases_Bool, or_parts}
 use Rattle.ldif_text.specs.declared.fault.LdifFault.{LdifFault}
 use Rattle.ldif_text.specs.declared.lines.Line.{Line}
 use Rattle.ldif_text.specs.Fault.{◌>>=◌}
 use Rattle.ldif_text.specs.Lines.{is_empty, is_comment, is_blank, from_content, record_lines, after_record, last_number}
 use Rattle.ldif_text.specs.Record.{change_of}
 use Rattle.ldif_text.specs.Reader.{Found, is_version, record_at, first_record, record_from}
+use Rattle.ldap_ber.proofs.Steps.{ok_is}
 
 -- what was read before what was read after it
 bind_ok : {A B : Type 0} (r : Result A LdifFault) (read : A → Result B LdifFault) (b : B) → (r >>= read) ≡ Ok b → (a : A) × (r ≡ Ok a) × (read a ≡ Ok b)
 bind_ok (Ok a) read b e = (a, refl, e)
 bind_ok (Err fault) read b e = cc
-
-ok_same : {A : Type 0} (a b : A) → ◌≡◌ {A = Result A LdifFault} (Ok a) (Ok b) → a ≡ b
-ok_same a b e = cc
-
-none_of : (a b : Bool) → (a || b) ≡ false → a ≡ false
-none_of true b e = cc
-none_of false b e = refl
 
 -- the first line of content is not empty
 content_head : (all : List Line) (line : Line) (lines : List Line) → from_content all ≡ line ∷ lines → (is_empty line.text ≡ false) × (length (line ∷ lines) ≤ length all)
@@ -32,7 +26,7 @@ content_head (l ∷ all) line lines e =
       | inr miss ↦
           let e' : l ∷ all ≡ line ∷ lines = rw miss at e in
           let same : l ≡ line = cc in
-          let filled : is_empty l.text ≡ false = none_of _ (is_comment l.text) miss in
+          let filled : is_empty l.text ≡ false = (or_parts _ (is_comment l.text) miss).0 in
           (rw same at filled, omega (arith, ap (length {A = Line}) e'))
     ]
 
@@ -56,7 +50,7 @@ after_shorter (l ∷ all) =
 record_end : (number : ℕ) (lines : List Line) (found : Found) → record_at number lines ≡ Ok found → found.after.lines ≡ after_record lines
 record_end number lines found e =
     let read = bind_ok (change_of (last_number number (record_lines lines)) (record_lines lines)) _ found e in
-    ap (λ (f : Found). f.after.lines) (sym (ok_same _ found read.2))
+    ap (λ (f : Found). f.after.lines) (sym (ok_is _ found read.2))
 
 begun_shorter : (number : ℕ) (line : Line) (lines : List Line) (found : Found) → is_empty line.text ≡ false → record_at number (line ∷ lines) ≡ Ok found → length found.after.lines ≤ length lines
 begun_shorter number line lines found filled e =

@@ -1,6 +1,6 @@
 -- What is written of an entry is read again as the add of that entry.
 use Rattle.std.proofs.Common.{◌≡◌, ◌≢◌, ◌<◌, ℕ, suc, Bool, true, false, not, ◌&&◌, Some, None, Ok, List, [], ◌∷◌, ◌++◌, length, map, get_or, refl, ap, sym, subst, ◌∙◌, inl, inr, arith, append_assoc, zero-add}
-use Rattle.std.proofs.lemmas.Bool.{cases_Bool}
+use Rattle.std.proofs.lemmas.Bool.{cases_Bool, and_parts, not-true}
 use Rattle.std.proofs.lemmas.List.{append-nil}
 use Rattle.std.proofs.lemmas.List.Folds.{list_any-append}
 use Rattle.std.proofs.lemmas.List.FromFn.{get_or-map-range_with_len}
@@ -19,7 +19,7 @@ use Rattle.ldif_text.specs.Lines.{unfolded, from_content, text_lines}
 use Rattle.ldif_text.specs.Record.{with_value, is_of_type}
 use Rattle.ldif_text.specs.Reader.{Reader, record_from}
 use Rattle.ldif_text.specs.Written.{value_text, line_text, attributes_text, entry_text, raw_of, IsEntry}
-use Rattle.ldif_text.proofs.WrittenLines.{both, not_true, in_line, is_good_name, body_of_field, joined_text, lines-joined_text, field_in_line}
+use Rattle.ldif_text.proofs.WrittenLines.{in_line, is_good_name, body_of_field, joined_text, lines-joined_text, field_in_line}
 use Rattle.ldif_text.proofs.WrittenRecords.{AreGood, numbered, blank_after, unfolded-fields, joined_onto, name_field, after_fields, fields_back, blank_rest}
 
 abbrev field : List ℕ → List ℕ → Field
@@ -77,8 +77,8 @@ good_type kind low =
     let test = λ (n : ℕ). is_good_name (type_name n) && not (bytes_eq (type_name n) (codes "changetype")) in
     let passes : (is_good_name (type_name kind) && not (bytes_eq (type_name kind) (codes "changetype"))) ≡ true =
     sym (get_or-map-range_with_len test 0 24 kind kind false low (zero-add kind)) ∙ ap (λ all. get_or all kind false) all_good ∙ get_or-map-range_with_len (λ n. true) 0 24 kind kind false low (zero-add kind) in
-    let h = both (is_good_name (type_name kind)) _ passes in
-    (h.0, not_true (bytes_eq (type_name kind) (codes "changetype")) h.1)
+    let h = and_parts (is_good_name (type_name kind)) _ passes in
+    (h.0, not-true (bytes_eq (type_name kind) (codes "changetype")) h.1)
 
 known_below : (kind : ℕ) → kind < length types → kind < 24
 unfolding types

@@ -16,8 +16,3 @@ Refuses NoMemory read = Unit {0}
 Refuses (BadLine number) read = read ≡ Err (BadLine number)
 Refuses (BadBase64 number) read = read ≡ Err (BadBase64 number)
 Refuses (BadChange number) read = read ≡ Err (BadChange number)
-
--- the view of a function's answer is the reading's answer
-abbrev pub Gives : {X Y : Type 0} → (X → Y) → Result X LdifFault → Result Y LdifFault → Type 0
-Gives view (Ok x) read = read ≡ Ok (view x)
-Gives view (Err fault) read = Refuses fault read

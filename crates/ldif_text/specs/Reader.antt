@@ -7,7 +7,7 @@ use Rattle.ldif_text.specs.declared.fault.LdifFault.TheVariants.{BadChange}
 use Rattle.ldif_text.specs.declared.lines.Line.{Line}
 use Rattle.ldif_text.specs.Fault.{◌>>=◌}
 use Rattle.ldif_text.specs.Field.{field_of}
-use Rattle.ldif_text.specs.declared.records.Taken.{Taken}
+use Rattle.ldif_text.specs.declared.records.TakenRecord.{TakenRecord}
 use Rattle.ldif_text.specs.Lines.{left_at, from_content, record_lines, after_record, last_number}
 use Rattle.ldif_text.specs.Record.{change_of}
 
@@ -32,7 +32,7 @@ pub record Found : Type 0 where
   pub after : Reader
 
 -- what was taken from a text
-abbrev pub found_in : List ℕ → Taken → Found
+abbrev pub found_in : List ℕ → TakenRecord → Found
 found_in text taken =
     record {
       change = taken.change;

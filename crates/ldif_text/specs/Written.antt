@@ -49,7 +49,8 @@ uuid_line uuid = line_text (codes "entryUUID") (uuid_text uuid)
 -- the identity of the entry and the number of its last change (RFC 4530)
 abbrev pub operational_text : Option (ℕ × CsnValue) → List ℕ
 operational_text None = []
-operational_text (Some operational) = uuid_line operational.0 ++ line_text (codes "entryCSN") (csn_text operational.1)
+operational_text (Some operational) =
+    uuid_line operational.0 ++ line_text (codes "entryCSN") (csn_text operational.1)
 
 abbrev pub attributes_text : List Attribute → List ℕ
 attributes_text attributes = flat_map attribute_text attributes
@@ -57,7 +58,8 @@ attributes_text attributes = flat_map attribute_text attributes
 -- `dn:` and the name, a line for each value in the order held, the marks, and an empty line
 abbrev pub entry_text : List ℕ → List Attribute → Option (ℕ × CsnValue) → List ℕ
 entry_text name attrs operational =
-    line_text (codes "dn") name ++ (attributes_text attrs ++ (operational_text operational ++ codes "\n"))
+    line_text (codes "dn") name
+    ++ (attributes_text attrs ++ (operational_text operational ++ codes "\n"))
 
 -- the attribute by the name of its type
 abbrev pub raw_of : Attribute → RawAttribute

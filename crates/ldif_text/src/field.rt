@@ -1,7 +1,8 @@
 //! What one line says.
-ghost use Rattle.std.specs.Prelude.{◌≡◌};
+ghost use Rattle.std.specs.Prelude.{◌≡◌, Ok};
 ghost use Rattle.std.specs.Str.{str_eq_ignore_ascii_case};
-ghost use Rattle.ldif_text.specs.Fault.{Gives};
+ghost use Rattle.ldap_ber.specs.Gives.{Gives};
+ghost use Rattle.ldif_text.specs.Fault.{Refuses};
 ghost use Rattle.ldif_text.specs.Field as spec;
 
 use crate::fault::LdifFault;
@@ -21,7 +22,7 @@ pub struct Field {
 /// The name before the first colon of the line, and the value after it.
 #[tactic(auto, unfolding(crate::specs::Field::field_of))]
 pub fn field_of(alloc: Global, line: &Line) -> Result<Field, LdifFault>
-    ensures { Gives (λ x. x) result (spec.field_of line.now) }
+    ensures { Gives Refuses (λ x. Ok x) result (spec.field_of line.now) }
 {
     if line.is_continuation() {
         return Err(LdifFault::BadLine(line.first));
@@ -38,7 +39,7 @@ pub fn field_of(alloc: Global, line: &Line) -> Result<Field, LdifFault>
 
 /// The value that stands after a colon.
 fn value_after(alloc: Global, bytes: &[u8], number: u64) -> Result<Octets, LdifFault>
-    ensures { Gives (λ x. x) result (spec.value_after number bytes.now) }
+    ensures { Gives Refuses (λ x. Ok x) result (spec.value_after number bytes.now) }
 {
     match bytes {
         [b':', encoded @ ..] => base64_value(alloc, unspaced(encoded), number),
@@ -49,7 +50,7 @@ fn value_after(alloc: Global, bytes: &[u8], number: u64) -> Result<Octets, LdifF
 
 #[tactic(auto, unfolding(crate::specs::Field::base64_value))]
 fn base64_value(alloc: Global, text: &[u8], number: u64) -> Result<Octets, LdifFault>
-    ensures { Gives (λ x. x) result (spec.base64_value number text.now) }
+    ensures { Gives Refuses (λ x. Ok x) result (spec.base64_value number text.now) }
 {
     match STANDARD.decode(alloc, text) {
         Ok(value) => Ok(value.into()),
@@ -73,7 +74,7 @@ fn unspaced(bytes: &[u8]) -> &[u8]
 /// The value of a line of this very name.
 #[tactic(auto, unfolding(crate::specs::Field::keyword))]
 pub fn keyword(alloc: Global, name: &[u8], line: &Line) -> Result<Octets, LdifFault>
-    ensures { Gives (λ x. x) result (spec.keyword name.now line.now) }
+    ensures { Gives Refuses (λ x. Ok x) result (spec.keyword name.now line.now) }
 {
     let field = field_of(alloc, line)?;
     if field.name.as_slice() == name {
@@ -86,7 +87,7 @@ pub fn keyword(alloc: Global, name: &[u8], line: &Line) -> Result<Octets, LdifFa
 /// The value of a line of this type, whose name is without regard to ASCII case.
 #[tactic(auto, unfolding(crate::specs::Field::value_of_type))]
 pub fn value_of_type(alloc: Global, name: &[u8], line: &Line) -> Result<Octets, LdifFault>
-    ensures { Gives (λ x. x) result (spec.value_of_type name.now line.now) }
+    ensures { Gives Refuses (λ x. Ok x) result (spec.value_of_type name.now line.now) }
 {
     let field = field_of(alloc, line)?;
     if is_same_type(field.name.as_slice(), name) {

@@ -3,7 +3,8 @@ ghost use Rattle.std.specs.Prelude.{◌≡◌, ◌≤◌, [], length, None, Ok, 
 ghost use Rattle.std.specs.Str.{bytes_eq, str_eq_ignore_ascii_case};
 ghost use Rattle.std.specs.List.{position_or_len};
 ghost use Rattle.schema_rules.specs.declared.raw.RawAttribute.{RawAttribute};
-ghost use Rattle.ldif_text.specs.Fault.{Gives};
+ghost use Rattle.ldap_ber.specs.Gives.{Gives};
+ghost use Rattle.ldif_text.specs.Fault.{Refuses};
 ghost use Rattle.ldif_text.specs.Record as spec;
 
 use crate::fault::LdifFault;
@@ -15,7 +16,7 @@ use std::alloc::Global;
 
 /// The change of a record whose last line has this number.
 pub fn change_of(alloc: Global, last: u64, lines: &[Line]) -> Result<Change, LdifFault>
-    ensures { Gives (λ x. x) result (spec.change_of last lines.now) }
+    ensures { Gives Refuses (λ x. Ok x) result (spec.change_of last lines.now) }
 {
     match lines {
         [] => Err(LdifFault::BadChange(last)),
@@ -28,7 +29,7 @@ pub fn change_of(alloc: Global, last: u64, lines: &[Line]) -> Result<Change, Ldi
 
 /// The change of the lines after the name.
 fn body_of(alloc: Global, last: u64, name: Octets, lines: &[Line]) -> Result<Change, LdifFault>
-    ensures { Gives (λ x. x) result (spec.body_of last name lines.now) }
+    ensures { Gives Refuses (λ x. Ok x) result (spec.body_of last name lines.now) }
 {
     match lines {
         [] => Err(LdifFault::BadChange(last)),
@@ -52,7 +53,8 @@ fn change_of_kind(
     kind: &Octets,
     lines: &[Line],
 ) -> Result<Change, LdifFault>
-    ensures { Gives (λ x. x) result (spec.change_of_kind last number name kind.now lines.now) }
+    ensures { Gives Refuses (λ x. Ok x) result
+        (spec.change_of_kind last number name kind.now lines.now) }
 {
     let kind = kind.as_slice();
     if kind == b"add".as_slice() {
@@ -70,7 +72,7 @@ fn change_of_kind(
 
 /// Refuses a line that comes where none may.
 fn nothing_more(alloc: Global, lines: &[Line]) -> Result<(), LdifFault>
-    ensures { Gives (λ x. x) result (spec.nothing_more lines.now) }
+    ensures { Gives Refuses (λ x. Ok x) result (spec.nothing_more lines.now) }
 {
     match lines {
         [] => Ok(()),
@@ -82,7 +84,7 @@ fn nothing_more(alloc: Global, lines: &[Line]) -> Result<(), LdifFault>
 }
 
 fn add_of(alloc: Global, last: u64, name: Octets, lines: &[Line]) -> Result<Change, LdifFault>
-    ensures { Gives (λ x. x) result (spec.add_of last name lines.now) }
+    ensures { Gives Refuses (λ x. Ok x) result (spec.add_of last name lines.now) }
 {
     match lines {
         [] => Err(LdifFault::BadChange(last)),
@@ -95,7 +97,7 @@ fn add_of(alloc: Global, last: u64, name: Octets, lines: &[Line]) -> Result<Chan
 
 /// The attributes of the lines, those of one type joined.
 fn attributes_of(alloc: Global, lines: &[Line]) -> Result<Vec<RawAttribute>, LdifFault>
-    ensures { Gives (λ x. x.items) result (spec.attributes_of [] lines.now) }
+    ensures { Gives Refuses (λ x. Ok x.items) result (spec.attributes_of [] lines.now) }
 {
     let mut attributes = Vec::new(alloc);
     for line in lines {
@@ -155,21 +157,21 @@ fn raw_list(alloc: Global, attributes: Vec<RawAttribute>) -> Result<RawList, NoM
 }
 
 fn delete_of(alloc: Global, name: Octets, lines: &[Line]) -> Result<Change, LdifFault>
-    ensures { Gives (λ x. x) result (spec.delete_of name lines.now) }
+    ensures { Gives Refuses (λ x. Ok x) result (spec.delete_of name lines.now) }
 {
     nothing_more(alloc, lines)?;
     Ok(Change::Delete(name))
 }
 
 fn modify_of(alloc: Global, name: Octets, lines: &[Line]) -> Result<Change, LdifFault>
-    ensures { Gives (λ x. x) result (spec.modify_of name lines.now) }
+    ensures { Gives Refuses (λ x. Ok x) result (spec.modify_of name lines.now) }
 {
     Ok(Change::Modify(name, edits_of(alloc, lines)?))
 }
 
 /// The edits of the lines after `changetype: modify`.
 fn edits_of(alloc: Global, lines: &[Line]) -> Result<EditList, LdifFault>
-    ensures { Gives (λ x. x) result (spec.edits_of [] None lines.now) }
+    ensures { Gives Refuses (λ x. Ok x) result (spec.edits_of [] None lines.now) }
 {
     let mut done = EditList::new(alloc);
     let mut current = None;
@@ -206,7 +208,7 @@ fn next_edit(
 /// An edit that the line begins.
 #[tactic(auto, unfolding(crate::specs::Record::edit_of))]
 fn edit_of(alloc: Global, line: &Line) -> Result<RawEdit, LdifFault>
-    ensures { Gives (λ x. x) result (spec.edit_of line.now) }
+    ensures { Gives Refuses (λ x. Ok x) result (spec.edit_of line.now) }
 {
     let field = field_of(alloc, line)?;
     let keyword = field.name.as_slice();
@@ -235,7 +237,7 @@ fn edit(alloc: Global, how: How, name: Octets) -> RawEdit
 /// The edit with the value of the line.
 #[tactic(auto, unfolding(crate::specs::Record::edit_value))]
 fn edit_value(alloc: Global, edit: RawEdit, line: &Line) -> Result<RawEdit, LdifFault>
-    ensures { Gives (λ x. x) result (spec.edit_value edit line.now) }
+    ensures { Gives Refuses (λ x. Ok x) result (spec.edit_value edit line.now) }
 {
     let mut edit = edit;
     let value = value_of_type(alloc, edit.attribute.name.as_slice(), line)?;
@@ -244,7 +246,7 @@ fn edit_value(alloc: Global, edit: RawEdit, line: &Line) -> Result<RawEdit, Ldif
 }
 
 fn rename_of(alloc: Global, last: u64, name: Octets, lines: &[Line]) -> Result<Change, LdifFault>
-    ensures { Gives (λ x. x) result (spec.rename_of last name lines.now) }
+    ensures { Gives Refuses (λ x. Ok x) result (spec.rename_of last name lines.now) }
 {
     match lines {
         [] => Err(LdifFault::BadChange(last)),
@@ -263,7 +265,7 @@ fn renamed(
     rdn: Octets,
     lines: &[Line],
 ) -> Result<Change, LdifFault>
-    ensures { Gives (λ x. x) result (spec.renamed last name rdn lines.now) }
+    ensures { Gives Refuses (λ x. Ok x) result (spec.renamed last name rdn lines.now) }
 {
     match lines {
         [] => Err(LdifFault::BadChange(last)),
@@ -278,7 +280,7 @@ fn renamed(
 /// Whether the values of the old name go.
 #[tactic(auto, unfolding(crate::specs::Record::flag_of))]
 fn flag_of(alloc: Global, line: &Line) -> Result<bool, LdifFault>
-    ensures { Gives (λ x. x) result (spec.flag_of line.now) }
+    ensures { Gives Refuses (λ x. Ok x) result (spec.flag_of line.now) }
 {
     let value = keyword(alloc, b"deleteoldrdn", line)?;
     let value = value.as_slice();
@@ -293,7 +295,7 @@ fn flag_of(alloc: Global, line: &Line) -> Result<bool, LdifFault>
 
 /// The new superior, where one is given.
 fn superior_of(alloc: Global, lines: &[Line]) -> Result<Option<Octets>, LdifFault>
-    ensures { Gives (λ x. x) result (spec.superior_of lines.now) }
+    ensures { Gives Refuses (λ x. Ok x) result (spec.superior_of lines.now) }
 {
     match lines {
         [] => Ok(None),

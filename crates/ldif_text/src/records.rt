@@ -1,6 +1,7 @@
 //! Records, one after another.
 ghost use Rattle.std.specs.Prelude.{◌≡◌, ◌<◌, ◌≤◌, ◌∷◌, false, true, length, Some, None, Ok, IfOk, IfErr, OnErr, OnSome, IfSome, IfNone, option_map};
-ghost use Rattle.ldif_text.specs.Fault.{Gives, Refuses};
+ghost use Rattle.ldap_ber.specs.Gives.{Gives};
+ghost use Rattle.ldif_text.specs.Fault.{Refuses};
 ghost use Rattle.ldif_text.specs.Lines.{left_at, text_lines, from_content};
 ghost use Rattle.ldif_text.specs.Reader as spec;
 ghost use Rattle.ldif_text.specs.Reader.{found_in};
@@ -95,7 +96,7 @@ impl<'a> Records<'a> {
 
 /// A record, the number of its last line, and the place after it.
 #[derive(Drop)]
-struct Taken {
+struct TakenRecord {
     change: Change,
     line: u64,
     place: Cursor,
@@ -107,9 +108,9 @@ fn next_record(
     text: &[u8],
     cursor: Cursor,
     begun: bool,
-) -> Result<Option<Taken>, LdifFault>
+) -> Result<Option<TakenRecord>, LdifFault>
     requires { cursor.at ≤ length text.now }
-    ensures found { Gives (option_map (found_in text.now)) result
+    ensures found { Gives Refuses (λ found. Ok (option_map (found_in text.now) found)) result
         (spec.record_from begun (from_content (left_at text.now cursor))) }
     ensures within { IfOk result (λ found. IfSome found (λ x. x.place.at ≤ length text.now)) }
 {
@@ -133,11 +134,11 @@ fn first_record(
     cursor: Cursor,
     line: &Line,
     after: Cursor,
-) -> Result<Taken, LdifFault>
+) -> Result<TakenRecord, LdifFault>
     requires start { cursor.at ≤ length text.now }
     requires end { after.at ≤ length text.now }
     requires line { left_at text.now cursor ≡ line.now ∷ left_at text.now after }
-    ensures found { Gives (found_in text.now) result
+    ensures found { Gives Refuses (λ found. Ok (found_in text.now found)) result
         (spec.first_record line.now (left_at text.now after)) }
     ensures within { IfOk result (λ x. x.place.at ≤ length text.now) }
 {
@@ -152,7 +153,7 @@ fn first_record(
 /// Whether the line reports the version, which is 1.
 #[tactic(auto, unfolding(crate::specs::Reader::is_version))]
 fn is_version(alloc: Global, line: &Line) -> Result<bool, LdifFault>
-    ensures { Gives (λ x. x) result (spec.is_version line.now) }
+    ensures { Gives Refuses (λ x. Ok x) result (spec.is_version line.now) }
 {
     let field = field_of(alloc, line)?;
     if field.name.as_slice() != b"version".as_slice() {
@@ -166,16 +167,21 @@ fn is_version(alloc: Global, line: &Line) -> Result<bool, LdifFault>
 }
 
 /// The record at a place. A line before it has this number.
-fn record_at(alloc: Global, text: &[u8], cursor: Cursor, number: u64) -> Result<Taken, LdifFault>
+fn record_at(
+    alloc: Global,
+    text: &[u8],
+    cursor: Cursor,
+    number: u64,
+) -> Result<TakenRecord, LdifFault>
     requires { cursor.at ≤ length text.now }
-    ensures found { Gives (found_in text.now) result
+    ensures found { Gives Refuses (λ found. Ok (found_in text.now found)) result
         (spec.record_at number (left_at text.now cursor)) }
     ensures within { IfOk result (λ x. x.place.at ≤ length text.now) }
 {
     let (lines, place) = record_lines(alloc, text, cursor)?;
     let line = last_number(number, &lines);
     let change = change_of(alloc, line, &lines)?;
-    Ok(Taken {
+    Ok(TakenRecord {
         change,
         line,
         place,

@@ -4,3 +4,4 @@ pub mod Fault
 pub mod Keys
 pub mod Rows
 pub mod Schema
+pub mod Sharing

@@ -10,6 +10,7 @@ use crate::fault::SchemaFault;
 use crate::keys::{are_of_syntax, keys_of};
 use crate::raw::{RawAttribute, RawList};
 use crate::types::AttributeType;
+use crate::weighed::Weighed;
 use ldap_ber::{NoMemory, Octets, OctetsList};
 use ldap_constants::{
     ATTRIBUTE_OR_VALUE_EXISTS, CONSTRAINT_VIOLATION, INVALID_ATTRIBUTE_SYNTAX,
@@ -17,6 +18,7 @@ use ldap_constants::{
 };
 use std::alloc::Global;
 use std::marker::Model;
+use std::sync::Arc;
 
 /// The values of one type, in the order held.
 #[derive(Drop)]
@@ -37,7 +39,7 @@ impl Attribute {
     }
 
     /// The length of each value and of the type's name, summed, as far as the numbers go.
-    fn weight(&self) -> u64
+    pub(crate) fn weight(&self) -> u64
         ensures { result
             ≡ min (spec.values_weight (type_name self.now.kind) self.now.values) (2 ^ 64 - 1) }
     {
@@ -52,40 +54,43 @@ impl Attribute {
     }
 }
 
-/// The attributes of an entry: each type once, and none without values.
+/// The attributes of an entry: each type once, and none without values. A copy shares them.
 #[derive(Drop)]
 pub struct Attrs {
-    items: Vec<Attribute>,
+    /// Nothing where there was no attribute yet.
+    shared: Option<Arc<Weighed>>,
 }
 
 impl Model for Attrs {
     ghost use Rattle.std.specs.Prelude.{List};
     ghost use Rattle.schema_rules.specs.declared.attributes.Attribute.{Attribute};
     ghost use Rattle.schema_rules.specs.Attributes.{IsAttributeList};
+    ghost use Rattle.schema_rules.specs.Sharing.{attributes_in};
 
     ghost Value = { List Attribute };
 
-    ghost view = { λ a. a.items.items };
+    ghost view = { λ a. attributes_in a.shared };
 
-    ghost invariant = { λ a. IsAttributeList a.items.items };
+    ghost invariant = { λ a. IsAttributeList (attributes_in a.shared) };
 }
 
 impl Attrs {
-    /// Makes a list without attributes.
-    pub fn new(alloc: Global) -> Attrs
+    /// Makes a list without attributes, which takes no memory.
+    pub fn new(_alloc: Global) -> Attrs
         ensures { result ≡ [] }
     {
-        Attrs {
-            items: Vec::new(alloc),
-        }
+        Attrs { shared: None }
     }
 
-    /// The list of these attributes, which takes them over.
-    pub fn of(items: Vec<Attribute>) -> Attrs
+    /// The list of these attributes, which takes them over. It is `NoMemory` where memory runs out.
+    pub fn of(items: Vec<Attribute>) -> Result<Attrs, NoMemory>
         requires { spec.IsAttributeList items.items }
-        ensures { result ≡ items.items }
+        ensures { IfOk result (λ attrs. attrs ≡ items.items) }
     {
-        Attrs { items }
+        let weighed = Weighed::shared(items)?;
+        Ok(Attrs {
+            shared: Some(weighed),
+        })
     }
 
     /// Lends the attributes, in the order held: each type once, and none without values.
@@ -93,18 +98,22 @@ impl Attrs {
         ensures value { result.now ≡ self.now }
         ensures sound { spec.IsAttributeList self.now }
     {
-        self.items.as_slice()
+        match &self.shared {
+            Some(weighed) => weighed.items(),
+            None => &[],
+        }
     }
 
-    /// Makes the same attributes a second time. It is `NoMemory` where memory runs out.
+    /// The same attributes, shared with this list. It is `NoMemory` where no more copies can be
+    /// counted.
     pub fn copy(&self) -> Result<Attrs, NoMemory>
         ensures { IfOk result (λ attrs. attrs ≡ self.now) }
     {
-        let mut items = Vec::new(*self.items.allocator());
-        for attribute in self.list() {
-            items.push(attribute.copy()?)?;
-        }
-        Ok(Attrs { items })
+        let shared = match &self.shared {
+            Some(weighed) => Some(weighed.clone()?),
+            None => None,
+        };
+        Ok(Attrs { shared })
     }
 
     /// The length of each value and of its type's name, summed. The greatest number stands for all
@@ -112,11 +121,10 @@ impl Attrs {
     pub fn weight(&self) -> u64
         ensures { result ≡ min (spec.weight_of self.now) (2 ^ 64 - 1) }
     {
-        let mut total: u64 = 0;
-        for attribute in self.list() {
-            total = total.saturating_add(attribute.weight());
+        match &self.shared {
+            Some(weighed) => weighed.weight(),
+            None => 0,
         }
-        total
     }
 
     /// Reads attributes as they came. Those of one type are joined in order, at the place of the
@@ -135,7 +143,7 @@ impl Attrs {
         if any_repeats(alloc, &items)? {
             return Err(SchemaFault::Code(ATTRIBUTE_OR_VALUE_EXISTS));
         }
-        Ok(Attrs { items })
+        Ok(Attrs::of(items)?)
     }
 }
 

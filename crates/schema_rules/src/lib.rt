@@ -9,6 +9,7 @@ mod fault;
 mod keys;
 mod raw;
 mod types;
+mod weighed;
 
 pub use attributes::{Attribute, Attrs, add_values, has_duplicates};
 pub use entry_check::check_entry;

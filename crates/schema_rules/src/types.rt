@@ -102,6 +102,13 @@ impl AttributeType {
         })
     }
 
+    /// The number of the type in the table of types, from 0.
+    pub fn number(&self) -> u32
+        ensures { result ≡ self.now }
+    {
+        u32::from(self.number)
+    }
+
     /// The name of the type, as it is written.
     pub fn name(&self) -> &'static [u8]
         ensures value { result.now ≡ schema.type_name self.now }

@@ -11,19 +11,19 @@ use Rattle.entry_tree.proofs.Directory.{above_filter}
 use Rattle.entry_tree.proofs.Identities.{above, above_lower}
 use Rattle.entry_tree.proofs.Rising.{below_lower}
 use Rattle.sync_model.specs.Copy.{put_or_dropped, effected}
-use Rattle.sync_consumer.specs.declared.stage.Staged.{Staged}
-use Rattle.sync_consumer.specs.declared.stage.Staged.TheVariants.{AddOrModify, Delete}
+use Rattle.sync_consumer.specs.declared.stage.StagedChange.{StagedChange}
+use Rattle.sync_consumer.specs.declared.stage.StagedChange.TheVariants.{AddOrModify, Delete}
 use Rattle.sync_consumer.specs.Staging.{change_of, changes_of, put_alone, rises, lower, higher}
 use Rattle.sync_consumer.proofs.Rising.{below_all, head_below, tail_rises}
 
 -- the identity of a staged change
-abbrev pub own : Staged → ℕ
+abbrev pub own : StagedChange → ℕ
 own s = (change_of s).0
 
-abbrev one_effect : List Entry → Staged → List Entry
+abbrev one_effect : List Entry → StagedChange → List Entry
 one_effect es s = put_or_dropped es (change_of s).0 (change_of s).1
 
-abbrev keys : List Staged → List ℕ
+abbrev keys : List StagedChange → List ℕ
 keys ss = keys_of (changes_of ss)
 
 -- ---- entries above an identity
@@ -60,11 +60,11 @@ above_put u e es less later =
     ∙ and_from (above u (lower e.uuid es)) (above u (e ∷ higher e.uuid es)) (above_filter (λ (x : Entry). nat_lt x.uuid e.uuid) u es later)
     (and_from (nat_lt u e.uuid) (above u (higher e.uuid es)) (lt-ltb u e.uuid less) (above_filter (λ (x : Entry). nat_lt e.uuid x.uuid) u es later))
 
-above_effect : (u : ℕ) (s : Staged) (es : List Entry) → u < own s → above u es ≡ true → above u (one_effect es s) ≡ true
+above_effect : (u : ℕ) (s : StagedChange) (es : List Entry) → u < own s → above u es ≡ true → above u (one_effect es s) ≡ true
 above_effect u (AddOrModify k) es less later = above_put u k.value es less later
 above_effect u (Delete v) es less later = above_filter (λ (entry : Entry). not (is_identified v entry)) u es later
 
-above_effected : (u : ℕ) (ss : List Staged) (es : List Entry) → below_all u (keys ss) ≡ true → above u es ≡ true → above u (effected es (changes_of ss)) ≡ true
+above_effected : (u : ℕ) (ss : List StagedChange) (es : List Entry) → below_all u (keys ss) ≡ true → above u es ≡ true → above u (effected es (changes_of ss)) ≡ true
 above_effected u [] es below later = later
 above_effected u (s ∷ ss) es below later =
     let p = and_parts (nat_lt u (own s)) (below_all u (keys ss)) below in
@@ -72,7 +72,7 @@ above_effected u (s ∷ ss) es below later =
 
 -- ---- one change, above the first entry, at it, or below all
 
-effect_after : (x : Entry) (es : List Entry) (s : Staged) → x.uuid < own s → one_effect (x ∷ es) s ≡ x ∷ one_effect es s
+effect_after : (x : Entry) (es : List Entry) (s : StagedChange) → x.uuid < own s → one_effect (x ∷ es) s ≡ x ∷ one_effect es s
 effect_after x es (AddOrModify k) less =
     ap (λ b. cond b (x ∷ lower k.value.uuid es) (lower k.value.uuid es) ++ k.value ∷ higher k.value.uuid (x ∷ es)) (lt-ltb x.uuid k.value.uuid less)
     ∙ ap (λ b. (x ∷ lower k.value.uuid es) ++ k.value ∷ cond b (x ∷ higher k.value.uuid es) (higher k.value.uuid es)) (le-ltb k.value.uuid x.uuid (omega (arith, less)))
@@ -80,11 +80,11 @@ effect_after x es (Delete u) less =
     let rest = filter (λ entry. not (is_identified u entry)) es in
     ap (λ b. cond (not b) (x ∷ rest) rest) (ne_eqb x.uuid u (λ same. omega (arith, less, same)))
 
-effect_before : (es : List Entry) (s : Staged) → above (own s) es ≡ true → one_effect es s ≡ put_alone s ++ es
+effect_before : (es : List Entry) (s : StagedChange) → above (own s) es ≡ true → one_effect es s ≡ put_alone s ++ es
 effect_before es (AddOrModify k) later = λ i. none_lower k.value.uuid es later i ++ k.value ∷ all_higher k.value.uuid es later i
 effect_before es (Delete u) later = none_identified u es later
 
-effect_there : (x : Entry) (es : List Entry) (s : Staged) → x.uuid ≡ own s → above (own s) es ≡ true → one_effect (x ∷ es) s ≡ put_alone s ++ es
+effect_there : (x : Entry) (es : List Entry) (s : StagedChange) → x.uuid ≡ own s → above (own s) es ≡ true → one_effect (x ∷ es) s ≡ put_alone s ++ es
 effect_there x es (AddOrModify k) same later =
     ap (λ b. cond b (x ∷ lower k.value.uuid es) (lower k.value.uuid es) ++ k.value ∷ higher k.value.uuid (x ∷ es)) (le-ltb x.uuid k.value.uuid (omega (arith, same)))
     ∙ ap (λ b. lower k.value.uuid es ++ k.value ∷ cond b (x ∷ higher k.value.uuid es) (higher k.value.uuid es)) (le-ltb k.value.uuid x.uuid (omega (arith, same)))
@@ -96,14 +96,14 @@ effect_there x es (Delete u) same later =
 -- ---- some changes
 
 -- an entry below all of them comes first
-effected_after : (ss : List Staged) (x : Entry) (es : List Entry) → below_all x.uuid (keys ss) ≡ true → effected (x ∷ es) (changes_of ss) ≡ x ∷ effected es (changes_of ss)
+effected_after : (ss : List StagedChange) (x : Entry) (es : List Entry) → below_all x.uuid (keys ss) ≡ true → effected (x ∷ es) (changes_of ss) ≡ x ∷ effected es (changes_of ss)
 effected_after [] x es below = refl
 effected_after (s ∷ ss) x es below =
     let p = and_parts (nat_lt x.uuid (own s)) (below_all x.uuid (keys ss)) below in
     ap (λ es'. one_effect es' s) (effected_after ss x es p.1) ∙ effect_after x (effected es (changes_of ss)) s (ltb-true x.uuid (own s) p.0)
 
 -- the first change with the others
-pub effected-cons : (es : List Entry) (s : Staged) (ss : List Staged) → ascends es ≡ true → rises (keys (s ∷ ss)) ≡ true
+pub effected-cons : (es : List Entry) (s : StagedChange) (ss : List StagedChange) → ascends es ≡ true → rises (keys (s ∷ ss)) ≡ true
     → effected es (changes_of (s ∷ ss)) ≡ lower (own s) es ++ (put_alone s ++ effected (higher (own s) es) (changes_of ss))
 effected-cons [] s ss asc up = effect_before (effected [] (changes_of ss)) s (above_effected (own s) ss [] (head_below (own s) (keys ss) up) refl)
 effected-cons (x ∷ es) s ss asc up =
@@ -139,7 +139,7 @@ effected-cons (x ∷ es) s ss asc up =
 -- ---- one change after another
 
 -- the entries so far, and the effect of the changes that are left on the entries that are left
-pub more_merged : (done rest : List Entry) (stage : List Staged) (k : ℕ) (s : Staged) (all : List Entry) → k < length stage → s ≡ get_or stage k s → ascends rest ≡ true
+pub more_merged : (done rest : List Entry) (stage : List StagedChange) (k : ℕ) (s : StagedChange) (all : List Entry) → k < length stage → s ≡ get_or stage k s → ascends rest ≡ true
     → rises (keys (drop k stage)) ≡ true → done ++ effected rest (changes_of (drop k stage)) ≡ all
     → ((done ++ lower (own s) rest) ++ put_alone s) ++ effected (higher (own s) rest) (changes_of (drop (suc k) stage)) ≡ all
 more_merged done rest stage k s all low same asc up so_far =
@@ -152,10 +152,10 @@ more_merged done rest stage k s all low same asc up so_far =
     ∙ sym (ap (λ ss. done ++ effected rest (changes_of ss)) first)
     ∙ so_far
   where
-    first_is : (stage : List Staged) (k : ℕ) (s : Staged) → k < length stage → s ≡ get_or stage k s → drop k stage ≡ s ∷ drop (suc k) stage
+    first_is : (stage : List StagedChange) (k : ℕ) (s : StagedChange) → k < length stage → s ≡ get_or stage k s → drop k stage ≡ s ∷ drop (suc k) stage
     first_is stage k s low same = drop-cons stage k s low ∙ ap (λ x. x ∷ drop (suc k) stage) (sym same)
 
 -- the rest of an ascending stage ascends
-pub more_rises : (stage : List Staged) (k : ℕ) → k < length stage → rises (keys (drop k stage)) ≡ true → rises (keys (drop (suc k) stage)) ≡ true
+pub more_rises : (stage : List StagedChange) (k : ℕ) → k < length stage → rises (keys (drop k stage)) ≡ true → rises (keys (drop (suc k) stage)) ≡ true
 more_rises [] k low up = absurd (omega (arith, low))
 more_rises (s ∷ stage) k low up = tail_rises (own (get_or (s ∷ stage) k s)) (keys (drop k stage)) (sym (ap (λ ss. rises (keys ss)) (drop-cons (s ∷ stage) k s low)) ∙ up)

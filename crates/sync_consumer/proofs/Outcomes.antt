@@ -8,9 +8,9 @@ use Rattle.sync_model.specs.Copy.Fault.{PresentUnknown}
 use Rattle.sync_model.specs.Within.{limit_fault, against, refused_by}
 use Rattle.sync_consumer.specs.declared.commit.Commit.{Commit}
 use Rattle.sync_consumer.specs.declared.consumer.Taken.TheVariants as taken
-use Rattle.sync_consumer.specs.declared.held.Held.{Held}
+use Rattle.sync_consumer.specs.declared.held.HeldContent.{HeldContent}
 use Rattle.sync_consumer.specs.declared.session.SyncSession as kept
-use Rattle.sync_consumer.specs.declared.session.Step.TheVariants.{Goes}
+use Rattle.sync_consumer.specs.declared.session.SearchStep.TheVariants.{Goes}
 use Rattle.sync_consumer.specs.SyncSession.{session_of, copy_with, within, StepsTo}
 use Rattle.sync_consumer.specs.Staging.{staged_each}
 use Rattle.sync_consumer.specs.Taking.{taken_commit}
@@ -36,7 +36,7 @@ pub staged_after_end : (before copy : Copy) (session : SyncSession) (cookie : Co
 staged_after_end before copy session cookie on = rw on refl
 
 -- the step of a stage that takes effect
-pub staged_steps : (held : Held) (session : kept.SyncSession) (held' : Held) (session' : kept.SyncSession) (stage : Stage) (cookie : Option CookieText) (given : CookieText) (commit : Commit)
+pub staged_steps : (held : HeldContent) (session : kept.SyncSession) (held' : HeldContent) (session' : kept.SyncSession) (stage : Stage) (cookie : Option CookieText) (given : CookieText) (commit : Commit)
     → session.persisting ≡ true → cookie ≡ Some given → against (effected held.entries stage) ≡ None
     → held'.entries ≡ effected held.entries stage → held'.cookie ≡ Some given → commit ≡ taken_commit (commit_of stage (Some given))
     → session_of session' ≡ cleared (session_of session)

@@ -11,9 +11,9 @@ use Rattle.sync_model.specs.Within.{against, refused_by}
 use Rattle.sync_consumer.specs.declared.commit.Commit.{Commit}
 use Rattle.sync_consumer.specs.declared.consumer.Taken.{Taken}
 use Rattle.sync_consumer.specs.declared.consumer.Taken.TheVariants as taken
-use Rattle.sync_consumer.specs.declared.held.Held.{Held}
+use Rattle.sync_consumer.specs.declared.held.HeldContent.{HeldContent}
 use Rattle.sync_consumer.specs.declared.session.SyncSession as kept
-use Rattle.sync_consumer.specs.declared.session.Step.TheVariants.{Goes, Ends}
+use Rattle.sync_consumer.specs.declared.session.SearchStep.TheVariants.{Goes, Ends}
 use Rattle.sync_consumer.specs.SyncSession.{session_of, copy_of, copy_with, within, last_changes, refresh_ended, IsTakenAs, StepsTo}
 use Rattle.sync_consumer.specs.Staging.{staged_each}
 use Rattle.sync_consumer.specs.Taking.{taken_commit}
@@ -53,7 +53,7 @@ answers_end : (has_cookie : Bool) (commit : Commit) (found : model.Commit) → c
 answers_end true commit found is = (found, refl, is)
 answers_end false commit found is = (found, refl, is)
 
-step_end : (goes : Bool) (answer_taken : Taken) (held : Held) (session : kept.SyncSession) (held' : Held) (session' : kept.SyncSession) (outcome : Copy × Answer)
+step_end : (goes : Bool) (answer_taken : Taken) (held : HeldContent) (session : kept.SyncSession) (held' : HeldContent) (session' : kept.SyncSession) (outcome : Copy × Answer)
     → outcome.0 ≡ copy_of held' (cond goes (Some (session_of session')) None) → IsTakenAs answer_taken outcome.1
     → StepsTo held session held' session' (Ok (cond goes (Goes answer_taken) (Ends answer_taken))) outcome
 step_end true answer_taken held session held' session' outcome same answers = (same, answers)
@@ -64,7 +64,7 @@ abbrev pub refreshed_on : kept.SyncSession → (deletes : Bool) → SyncSession
 refreshed_on session deletes = record (session_of session) { persisting = true; ended = session.ended || not deletes; named = []; stage = [] }
 
 -- the stage takes effect
-pub refresh_steps : (held : Held) (session : kept.SyncSession) (held' : Held) (session' : kept.SyncSession) (deletes : Bool) (cookie : Option CookieText) (commit : Commit) (stage : Stage)
+pub refresh_steps : (held : HeldContent) (session : kept.SyncSession) (held' : HeldContent) (session' : kept.SyncSession) (deletes : Bool) (cookie : Option CookieText) (commit : Commit) (stage : Stage)
     → stage ≡ staged_each session.stage (last_changes held.entries (session_of session) deletes)
     → against (effected held.entries stage) ≡ None
     → held'.entries ≡ effected held.entries stage → held'.cookie ≡ option_or cookie held.cookie

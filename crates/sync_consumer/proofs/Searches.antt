@@ -9,7 +9,7 @@ use Rattle.std.specs.declared.cmp.Ordering.TheVariants.{Less, Equal, Greater}
 use Rattle.std.proofs.lemmas.List.Sorted.{searched}
 use Rattle.std.proofs.lemmas.List.{length-map}
 use Rattle.std.proofs.Math.ListN.{get_or-map}
-use Rattle.sync_consumer.specs.declared.stage.Staged.{Staged}
+use Rattle.sync_consumer.specs.declared.stage.StagedChange.{StagedChange}
 use Rattle.sync_consumer.specs.Staging.{rises, change_of, changes_of, IsAt, IsGapFor}
 use Rattle.sync_consumer.proofs.Rising.{climbs}
 use Rattle.entry_tree.proofs.References.{at_map}
@@ -48,6 +48,6 @@ pub key_searched : {X : Type 0} (key : X → ℕ) (xs : List X) (u : ℕ) (r : R
 key_searched key xs u r low found up = place_searched (map key xs) u r (on_keys key xs u r low found) up
 
 -- the identities of staged changes are the keys of the stage
-pub keys-changes : (changes : List Staged) → map (λ (s : Staged). (change_of s).0) changes ≡ keys_of (changes_of changes)
+pub keys-changes : (changes : List StagedChange) → map (λ (s : StagedChange). (change_of s).0) changes ≡ keys_of (changes_of changes)
 keys-changes [] = refl
 keys-changes (s ∷ changes) = ap (λ ks. (change_of s).0 ∷ ks) (keys-changes changes)

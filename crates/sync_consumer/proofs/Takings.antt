@@ -17,10 +17,10 @@ use Rattle.sync_consumer.specs.declared.fault.PeerFault.{PeerFault}
 use Rattle.sync_consumer.specs.declared.fault.PeerFault.TheVariants as peer
 use Rattle.sync_consumer.specs.declared.fault.Refusal.{Refusal}
 use Rattle.sync_consumer.specs.declared.fault.Refusal.TheVariants as refusal
-use Rattle.sync_consumer.specs.declared.held.Held.{Held}
+use Rattle.sync_consumer.specs.declared.held.HeldContent.{HeldContent}
 use Rattle.sync_consumer.specs.declared.session.SyncSession.{SyncSession}
-use Rattle.sync_consumer.specs.declared.session.Step.{Step}
-use Rattle.sync_consumer.specs.declared.session.Step.TheVariants.{Goes, Ends}
+use Rattle.sync_consumer.specs.declared.session.SearchStep.{SearchStep}
+use Rattle.sync_consumer.specs.declared.session.SearchStep.TheVariants.{Goes, Ends}
 use Rattle.std.specs.List.{list_all}
 use Rattle.sync_consumer.specs.Staging.{is_above, up_to}
 use Rattle.sync_consumer.proofs.Prefixes.{prefix_effected}
@@ -83,29 +83,29 @@ takes_keeps (Fault found) before message after is = outcome_keeps before after m
 -- ---- a step is what the model says
 
 -- what the model says that a message of the search leads to
-abbrev outcome_of : Held → SyncSession → SyncMessage → model.Copy × model.Answer
+abbrev outcome_of : HeldContent → SyncSession → SyncMessage → model.Copy × model.Answer
 outcome_of held session message = within (puts_entry message) held session (taken_in (copy_with held session) (session_of session) message)
 
-own_within : (held : Held) (session : SyncSession) (id : ℕ) (message : SyncMessage) → id ≡ session.id
+own_within : (held : HeldContent) (session : SyncSession) (id : ℕ) (message : SyncMessage) → id ≡ session.id
     → taken_within id (copy_with held session) message ≡ outcome_of held session message
 own_within held session id message own = rw (eq-eqb id session.id own) refl
 
-outcome_keeps_of : (held : Held) (session : SyncSession) (message : SyncMessage)
+outcome_keeps_of : (held : HeldContent) (session : SyncSession) (message : SyncMessage)
     → Keeps (copy_with held session) (outcome_of held session message).0 (outcome_of held session message).1
 outcome_keeps_of held session message =
     subst (λ (o : model.Copy × model.Answer). Keeps (copy_with held session) o.0 o.1) (own_within held session session.id message refl)
     (taking_keeps session.id (copy_with held session) message)
 
-own_taken : (held : Held) (session : SyncSession) (message : Message) (said_is : SyncMessage) → message.id ≡ session.id → said session.persisting message ≡ Ok said_is
+own_taken : (held : HeldContent) (session : SyncSession) (message : Message) (said_is : SyncMessage) → message.id ≡ session.id → said session.persisting message ≡ Ok said_is
     → taken_of (copy_with held session) message ≡ ((outcome_of held session said_is).0, answer_taken (tag_of message.op) (outcome_of held session said_is).1)
 own_taken held session message said_is own is =
     rw (eq-eqb message.id session.id own, is) (ap (λ (o : model.Copy × model.Answer). (o.0, answer_taken (tag_of message.op) o.1)) (own_within held session message.id said_is own))
 
-own_refused : (held : Held) (session : SyncSession) (message : Message) (found : DecodeFault) → message.id ≡ session.id → said session.persisting message ≡ Err found
+own_refused : (held : HeldContent) (session : SyncSession) (message : Message) (found : DecodeFault) → message.id ≡ session.id → said session.persisting message ≡ Err found
     → taken_of (copy_with held session) message ≡ (without_search (copy_with held session), taken_refusal (tag_of message.op) (refusal_of found))
 own_refused held session message found own is = rw (eq-eqb message.id session.id own, is) refl
 
-other_refused : (held : Held) (session : SyncSession) (message : Message) → nat_eq message.id session.id ≡ false
+other_refused : (held : HeldContent) (session : SyncSession) (message : Message) → nat_eq message.id session.id ≡ false
     → taken_of (copy_with held session) message ≡ (without_search (copy_with held session), Fault (peer.OutOfPlace (tag_of message.op)))
 other_refused held session message off = rw off refl
 
@@ -115,12 +115,12 @@ pair_of a c b d p q = λ i. (p i, q i)
 -- ---- steps that are no refusal
 
 -- the copy after a step
-abbrev pub after_step : Step → Held → SyncSession → model.Copy
+abbrev pub after_step : SearchStep → HeldContent → SyncSession → model.Copy
 after_step (Goes taken) held session = copy_of held (Some (session_of session))
 after_step (Ends taken) held session = copy_of held None
 
 -- what a step answers
-abbrev pub answered_by : Step → Taken
+abbrev pub answered_by : SearchStep → Taken
 answered_by (Goes taken) = taken
 answered_by (Ends taken) = taken
 
@@ -141,7 +141,7 @@ takes_answered (Over code) before after message given answers is = is
 takes_answered (Fault found) before after message given answers is = is
 takes_answered NoMemory before after message given answers is = absurd answers
 
-answered_takes : (result : Taken) (after : model.Copy) (held : Held) (session : SyncSession) (message : Message) (said_is : SyncMessage)
+answered_takes : (result : Taken) (after : model.Copy) (held : HeldContent) (session : SyncSession) (message : Message) (said_is : SyncMessage)
     → message.id ≡ session.id → said session.persisting message ≡ Ok said_is
     → (outcome_of held session said_is).0 ≡ after → IsTakenAs result (outcome_of held session said_is).1 → Takes (copy_with held session) message after result
 answered_takes result after held session message said_is own is same answers =
@@ -150,7 +150,7 @@ answered_takes result after held session message said_is own is same answers =
     (pair_of after outcome.0 result (answer_taken (tag_of message.op) outcome.1) (sym same) (answers_answered result (tag_of message.op) outcome.1 answers)
     ∙ sym (own_taken held session message said_is own is))
 
-step_takes : (step : Step) (held : Held) (session : SyncSession) (held' : Held) (session' : SyncSession) (message : Message) (said_is : SyncMessage)
+step_takes : (step : SearchStep) (held : HeldContent) (session : SyncSession) (held' : HeldContent) (session' : SyncSession) (message : Message) (said_is : SyncMessage)
     → message.id ≡ session.id → said session.persisting message ≡ Ok said_is
     → StepsBy held session held' session' (Ok step) said_is → Takes (copy_with held session) message (after_step step held' session') (answered_by step)
 step_takes (Goes taken) held session held' session' message said_is own is step =
@@ -159,7 +159,7 @@ step_takes (Ends taken) held session held' session' message said_is own is step 
     answered_takes taken (copy_of held' None) held session message said_is own is step.0 step.1
 
 -- a step that is no refusal is what the model says
-pub done_takes : (step : Step) (held : Held) (session : SyncSession) (held' : Held) (session' : SyncSession) (message : Message)
+pub done_takes : (step : SearchStep) (held : HeldContent) (session : SyncSession) (held' : HeldContent) (session' : SyncSession) (message : Message)
     → taken_by_search held session held' session' (Ok step) message → Takes (copy_with held session) message (after_step step held' session') (answered_by step)
 done_takes step held session held' session' message by = by_id (nat_eq message.id session.id) refl by
   where
@@ -193,7 +193,7 @@ refused_outcome before outcome tag found keeps is =
     let same : outcome.0 ≡ without_search before = subst (λ (a : model.Answer). Keeps before outcome.0 a) is keeps in
     pair_of (without_search before) outcome.0 (Fault (taken_fault tag found)) (answer_taken tag outcome.1) (sym same) (sym (ap (answer_taken tag) is))
 
-refusal_outcome : (found : Refusal) (held : Held) (session : SyncSession) (held' : Held) (session' : SyncSession) (outcome : model.Copy × model.Answer) (tag : ℕ)
+refusal_outcome : (found : Refusal) (held : HeldContent) (session : SyncSession) (held' : HeldContent) (session' : SyncSession) (outcome : model.Copy × model.Answer) (tag : ℕ)
     → is_memory found ≡ false → Keeps (copy_with held session) outcome.0 outcome.1 → Refuses held session held' session' found outcome
     → ◌≡◌ {A = model.Copy × Taken} (without_search (copy_with held session), taken_refusal tag found) (outcome.0, answer_taken tag outcome.1)
 refusal_outcome refusal.OutOfPlace held session held' session' outcome tag off keeps by = refused_outcome (copy_with held session) outcome tag fault.OutOfPlace keeps by.1
@@ -202,14 +202,14 @@ refusal_outcome (refusal.Fault found) held session held' session' outcome tag of
     ∙ refused_outcome (copy_with held session) outcome tag by.1.0 keeps by.1.1
 refusal_outcome refusal.NoMemory held session held' session' outcome tag off keeps by = let wrong : ⊥ = cc in absurd wrong
 
-same_held : (found : Refusal) (held : Held) (session : SyncSession) (held' : Held) (session' : SyncSession) (outcome : model.Copy × model.Answer)
+same_held : (found : Refusal) (held : HeldContent) (session : SyncSession) (held' : HeldContent) (session' : SyncSession) (outcome : model.Copy × model.Answer)
     → Refuses held session held' session' found outcome → held' ≡ held
 same_held refusal.OutOfPlace held session held' session' outcome by = by.0
 same_held (refusal.Fault found) held session held' session' outcome by = by.0
 same_held refusal.NoMemory held session held' session' outcome by = by.0
 
 -- what is held stays, and the search is given up
-refused_as : (found : Refusal) (held : Held) (session : SyncSession) (held' : Held) (session' : SyncSession) (message : Message) → is_memory found ≡ false
+refused_as : (found : Refusal) (held : HeldContent) (session : SyncSession) (held' : HeldContent) (session' : SyncSession) (message : Message) → is_memory found ≡ false
     → taken_by_id (nat_eq message.id session.id) held session held' session' (Err found) message
     → (copy_of held' None, taken_refusal (tag_of message.op) found) ≡ taken_of (copy_with held session) message
 refused_as found held session held' session' message off by = by_id (nat_eq message.id session.id) refl by
@@ -217,7 +217,7 @@ refused_as found held session held' session' message off by = by_id (nat_eq mess
     kept : held' ≡ held
         → ◌≡◌ {A = model.Copy × Taken} (copy_of held' None, taken_refusal (tag_of message.op) found) (without_search (copy_with held session), taken_refusal (tag_of message.op) found)
     kept same =
-        pair_of (copy_of held' None) (copy_of held None) (taken_refusal (tag_of message.op) found) (taken_refusal (tag_of message.op) found) (ap (λ (h : Held). copy_of h None) same) refl
+        pair_of (copy_of held' None) (copy_of held None) (taken_refusal (tag_of message.op) found) (taken_refusal (tag_of message.op) found) (ap (λ (h : HeldContent). copy_of h None) same) refl
 
     given : (other : Refusal) → found ≡ other
         → ◌≡◌ {A = model.Copy × Taken} (without_search (copy_with held session), taken_refusal (tag_of message.op) found) (without_search (copy_with held session), taken_refusal (tag_of message.op) other)
@@ -242,37 +242,18 @@ refused_as found held session held' session' message off by = by_id (nat_eq mess
         kept by.0 ∙ given refusal.OutOfPlace one ∙ sym (other_refused held session message is)
 
 -- a message that is out of place is refused as the definition says
-pub out_of_place_takes : (held : Held) (session : SyncSession) (held' : Held) (session' : SyncSession) (message : Message)
+pub out_of_place_takes : (held : HeldContent) (session : SyncSession) (held' : HeldContent) (session' : SyncSession) (message : Message)
     → taken_by_search held session held' session' (Err refusal.OutOfPlace) message
     → Takes (copy_with held session) message (copy_of held' None) (Fault (peer.OutOfPlace (tag_of message.op)))
 out_of_place_takes held session held' session' message by = refused_as refusal.OutOfPlace held session held' session' message refl by
 
 -- a message that is refused for a fault is refused as the definition says
-pub fault_takes : (found : PeerFault) (held : Held) (session : SyncSession) (held' : Held) (session' : SyncSession) (message : Message)
+pub fault_takes : (found : PeerFault) (held : HeldContent) (session : SyncSession) (held' : HeldContent) (session' : SyncSession) (message : Message)
     → taken_by_search held session held' session' (Err (refusal.Fault found)) message
     → Takes (copy_with held session) message (copy_of held' None) (Fault found)
 fault_takes found held session held' session' message by = refused_as (refusal.Fault found) held session held' session' message refl by
 
--- ---- a consumer's copy, before the message and after it
-
--- what a step keeps of the entries and the cookie
-pub step_kept : (step : Step) (held : Held) (session : SyncSession) (held' : Held) (session' : SyncSession) (message : Message) (before after : model.Copy)
-    → before ≡ copy_with held session → after ≡ after_step step held' session'
-    → taken_by_search held session held' session' (Ok step) message
-    → Takes before message after (answered_by step) × (KeepsEntries before after (answered_by step) × KeepsCookie before after (answered_by step))
-step_kept step held session held' session' message before after was is by =
-    let exact : Takes before message after (answered_by step) =
-    subst (λ (b : model.Copy). Takes b message after (answered_by step)) (sym was)
-    (subst (λ (a : model.Copy). Takes (copy_with held session) message a (answered_by step)) (sym is) (done_takes step held session held' session' message by)) in
-    (exact, takes_keeps (answered_by step) before message after exact)
-
--- a refusal keeps the entries and the cookie
-pub refusal_kept : (found : PeerFault) (held : Held) (session : SyncSession) (held' : Held) (message : Message) (before after : model.Copy)
-    → before ≡ copy_with held session → after ≡ copy_of held' None
-    → Takes (copy_with held session) message (copy_of held' None) (Fault found)
-    → Takes before message after (Fault found) × (KeepsEntries before after (Fault found) × KeepsCookie before after (Fault found))
-refusal_kept found held session held' message before after was is by =
-    let exact : Takes before message after (Fault found) =
-    subst (λ (b : model.Copy). Takes b message after (Fault found)) (sym was)
-    (subst (λ (a : model.Copy). Takes (copy_with held session) message a (Fault found)) (sym is) by) in
-    (exact, takes_keeps (Fault found) before message after exact)
+-- where memory ran out all is as it was
+pub memory_takes : (held : HeldContent) (session : SyncSession) (held' : HeldContent) (session' : SyncSession) (message : Message)
+    → taken_by_search held session held' session' (Err refusal.NoMemory) message → Takes (copy_with held session) message (copy_with held' session') NoMemory
+memory_takes held session held' session' message by = λ i. copy_with (by.0 i) (by.1 i)

@@ -2,8 +2,8 @@
 use Rattle.std.proofs.Common.{◌≡◌, ◌<◌, ℕ, zero, suc, Bool, true, false, cond, List, [], ◌∷◌, ◌++◌, length, take, get_or, Some, None, sym, ap, ◌∙◌, arith}
 use Rattle.std.specs.List.{find}
 use Rattle.sync_model.specs.Copy.{puts_of, drops_of}
-use Rattle.sync_consumer.specs.declared.stage.Staged.{Staged}
-use Rattle.sync_consumer.specs.declared.stage.Staged.TheVariants.{AddOrModify, Delete}
+use Rattle.sync_consumer.specs.declared.stage.StagedChange.{StagedChange}
+use Rattle.sync_consumer.specs.declared.stage.StagedChange.TheVariants.{AddOrModify, Delete}
 use Rattle.sync_consumer.specs.Staging.{changes_of, put_alone, dropped_alone}
 
 -- ---- the first that passes a test
@@ -30,7 +30,7 @@ none_more {X} p (y ∷ ys) (suc i) x low is none fails = step (p y) (none_more p
 -- ---- the changes
 
 -- what a stage puts with one more of its changes
-pub puts_more : (stage : List Staged) (i : ℕ) (s : Staged) → i < length stage → s ≡ get_or stage i s
+pub puts_more : (stage : List StagedChange) (i : ℕ) (s : StagedChange) → i < length stage → s ≡ get_or stage i s
     → puts_of (changes_of (take (suc i) stage)) ≡ puts_of (changes_of (take i stage)) ++ put_alone s
 puts_more [] i s low is = absurd (omega (arith, low))
 puts_more (AddOrModify k ∷ stage) zero s low is = ap put_alone (sym is)
@@ -39,7 +39,7 @@ puts_more (AddOrModify k ∷ stage) (suc i) s low is = ap (λ es. k.value ∷ es
 puts_more (Delete u ∷ stage) (suc i) s low is = puts_more stage i s (omega (arith, low)) is
 
 -- what a stage drops with one more of its changes
-pub drops_more : (stage : List Staged) (i : ℕ) (s : Staged) → i < length stage → s ≡ get_or stage i s
+pub drops_more : (stage : List StagedChange) (i : ℕ) (s : StagedChange) → i < length stage → s ≡ get_or stage i s
     → drops_of (changes_of (take (suc i) stage)) ≡ drops_of (changes_of (take i stage)) ++ dropped_alone s
 drops_more [] i s low is = absurd (omega (arith, low))
 drops_more (AddOrModify k ∷ stage) zero s low is = ap dropped_alone (sym is)

@@ -18,21 +18,19 @@ use Rattle.sync_wire.specs.Kind.{tag_of}
 use Rattle.sync_wire.specs.declared.fault.DecodeFault.{DecodeFault}
 use Rattle.sync_consumer.specs.declared.consumer.Taken.{Taken}
 use Rattle.sync_consumer.specs.declared.consumer.Taken.TheVariants.{Staged, Stored, Copied, Over, Fault, NoMemory}
-use Rattle.sync_consumer.specs.declared.fault.PeerFault.{PeerFault}
 use Rattle.sync_consumer.specs.declared.fault.PeerFault.TheVariants as peer
 use Rattle.sync_consumer.specs.declared.fault.Refusal.{Refusal}
 use Rattle.sync_consumer.specs.declared.fault.Refusal.TheVariants as refusal
-use Rattle.sync_consumer.specs.declared.held.Held.{Held}
+use Rattle.sync_consumer.specs.declared.held.HeldContent.{HeldContent}
 use Rattle.sync_consumer.specs.declared.session.SyncSession as own
-use Rattle.sync_consumer.specs.declared.session.Step.{Step}
 use Rattle.sync_consumer.specs.Committing.{AreNamedApart, IsCommit, CanBeCommitted, IsReady, IsKept, stage_in}
 use Rattle.sync_consumer.specs.Holding.{MayHold}
-use Rattle.sync_consumer.specs.SyncSession.{copy_of, copy_with, taken_by_search}
+use Rattle.sync_consumer.specs.SyncSession.{copy_with}
 use Rattle.sync_consumer.specs.Taking.{PutsFit, Takes, KeepsEntries, KeepsCookie, refusal_of, taken_commit, answer_taken, taken_refusal, without_search, taken_as, taken_by, taken_of}
 use Rattle.sync_consumer.proofs.Fits.{Leaves, AnswerFits, Says, none_ready, taking_fits, says_operation}
 use Rattle.sync_consumer.proofs.Naming.{named_apart, held_allowed}
 use Rattle.sync_consumer.proofs.Effecting.{nothing_held, after_held}
-use Rattle.sync_consumer.proofs.Takings.{takes_keeps, after_step, answered_by, step_kept, refusal_kept}
+use Rattle.sync_consumer.proofs.Takings.{takes_keeps}
 
 -- ---- without a search, and where one begins
 
@@ -175,23 +173,9 @@ all_taken result before message after is was =
       kept = now;
     }
 
--- by a step of its search, and by a refusal
-pub step_taken : (step : Step) (held : Held) (session : own.SyncSession) (held' : Held) (session' : own.SyncSession) (message : Message) (before after : Copy)
-    → before ≡ copy_with held session → after ≡ after_step step held' session' → taken_by_search held session held' session' (Ok step) message
-    → IsKept before.held (stage_in before.session) → IsTaken before message after (answered_by step)
-step_taken step held session held' session' message before after was is by had =
-    all_taken (answered_by step) before message after (step_kept step held session held' session' message before after was is by).0 had
-
--- a message that is refused for a fault is taken as `Consumer::take` promises
-pub refusal_taken : (found : PeerFault) (held : Held) (session : own.SyncSession) (held' : Held) (message : Message) (before after : Copy)
-    → before ≡ copy_with held session → after ≡ copy_of held' None → Takes (copy_with held session) message (copy_of held' None) (Fault found)
-    → IsKept before.held (stage_in before.session) → IsTaken before message after (Fault found)
-refusal_taken found held session held' message before after was is by had =
-    all_taken (Fault found) before message after (refusal_kept found held session held' message before after was is by).0 had
-
--- and where memory ran out
-pub memory_taken : (held : Held) (session : own.SyncSession) (held' : Held) (session' : own.SyncSession) (message : Message) (before : Copy)
-    → before ≡ copy_with held session → taken_by_search held session held' session' (Err refusal.NoMemory) message
-    → IsKept before.held (stage_in before.session) → IsTaken before message (copy_with held' session') NoMemory
-memory_taken held session held' session' message before was by had =
-    all_taken NoMemory before message (copy_with held' session') ((λ i. copy_with (by.0 i) (by.1 i)) ∙ sym was) had
+-- what a search that runs makes of a message is all that `Consumer::take` promises
+pub search_taken : (result : Taken) (held : HeldContent) (session : own.SyncSession) (message : Message) (before after : Copy)
+    → before ≡ copy_with held session → Takes (copy_with held session) message after result
+    → IsKept before.held (stage_in before.session) → IsTaken before message after result
+search_taken result held session message before after was is had =
+    all_taken result before message after (subst (λ (b : Copy). Takes b message after result) (sym was) is) had

@@ -6,24 +6,24 @@ use Rattle.std.specs.Map.{keys_of, remove_entry, set_value}
 use Rattle.entry_tree.specs.declared.entry.Entry.{Entry}
 use Rattle.schema_rules.specs.Attributes.{weight_of}
 use Rattle.sync_model.specs.Copy.{Stage, slot, staged}
-use Rattle.sync_consumer.specs.declared.stage.Staged.{Staged}
-use Rattle.sync_consumer.specs.declared.stage.Staged.TheVariants.{AddOrModify, Delete}
+use Rattle.sync_consumer.specs.declared.stage.StagedChange.{StagedChange}
+use Rattle.sync_consumer.specs.declared.stage.StagedChange.TheVariants.{AddOrModify, Delete}
 use Rattle.sync_consumer.specs.declared.stage.Before.{Before}
 use Rattle.sync_consumer.specs.declared.stage.Before.TheVariants.{Had, Nothing}
 
-abbrev pub change_of : Staged → ℕ × Option Entry
+abbrev pub change_of : StagedChange → ℕ × Option Entry
 change_of (AddOrModify kept) = (kept.value.uuid, Some kept.value)
 change_of (Delete uuid) = (uuid, None)
 
-abbrev pub changes_of : List Staged → Stage
+abbrev pub changes_of : List StagedChange → Stage
 changes_of changes = map change_of changes
 
 -- the entry of one change, and the identity that has none, as lists
-abbrev pub put_alone : Staged → List Entry
+abbrev pub put_alone : StagedChange → List Entry
 put_alone (AddOrModify kept) = kept.value ∷ []
 put_alone (Delete uuid) = []
 
-abbrev pub dropped_alone : Staged → List ℕ
+abbrev pub dropped_alone : StagedChange → List ℕ
 dropped_alone (AddOrModify kept) = []
 dropped_alone (Delete uuid) = uuid ∷ []
 

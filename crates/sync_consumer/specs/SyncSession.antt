@@ -17,10 +17,10 @@ use Rattle.sync_consumer.specs.declared.consumer.Taken.TheVariants as taken
 use Rattle.sync_consumer.specs.declared.fault.PeerFault.TheVariants as peer
 use Rattle.sync_consumer.specs.declared.fault.Refusal.{Refusal}
 use Rattle.sync_consumer.specs.declared.fault.Refusal.TheVariants as refusal
-use Rattle.sync_consumer.specs.declared.held.Held.{Held}
+use Rattle.sync_consumer.specs.declared.held.HeldContent.{HeldContent}
 use Rattle.sync_consumer.specs.declared.session.SyncSession.{SyncSession}
-use Rattle.sync_consumer.specs.declared.session.Step.{Step}
-use Rattle.sync_consumer.specs.declared.session.Step.TheVariants.{Goes, Ends}
+use Rattle.sync_consumer.specs.declared.session.SearchStep.{SearchStep}
+use Rattle.sync_consumer.specs.declared.session.SearchStep.TheVariants.{Goes, Ends}
 use Rattle.sync_consumer.specs.Taking.{refusal_of, taken_commit}
 
 abbrev pub session_of : SyncSession → model.SyncSession
@@ -34,10 +34,10 @@ session_of session = record {
 }
 
 -- what is held, and the search over it, where it still runs
-abbrev pub copy_of : Held → Option model.SyncSession → model.Copy
+abbrev pub copy_of : HeldContent → Option model.SyncSession → model.Copy
 copy_of held session = record { held = held.entries; cookie = held.cookie; session = session }
 
-abbrev pub copy_with : Held → SyncSession → model.Copy
+abbrev pub copy_with : HeldContent → SyncSession → model.Copy
 copy_with held session = copy_of held (Some (session_of session))
 
 -- what is reported of an answer that is no refusal
@@ -60,7 +60,8 @@ refused_by (fault.DuplicateName one other) = refusal.Fault (peer.DuplicateName o
 -- a step from what was held by a search to what is held, beside the copy and the answer that it has
 -- to come to; a refusal leaves what is held, and out of memory the search too
 abbrev pub Refuses :
-    Held → SyncSession → Held → SyncSession → Refusal → model.Copy × model.Answer → Type 0
+    HeldContent → SyncSession → HeldContent → SyncSession → Refusal → model.Copy × model.Answer
+    → Type 0
 Refuses held session held' session' refusal.NoMemory outcome = (held' ≡ held) × (session' ≡ session)
 Refuses held session held' session' refusal.OutOfPlace outcome =
     (held' ≡ held) × (outcome.1 ≡ answer.Refused fault.OutOfPlace)
@@ -70,8 +71,8 @@ Refuses held session held' session' (refusal.Fault answer_taken) outcome =
     × (refusal.Fault answer_taken ≡ refused_by f))
 
 abbrev pub StepsTo :
-    Held → SyncSession → Held → SyncSession → Result Step Refusal → model.Copy × model.Answer
-    → Type 0
+    HeldContent → SyncSession → HeldContent → SyncSession → Result SearchStep Refusal
+    → model.Copy × model.Answer → Type 0
 StepsTo held session held' session' (Ok (Goes taken)) outcome =
     (outcome.0 ≡ copy_of held' (Some (session_of session'))) × IsTakenAs taken outcome.1
 StepsTo held session held' session' (Ok (Ends taken)) outcome =
@@ -81,7 +82,8 @@ StepsTo held session held' session' (Err found) outcome =
 
 -- the outcome within the limits of a directory
 abbrev pub within :
-    (puts : Bool) → Held → SyncSession → model.Copy × model.Answer → model.Copy × model.Answer
+    (puts : Bool) → HeldContent → SyncSession → model.Copy × model.Answer
+    → model.Copy × model.Answer
 within puts held session outcome =
     refused_by_limit (limit_fault puts outcome.0 outcome.1) (copy_with held session) outcome
 
@@ -117,15 +119,16 @@ message_of decoded.Ignored = Ignored
 
 -- the step that a message of the search leads to
 abbrev pub StepsBy :
-    Held → SyncSession → Held → SyncSession → Result Step Refusal → SyncMessage → Type 0
+    HeldContent → SyncSession → HeldContent → SyncSession → Result SearchStep Refusal → SyncMessage
+    → Type 0
 StepsBy held session held' session' result message =
     StepsTo held session held' session' result
     (within (puts_entry message) held session
     (model.taken_in (copy_with held session) (session_of session) message))
 
 abbrev pub decoded_by_search :
-    Held → SyncSession → Held → SyncSession → Result Step Refusal → Result SyncMessage DecodeFault
-    → Type 0
+    HeldContent → SyncSession → HeldContent → SyncSession → Result SearchStep Refusal
+    → Result SyncMessage DecodeFault → Type 0
 decoded_by_search held session held' session' result (Err found) =
     (held' ≡ held) × (result ≡ Err (refusal_of found))
 decoded_by_search held session held' session' result (Ok message) =
@@ -133,7 +136,8 @@ decoded_by_search held session held' session' result (Ok message) =
 
 -- a message of this search, or of another one
 abbrev pub taken_by_id :
-    (own : Bool) → Held → SyncSession → Held → SyncSession → Result Step Refusal → Message → Type 0
+    (own : Bool) → HeldContent → SyncSession → HeldContent → SyncSession
+    → Result SearchStep Refusal → Message → Type 0
 taken_by_id true held session held' session' result message =
     decoded_by_search held session held' session' result (said session.persisting message)
 taken_by_id false held session held' session' result message =
@@ -141,7 +145,8 @@ taken_by_id false held session held' session' result message =
 
 -- a message taken by the search; out of memory leaves all as it was
 abbrev pub taken_by_search :
-    Held → SyncSession → Held → SyncSession → Result Step Refusal → Message → Type 0
+    HeldContent → SyncSession → HeldContent → SyncSession → Result SearchStep Refusal → Message
+    → Type 0
 taken_by_search held session held' session' (Err refusal.NoMemory) message =
     (held' ≡ held) × (session' ≡ session)
 taken_by_search held session held' session' (Err refusal.OutOfPlace) message =

@@ -8,7 +8,7 @@ ghost use Rattle.sync_consumer.specs.Staging as spec;
 ghost use Rattle.sync_consumer.specs.Staging.{change_of, changes_of, staged_one, rises, slot_before, IsStage};
 
 use crate::places::place_of_change;
-use crate::stage::{Before, Staged};
+use crate::stage::{Before, StagedChange};
 use std::mem;
 
 /// How many entries there are among changes, and what they weigh.
@@ -19,7 +19,7 @@ pub(crate) struct Load {
 }
 
 impl Load {
-    fn add(&mut self, change: &Staged)
+    fn add(&mut self, change: &StagedChange)
         requires few { self.old.count < 2 ^ 63 }
         requires light { self.old.weight < 2 ^ 127 }
         ensures count { self.new.count ≡ self.old.count + spec.count_of (change_of change.now).1 }
@@ -32,7 +32,7 @@ impl Load {
         }
     }
 
-    fn remove(&mut self, change: &Staged)
+    fn remove(&mut self, change: &StagedChange)
         requires counted { spec.count_of (change_of change.now).1 ≤ self.old.count }
         requires weighed { spec.weight_within (change_of change.now).1 ≤ self.old.weight }
         ensures count { self.new.count ≡ self.old.count - spec.count_of (change_of change.now).1 }
@@ -47,7 +47,7 @@ impl Load {
 }
 
 /// Adds the change, for which there is room, in place of another of its identity.
-pub(crate) fn set(changes: &mut Vec<Staged>, load: &mut Load, change: Staged) -> Before
+pub(crate) fn set(changes: &mut Vec<StagedChange>, load: &mut Load, change: StagedChange) -> Before
     requires stage { IsStage (changes_of changes.old.items) load.old.count load.old.weight }
     requires room { vec_len changes.old < vec_capacity changes.old }
     ensures stage { IsStage (changes_of changes.new.items) load.new.count load.new.weight }
@@ -67,7 +67,7 @@ pub(crate) fn set(changes: &mut Vec<Staged>, load: &mut Load, change: Staged) ->
 }
 
 /// Adds the change, for which there is room, in place of another of its identity.
-fn stage_one(changes: &mut Vec<Staged>, change: Staged) -> Before
+fn stage_one(changes: &mut Vec<StagedChange>, change: StagedChange) -> Before
     requires ordered { rises (keys_of (changes_of changes.old.items)) ≡ true }
     requires room { vec_len changes.old < vec_capacity changes.old }
     ensures value { changes_of changes.new.items
@@ -90,7 +90,7 @@ fn stage_one(changes: &mut Vec<Staged>, change: Staged) -> Before
 }
 
 /// Puts back what was there before a change. It takes no memory.
-pub(crate) fn put_back(changes: &mut Vec<Staged>, load: &mut Load, before: Before)
+pub(crate) fn put_back(changes: &mut Vec<StagedChange>, load: &mut Load, before: Before)
     requires stage { IsStage (changes_of changes.old.items) load.old.count load.old.weight }
     ensures stage { IsStage (changes_of changes.new.items) load.new.count load.new.weight }
     ensures value { changes_of changes.new.items
@@ -103,7 +103,7 @@ pub(crate) fn put_back(changes: &mut Vec<Staged>, load: &mut Load, before: Befor
 }
 
 /// Puts the change in the place of another of its identity, where there is one.
-fn replace(changes: &mut Vec<Staged>, load: &mut Load, old: Staged)
+fn replace(changes: &mut Vec<StagedChange>, load: &mut Load, old: StagedChange)
     requires stage { IsStage (changes_of changes.old.items) load.old.count load.old.weight }
     ensures stage { IsStage (changes_of changes.new.items) load.new.count load.new.weight }
     ensures value { changes_of changes.new.items
@@ -117,7 +117,7 @@ fn replace(changes: &mut Vec<Staged>, load: &mut Load, old: Staged)
 }
 
 /// Removes the change of the identity, where there is one.
-fn remove(changes: &mut Vec<Staged>, load: &mut Load, uuid: u128)
+fn remove(changes: &mut Vec<StagedChange>, load: &mut Load, uuid: u128)
     requires stage { IsStage (changes_of changes.old.items) load.old.count load.old.weight }
     ensures stage { IsStage (changes_of changes.new.items) load.new.count load.new.weight }
     ensures value { changes_of changes.new.items

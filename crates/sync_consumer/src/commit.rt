@@ -5,7 +5,7 @@ ghost use Rattle.sync_model.specs.Copy as model;
 ghost use Rattle.sync_consumer.specs.Staging.{changes_of, put_alone, dropped_alone};
 ghost use Rattle.sync_consumer.specs.Taking.{taken_commit};
 
-use crate::stage::Staged;
+use crate::stage::StagedChange;
 use entry_tree::EntryList;
 use ldap_ber::{NoMemory, Octets};
 use std::alloc::Global;
@@ -25,7 +25,7 @@ impl Commit {
     /// What the stage changes where it takes effect.
     pub(crate) fn of(
         alloc: Global,
-        stage: &[Staged],
+        stage: &[StagedChange],
         cookie: Option<Octets>,
     ) -> Result<Commit, NoMemory>
         ensures { IfOk result
@@ -41,7 +41,7 @@ impl Commit {
 }
 
 /// Copies of the entries that are put, and the identities that have none.
-fn parts_of(alloc: Global, stage: &[Staged]) -> Result<(EntryList, IdList), NoMemory>
+fn parts_of(alloc: Global, stage: &[StagedChange]) -> Result<(EntryList, IdList), NoMemory>
     ensures puts { IfOk result (λ parts. parts.0 ≡ model.puts_of (changes_of stage.now)) }
     ensures drops { IfOk result (λ parts. parts.1 ≡ model.drops_of (changes_of stage.now)) }
 {
@@ -54,13 +54,13 @@ fn parts_of(alloc: Global, stage: &[Staged]) -> Result<(EntryList, IdList), NoMe
 }
 
 /// Puts a copy of the change at the end of its list.
-fn note(staged: &Staged, puts: &mut EntryList, drops: &mut IdList) -> Result<(), NoMemory>
+fn note(staged: &StagedChange, puts: &mut EntryList, drops: &mut IdList) -> Result<(), NoMemory>
     ensures puts { OnOk result (puts.new ≡ puts.old ++ put_alone staged.now) }
     ensures drops { OnOk result (drops.new ≡ drops.old ++ dropped_alone staged.now) }
 {
     match staged {
-        Staged::AddOrModify(kept) => puts.push(kept.entry().copy()?)?,
-        Staged::Delete(uuid) => drops.push(*uuid)?,
+        StagedChange::AddOrModify(kept) => puts.push(kept.entry().copy()?)?,
+        StagedChange::Delete(uuid) => drops.push(*uuid)?,
     }
     Ok(())
 }

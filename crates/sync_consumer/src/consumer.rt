@@ -9,7 +9,7 @@ ghost use Rattle.sync_wire.specs.Kind as kind;
 ghost use Rattle.sync_wire.specs.Requesting.{persists};
 ghost use Rattle.sync_consumer.specs.declared.consumer.Taken.TheVariants.{Fault};
 ghost use Rattle.sync_consumer.specs.declared.fault.PeerFault.TheVariants.{OutOfPlace};
-ghost use Rattle.sync_consumer.specs.SyncSession.{session_of};
+ghost use Rattle.sync_consumer.specs.SyncSession.{session_of, copy_of, copy_with};
 ghost use Rattle.sync_messages.specs.Request.{request_of, request_octets};
 ghost use Rattle.sync_consumer.specs.Committing.{AreNamedApart, CanBeCommitted};
 ghost use Rattle.sync_consumer.specs.Taking as taking;
@@ -17,8 +17,8 @@ ghost use Rattle.sync_consumer.specs.Taking as taking;
 use crate::commit::Commit;
 use crate::entry_map::EntryMap;
 use crate::fault::{PeerFault, Refusal};
-use crate::held::{Held, copy_of};
-use crate::session::{Step, SyncSession};
+use crate::held::{HeldContent, copy_of};
+use crate::session::{SearchStep, SyncSession};
 use entry_tree::Spec;
 use ldap_ber::{NoMemory, Octets};
 use ldap_messages::Message;
@@ -49,7 +49,7 @@ pub enum Taken {
 pub struct Consumer {
     spec: Spec,
     reload_hint: bool,
-    held: Held,
+    held: HeldContent,
     session: Option<SyncSession>,
 }
 
@@ -87,7 +87,7 @@ impl Consumer {
         Ok(Consumer {
             spec,
             reload_hint,
-            held: Held::new(alloc),
+            held: HeldContent::new(alloc),
             session: None,
         })
     }
@@ -141,7 +141,8 @@ impl Consumer {
         ensures cookie { taking.KeepsCookie self.old.copy self.new.copy result }
         // What is put may be put by a commit of a replica: sound values, and no entry too heavy.
         ensures fit { taking.PutsFit result }
-        // Whatever came of the message, no name is there twice, and a directory may have the entries.
+        // Whatever came of the message, no name is there twice, and a directory may have the
+        // entries.
         ensures names { AreNamedApart self.new.copy.held }
         ensures clear { may_be_held self.new.copy.held ≡ true }
         // The puts and drops of a stage that took effect are a commit: a directory with the entries
@@ -150,22 +151,12 @@ impl Consumer {
         ensures spec { self.new.spec ≡ self.old.spec }
         ensures reload { self.new.reload ≡ self.old.reload }
     {
-        let Some(mut session) = self.session.take() else {
+        let Some(session) = self.session.take() else {
             return out_of_place(message);
         };
-        match session.take(&mut self.held, message) {
-            Ok(Step::Goes(taken)) => {
-                self.session = Some(session);
-                taken
-            }
-            Ok(Step::Ends(taken)) => taken,
-            Err(Refusal::NoMemory) => {
-                self.session = Some(session);
-                Taken::NoMemory
-            }
-            Err(Refusal::OutOfPlace) => out_of_place(message),
-            Err(Refusal::Fault(fault)) => Taken::Fault(fault),
-        }
+        let (session, taken) = after_message(session, &mut self.held, message);
+        self.session = session;
+        taken
     }
 
     /// Whether a search runs.
@@ -201,8 +192,8 @@ impl Consumer {
     }
 
     /// Wants this from now on, in place of what was wanted. The entries stay, up to the refresh
-    /// that reports which of them are wanted now. The cookie is lost, since it reports of what was wanted
-    /// before, and a search that runs is ended, with what is staged. It takes no memory.
+    /// that reports which of them are wanted now. The cookie is lost, since it reports of what was
+    /// wanted before, and a search that runs is ended, with what is staged. It takes no memory.
     pub fn respec(&mut self, spec: Spec)
         ensures { self.new ≡ taking.wanting self.old (search_of spec) }
     {
@@ -251,9 +242,9 @@ impl Consumer {
 
 /// Copies of what is held and of the search.
 fn copies_of(
-    held: &Held,
+    held: &HeldContent,
     session: &Option<SyncSession>,
-) -> Result<(Held, Option<SyncSession>), NoMemory>
+) -> Result<(HeldContent, Option<SyncSession>), NoMemory>
     ensures held { IfOk result (λ copies. copies.0 ≡ held.now) }
     ensures session { IfOk result (λ copies.
         option_map session_of copies.1 ≡ option_map session_of session.now) }
@@ -279,6 +270,25 @@ fn copy_of_spec(spec: &Spec) -> Result<Spec, NoMemory>
         scope: spec.scope,
         filter: spec.filter.copy()?,
     })
+}
+
+/// The search where it goes on after a message, and what came of that.
+fn after_message(
+    session: SyncSession,
+    held: &mut HeldContent,
+    message: &Message,
+) -> (Option<SyncSession>, Taken)
+    ensures { taking.Takes (copy_with held.old session) message.now
+        (copy_of held.new (option_map session_of result.0)) result.1 }
+{
+    let mut search = session;
+    match search.take(held, message) {
+        Ok(SearchStep::Goes(taken)) => (Some(search), taken),
+        Ok(SearchStep::Ends(taken)) => (None, taken),
+        Err(Refusal::NoMemory) => (Some(search), Taken::NoMemory),
+        Err(Refusal::OutOfPlace) => (None, out_of_place(message)),
+        Err(Refusal::Fault(fault)) => (None, Taken::Fault(fault)),
+    }
 }
 
 fn out_of_place(message: &Message) -> Taken

@@ -151,8 +151,8 @@ impl EntryMap {
         self.alloc
     }
 
-    /// These entries with the stage in effect, where a directory may have them. They are shared with this
-    /// map and the stage.
+    /// These entries with the stage in effect, where a directory may have them. They are shared
+    /// with this map and the stage.
     pub(crate) fn with(&self, stage: &Stage) -> Result<EntryMap, Refusal>
         ensures value { IfOk result (λ map. map ≡ effected self.now stage.now) }
         ensures fault { IfErr result (RefusesBy (against (effected self.now stage.now))) }

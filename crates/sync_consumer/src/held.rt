@@ -17,26 +17,26 @@ use std::alloc::Global;
 
 /// The entries, and the cookie of the content that they are.
 #[derive(Drop)]
-pub(crate) struct Held {
+pub(crate) struct HeldContent {
     pub(crate) entries: EntryMap,
     pub(crate) cookie: Option<Octets>,
 }
 
-impl Held {
-    pub(crate) fn new(alloc: Global) -> Held
+impl HeldContent {
+    pub(crate) fn new(alloc: Global) -> HeldContent
         ensures entries { result.entries ≡ [] }
         ensures cookie { result.cookie ≡ None }
     {
-        Held {
+        HeldContent {
             entries: EntryMap::new(alloc),
             cookie: None,
         }
     }
 
-    pub(crate) fn copy(&self) -> Result<Held, NoMemory>
+    pub(crate) fn copy(&self) -> Result<HeldContent, NoMemory>
         ensures { IfOk result (λ copy. copy ≡ self.now) }
     {
-        Ok(Held {
+        Ok(HeldContent {
             entries: self.entries.copy()?,
             cookie: copy_of(&self.cookie)?,
         })

@@ -9,7 +9,7 @@ ghost use Rattle.sync_consumer.specs.Staging.{changes_of, put_alone, rises, lowe
 
 use crate::kept::Kept;
 use crate::places::place_of_entry;
-use crate::stage::Staged;
+use crate::stage::StagedChange;
 use ldap_ber::NoMemory;
 use std::alloc::Global;
 use std::rc::Rc;
@@ -18,7 +18,7 @@ use std::rc::Rc;
 pub(crate) fn effected(
     alloc: Global,
     held: &[Rc<Kept>],
-    stage: &[Staged],
+    stage: &[StagedChange],
 ) -> Result<Vec<Rc<Kept>>, NoMemory>
     requires held { ascends (entries_in held.now) ≡ true }
     requires stage { rises (keys_of (changes_of stage.now)) ≡ true }
@@ -60,11 +60,11 @@ fn push_each(after: &mut Vec<Rc<Kept>>, entries: &[Rc<Kept>]) -> Result<(), NoMe
 }
 
 /// Pushes the entry, where the identity has one.
-fn push_put(after: &mut Vec<Rc<Kept>>, staged: &Staged) -> Result<(), NoMemory>
+fn push_put(after: &mut Vec<Rc<Kept>>, staged: &StagedChange) -> Result<(), NoMemory>
     ensures { OnOk result
         (entries_in after.new.items ≡ entries_in after.old.items ++ put_alone staged.now) }
 {
-    if let Staged::AddOrModify(kept) = staged {
+    if let StagedChange::AddOrModify(kept) = staged {
         after.push(kept.clone()?)?;
     }
     Ok(())

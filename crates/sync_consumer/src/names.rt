@@ -9,18 +9,18 @@ ghost use Rattle.sync_consumer.specs.Names as spec;
 ghost use Rattle.sync_consumer.specs.Staging.{changes_of, put_alone};
 
 use crate::kept::Kept;
-use crate::stage::{MOST_ENTRIES, MOST_WEIGHT, Staged};
+use crate::stage::{MOST_ENTRIES, MOST_WEIGHT, StagedChange};
 use ldap_ber::NoMemory;
 use std::alloc::Global;
 use std::collections::BTreeMap;
 use std::rc::Rc;
 
-/// Whether the entries that a stage left are within the limits of a directory, and none of them has a
-/// name that is put with another identity.
+/// Whether the entries that a stage left are within the limits of a directory, and none of them has
+/// a name that is put with another identity.
 pub(crate) fn are_clear(
     alloc: Global,
     after: &[Rc<Kept>],
-    stage: &[Staged],
+    stage: &[StagedChange],
 ) -> Result<bool, NoMemory>
     ensures { IfOk result (λ clear.
         IsTrue clear → spec.AreClear (puts_of (changes_of stage.now)) (entries_in after.now)) }
@@ -44,7 +44,7 @@ fn total_weight(entries: &[Rc<Kept>]) -> u64
 }
 
 /// The identities of the entries that are put, by the keys of their names.
-fn names_of(alloc: Global, stage: &[Staged]) -> Result<BTreeMap<&[u8], u128>, NoMemory>
+fn names_of(alloc: Global, stage: &[StagedChange]) -> Result<BTreeMap<&[u8], u128>, NoMemory>
     ensures { IfOk result (λ names. spec.are_noted names (puts_of (changes_of stage.now)) ≡ true) }
 {
     let mut names = BTreeMap::new(alloc);
@@ -55,11 +55,11 @@ fn names_of(alloc: Global, stage: &[Staged]) -> Result<BTreeMap<&[u8], u128>, No
 }
 
 /// Notes the entry, where one is put.
-fn note<'a>(names: &mut BTreeMap<&'a [u8], u128>, staged: &'a Staged) -> Result<(), NoMemory>
+fn note<'a>(names: &mut BTreeMap<&'a [u8], u128>, staged: &'a StagedChange) -> Result<(), NoMemory>
     ensures own { OnOk result (spec.are_noted names.new (put_alone staged.now) ≡ true) }
     ensures others { OnOk result (spec.Keeps names.old names.new) }
 {
-    if let Staged::AddOrModify(kept) = staged {
+    if let StagedChange::AddOrModify(kept) = staged {
         let _ = names.insert(kept.key(), kept.uuid())?;
     }
     Ok(())

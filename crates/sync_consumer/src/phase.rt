@@ -9,14 +9,14 @@ ghost use Rattle.sync_wire.specs.Requesting.{persists};
 ghost use Rattle.sync_consumer.specs.SyncSession.{session_of, copy_with, within, last_changes, refresh_ended, StepsTo, StepsBy};
 ghost use Rattle.sync_consumer.specs.Staging.{changes_of};
 ghost use Rattle.sync_consumer.specs.declared.consumer.Taken.TheVariants.{Stored, Copied, Over};
-ghost use Rattle.sync_consumer.specs.declared.session.Step.TheVariants.{Goes, Ends};
+ghost use Rattle.sync_consumer.specs.declared.session.SearchStep.TheVariants.{Goes, Ends};
 
 use crate::commit::Commit;
 use crate::consumer::Taken;
 use crate::fault::Refusal;
-use crate::held::Held;
-use crate::session::{Step, SyncSession};
-use crate::stage::{Staged, drops_of};
+use crate::held::HeldContent;
+use crate::session::{SearchStep, SyncSession};
+use crate::stage::{StagedChange, drops_of};
 use ldap_ber::{NoMemory, Octets};
 use ldap_constants::{E_SYNC_REFRESH_REQUIRED, SUCCESS};
 use sync_messages::SyncDone;
@@ -25,11 +25,11 @@ impl SyncSession {
     /// A delete phase ends, or else a present phase, and with it the refresh or not.
     pub(crate) fn end_phase(
         &mut self,
-        held: &mut Held,
+        held: &mut HeldContent,
         deletes: bool,
         done: bool,
         cookie: Option<Octets>,
-    ) -> Result<Step, Refusal>
+    ) -> Result<SearchStep, Refusal>
         ensures { StepsTo held.old self.old held.new self.new result
             (within false held.old self.old
             (taken_info (copy_with held.old self.old) (session_of self.old) deletes done cookie)) }
@@ -43,7 +43,7 @@ impl SyncSession {
         let changes = self.last_changes(held, deletes)?;
         let _ = self.stage.stage_each(changes)?;
         self.ended |= !deletes;
-        Ok(Step::Goes(Taken::Staged))
+        Ok(SearchStep::Goes(Taken::Staged))
     }
 
     /// Whether no such phase ends here: after the refresh none does, a refresh is not done by it
@@ -66,15 +66,15 @@ impl SyncSession {
     /// The search ends.
     pub(crate) fn end_search(
         &mut self,
-        held: &mut Held,
+        held: &mut HeldContent,
         code: i64,
         control: Option<SyncDone>,
-    ) -> Result<Step, Refusal>
+    ) -> Result<SearchStep, Refusal>
         ensures { StepsBy held.old self.old held.new self.new result
             (Done code (control_said control)) }
     {
         if self.is_over(code) {
-            return Ok(Step::Ends(over(held, code)));
+            return Ok(SearchStep::Ends(over(held, code)));
         }
         let Some(done) = control else {
             return Err(Refusal::OutOfPlace);
@@ -96,10 +96,10 @@ impl SyncSession {
     /// it does not persist.
     fn end_refresh(
         &mut self,
-        held: &mut Held,
+        held: &mut HeldContent,
         deletes: bool,
         cookie: Option<Octets>,
-    ) -> Result<Step, Refusal>
+    ) -> Result<SearchStep, Refusal>
         ensures { StepsTo held.old self.old held.new self.new result
             (within false held.old self.old
             (refresh_ended (copy_with held.old self.old) (session_of self.old) deletes cookie)) }
@@ -122,18 +122,18 @@ impl SyncSession {
     }
 
     /// Whether the search goes on after its refresh.
-    fn after_refresh(&self, taken: Taken) -> Step
+    fn after_refresh(&self, taken: Taken) -> SearchStep
         ensures { result ≡ cond (persists self.now.mode) (Goes taken) (Ends taken) }
     {
         if self.persists() {
-            Step::Goes(taken)
+            SearchStep::Goes(taken)
         } else {
-            Step::Ends(taken)
+            SearchStep::Ends(taken)
         }
     }
 
     /// What the end of a phase stages: a delete phase nothing.
-    fn last_changes(&self, held: &Held, deletes: bool) -> Result<Vec<Staged>, NoMemory>
+    fn last_changes(&self, held: &HeldContent, deletes: bool) -> Result<Vec<StagedChange>, NoMemory>
         ensures { IfOk result (λ changes.
             changes_of changes.items
             ≡ last_changes held.now.entries (session_of self.now) deletes) }
@@ -146,8 +146,9 @@ impl SyncSession {
     }
 }
 
-/// What is reported of a search that is over with this code, which may say that the cookie is of no use.
-fn over(held: &mut Held, code: i64) -> Taken
+/// What is reported of a search that is over with this code, which may say that the cookie is of no
+/// use.
+fn over(held: &mut HeldContent, code: i64) -> Taken
     ensures answer_taken { result ≡ Over code }
     ensures entries { held.new.entries ≡ held.old.entries }
     ensures cookie { held.new.cookie

@@ -8,7 +8,7 @@ ghost use Rattle.sync_consumer.specs.Holding.{entries_in};
 ghost use Rattle.sync_consumer.specs.Staging.{changes_of, rises, IsAt, IsGapFor};
 
 use crate::kept::Kept;
-use crate::stage::Staged;
+use crate::stage::StagedChange;
 use std::rc::Rc;
 
 /// Where the number is, or where it would be.
@@ -30,7 +30,7 @@ pub(crate) fn place_of_entry(entries: &[Rc<Kept>], uuid: u128) -> Result<usize, 
 }
 
 /// Where the change of the identity is, or where it would be.
-pub(crate) fn place_of_change(changes: &[Staged], uuid: u128) -> Result<usize, usize>
+pub(crate) fn place_of_change(changes: &[StagedChange], uuid: u128) -> Result<usize, usize>
     requires { rises (keys_of (changes_of changes.now)) ≡ true }
     ensures found { IfOk result (IsAt (keys_of (changes_of changes.now)) uuid) }
     ensures absent { IfErr result (IsGapFor (keys_of (changes_of changes.now)) uuid) }

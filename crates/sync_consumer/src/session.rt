@@ -9,9 +9,9 @@ ghost use Rattle.sync_consumer.specs.Staging.{changes_of, staged_each};
 
 use crate::consumer::Taken;
 use crate::fault::{PeerFault, Refusal};
-use crate::held::Held;
+use crate::held::HeldContent;
 use crate::named::Named;
-use crate::stage::{Stage, Staged, drops_of, put_of};
+use crate::stage::{Stage, StagedChange, drops_of, put_of};
 use entry_tree::Entry;
 use ldap_ber::{NoMemory, Octets};
 use ldap_messages::Message;
@@ -36,7 +36,7 @@ pub(crate) struct SyncSession {
 
 /// What a message leads to.
 #[derive(Drop)]
-pub(crate) enum Step {
+pub(crate) enum SearchStep {
     /// The search goes on.
     Goes(Taken),
     /// The search is at its end.
@@ -79,7 +79,11 @@ impl SyncSession {
     }
 
     /// Takes a message. Where memory ran out all is as before.
-    pub(crate) fn take(&mut self, held: &mut Held, message: &Message) -> Result<Step, Refusal>
+    pub(crate) fn take(
+        &mut self,
+        held: &mut HeldContent,
+        message: &Message,
+    ) -> Result<SearchStep, Refusal>
         ensures { taken_by_search held.old self.old held.new self.new result message.now }
     {
         if message.id != self.id {
@@ -90,7 +94,11 @@ impl SyncSession {
     }
 
     /// Takes what a message says.
-    fn take_decoded(&mut self, held: &mut Held, decoded: SyncEvent) -> Result<Step, Refusal>
+    fn take_decoded(
+        &mut self,
+        held: &mut HeldContent,
+        decoded: SyncEvent,
+    ) -> Result<SearchStep, Refusal>
         ensures { StepsBy held.old self.old held.new self.new result (message_of decoded) }
     {
         match decoded {
@@ -115,17 +123,17 @@ impl SyncSession {
             SyncEvent::RefreshDelete { done, cookie } => self.end_phase(held, true, done, cookie),
             SyncEvent::RefreshPresent { done, cookie } => self.end_phase(held, false, done, cookie),
             SyncEvent::Done { code, control } => self.end_search(held, code, control),
-            SyncEvent::Ignored => Ok(Step::Goes(Taken::Staged)),
+            SyncEvent::Ignored => Ok(SearchStep::Goes(Taken::Staged)),
         }
     }
 
     /// Stages an entry.
     fn put(
         &mut self,
-        held: &mut Held,
+        held: &mut HeldContent,
         entry: Entry,
         cookie: Option<Octets>,
-    ) -> Result<Step, Refusal>
+    ) -> Result<SearchStep, Refusal>
         ensures { StepsBy held.old self.old held.new self.new result
             (AddOrModify true entry cookie) }
     {
@@ -140,10 +148,10 @@ impl SyncSession {
     #[tactic(auto, using(crate::proofs::Outcomes::staged_dropped))]
     fn drop_each(
         &mut self,
-        held: &mut Held,
+        held: &mut HeldContent,
         uuids: &[u128],
         cookie: Option<Octets>,
-    ) -> Result<Step, Refusal>
+    ) -> Result<SearchStep, Refusal>
         ensures { StepsBy held.old self.old held.new self.new result (IdSet true uuids.now cookie) }
     {
         let changes = drops_of(held.entries.allocator(), uuids)?;
@@ -151,7 +159,7 @@ impl SyncSession {
     }
 
     /// Notes that these identities have an entry as before.
-    fn name(&mut self, held: &Held, uuids: &[u128]) -> Result<Step, Refusal>
+    fn name(&mut self, held: &HeldContent, uuids: &[u128]) -> Result<SearchStep, Refusal>
         ensures { StepsBy held.now self.old held.now self.new result (IdSet false uuids.now None) }
     {
         if self.persisting {
@@ -161,7 +169,7 @@ impl SyncSession {
             Some(uuid) => Err(Refusal::Fault(PeerFault::PresentUnknown(uuid))),
             None => {
                 self.named.add(uuids)?;
-                Ok(Step::Goes(Taken::Staged))
+                Ok(SearchStep::Goes(Taken::Staged))
             }
         }
     }
@@ -170,10 +178,10 @@ impl SyncSession {
     /// is not kept.
     fn stage_each(
         &mut self,
-        held: &mut Held,
-        changes: Vec<Staged>,
+        held: &mut HeldContent,
+        changes: Vec<StagedChange>,
         cookie: Option<Octets>,
-    ) -> Result<Step, Refusal>
+    ) -> Result<SearchStep, Refusal>
         ensures { StepsTo held.old self.old held.new self.new result
             (within false held.old self.old (model.with_cookie (copy_with held.old self.old)
             (record (session_of self.old) {
@@ -182,15 +190,15 @@ impl SyncSession {
     {
         let undo = self.stage.stage_each(changes)?;
         if !self.persisting {
-            return Ok(Step::Goes(Taken::Staged));
+            return Ok(SearchStep::Goes(Taken::Staged));
         }
         let Some(cookie) = cookie else {
-            return Ok(Step::Goes(Taken::Staged));
+            return Ok(SearchStep::Goes(Taken::Staged));
         };
         match held.commit_stage(&mut self.stage, Some(cookie)) {
             Ok(commit) => {
                 self.named.clear();
-                Ok(Step::Goes(Taken::Stored(commit)))
+                Ok(SearchStep::Goes(Taken::Stored(commit)))
             }
             Err(refusal) => {
                 self.stage.undo(undo);

@@ -26,28 +26,28 @@ pub(crate) const MOST_WEIGHT: u128 = 67_108_864;
 
 /// What is staged of an identity: its entry, or that it has none.
 #[derive(Drop)]
-pub(crate) enum Staged {
+pub(crate) enum StagedChange {
     AddOrModify(Rc<Kept>),
     Delete(u128),
 }
 
-impl Staged {
+impl StagedChange {
     pub(crate) fn uuid(&self) -> u128
         ensures { result ≡ (change_of self.now).0 }
     {
         match self {
-            Staged::AddOrModify(kept) => kept.uuid(),
-            Staged::Delete(uuid) => *uuid,
+            StagedChange::AddOrModify(kept) => kept.uuid(),
+            StagedChange::Delete(uuid) => *uuid,
         }
     }
 
     /// What shares the entry.
-    fn copy(&self) -> Result<Staged, NoMemory>
+    fn copy(&self) -> Result<StagedChange, NoMemory>
         ensures { IfOk result (λ copy. change_of copy ≡ change_of self.now) }
     {
         match self {
-            Staged::AddOrModify(kept) => Ok(Staged::AddOrModify(kept.clone()?)),
-            Staged::Delete(uuid) => Ok(Staged::Delete(*uuid)),
+            StagedChange::AddOrModify(kept) => Ok(StagedChange::AddOrModify(kept.clone()?)),
+            StagedChange::Delete(uuid) => Ok(StagedChange::Delete(*uuid)),
         }
     }
 
@@ -55,34 +55,34 @@ impl Staged {
         ensures { option_copied result ≡ (change_of self.now).1 }
     {
         match self {
-            Staged::AddOrModify(kept) => Some(kept.entry()),
-            Staged::Delete(_) => None,
+            StagedChange::AddOrModify(kept) => Some(kept.entry()),
+            StagedChange::Delete(_) => None,
         }
     }
 }
 
 /// That the identity has this entry.
-pub(crate) fn put_of(alloc: Global, entry: Entry) -> Result<Vec<Staged>, NoMemory>
+pub(crate) fn put_of(alloc: Global, entry: Entry) -> Result<Vec<StagedChange>, NoMemory>
     ensures { IfOk result (λ changes. changes_of changes.items ≡ (entry.uuid, Some entry) ∷ []) }
 {
     let mut changes = Vec::new(alloc);
-    changes.push(Staged::AddOrModify(Kept::shared(alloc, entry)?))?;
+    changes.push(StagedChange::AddOrModify(Kept::shared(alloc, entry)?))?;
     Ok(changes)
 }
 
 /// That these identities have no entry.
-pub(crate) fn drops_of(alloc: Global, uuids: &[u128]) -> Result<Vec<Staged>, NoMemory>
+pub(crate) fn drops_of(alloc: Global, uuids: &[u128]) -> Result<Vec<StagedChange>, NoMemory>
     ensures { IfOk result
         (λ changes. changes_of changes.items ≡ map (λ uuid. (uuid, None)) uuids.now) }
 {
     let mut changes = Vec::new(alloc);
     for uuid in uuids {
-        changes.push(Staged::Delete(*uuid))?;
+        changes.push(StagedChange::Delete(*uuid))?;
     }
     Ok(changes)
 }
 
-fn copies(alloc: Global, changes: &[Staged]) -> Result<Vec<Staged>, NoMemory>
+fn copies(alloc: Global, changes: &[StagedChange]) -> Result<Vec<StagedChange>, NoMemory>
     ensures { IfOk result (λ copied. changes_of copied.items ≡ changes_of changes.now) }
 {
     let mut copied = Vec::new(alloc);
@@ -95,14 +95,14 @@ fn copies(alloc: Global, changes: &[Staged]) -> Result<Vec<Staged>, NoMemory>
 /// What was staged of an identity before a change.
 #[derive(Drop)]
 pub(crate) enum Before {
-    Had(Staged),
+    Had(StagedChange),
     Nothing(u128),
 }
 
 /// What is staged, in ascending order of identity. The latest of an identity counts.
 #[derive(Drop)]
 pub(crate) struct Stage {
-    changes: Vec<Staged>,
+    changes: Vec<StagedChange>,
     load: Load,
 }
 
@@ -140,7 +140,7 @@ impl Stage {
         })
     }
 
-    pub(crate) fn changes(&self) -> &[Staged]
+    pub(crate) fn changes(&self) -> &[StagedChange]
         ensures value { changes_of result.now ≡ self.now }
         ensures ordered { rises (keys_of self.now) ≡ true }
     {
@@ -181,7 +181,7 @@ impl Stage {
     }
 
     /// Stages the changes, or none of them. What was staged before is answered, in their order.
-    pub(crate) fn stage_each(&mut self, changes: Vec<Staged>) -> Result<Vec<Before>, NoMemory>
+    pub(crate) fn stage_each(&mut self, changes: Vec<StagedChange>) -> Result<Vec<Before>, NoMemory>
         ensures ok { OnOk result (self.new ≡ staged_each self.old (changes_of changes.items)) }
         ensures undo { IfOk result (λ undo. undone self.new undo.items ≡ self.old) }
         ensures err { OnErr result (self.new ≡ self.old) }
@@ -206,7 +206,7 @@ impl Stage {
 
     /// Takes all that is staged.
     #[tactic(auto, using(crate::proofs::Stages::empty_stage))]
-    pub(crate) fn take(&mut self) -> Vec<Staged>
+    pub(crate) fn take(&mut self) -> Vec<StagedChange>
         ensures taken { changes_of result.items ≡ self.old }
         ensures ordered { rises (keys_of (changes_of result.items)) ≡ true }
         ensures emptied { self.new ≡ [] }
@@ -221,7 +221,7 @@ impl Stage {
 }
 
 /// The entry of the identity among the changes.
-fn entry_in(changes: &[Staged], uuid: u128) -> Option<&Entry>
+fn entry_in(changes: &[StagedChange], uuid: u128) -> Option<&Entry>
     requires { rises (keys_of (changes_of changes.now)) ≡ true }
     ensures { option_copied result ≡ spec.entry_staged (changes_of changes.now) uuid }
 {
@@ -232,7 +232,7 @@ fn entry_in(changes: &[Staged], uuid: u128) -> Option<&Entry>
 }
 
 /// The load of the changes without the entry of the identity.
-fn load_without(changes: &[Staged], load: &Load, uuid: u128) -> Load
+fn load_without(changes: &[StagedChange], load: &Load, uuid: u128) -> Load
     requires { IsStage (changes_of changes.now) load.now.count load.now.weight }
     ensures count { result.count + spec.count_of (spec.entry_staged (changes_of changes.now) uuid)
         ≡ load.now.count }

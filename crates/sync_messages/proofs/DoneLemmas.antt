@@ -10,7 +10,8 @@ use Rattle.ldap_ber.proofs.CanonicalLemmas.{Anything, sequence_spelled, made_spe
 use Rattle.sync_messages.specs.declared.fault.SyncFault.{SyncFault}
 use Rattle.sync_messages.specs.declared.fault.SyncFault.TheVariants.{Ber}
 use Rattle.sync_messages.specs.declared.done.SyncDone.{SyncDone}
-use Rattle.sync_messages.specs.Gives.{Gives}
+use Rattle.ldap_ber.specs.Gives.{Gives}
+use Rattle.sync_messages.specs.Faults.{Fails}
 use Rattle.sync_messages.specs.Parts.{CookieForm, FlagForm, cookie_at, flag_at, refresh_octets}
 use Rattle.sync_messages.specs.Done.{done_parts, done_with, DoneForm, done_at, done_of, done_octets}
 use Rattle.sync_messages.proofs.PartLemmas.{cookie_exact, flag_exact, refresh_spelled, if_found, only_this}
@@ -24,11 +25,11 @@ done_read : (bytes : List ℕ) (done : SyncDone) → DoneForm bytes done [] → 
 unfolding done_of
 done_read bytes done h = whole_only Ber DoneForm done_at done_exact bytes done h
 
-pub done_found : (result : Result SyncDone SyncFault) (bytes : List ℕ) → Gives (λ x. x) result (done_of bytes) → IfOk result (λ done. DoneForm bytes done [])
+pub done_found : (result : Result SyncDone SyncFault) (bytes : List ℕ) → Gives Fails (λ x. Ok x) result (done_of bytes) → IfOk result (λ done. DoneForm bytes done [])
 unfolding done_of
 done_found result bytes g = if_found DoneForm bytes result (done_of bytes) g (λ done h. whole_found Ber DoneForm done_at done_exact bytes done h)
 
-pub done_only : (result : Result SyncDone SyncFault) (bytes : List ℕ) (done : SyncDone) → Gives (λ x. x) result (done_of bytes) → DoneForm bytes done [] → Gives (λ x. x) result (Ok done)
+pub done_only : (result : Result SyncDone SyncFault) (bytes : List ℕ) (done : SyncDone) → Gives Fails (λ x. Ok x) result (done_of bytes) → DoneForm bytes done [] → Gives Fails (λ x. Ok x) result (Ok done)
 done_only result bytes done g h = only_this result (done_of bytes) done g (done_read bytes done h)
 
 canonical : (done : SyncDone) → IsSmall (done_octets done) → DoneForm (done_octets done) done []

@@ -15,7 +15,8 @@ use Rattle.sync_messages.specs.declared.fault.SyncFault.{SyncFault}
 use Rattle.sync_messages.specs.declared.fault.SyncFault.TheVariants.{Ber}
 use Rattle.sync_messages.specs.declared.info.SyncInfo.{SyncInfo}
 use Rattle.sync_messages.specs.declared.info.SyncInfo.TheVariants.{NewCookie, RefreshDelete, RefreshPresent, IdSet}
-use Rattle.sync_messages.specs.Gives.{Gives}
+use Rattle.ldap_ber.specs.Gives.{Gives}
+use Rattle.sync_messages.specs.Faults.{Fails}
 use Rattle.sync_messages.specs.Parts.{CookieForm, FlagForm, UuidForm, octet_string_at, uuid_at, cookie_octets, uuid_octets, refresh_octets}
 use Rattle.sync_messages.specs.Info.{RefreshForm, SetForm, InfoForm, refresh_at, set_at, deletes_with, presents_with, set_with, info_at, info_of, uuids_octets, info_octets, IsInRange}
 use Rattle.sync_messages.proofs.UuidLemmas.{octet_string_exact, uuid_exact, uuid_shortens, uuid_spelled}
@@ -77,11 +78,11 @@ info_read : (bytes : List ℕ) (info : SyncInfo) → InfoForm bytes info [] → 
 unfolding info_of
 info_read bytes info h = whole_only Ber InfoForm info_at info_exact bytes info h
 
-pub info_found : (result : Result SyncInfo SyncFault) (bytes : List ℕ) → Gives (λ x. x) result (info_of bytes) → IfOk result (λ info. InfoForm bytes info [])
+pub info_found : (result : Result SyncInfo SyncFault) (bytes : List ℕ) → Gives Fails (λ x. Ok x) result (info_of bytes) → IfOk result (λ info. InfoForm bytes info [])
 unfolding info_of
 info_found result bytes g = if_found InfoForm bytes result (info_of bytes) g (λ info h. whole_found Ber InfoForm info_at info_exact bytes info h)
 
-pub info_only : (result : Result SyncInfo SyncFault) (bytes : List ℕ) (info : SyncInfo) → Gives (λ x. x) result (info_of bytes) → InfoForm bytes info [] → Gives (λ x. x) result (Ok info)
+pub info_only : (result : Result SyncInfo SyncFault) (bytes : List ℕ) (info : SyncInfo) → Gives Fails (λ x. Ok x) result (info_of bytes) → InfoForm bytes info [] → Gives Fails (λ x. Ok x) result (Ok info)
 info_only result bytes info g h = only_this result (info_of bytes) info g (info_read bytes info h)
 
 -- ---- written

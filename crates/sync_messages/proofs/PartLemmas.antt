@@ -8,7 +8,8 @@ use Rattle.ldap_ber.proofs.ExactLemmas.{Exact, reworded_exact, integer_exact, bo
 use Rattle.ldap_ber.proofs.CanonicalLemmas.{Spelled, Always, Lacks, octets_spelled, optional_spelled, both_spelled, flag_spelled, begins_with, option_sound}
 use Rattle.sync_messages.specs.declared.fault.SyncFault.{SyncFault}
 use Rattle.sync_messages.specs.declared.fault.SyncFault.TheVariants.{Ber}
-use Rattle.sync_messages.specs.Gives.{Gives}
+use Rattle.ldap_ber.specs.Gives.{Gives}
+use Rattle.sync_messages.specs.Faults.{Fails}
 use Rattle.sync_messages.specs.Parts.{CookieForm, FlagForm, enumerated_at, cookie_at, flag_at, cookie_octets, refresh_octets}
 use Rattle.sync_messages.proofs.UuidLemmas.{octet_string_exact}
 
@@ -50,9 +51,9 @@ refresh_spelled usual =
 
 -- ---- answers
 
-pub if_found : {X : Type 0} (R : Form X) (bytes : List ℕ) (result read : Result X SyncFault) → Gives (λ x. x) result read → ((x : X) → read ≡ Ok x → R bytes x []) → IfOk result (λ x. R bytes x [])
+pub if_found : {X : Type 0} (R : Form X) (bytes : List ℕ) (result read : Result X SyncFault) → Gives Fails (λ x. Ok x) result read → ((x : X) → read ≡ Ok x → R bytes x []) → IfOk result (λ x. R bytes x [])
 if_found R bytes (Ok x) read g h = h x g
 if_found R bytes (Err e) read g h = tt
 
-pub only_this : {X : Type 0} (result read : Result X SyncFault) (x : X) → Gives (λ y. y) result read → read ≡ Ok x → Gives (λ y. y) result (Ok x)
-only_this {X} result read x g h = subst (λ (r : Result X SyncFault). Gives (λ y. y) result r) h g
+pub only_this : {X : Type 0} (result read : Result X SyncFault) (x : X) → Gives Fails (λ y. Ok y) result read → read ≡ Ok x → Gives Fails (λ y. Ok y) result (Ok x)
+only_this {X} result read x g h = subst (λ (r : Result X SyncFault). Gives Fails (λ y. Ok y) result r) h g

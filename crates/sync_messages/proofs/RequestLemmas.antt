@@ -17,7 +17,8 @@ use Rattle.sync_messages.specs.declared.fault.SyncFault.TheVariants.{Ber}
 use Rattle.sync_messages.specs.declared.request.Mode.{Mode}
 use Rattle.sync_messages.specs.declared.request.Mode.TheVariants.{RefreshOnly, RefreshAndPersist}
 use Rattle.sync_messages.specs.declared.request.SyncRequest.{SyncRequest}
-use Rattle.sync_messages.specs.Gives.{Gives}
+use Rattle.ldap_ber.specs.Gives.{Gives}
+use Rattle.sync_messages.specs.Faults.{Fails}
 use Rattle.sync_messages.specs.Parts.{CookieForm, FlagForm, enumerated_at, cookie_at, flag_at, refresh_octets}
 use Rattle.sync_messages.specs.Request.{mode_number, mode_of, IsMode, ModeForm, mode_at, request_parts, request_with, RequestForm, request_at, request_of, request_octets}
 use Rattle.sync_messages.proofs.PartLemmas.{enumerated_exact, cookie_exact, flag_exact, LacksBoth, refresh_spelled, if_found, only_this}
@@ -62,11 +63,11 @@ request_read : (bytes : List ℕ) (request : SyncRequest) → RequestForm bytes 
 unfolding request_of
 request_read bytes request h = whole_only Ber RequestForm request_at request_exact bytes request h
 
-pub request_found : (result : Result SyncRequest SyncFault) (bytes : List ℕ) → Gives (λ x. x) result (request_of bytes) → IfOk result (λ request. RequestForm bytes request [])
+pub request_found : (result : Result SyncRequest SyncFault) (bytes : List ℕ) → Gives Fails (λ x. Ok x) result (request_of bytes) → IfOk result (λ request. RequestForm bytes request [])
 unfolding request_of
 request_found result bytes g = if_found RequestForm bytes result (request_of bytes) g (λ request h. whole_found Ber RequestForm request_at request_exact bytes request h)
 
-pub request_only : (result : Result SyncRequest SyncFault) (bytes : List ℕ) (request : SyncRequest) → Gives (λ x. x) result (request_of bytes) → RequestForm bytes request [] → Gives (λ x. x) result (Ok request)
+pub request_only : (result : Result SyncRequest SyncFault) (bytes : List ℕ) (request : SyncRequest) → Gives Fails (λ x. Ok x) result (request_of bytes) → RequestForm bytes request [] → Gives Fails (λ x. Ok x) result (Ok request)
 request_only result bytes request g h = only_this result (request_of bytes) request g (request_read bytes request h)
 
 abbrev body : Mode × (Option (List ℕ) × Bool) → List ℕ

@@ -1,4 +1,4 @@
-pub mod Gives
+pub mod Faults
 pub mod Parts
 pub mod Request
 pub mod State

@@ -51,8 +51,11 @@ state_at = made_at state_with (sequence_at Ber 48 (both_at kind_at (both_at uuid
 unfoldable pub state_of : List ℕ → Result SyncState SyncFault
 state_of bytes = whole_at Ber state_at bytes
 
+-- the components, one after another
+abbrev pub parts_octets : SyncState → List ℕ
+parts_octets state =
+    element 10 (integer_octets (kind_number state.state))
+    ++ (uuid_octets state.uuid ++ cookie_octets state.cookie)
+
 unfoldable pub state_octets : SyncState → List ℕ
-state_octets state =
-    element 48
-    (element 10 (integer_octets (kind_number state.state))
-    ++ (uuid_octets state.uuid ++ cookie_octets state.cookie))
+state_octets state = element 48 (parts_octets state)

@@ -13,10 +13,11 @@
 //! }
 //! ```
 
-ghost use Rattle.std.specs.Prelude.{◌≡◌, ◌<◌, ◌^◌, [], Ok, IfOk};
-ghost use Rattle.ldap_ber.specs.Writer.{IsSmall};
-ghost use Rattle.sync_messages.specs.Gives.{Gives};
-ghost use Rattle.sync_messages.specs.State.{kind_of, kind_number, kind_at, StateForm, state_of, state_octets};
+ghost use Rattle.std.specs.Prelude.{◌≡◌, ◌<◌, ◌^◌, [], Ok, IfOk, OnOk};
+ghost use Rattle.ldap_ber.specs.Writer.{after_bytes, IsSmall};
+ghost use Rattle.ldap_ber.specs.Gives.{Gives};
+ghost use Rattle.sync_messages.specs.Faults.{Fails};
+ghost use Rattle.sync_messages.specs.State.{kind_of, kind_number, kind_at, StateForm, state_of, parts_octets, state_octets};
 
 use crate::fault::SyncFault;
 use crate::parts::{cookie_of, put_cookie, put_uuid, uuid_of};
@@ -45,12 +46,12 @@ impl SyncState {
 
     /// Reads the value that all of the bytes spell. Where they spell none it is the first fault
     /// from left to right, or `NoMemory`.
-    #[tactic(auto, using(crate::proofs::StateLemmas::state_found, crate::proofs::StateLemmas::state_only))]
+    #[tactic(auto, using(crate::proofs::StateLemmas::state_found))]
     pub fn read(alloc: Global, value: &[u8]) -> Result<SyncState, SyncFault>
-        ensures exact { Gives (λ state. state) result (state_of value.now) }
+        ensures exact { Gives Fails (λ state. Ok state) result (state_of value.now) }
         ensures found { IfOk result (λ state. StateForm value.now state []) }
         ensures only { (state : SyncState) → StateForm value.now state []
-            → Gives (λ read. read) result (Ok state) }
+            → Gives Fails (λ read. Ok read) result (Ok state) }
     {
         state_of(alloc, value)
     }
@@ -73,17 +74,24 @@ impl SyncState {
     {
         let mut writer = Writer::new(alloc);
         writer.begin(0x30)?;
-        writer.integer(0x0A, kind_number(self.state))?;
-        put_uuid(&mut writer, self.uuid)?;
-        put_cookie(&mut writer, &self.cookie)?;
+        put_parts(&mut writer, self)?;
         writer.end()?;
         Ok(writer.finish())
     }
 }
 
+fn put_parts(writer: &mut Writer, state: &SyncState) -> Result<(), NoMemory>
+    ensures ok { OnOk result (writer.new ≡ after_bytes writer.old (parts_octets state.now)) }
+    ensures in_range { OnOk result (state.now.uuid < 2 ^ 128) }
+{
+    writer.integer(0x0A, kind_number(state.state))?;
+    put_uuid(writer, state.uuid)?;
+    put_cookie(writer, &state.cookie)
+}
+
 #[tactic(auto, unfolding(crate::specs::State::state_of))]
 fn state_of(alloc: Global, value: &[u8]) -> Result<SyncState, SyncFault>
-    ensures { Gives (λ state. state) result (state_of value.now) }
+    ensures { Gives Fails (λ state. Ok state) result (state_of value.now) }
 {
     let mut outer = Reader::new(value);
     let whole = outer.expect(0x30)?;
@@ -102,7 +110,7 @@ fn state_of(alloc: Global, value: &[u8]) -> Result<SyncState, SyncFault>
 
 /// The state that comes next.
 fn kind_at(reader: &mut Reader) -> Result<State, SyncFault>
-    ensures exact { Gives (λ state. (state, reader.new.left)) result
+    ensures exact { Gives Fails (λ state. Ok (state, reader.new.left)) result
         (kind_at reader.old.stop reader.old.left) }
     ensures stop { reader.new.stop ≡ reader.old.stop }
 {
@@ -112,7 +120,7 @@ fn kind_at(reader: &mut Reader) -> Result<State, SyncFault>
 
 /// The state of this number.
 fn kind_of(number: i64) -> Result<State, SyncFault>
-    ensures { Gives (λ state. state) result (kind_of number) }
+    ensures { Gives Fails (λ state. Ok state) result (kind_of number) }
 {
     match number {
         0 => Ok(State::Present),

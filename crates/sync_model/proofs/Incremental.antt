@@ -17,7 +17,7 @@ use Rattle.sync_model.specs.Stream.Start.{InitialContent, DeletePhase, PresentPh
 use Rattle.sync_model.specs.Law.{Ascending, MarksRise, IsCut}
 use Rattle.sync_model.specs.Incremental.{number_of, sent_entry, about}
 use Rattle.sync_model.proofs.Maps.{entry_at-uuid}
-use Rattle.sync_model.proofs.Same.{one_found-same}
+use Rattle.entry_tree.proofs.Same.{one_found-same}
 use Rattle.sync_model.proofs.Steps.{differing, among-differing, same_outside, over_none, among-over_more, over_split}
 use Rattle.sync_model.proofs.Gather.{Each, EachD, EachM, each-append, eachd-append, each-gathered}
 use Rattle.sync_model.proofs.Refresh.{marks-last, found, found_from_state}

@@ -16,7 +16,7 @@ use Rattle.sync_model.specs.Copy.{Stage, SyncSession, Copy, Answer, slot, staged
 use Rattle.sync_model.specs.Copy.Answer.{Stored}
 use Rattle.sync_model.specs.Law.{Ascending, settled, cookie_after, is_nil}
 use Rattle.sync_model.proofs.Maps.{slot-staged, entry_at-uuid}
-use Rattle.sync_model.proofs.Order.{same_entries}
+use Rattle.entry_tree.proofs.Order.{same_entries}
 use Rattle.sync_model.proofs.Steps.{differing, same_outside}
 use Rattle.sync_model.proofs.Gather.{Each}
 use Rattle.sync_model.proofs.Taking.{IsOwn, IsKeyed, keyed-staged, taken-own, at-effected, ascends-effected}

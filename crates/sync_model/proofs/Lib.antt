@@ -13,10 +13,8 @@ pub mod LaterWrites
 pub mod Limits
 pub mod Maps
 pub mod NextMessages
-pub mod Order
 pub mod Pigeons
 pub mod Refresh
-pub mod Same
 pub mod Stages
 pub mod Steps
 pub mod Taking

@@ -18,7 +18,7 @@ use Rattle.sync_model.specs.Copy.Fault.{StageFull, DuplicateName}
 use Rattle.sync_model.specs.Within.{is_crowded, same_named, against}
 use Rattle.sync_model.specs.Law.{IsWithin}
 use Rattle.sync_model.proofs.Maps.{entry_at-uuid}
-use Rattle.sync_model.proofs.Order.{entry_at-filter, same_entries}
+use Rattle.entry_tree.proofs.Order.{entry_at-filter, same_entries}
 use Rattle.sync_model.proofs.Gather.{Each}
 
 -- ---- entries within the limits

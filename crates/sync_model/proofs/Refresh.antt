@@ -18,7 +18,7 @@ use Rattle.sync_model.specs.Message.SyncMessage.{RefreshPresent}
 use Rattle.sync_model.specs.Copy.{Stage, Copy, Answer, slot, asked, taken_in, taken_all, effected, present_ended}
 use Rattle.sync_model.specs.Law.{Ascending, MarksRise, IsCut, Begins, settled}
 use Rattle.sync_model.proofs.Maps.{among-append, among-identities, entry_at-uuid}
-use Rattle.sync_model.proofs.Order.{entry_at-filter, same_entries}
+use Rattle.entry_tree.proofs.Order.{entry_at-filter, same_entries}
 use Rattle.sync_model.proofs.Steps.{steady_within}
 use Rattle.sync_model.proofs.Gather.{EachD, EachM, meant, meant_d, eachd-append, meant_d-append, each-gathered, meant-gathered}
 use Rattle.sync_model.proofs.Taking.{refreshing, session_in, names_after, stage_after, taken-own, taken-part, at-effected, ascends-effected, IsKeyed, keyed-present_ended, keyed-stage_after, Fine, Right, fine_once, stage_untouched, names_untouched, staged_last, ended_fine, ended_clear}

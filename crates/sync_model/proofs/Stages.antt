@@ -17,8 +17,8 @@ use Rattle.sync_model.specs.Message.{SyncMessage}
 use Rattle.sync_model.specs.Message.SyncMessage.{AddOrModify, Delete, Present, IdSet, NewCookie, RefreshDelete, RefreshPresent, Done, Ignored}
 use Rattle.sync_model.proofs.Gather.{Each}
 use Rattle.sync_model.proofs.Later.{IsStep, staged_all}
-use Rattle.sync_model.proofs.Limits.{Ordered, ordered-staged}
-use Rattle.sync_model.proofs.Order.{same_entries}
+use Rattle.sync_model.proofs.Limits.{Ordered, option_or-none, ordered-staged}
+use Rattle.entry_tree.proofs.Order.{same_entries}
 use Rattle.sync_model.proofs.Taking.{IsOwn, IsKeyed, keyed-staged, staged_by, stage_after, ascends-effected, at-effected}
 
 -- ---- a stage is in ascending order, with each put under its entry's identity
@@ -81,10 +81,6 @@ none_above : (stage : Stage) (v : ℕ) → Each (λ (later : ℕ × Option Entry
 none_above [] v above = refl
 none_above (s ∷ stage) v above = cond-false _ _ _ (ne_eqb v s.0 (λ same. let never : ⊥ = omega (arith, same, above.0) in never)) ∙ none_above stage v above.1
 
-first_none : (one other : Option Entry) → option_or one other ≡ None → one ≡ None
-first_none None other h = refl
-first_none (Some e) other h = let never : ⊥ = cc in absurd never
-
 or_none : (found : Option Entry) → option_or found None ≡ found
 or_none None = refl
 or_none (Some e) = refl
@@ -102,8 +98,8 @@ slot_left (s ∷ stage) u was ordered keyed = step s.1 (nat_eq u s.0) refl keyed
     -- nothing further is at an identity below all those that follow
     nothing : nat_eq u s.0 ≡ true → left_at stage u None ≡ unwrap_or (slot stage u) None → entry_at (reverse puts) u ≡ None
     nothing here is =
-        first_none (entry_at (reverse puts) u) (cond (among u drops) None None)
-        (is ∙ ap (λ found. unwrap_or found None) (ap (slot stage) (eqb-true u s.0 here) ∙ none_above stage s.0 ordered.0))
+        (option_or-none (entry_at (reverse puts) u) (cond (among u drops) None None)
+        (is ∙ ap (λ found. unwrap_or found None) (ap (slot stage) (eqb-true u s.0 here) ∙ none_above stage s.0 ordered.0))).0
 
     step : (change : Option Entry) (here : Bool) → nat_eq u s.0 ≡ here → IsOwn s.0 change → left_at stage u was ≡ unwrap_or (slot stage u) was → left_at stage u None ≡ unwrap_or (slot stage u) None
         → option_or (entry_at (reverse (cons_option change puts)) u) (cond (among u (cons_option (cond (is_none change) (Some s.0) None) drops)) None was)

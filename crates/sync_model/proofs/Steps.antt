@@ -10,7 +10,7 @@ use Rattle.entry_tree.specs.Touched.{identities, joined, change_at, is_change, t
 use Rattle.entry_tree.specs.History.{differing_over}
 use Rattle.sync_model.specs.Stream.{among}
 use Rattle.sync_model.proofs.Maps.{among-joined, among-filter, among-identities}
-use Rattle.sync_model.proofs.Same.{one_found-true}
+use Rattle.entry_tree.proofs.Same.{one_found-true}
 
 -- the identities that differ between two states
 abbrev pub differing : List Entry → List Entry → List ℕ

@@ -24,7 +24,7 @@ use Rattle.sync_model.specs.Stream.{SyncOperation, Start, among, is_delete_phase
 use Rattle.sync_model.specs.Stream.Start.{InitialContent, DeletePhase, PresentPhase}
 use Rattle.sync_model.proofs.Gather.{Each}
 use Rattle.sync_model.proofs.Histories.{ascends-state_of}
-use Rattle.sync_model.proofs.Order.{entry_at-filter}
+use Rattle.entry_tree.proofs.Order.{entry_at-filter}
 use Rattle.sync_model.proofs.Steps.{over_none}
 use Rattle.directory_writes.specs.Directory.{DirectoryState, entries_of, cookie_at, cookie_of}
 use Rattle.sync_provider.specs.Gathering.{AreOf}

@@ -1,16 +1,14 @@
 -- What a write's touches say to a search is what its Stream sends for the write.
-use Rattle.std.proofs.Common.{◌≡◌, ℕ, ◌+◌, Bool, true, false, cond, List, [], ◌∷◌, ◌++◌, length, map, refl, sym, ap, ◌∙◌, arith, Some, None, Option, inl, inr, length-append, nat_eq, nat_lt, eqb-true, eq-eqb}
+use Rattle.std.proofs.Common.{◌≡◌, ℕ, ◌+◌, Bool, true, false, cond, List, [], ◌∷◌, ◌++◌, length, map, refl, sym, ap, ◌∙◌, arith, Some, None, Option, inl, inr, length-append, nat_eq, eqb-true, eq-eqb}
 use Rattle.std.specs.Prelude.{not, ◌||◌, ◌&&◌, filter, flat_map, is_some, take}
-use Rattle.std.specs.BTreeSet.{insert_key}
 use Rattle.std.specs.Cmp.{nat_cmp_total}
-use Rattle.std.specs.Ordering.{nat_cmp, is_eq}
-use Rattle.std.specs.declared.cmp.Ordering.TheVariants.{Equal}
-use Rattle.std.proofs.lemmas.Bool.{and_parts, false≢true, ltb-true, or_right}
+use Rattle.std.specs.Ordering.{nat_cmp}
+use Rattle.std.proofs.lemmas.Bool.{false≢true, or_right}
 use Rattle.std.proofs.lemmas.List.{append-nil}
 use Rattle.std.proofs.lemmas.Map.Entries.{option_filter}
 use Rattle.csn_cookie.specs.Csn.{start}
 use Rattle.csn_cookie.specs.Cookie.{cookie_text}
-use Rattle.dn_names.proofs.SortedLists.{In, Below, Sorted, sorted-insert, same_members}
+use Rattle.dn_names.proofs.SortedLists.{In, Sorted, same_members}
 use Rattle.dn_names.specs.Writing.{name_text}
 use Rattle.entry_tree.specs.declared.entry.Entry.{Entry}
 use Rattle.entry_tree.specs.declared.op.Write.{Write}
@@ -21,7 +19,7 @@ use Rattle.entry_tree.specs.Selection.{Search, select, is_selected}
 use Rattle.entry_tree.specs.State.{ascends, entry_at}
 use Rattle.entry_tree.specs.Touched.{identities, joined, change_at, is_change, touched}
 use Rattle.entry_tree.proofs.Directory.{ascends_filter}
-use Rattle.entry_tree.proofs.Identities.{above}
+use Rattle.entry_tree.proofs.Searching.{same_where}
 use Rattle.sync_model.specs.Message.{CookieText, SyncMessage}
 use Rattle.sync_model.specs.Message.SyncMessage.{AddOrModify, Delete}
 use Rattle.sync_model.specs.Stream.{among, notified, notified_all}
@@ -29,50 +27,17 @@ use Rattle.sync_model.proofs.Gather.{Each}
 use Rattle.sync_model.proofs.Histories.{ascends-state_of}
 use Rattle.sync_model.proofs.Later.{IsStep, each-touched}
 use Rattle.sync_model.proofs.Maps.{among-joined, among-filter, among-identities}
-use Rattle.sync_model.proofs.Order.{entry_at-filter}
-use Rattle.sync_model.proofs.Same.{one_entry-true, one_found-same}
+use Rattle.entry_tree.proofs.Order.{entry_at-filter}
+use Rattle.entry_tree.proofs.Same.{one_entry-true, one_found-same}
 use Rattle.sync_model.proofs.Steps.{differs}
 use Rattle.directory_writes.specs.Directory.{DirectoryState, cookie_at, entries_of, entries_after, last_csn, with_write}
-use Rattle.directory_writes.proofs.Keyed.{less_cmp, at-is}
+use Rattle.directory_writes.proofs.SortedIdentities.{sorted-filter, sorted-identities, sorted-joined}
 use Rattle.directory_writes.proofs.Writes.{state_now, csn_now, last_csn-push}
 use Rattle.sync_provider.specs.Queueing.{group_of}
 use Rattle.sync_provider.specs.Search.{SearchState}
 use Rattle.sync_provider.specs.Staging.{chosen, notified_of_change, notified_of_changes, with_cookie, last_with_cookie, messages_for}
 
 -- ---- lists of identities in ascending order
-
-below-filter : (test : ℕ → Bool) (x : ℕ) (ys : List ℕ) → Below nat_cmp x ys → Below nat_cmp x (filter test ys)
-below-filter test x [] below = tt
-below-filter test x (y ∷ ys) below = by (test y) (below-filter test x ys below.1) where
-  by : (b : Bool) → Below nat_cmp x (filter test ys) → Below nat_cmp x (cond b (y ∷ filter test ys) (filter test ys))
-  by true rest = (below.0, rest)
-  by false rest = rest
-
-sorted-filter : (test : ℕ → Bool) (xs : List ℕ) → Sorted nat_cmp xs → Sorted nat_cmp (filter test xs)
-sorted-filter test [] sorted = tt
-sorted-filter test (x ∷ xs) sorted = by (test x) (sorted-filter test xs sorted.1) where
-  by : (b : Bool) → Sorted nat_cmp (filter test xs) → Sorted nat_cmp (cond b (x ∷ filter test xs) (filter test xs))
-  by true rest = (below-filter test x xs sorted.0, rest)
-  by false rest = rest
-
-exact : (x y : ℕ) → nat_cmp x y ≡ Equal → x ≡ y
-exact x y is = at-is x y (ap is_eq is)
-
-sorted-joined : (ys xs : List ℕ) → Sorted nat_cmp xs → Sorted nat_cmp (joined xs ys)
-sorted-joined [] xs sorted = sorted
-sorted-joined (y ∷ ys) xs sorted = sorted-joined ys (insert_key nat_cmp xs y) (sorted-insert nat_cmp_total exact xs y sorted)
-
-below-identities : (u : ℕ) (es : List Entry) → above u es ≡ true → Below nat_cmp u (identities es)
-below-identities u [] h = tt
-below-identities u (e ∷ es) h =
-    let p = and_parts (nat_lt u e.uuid) (above u es) h in
-    (less_cmp u e.uuid (ltb-true u e.uuid p.0), below-identities u es p.1)
-
-sorted-identities : (es : List Entry) → ascends es ≡ true → Sorted nat_cmp (identities es)
-sorted-identities [] asc = tt
-sorted-identities (e ∷ es) asc =
-    let p = and_parts (above e.uuid es) (ascends es) asc in
-    (below-identities e.uuid es p.0, sorted-identities es p.1)
 
 in-among : (u : ℕ) (xs : List ℕ) → In u xs → among u xs ≡ true
 in-among u [] is = absurd is
@@ -88,7 +53,7 @@ among-in u (x ∷ xs) h = by (among-in u xs) (nat_eq u x) refl h where
 
 same_list : (xs ys : List ℕ) → Sorted nat_cmp xs → Sorted nat_cmp ys → ((u : ℕ) → among u xs ≡ among u ys) → xs ≡ ys
 same_list xs ys one other same =
-    same_members nat_cmp_total exact xs ys one other
+    same_members nat_cmp_total same_where xs ys one other
     (λ u is. among-in u ys (sym (same u) ∙ in-among u xs is))
     (λ u is. among-in u xs (same u ∙ in-among u ys is))
 

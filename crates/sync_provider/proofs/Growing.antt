@@ -1,5 +1,5 @@
 -- What a search is to send, over a history that grows.
-use Rattle.std.proofs.Common.{◌≡◌, ℕ, zero, suc, ◌+◌, ◌-◌, ◌≤◌, Bool, true, false, cond, List, [], ◌∷◌, ◌++◌, length, refl, sym, ap, ◌∙◌, arith, subst, append_assoc, length-append}
+use Rattle.std.proofs.Common.{◌≡◌, ℕ, zero, suc, ◌+◌, ◌-◌, ◌≤◌, Bool, true, false, cond, List, [], ◌∷◌, ◌++◌, length, refl, sym, ap, ◌∙◌, arith, subst, append_assoc, append-nil, length-append}
 use Rattle.std.specs.Prelude.{Option, Some, None, option_map, Result, Ok, Err}
 use Rattle.std.specs.BTreeMap.{is_at}
 use Rattle.std.specs.Ordering.{nat_cmp}
@@ -9,7 +9,7 @@ use Rattle.entry_tree.specs.declared.op.Write.{Write}
 use Rattle.entry_tree.specs.declared.entry.Entry.{Entry}
 use Rattle.sync_model.specs.Message.{CookieText, SyncMessage}
 use Rattle.sync_model.specs.Message.SyncMessage.{AddOrModify, Delete, Present, IdSet, NewCookie, RefreshDelete, RefreshPresent, Done, Ignored}
-use Rattle.sync_model.specs.Stream.{SyncOperation, Start, WalkDecision, group, later, notified, notified_all, gathered, end_of, is_delete_phase, content_after}
+use Rattle.sync_model.specs.Stream.{SyncOperation, Start, WalkDecision, group, later, stream, notified, notified_all, gathered, end_of, is_delete_phase, content_after}
 use Rattle.sync_model.proofs.Gather.{Each, IsPart, each-append, each-gathered}
 use Rattle.sync_model.proofs.LaterWrites.{each_weaker}
 use Rattle.sync_model.proofs.NextMessages.{any_decision}
@@ -22,8 +22,9 @@ use Rattle.sync_provider.specs.Committing.{commit_refusal}
 use Rattle.sync_provider.specs.Machine.{ProviderState, ProviderCall, each_informed, judged_by, called, run}
 use Rattle.sync_provider.specs.Machine.ProviderCall.{Writes, Commits, Accepts, HandsOut, Drops, SetsLogLimit, SetsQueueLimit}
 use Rattle.sync_provider.specs.Queueing.{group_of, informed}
-use Rattle.sync_provider.specs.Search.{SearchState, refresh_from, is_end}
+use Rattle.sync_provider.specs.Search.{SearchState, session_of, whole_walk, refresh_from, is_end}
 use Rattle.sync_provider.proofs.Commits.{commit_case}
+use Rattle.sync_provider.proofs.Informed.{IsSame}
 use Rattle.sync_provider.proofs.Refreshes.{decided_all, refresh_from-is, group-longer}
 
 -- ---- histories that begin with a directory's writes
@@ -52,13 +53,6 @@ run_begins (call ∷ calls) p writes begins = called_begins p call writes (run_b
 
 -- ---- what later writes send
 
-later_goes : (d : DirectoryState) (s : SearchState) (count : ℕ) (writes : List Write) → s.persists ≡ true
-    → later_of d s count writes ≡ later (session_at d s writes) s.accepted (count - s.accepted)
-later_goes d s count writes goes = ap (λ b. cond {A = List SyncMessage} b (later (session_at d s writes) s.accepted (count - s.accepted)) []) goes
-
-pub later_stays : (d : DirectoryState) (s : SearchState) (count : ℕ) (writes : List Write) → s.persists ≡ false → later_of d s count writes ≡ []
-later_stays d s count writes stays = ap (λ b. cond {A = List SyncMessage} b (later (session_at d s writes) s.accepted (count - s.accepted)) []) stays
-
 -- none does at first
 pub later_none : (d : DirectoryState) (s : SearchState) (writes : List Write) → later_of d s s.accepted writes ≡ []
 later_none d s writes =
@@ -69,15 +63,20 @@ later_none d s writes =
     both true = refl
     both false = refl
 
-pub later_more : (d : DirectoryState) (s : SearchState) (count : ℕ) (writes : List Write) → s.accepted ≤ count → s.persists ≡ true
-    → later_of d s (count + 1) writes ≡ later_of d s count writes ++ group (session_at d s writes) count
-later_more d s count writes low goes =
-    let more : count + 1 - s.accepted ≡ suc (count - s.accepted) = omega (arith, low) in
-    let here : s.accepted + (count - s.accepted) ≡ count = omega (arith, low) in
-    later_goes d s (count + 1) writes goes
-    ∙ ap (later (session_at d s writes) s.accepted) more
-    ∙ ap (λ n. later (session_at d s writes) s.accepted (count - s.accepted) ++ group (session_at d s writes) n) here
-    ∙ ap (λ ms. ms ++ group (session_at d s writes) count) (sym (later_goes d s count writes goes))
+-- one write more sends what it changes to a search that goes on
+pub stream_more : (operation : SyncOperation) (start : Start) (opened count : ℕ)
+    → stream operation start opened (whole_walk operation start opened) (suc count)
+    ≡ stream operation start opened (whole_walk operation start opened) count ++ cond operation.persists (group operation (opened + count)) []
+stream_more operation start opened count = by operation.persists
+  where
+    refreshed : List SyncMessage
+    refreshed = refresh_from operation start opened
+
+    by : (b : Bool)
+        → refreshed ++ cond b (later operation opened count ++ group operation (opened + count)) []
+        ≡ (refreshed ++ cond b (later operation opened count) []) ++ cond b (group operation (opened + count)) []
+    by true = sym (append_assoc refreshed (later operation opened count) (group operation (opened + count)))
+    by false = sym (append-nil (refreshed ++ []))
 
 -- over each longer history a write sends the same
 pub group_in : (d : DirectoryState) (s : SearchState) (w : Write) (writes : List Write) → BeginsWith (with_write d w) writes
@@ -85,13 +84,37 @@ pub group_in : (d : DirectoryState) (s : SearchState) (w : Write) (writes : List
 group_in d s w writes begins =
     group-longer s.persists d.sid d.history s.spec (d.writes ++ w ∷ []) begins.0 writes (length d.writes) begins.1 (omega (arith, length-append d.writes (w ∷ [])))
 
-pub later_grows : (d : DirectoryState) (s : SearchState) (w : Write) (writes : List Write) → s.accepted ≤ length d.writes → s.persists ≡ true → BeginsWith (with_write d w) writes
-    → later_of d s (length (d.writes ++ w ∷ [])) writes ≡ later_of d s (length d.writes) writes ++ group_of d s w
-later_grows d s w writes low goes begins =
-    let long : length (d.writes ++ w ∷ []) ≡ length d.writes + 1 = omega (arith, length-append d.writes (w ∷ [])) in
-    ap (λ n. later_of d s n writes) long
-    ∙ later_more d s (length d.writes) writes low goes
-    ∙ ap (λ ms. later_of d s (length d.writes) writes ++ ms) (group_in d s w writes begins)
+pub later_grows : (d : DirectoryState) (s : SearchState) (w : Write) (writes : List Write) → s.accepted ≤ length d.writes → BeginsWith (with_write d w) writes
+    → later_of d s (length (d.writes ++ w ∷ [])) writes ≡ later_of d s (length d.writes) writes ++ cond s.persists (group_of d s w) []
+later_grows d s w writes low begins =
+    let more : length (d.writes ++ w ∷ []) - s.accepted ≡ suc (length d.writes - s.accepted) = omega (arith, length-append d.writes (w ∷ []), low) in
+    let here : s.accepted + (length d.writes - s.accepted) ≡ length d.writes = omega (arith, low) in
+    ap (λ n. cond s.persists (later operation s.accepted n) []) more
+    ∙ by s.persists
+    ∙ ap (λ n. later_of d s (length d.writes) writes ++ cond s.persists (group operation n) []) here
+    ∙ ap (λ ms. later_of d s (length d.writes) writes ++ cond s.persists ms []) (group_in d s w writes begins)
+  where
+    operation : SyncOperation
+    operation = session_at d s writes
+
+    count : ℕ
+    count = length d.writes - s.accepted
+
+    by : (b : Bool)
+        → cond b (later operation s.accepted count ++ group operation (s.accepted + count)) []
+        ≡ cond b (later operation s.accepted count) [] ++ cond b (group operation (s.accepted + count)) []
+    by true = refl
+    by false = refl
+
+-- ---- a search that is the same but for its messages
+
+pub refresh_like : (s0 s : SearchState) (d : DirectoryState) (writes : List Write) → IsSame s0 s → refresh_of d s0 writes ≡ refresh_of d s writes
+refresh_like s0 s d writes same i = refresh_from (session_of (sym same.persists i) d.sid d.history (sym same.spec i) writes) (sym same.start i) (sym same.accepted i)
+
+pub later_like : (s0 s : SearchState) (d : DirectoryState) (count : ℕ) (writes : List Write) → IsSame s0 s → later_of d s0 count writes ≡ later_of d s count writes
+later_like s0 s d count writes same i =
+    cond {A = List SyncMessage} (sym same.persists i)
+    (later (session_of (sym same.persists i) d.sid d.history (sym same.spec i) writes) (sym same.accepted i) (count - sym same.accepted i)) []
 
 -- ---- a search among the open ones after a write
 
@@ -123,7 +146,7 @@ end_goes true cookie = refl
 end_goes false cookie = refl
 
 -- nor is any message of that refresh
-pub refresh_from-goes : (operation : SyncOperation) (start : Start) (count : ℕ) → operation.persists ≡ true → Each GoesOn (refresh_from operation start count)
+refresh_from-goes : (operation : SyncOperation) (start : Start) (count : ℕ) → operation.persists ≡ true → Each GoesOn (refresh_from operation start count)
 refresh_from-goes operation start count goes =
     subst (Each GoesOn) (sym (refresh_from-is operation start count))
     (each-append GoesOn (gathered deletes decisions) (end_with operation.persists ∷ [])
@@ -140,9 +163,6 @@ refresh_from-goes operation start count goes =
     end_with : Bool → SyncMessage
     end_with b = end_of b deletes (operation.cookies count)
 
-pub refresh_goes : (d : DirectoryState) (s : SearchState) (writes : List Write) → s.persists ≡ true → Each GoesOn (refresh_of d s writes)
-refresh_goes d s writes goes = refresh_from-goes (session_at d s writes) s.start s.accepted goes
-
 notified_goes : (cookie : Option CookieText) (uuid : ℕ) (was now : Option Entry) → Each GoesOn (notified cookie uuid was now)
 notified_goes cookie uuid None None = tt
 notified_goes cookie uuid (Some was) None = (refl, tt)
@@ -156,14 +176,15 @@ notified_all_goes (t ∷ u ∷ entry_changes) cookie =
     each-append GoesOn (notified None t.uuid t.before t.after) (notified_all cookie (u ∷ entry_changes)) (notified_goes None t.uuid t.before t.after) (notified_all_goes (u ∷ entry_changes) cookie)
 
 -- nor is one of later writes
-pub later_all_go : (count : ℕ) (operation : SyncOperation) (from : ℕ) → Each GoesOn (later operation from count)
+later_all_go : (count : ℕ) (operation : SyncOperation) (from : ℕ) → Each GoesOn (later operation from count)
 later_all_go zero operation from = tt
 later_all_go (suc count) operation from =
     each-append GoesOn (later operation from count) (group operation (from + count)) (later_all_go count operation from)
     (notified_all_goes (touched (content_after operation (from + count)) (content_after operation (from + count + 1))) (operation.cookies (from + count + 1)))
 
-pub laters_go : (d : DirectoryState) (s : SearchState) (count : ℕ) (writes : List Write) → Each GoesOn (later_of d s count writes)
-laters_go d s count writes = by s.persists where
-  by : (b : Bool) → Each GoesOn (cond {A = List SyncMessage} b (later (session_at d s writes) s.accepted (count - s.accepted)) [])
-  by true = later_all_go (count - s.accepted) (session_at d s writes) s.accepted
-  by false = tt
+-- nor is any of a search that goes on
+pub stream_goes : (operation : SyncOperation) (start : Start) (opened count : ℕ) → operation.persists ≡ true
+    → Each GoesOn (stream operation start opened (whole_walk operation start opened) count)
+stream_goes operation start opened count goes =
+    each-append GoesOn (refresh_from operation start opened) (cond operation.persists (later operation opened count) []) (refresh_from-goes operation start opened goes)
+    (subst (λ b. Each GoesOn (cond b (later operation opened count) [])) (sym goes) (later_all_go count operation opened))

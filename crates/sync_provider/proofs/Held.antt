@@ -1,14 +1,14 @@
 -- The open searches as they are kept, by their numbers.
 use Rattle.std.proofs.Common.{◌≡◌, ℕ, Bool, true, false, cond, List, [], ◌∷◌, Option, Some, None, refl, ap, sym, subst, ◌∙◌, ◌⊎◌, inl, inr}
 use Rattle.std.specs.Prelude.{is_some, option_map}
-use Rattle.std.specs.List.{list_all, list_any}
+use Rattle.std.specs.List.{list_all}
 use Rattle.std.specs.BTreeMap.{insert_entry, is_at}
 use Rattle.std.specs.Map.{keys_of, values_of}
 use Rattle.std.specs.Map.Calls.{RetainsPairs}
 use Rattle.std.specs.Ordering.{nat_cmp, match_ordering}
 use Rattle.std.specs.declared.cmp.Ordering.{Ordering}
 use Rattle.std.specs.declared.cmp.Ordering.TheVariants.{Less, Equal, Greater}
-use Rattle.std.proofs.lemmas.Bool.{and_parts, or_parts}
+use Rattle.std.proofs.lemmas.Bool.{and_parts}
 use Rattle.std.proofs.lemmas.Map.Made.{lookup-map_values, keys_of-map_values}
 use Rattle.entry_tree.specs.declared.op.Write.{Write}
 use Rattle.entry_tree.specs.declared.touched.EntryChange.{EntryChange}
@@ -118,17 +118,6 @@ all_pushed T f limit each (e ∷ es) kept (b, new, g, rest, call, later, is) =
     ∙ (λ i. (e.0, one.1 i) ∷ more i)
 
 -- ---- tests of all
-
--- a write is reported to none
-pub none_informed : (es : Held) (limit : ℕ) (d : DirectoryState) (w : Write) → list_any (λ held. is_queueing held.search) (values_of es) ≡ false
-    → each_informed limit d w (searches_of es) ≡ searches_of es
-none_informed [] limit d w none = refl
-none_informed (e ∷ es) limit d w none =
-    let parts : (is_queueing e.1.search ≡ false) × (list_any (λ held. is_queueing held.search) (values_of es) ≡ false) =
-    or_parts (is_queueing e.1.search) (list_any (λ held. is_queueing held.search) (values_of es)) none in
-    let here : informed limit d w e.1.search ≡ e.1.search = ap (λ b. cond b (pushed limit (group_of d e.1.search w) e.1.search) e.1.search) parts.0 in
-    let rest : each_informed limit d w (searches_of es) ≡ searches_of es = none_informed es limit d w parts.1 in
-    λ i. (e.0, here i) ∷ rest i
 
 -- what was staged for a write is what the write is reported by
 pub pushed_informed : (limit : ℕ) (d : DirectoryState) (w : Write) (s : SearchState) (entry_changes : List EntryChange) (cookie : CookieText) → messages_for s.spec entry_changes cookie ≡ group_of d s w

@@ -29,9 +29,9 @@ use Rattle.sync_provider.specs.Machine.{ProviderState, ProviderCall, accepted}
 use Rattle.sync_provider.specs.Search.{SearchState, session_of, whole_walk, refresh_from, busy_end}
 use Rattle.sync_provider.specs.declared.searches.Accepted.TheVariants.{Opened}
 use Rattle.sync_provider.specs.declared.searches.SyncSearch.{SyncSearch}
+use Rattle.sync_provider.proofs.Followed.{delivers_its_stream}
 use Rattle.sync_provider.proofs.Kept.{opened_free}
 use Rattle.sync_model.proofs.Groups.{heads}
-use Rattle.sync_provider.proofs.Streams.{delivers_its_stream}
 use Rattle.directory_writes.proofs.Csns.{upto_low}
 
 -- ---- a search begins with no more writes than there are

@@ -1,11 +1,13 @@
 -- Lemmas of the crate.
 pub mod Advanced
+pub mod Alone
 pub mod Asking
 pub mod Coming
 pub mod Commits
 pub mod Copying
 pub mod Deciding
 pub mod Filling
+pub mod Followed
 pub mod Groups
 pub mod Growing
 pub mod Growths

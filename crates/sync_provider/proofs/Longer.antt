@@ -1,9 +1,6 @@
 -- A search over one more write: what it sent so far is the same.
-use Rattle.std.proofs.Common.{◌≡◌, ℕ, zero, suc, ◌+◌, ◌≤◌, Bool, true, cond, List, [], ◌∷◌, ◌++◌, length, take, drop, refl, ap, sym, ◌∙◌, inl, inr, arith, append_assoc, length-take}
+use Rattle.std.proofs.Common.{◌≡◌, ℕ, zero, suc, ◌+◌, ◌≤◌, Bool, true, false, cond, List, [], ◌∷◌, ◌++◌, length, refl, ap, sym, ◌∙◌, inl, inr, arith, append_assoc, append-nil}
 use Rattle.std.specs.Prelude.{◌⊎◌}
-use Rattle.std.proofs.lemmas.List.{take-append-le}
-use Rattle.csn_cookie.specs.Cookie.{cookie_text}
-use Rattle.csn_cookie.specs.Csn.{start}
 use Rattle.entry_tree.specs.Selection.{Search, select}
 use Rattle.entry_tree.specs.Touched.{touched}
 use Rattle.entry_tree.specs.declared.entry.Entry.{Entry}
@@ -13,10 +10,9 @@ use Rattle.sync_model.specs.Law.{Begins, IsContentWithin}
 use Rattle.sync_model.specs.Message.{SyncMessage}
 use Rattle.sync_model.specs.Stream.{SyncOperation, Start, content_after, notified_all, group, later}
 use Rattle.sync_model.specs.Stream.Start.{InitialContent, DeletePhase, PresentPhase}
-use Rattle.directory_writes.specs.Directory.{cookie_at, last_csn}
 use Rattle.directory_writes.proofs.Notified.{agree-longer}
 use Rattle.sync_provider.specs.Search.{session_of, refresh_from}
-use Rattle.sync_provider.proofs.Refreshes.{refresh-longer}
+use Rattle.sync_provider.proofs.Refreshes.{cookie-longer, refresh-longer, group-longer}
 use Rattle.sync_provider.proofs.Whereabouts.{InRefresh, AtWhole, InGroup, IsWhere}
 
 abbrev one_more : List Write → Write → List Write
@@ -34,12 +30,10 @@ module _ (number : ℕ) (persists : Bool) (search : Search) (writes : List Write
   content_same n low = ap (select search) (agree-longer number writes (w ∷ []) n low)
 
   cookie_same : (n : ℕ) → n ≤ length writes → new.cookies n ≡ old.cookies n
-  cookie_same n low = ap (λ (ws : List Write). cookie_text (cookie_at number number (last_csn (start number) ws))) (take-append-le n writes (w ∷ []) low)
+  cookie_same n low = cookie-longer number number writes (w ∷ []) n low
 
   group_same : (n : ℕ) → n + 1 ≤ length writes → group new n ≡ group old n
-  group_same n low =
-      let before : content_after new n ≡ content_after old n = content_same n (omega (arith, low)) in
-      λ i. notified_all (cookie_same (n + 1) low i) (touched (before i) (content_same (n + 1) low i))
+  group_same n low = group-longer persists number number search writes (w ∷ []) (one_more writes w) n refl low
 
   later_same : (count from : ℕ) → from + count ≤ length writes → later new from count ≡ later old from count
   later_same zero from low = refl
@@ -49,25 +43,7 @@ module _ (number : ℕ) (persists : Bool) (search : Search) (writes : List Write
       λ i. prefix i ++ last i
 
   refresh_same : (first : Start) (opened : ℕ) → opened ≤ length writes → refresh_from new first opened ≡ refresh_from old first opened
-  refresh_same first opened low =
-      ap (refresh_from new first) (sym long) ∙ by (one_more writes w) (drop opened writes ++ w ∷ []) whole ∙ sym (by writes (drop opened writes) (split opened writes)) ∙ ap (refresh_from old first) long
-    where
-      prefix : List Write
-      prefix = take opened writes
-
-      long : length prefix ≡ opened
-      long = omega (arith, length-take opened writes, low)
-
-      split : (n : ℕ) (ws : List Write) → take n ws ++ drop n ws ≡ ws
-      split zero ws = refl
-      split (suc n) [] = refl
-      split (suc n) (x ∷ ws) = ap (λ ys. x ∷ ys) (split n ws)
-
-      whole : prefix ++ (drop opened writes ++ w ∷ []) ≡ one_more writes w
-      whole = sym (append_assoc prefix (drop opened writes) (w ∷ [])) ∙ ap (λ ws. ws ++ w ∷ []) (split opened writes)
-
-      by : (all more : List Write) → prefix ++ more ≡ all → refresh_from (session_of persists number number search all) first (length prefix) ≡ refresh_from (session_of persists number number search prefix) first (length prefix)
-      by all more is = refresh-longer persists number number search first prefix more all is
+  refresh_same first opened low = refresh-longer persists number number search first writes (w ∷ []) (one_more writes w) opened refl low
 
   -- its messages up to n of the writes are those over the writes before
   pub stream_same : (first : Start) (opened count : ℕ) → opened + count ≤ length writes
@@ -144,37 +120,42 @@ module _ (number : ℕ) (persists : Bool) (search : Search) (writes : List Write
 
 -- ---- the messages of one more write are to come
 
-module _ (operation : SyncOperation) (goes : operation.persists ≡ true) (first : Start) (opened count : ℕ) (entries : List Entry) (held : Copy) (taken ahead : List SyncMessage) where
-  abbrev pub Group : List SyncMessage
+module _ (operation : SyncOperation) (first : Start) (opened count : ℕ) (entries : List Entry) (held : Copy) (taken ahead : List SyncMessage) where
+  abbrev Group : List SyncMessage
   Group = group operation (opened + count)
 
-  refresh_grows : InRefresh operation first opened count entries held taken ahead → InRefresh operation first opened (suc count) entries held taken (ahead ++ Group)
+  -- what the write sends
+  abbrev pub More : List SyncMessage
+  More = cond operation.persists Group []
+
+  refresh_grows : InRefresh operation first opened count entries held taken ahead → InRefresh operation first opened (suc count) entries held taken (ahead ++ More)
   refresh_grows is = record {
     begins = is.begins;
     rest = is.rest;
     some = is.some;
     whole = is.whole;
-    beyond =
-        ap (λ ms. ms ++ Group) (is.beyond ∙ ap (λ b. is.rest ++ cond b (later operation opened count) []) goes)
-        ∙ append_assoc is.rest (later operation opened count) Group
-        ∙ ap (λ b. is.rest ++ cond b (later operation opened count ++ Group) []) (sym goes);
+    beyond = ap (λ ms. ms ++ More) is.beyond ∙ by operation.persists;
     copy = is.copy;
   }
+    where
+      by : (b : Bool) → (is.rest ++ cond b (later operation opened count) []) ++ cond b Group [] ≡ is.rest ++ cond b (later operation opened count ++ Group) []
+      by true = append_assoc is.rest (later operation opened count) Group
+      by false = append-nil (is.rest ++ [])
 
-  whole_grows : AtWhole operation opened count entries held ahead → AtWhole operation opened (suc count) entries held (ahead ++ Group)
-  whole_grows is = record {
+  whole_grows : operation.persists ≡ true → AtWhole operation opened count entries held ahead → AtWhole operation opened (suc count) entries held (ahead ++ More)
+  whole_grows goes is = record {
     number = is.number;
     more = suc is.more;
     from = is.from;
     sum = omega (arith, is.sum);
     content = is.content;
-    beyond = (λ i. is.beyond i ++ group operation (sym is.sum i));
+    beyond = (λ i. is.beyond i ++ cond (goes i) (group operation (sym is.sum i)) []);
     ended = is.ended;
     copy = is.copy;
   }
 
-  group_grows : InGroup operation opened count entries held ahead → InGroup operation opened (suc count) entries held (ahead ++ Group)
-  group_grows is = record {
+  group_grows : operation.persists ≡ true → InGroup operation opened count entries held ahead → InGroup operation opened (suc count) entries held (ahead ++ More)
+  group_grows goes is = record {
     number = is.number;
     more = suc is.more;
     from = is.from;
@@ -185,18 +166,18 @@ module _ (operation : SyncOperation) (goes : operation.persists ≡ true) (first
     after = is.after;
     at = is.at;
     beyond =
-        (λ i. is.beyond i ++ group operation (sym is.sum i))
+        (λ i. is.beyond i ++ cond (goes i) (group operation (sym is.sum i)) [])
         ∙ append_assoc (notified_all (operation.cookies (is.number + 1)) (is.entry_change ∷ is.after)) (later operation (is.number + 1) is.more) (group operation (is.number + 1 + is.more));
     ended = is.ended;
     copy = is.copy;
   }
 
   -- and with the messages of that write to come
-  pub place_grows : IsWhere operation first opened count entries held taken ahead → IsWhere operation first opened (suc count) entries held taken (ahead ++ Group)
+  pub place_grows : IsWhere operation first opened count entries held taken ahead → IsWhere operation first opened (suc count) entries held taken (ahead ++ More)
   place_grows (inl is) = inl (refresh_grows is)
   place_grows (inr is) = inr (is.0, past is.1)
     where
       past : AtWhole operation opened count entries held ahead ⊎ InGroup operation opened count entries held ahead
-          → AtWhole operation opened (suc count) entries held (ahead ++ Group) ⊎ InGroup operation opened (suc count) entries held (ahead ++ Group)
-      past (inl at) = inl (whole_grows at)
-      past (inr at) = inr (group_grows at)
+          → AtWhole operation opened (suc count) entries held (ahead ++ More) ⊎ InGroup operation opened (suc count) entries held (ahead ++ More)
+      past (inl at) = inl (whole_grows is.0 at)
+      past (inr at) = inr (group_grows is.0 at)

@@ -1,8 +1,6 @@
 -- Each call leaves every open search at its place in its Stream.
-use Rattle.std.proofs.Common.{◌≡◌, ℕ, ◌+◌, ◌≤◌, Bool, true, false, cond, List, [], ◌∷◌, ◌++◌, length, Option, Some, None, refl, ap, sym, ◌∙◌, arith, inl, inr, ◌⊎◌, subst, append_assoc, length-append}
-use Rattle.std.specs.Prelude.{Result, Ok, Err, not, ◌&&◌}
-use Rattle.std.proofs.lemmas.Bool.{true≢false}
-use Rattle.std.proofs.lemmas.List.{append-nil}
+use Rattle.std.proofs.Common.{◌≡◌, ℕ, ◌+◌, ◌≤◌, Bool, false, cond, List, [], ◌∷◌, ◌++◌, length, Option, Some, None, refl, ap, sym, ◌∙◌, arith, inl, inr, ◌⊎◌, subst, append_assoc, length-append}
+use Rattle.std.specs.Prelude.{Result, Ok, Err}
 use Rattle.entry_tree.specs.declared.op.Op.TheVariants.{Commit}
 use Rattle.entry_tree.specs.declared.op.Write.{Write}
 use Rattle.entry_tree.specs.Selection.{Search, search_of}
@@ -13,17 +11,18 @@ use Rattle.sync_provider.specs.Accepting as accepting
 use Rattle.sync_provider.specs.Accepting.{answer_to, start_of_ask, persists_of_ask}
 use Rattle.sync_provider.specs.HandingOut.{Turn, turn_at, search_at, without_first, handed_on, after_turn}
 use Rattle.sync_provider.specs.HandingOut.Turn.{Hands, Closes, Waits, Unknown}
-use Rattle.sync_provider.specs.Law.{BeginsWith, later_of, IsAtItsPlace, IsPlaced, KeepsItsPlace, EachSearch}
+use Rattle.sync_provider.specs.Law.{IsAtItsPlace, IsPlaced, KeepsItsPlace, EachSearch}
 use Rattle.sync_provider.specs.Committing.{commit_refusal}
 use Rattle.sync_provider.specs.Machine.{ProviderState, ProviderCall, each_informed, searches_after, judged_by, called, run}
 use Rattle.sync_provider.specs.Machine.ProviderCall.{Writes, Commits, Accepts, HandsOut, Drops, SetsLogLimit, SetsQueueLimit}
-use Rattle.sync_provider.specs.Queueing.{is_full, group_of, overflowed, pushed, informed}
+use Rattle.sync_provider.specs.Queueing.{group_of, informed}
 use Rattle.sync_provider.specs.Search.{SearchState, opening, advanced}
 use Rattle.sync_provider.specs.declared.searches.Accepted.{Accepted}
 use Rattle.sync_provider.specs.declared.searches.Accepted.TheVariants.{Opened, Refused, NoMemory}
 use Rattle.sync_provider.specs.declared.searches.SyncSearch.{SyncSearch}
 use Rattle.sync_provider.proofs.Commits.{commit_case}
-use Rattle.sync_provider.proofs.Growing.{begins_before, later_stays, later_none, later_grows}
+use Rattle.sync_provider.proofs.Growing.{begins_before, refresh_like, later_like, later_none, later_grows}
+use Rattle.sync_provider.proofs.Informed.{IsSame, IsQueued, informed_same, informed_queued}
 use Rattle.sync_provider.proofs.Looking.{each-opened, each-closed, each-put_on, each-at, each-weaker}
 use Rattle.sync_provider.proofs.Refreshes.{refresh-longer}
 
@@ -32,69 +31,44 @@ Searches = List (ℕ × SearchState)
 
 -- ---- a write
 
-module _ (d : DirectoryState) (w : Write) (s : SearchState) (handed handed_later : List SyncMessage) (place : IsAtItsPlace d s handed handed_later) where
-  within_now : s.accepted ≤ length (d.writes ++ w ∷ [])
-  within_now = omega (arith, place.within, length-append d.writes (w ∷ []))
+module _ (limit : ℕ) (d : DirectoryState) (w : Write) (s : SearchState) (handed handed_later : List SyncMessage) (place : IsAtItsPlace d s handed handed_later)
+    (still : (informed limit d w s).over ≡ false) where
+  same : IsSame s (informed limit d w s)
+  same = informed_same limit d w s
 
-  -- a search that ends with its refresh
-  pub stays_place : s.persists ≡ false → IsAtItsPlace (with_write d w) s handed handed_later
-  stays_place stays = record {
-    within = within_now;
-    rest = λ writes begins. place.rest writes (begins_before d w writes begins);
+  queued : IsQueued s (informed limit d w s) (cond s.persists (group_of d s w) [])
+  queued = informed_queued limit d w s still
+
+  pub informed_place : IsAtItsPlace (with_write d w) (informed limit d w s) handed handed_later
+  informed_place = record {
+    within = subst (λ n. n ≤ length (d.writes ++ w ∷ [])) (sym same.accepted) (omega (arith, place.within, length-append d.writes (w ∷ [])));
+    rest = λ writes begins.
+        ap (λ ms. handed ++ ms) queued.rest
+        ∙ place.rest writes (begins_before d w writes begins)
+        ∙ refresh_like s (informed limit d w s) d writes same;
     due = λ writes begins.
-        place.due writes (begins_before d w writes begins)
-        ∙ later_stays d s (length d.writes) writes stays
-        ∙ sym (later_stays d s (length (d.writes ++ w ∷ [])) writes stays);
-    ordered = place.ordered;
+        ap (λ ms. handed_later ++ ms) queued.due
+        ∙ sym (append_assoc handed_later s.due (cond s.persists (group_of d s w) []))
+        ∙ ap (λ ms. ms ++ cond s.persists (group_of d s w) []) (place.due writes (begins_before d w writes begins))
+        ∙ sym (later_grows d s w writes place.within begins)
+        ∙ later_like s (informed limit d w s) d (length (d.writes ++ w ∷ [])) writes same;
+    ordered = subst (λ ms. (ms ≡ []) ⊎ (handed_later ≡ [])) (sym queued.rest) place.ordered;
   }
 
-  due_grows : s.persists ≡ true → (writes : List Write) → BeginsWith (with_write d w) writes
-      → handed_later ++ (s.due ++ group_of d s w) ≡ later_of d s (length (d.writes ++ w ∷ [])) writes
-  due_grows goes writes begins =
-      sym (append_assoc handed_later s.due (group_of d s w))
-      ∙ ap (λ ms. ms ++ group_of d s w) (place.due writes (begins_before d w writes begins))
-      ∙ sym (later_grows d s w writes place.within goes begins)
+-- nothing is handed out by a write
+abbrev pub informed_placed : (limit : ℕ) (d : DirectoryState) (w : Write) (s : SearchState) → (informed limit d w s).over ≡ false → IsPlaced d s → IsPlaced (with_write d w) (informed limit d w s)
+informed_placed limit d w s still placed = record {
+  handed = placed.handed;
+  handed_later = placed.handed_later;
+  place = informed_place limit d w s placed.handed placed.handed_later placed.place still;
+}
 
-  -- one that goes on
-  pub pushed_place : (limit : ℕ) (messages : List SyncMessage) → group_of d s w ≡ messages → s.persists ≡ true
-      → (pushed limit messages s).over ≡ false → IsAtItsPlace (with_write d w) (pushed limit messages s) handed handed_later
-  pushed_place limit [] none goes still = record {
-    within = within_now;
-    rest = λ writes begins. place.rest writes (begins_before d w writes begins);
-    due = λ writes begins. ap (λ ms. handed_later ++ ms) (sym (ap (λ ms. s.due ++ ms) none ∙ append-nil s.due)) ∙ due_grows goes writes begins;
-    ordered = place.ordered;
-  }
-  pushed_place limit (m ∷ ms) is goes still = fits (is_full limit (s.due ++ m ∷ ms)) still
-    where
-      fits : (b : Bool) → (cond b (overflowed s) (record s { due = s.due ++ m ∷ ms })).over ≡ false
-          → IsAtItsPlace (with_write d w) (cond b (overflowed s) (record s { due = s.due ++ m ∷ ms })) handed handed_later
-      fits true off = absurd (true≢false off)
-      fits false off = record {
-        within = within_now;
-        rest = λ writes begins. place.rest writes (begins_before d w writes begins);
-        due = λ writes begins. ap (λ group. handed_later ++ (s.due ++ group)) (sym is) ∙ due_grows goes writes begins;
-        ordered = place.ordered;
-      }
-
-informed_place : (limit : ℕ) (d : DirectoryState) (w : Write) (s : SearchState) → KeepsItsPlace d s → KeepsItsPlace (with_write d w) (informed limit d w s)
-informed_place limit d w s keeps = by s.persists s.over refl refl
-  where
-    by : (p o : Bool) → s.persists ≡ p → s.over ≡ o → KeepsItsPlace (with_write d w) (cond (p && not o) (pushed limit (group_of d s w) s) s)
-    by false o stays is = λ off. record {
-      handed = (keeps off).handed;
-      handed_later = (keeps off).handed_later;
-      place = stays_place d w s (keeps off).handed (keeps off).handed_later (keeps off).place stays;
-    }
-    by true true goes is = λ off. absurd (true≢false (sym is ∙ off))
-    by true false goes is = λ still. record {
-      handed = (keeps is).handed;
-      handed_later = (keeps is).handed_later;
-      place = pushed_place d w s (keeps is).handed (keeps is).handed_later (keeps is).place limit (group_of d s w) refl goes still;
-    }
+informed_keeps : (limit : ℕ) (d : DirectoryState) (w : Write) (s : SearchState) → KeepsItsPlace d s → KeepsItsPlace (with_write d w) (informed limit d w s)
+informed_keeps limit d w s keeps = λ still. informed_placed limit d w s still (keeps (informed_queued limit d w s still).off)
 
 each_place : (es : Searches) (limit : ℕ) (d : DirectoryState) (w : Write) → EachSearch (KeepsItsPlace d) es → EachSearch (KeepsItsPlace (with_write d w)) (each_informed limit d w es)
 each_place [] limit d w each = tt
-each_place (e ∷ es) limit d w each = (informed_place limit d w e.1 each.0, each_place es limit d w each.1)
+each_place (e ∷ es) limit d w each = (informed_keeps limit d w e.1 each.0, each_place es limit d w each.1)
 
 judged_places : (p : ProviderState) (outcome : Result Write ℕ) → EachSearch (KeepsItsPlace p.directory) p.searches
     → EachSearch (KeepsItsPlace (with_judged p.directory outcome)) (searches_after p outcome)
@@ -106,7 +80,7 @@ judged_places p (Err code) each = each
 pub opening_place : (d : DirectoryState) (id : ℕ) (spec : Search) (start : Start) (persists : Bool) → IsAtItsPlace d (opening d id spec start persists) [] []
 opening_place d id spec start persists = record {
   within = omega arith;
-  rest = λ writes begins. sym (refresh-longer persists d.sid d.history spec start d.writes begins.0 writes begins.1);
+  rest = λ writes begins. sym (refresh-longer persists d.sid d.history spec start d.writes begins.0 writes (length d.writes) begins.1 (omega arith));
   due = λ writes begins. sym (later_none d (opening d id spec start persists) writes);
   ordered = inr refl;
 }
@@ -134,7 +108,7 @@ pub record IsNext (d : DirectoryState) (s : SearchState) (count : ℕ) : Type 0 
   pub counted : length now.handed + length now.handed_later ≡ count + 1
 
 module _ (d : DirectoryState) (s : SearchState) (handed handed_later : List SyncMessage) (place : IsAtItsPlace d s handed handed_later) where
-  pub next_rest : (m : SyncMessage) (rest : List SyncMessage) → s.rest ≡ m ∷ rest → IsNext d (record s { rest = rest }) (length handed + length handed_later)
+  next_rest : (m : SyncMessage) (rest : List SyncMessage) → s.rest ≡ m ∷ rest → IsNext d (record s { rest = rest }) (length handed + length handed_later)
   next_rest m rest is = record {
     now = record {
       handed = handed ++ m ∷ [];
@@ -149,7 +123,7 @@ module _ (d : DirectoryState) (s : SearchState) (handed handed_later : List Sync
     counted = let one : length (handed ++ m ∷ []) ≡ length handed + 1 = length-append handed (m ∷ []) in omega (arith, one);
   }
 
-  pub next_due : (m : SyncMessage) (due : List SyncMessage) → s.rest ≡ [] → s.due ≡ m ∷ due → IsNext d (record s { due = due }) (length handed + length handed_later)
+  next_due : (m : SyncMessage) (due : List SyncMessage) → s.rest ≡ [] → s.due ≡ m ∷ due → IsNext d (record s { due = due }) (length handed + length handed_later)
   next_due m due none is = record {
     now = record {
       handed = handed;
@@ -164,16 +138,30 @@ module _ (d : DirectoryState) (s : SearchState) (handed handed_later : List Sync
     counted = let one : length (handed_later ++ m ∷ []) ≡ length handed_later + 1 = length-append handed_later (m ∷ []) in omega (arith, one);
   }
 
-advanced_place : (d : DirectoryState) (s : SearchState) (rest due : List SyncMessage) → s.rest ≡ rest → s.due ≡ due → KeepsItsPlace d s → KeepsItsPlace d (advanced s rest due)
-advanced_place d s (m ∷ rest) due is_rest is_due keeps = λ off. (next_rest d s (keeps off).handed (keeps off).handed_later (keeps off).place m rest is_rest).now
-advanced_place d s [] (m ∷ due) is_rest is_due keeps = λ off. (next_due d s (keeps off).handed (keeps off).handed_later (keeps off).place m due is_rest is_due).now
-advanced_place d s [] [] is_rest is_due keeps = keeps
+-- the first of what is left was handed out
+pub next_place : (d : DirectoryState) (s : SearchState) (placed : IsPlaced d s) (m : SyncMessage) (ms : List SyncMessage) → s.rest ++ s.due ≡ m ∷ ms
+    → IsNext d (without_first s) (length placed.handed + length placed.handed_later)
+next_place d s placed m ms some = by s.rest s.due refl refl
+  where
+    by : (rest due : List SyncMessage) → s.rest ≡ rest → s.due ≡ due → IsNext d (advanced s rest due) (length placed.handed + length placed.handed_later)
+    by (x ∷ rest) due is_rest is_due = next_rest d s placed.handed placed.handed_later placed.place x rest is_rest
+    by [] (x ∷ due) is_rest is_due = next_due d s placed.handed placed.handed_later placed.place x due is_rest is_due
+    by [] [] is_rest is_due = absurd (some_left m ms (sym some ∙ (λ i. is_rest i ++ is_due i)))
+
+-- so it is of one that is not over
+advanced_keeps : (d : DirectoryState) (s : SearchState) → KeepsItsPlace d s → KeepsItsPlace d (without_first s)
+advanced_keeps d s keeps = by s.rest s.due refl refl
+  where
+    by : (rest due : List SyncMessage) → s.rest ≡ rest → s.due ≡ due → KeepsItsPlace d (advanced s rest due)
+    by (m ∷ rest) due is_rest is_due = λ off. (next_rest d s (keeps off).handed (keeps off).handed_later (keeps off).place m rest is_rest).now
+    by [] (m ∷ due) is_rest is_due = λ off. (next_due d s (keeps off).handed (keeps off).handed_later (keeps off).place m due is_rest is_due).now
+    by [] [] is_rest is_due = keeps
 
 on_places : (d : DirectoryState) (es : Searches) (number : ℕ) (found : Option SearchState) → search_at es number ≡ found → EachSearch (KeepsItsPlace d) es
     → EachSearch (KeepsItsPlace d) (handed_on es number found)
 on_places d es number None at each = each
 on_places d es number (Some s) at each =
-    each-put_on (KeepsItsPlace d) es number (without_first s) each (advanced_place d s s.rest s.due refl refl (each-at (KeepsItsPlace d) es number s each at))
+    each-put_on (KeepsItsPlace d) es number (without_first s) each (advanced_keeps d s (each-at (KeepsItsPlace d) es number s each at))
 
 turn_places : (d : DirectoryState) (es : Searches) (number : ℕ) (turn : Turn) → EachSearch (KeepsItsPlace d) es → EachSearch (KeepsItsPlace d) (after_turn es number turn)
 turn_places d es number (Hands message) each = on_places d es number (search_at es number) refl each
@@ -183,11 +171,12 @@ turn_places d es number Unknown each = each
 
 -- ---- all calls
 
-limited_place : (d : DirectoryState) (limit : ℕ) (s : SearchState) → KeepsItsPlace d s → KeepsItsPlace (with_log_limit d limit) s
-limited_place d limit s keeps = λ off. record {
-  handed = (keeps off).handed;
-  handed_later = (keeps off).handed_later;
-  place = record { within = (keeps off).place.within; rest = (keeps off).place.rest; due = (keeps off).place.due; ordered = (keeps off).place.ordered };
+-- the log is no matter
+abbrev pub limited_placed : (d : DirectoryState) (limit : ℕ) (s : SearchState) → IsPlaced d s → IsPlaced (with_log_limit d limit) s
+limited_placed d limit s placed = record {
+  handed = placed.handed;
+  handed_later = placed.handed_later;
+  place = record { within = placed.place.within; rest = placed.place.rest; due = placed.place.due; ordered = placed.place.ordered };
 }
 
 called_places : (p : ProviderState) (call : ProviderCall) → EachSearch (KeepsItsPlace p.directory) p.searches → EachSearch (KeepsItsPlace (called p call).directory) (called p call).searches
@@ -199,7 +188,7 @@ called_places p (Accepts ask) each = answered_places p.directory p.searches ask 
 called_places p (HandsOut number) each = turn_places p.directory p.searches number (turn_at p.searches number) each
 called_places p (Drops number) each = each-closed (KeepsItsPlace p.directory) p.searches number each
 called_places p (SetsLogLimit limit) each =
-    each-weaker (KeepsItsPlace p.directory) (KeepsItsPlace (with_log_limit p.directory limit)) p.searches (limited_place p.directory limit) each
+    each-weaker (KeepsItsPlace p.directory) (KeepsItsPlace (with_log_limit p.directory limit)) p.searches (λ s keeps off. limited_placed p.directory limit s (keeps off)) each
 called_places p (SetsQueueLimit limit) each = each
 
 pub run_places : (calls : List ProviderCall) (p : ProviderState) → EachSearch (KeepsItsPlace p.directory) p.searches → EachSearch (KeepsItsPlace (run p calls).directory) (run p calls).searches

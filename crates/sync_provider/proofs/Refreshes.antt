@@ -1,5 +1,5 @@
 -- A refresh in one piece, over a directory and over each longer history.
-use Rattle.std.proofs.Common.{◌≡◌, ℕ, ◌+◌, ◌-◌, Bool, List, [], ◌∷◌, ◌++◌, length, refl, sym, ap, ◌∙◌, arith}
+use Rattle.std.proofs.Common.{◌≡◌, ◌≤◌, ℕ, ◌+◌, ◌-◌, Bool, List, [], ◌∷◌, ◌++◌, length, refl, sym, ap, ◌∙◌, arith}
 use Rattle.std.specs.List.{flat_map}
 use Rattle.std.proofs.lemmas.List.{append-nil, take-append-le}
 use Rattle.entry_tree.specs.declared.entry.Entry.{Entry}
@@ -75,21 +75,20 @@ module _ (persists : Bool) (spec : Search) (f g : ℕ → List Entry) (c d : ℕ
       λ i. notified_all (cookies i) (touched (select spec (was i)) (select spec (is i)))
 
 -- a longer history has the same cookies
-cookie-longer : (sid history : ℕ) (writes more : List Write) → cookie_after sid history (writes ++ more) (length writes) ≡ cookie_after sid history writes (length writes)
-cookie-longer sid history writes more =
-    ap (λ ws. cookie_text (cookie_at sid history (last_csn (start sid) ws))) (take-append-le (length writes) writes more (omega arith))
+pub cookie-longer : (sid history : ℕ) (writes more : List Write) (count : ℕ) → count ≤ length writes → cookie_after sid history (writes ++ more) count ≡ cookie_after sid history writes count
+cookie-longer sid history writes more count low = ap (λ ws. cookie_text (cookie_at sid history (last_csn (start sid) ws))) (take-append-le count writes more low)
 
 -- and reports the same
-pub refresh-longer : (persists : Bool) (sid history : ℕ) (spec : Search) (start_at : Start) (writes more whole : List Write) → writes ++ more ≡ whole
-    → refresh_from (session_of persists sid history spec whole) start_at (length writes) ≡ refresh_from (session_of persists sid history spec writes) start_at (length writes)
-refresh-longer persists sid history spec start_at writes more whole is =
-    ap (λ ws. refresh_from (session_of persists sid history spec ws) start_at (length writes)) (sym is)
-    ∙ refresh-agrees persists spec (state_of history (writes ++ more)) (state_of history writes) (cookie_after sid history (writes ++ more)) (cookie_after sid history writes) (length writes)
-    (agree-longer history writes more) (cookie-longer sid history writes more) start_at
+pub refresh-longer : (persists : Bool) (sid history : ℕ) (spec : Search) (start_at : Start) (writes more whole : List Write) (count : ℕ) → writes ++ more ≡ whole → count ≤ length writes
+    → refresh_from (session_of persists sid history spec whole) start_at count ≡ refresh_from (session_of persists sid history spec writes) start_at count
+refresh-longer persists sid history spec start_at writes more whole count is low =
+    ap (λ ws. refresh_from (session_of persists sid history spec ws) start_at count) (sym is)
+    ∙ refresh-agrees persists spec (state_of history (writes ++ more)) (state_of history writes) (cookie_after sid history (writes ++ more)) (cookie_after sid history writes) count
+    (λ n least. agree-longer history writes more n (omega (arith, least, low))) (cookie-longer sid history writes more count low) start_at
 
-pub group-longer : (persists : Bool) (sid history : ℕ) (spec : Search) (writes more whole : List Write) (before : ℕ) → writes ++ more ≡ whole → before + 1 ≡ length writes
+pub group-longer : (persists : Bool) (sid history : ℕ) (spec : Search) (writes more whole : List Write) (before : ℕ) → writes ++ more ≡ whole → before + 1 ≤ length writes
     → group (session_of persists sid history spec whole) before ≡ group (session_of persists sid history spec writes) before
-group-longer persists sid history spec writes more whole before is next =
+group-longer persists sid history spec writes more whole before is low =
     ap (λ ws. group (session_of persists sid history spec ws) before) (sym is)
-    ∙ group-agrees persists spec (state_of history (writes ++ more)) (state_of history writes) (cookie_after sid history (writes ++ more)) (cookie_after sid history writes) (length writes)
-    (agree-longer history writes more) (cookie-longer sid history writes more) before next
+    ∙ group-agrees persists spec (state_of history (writes ++ more)) (state_of history writes) (cookie_after sid history (writes ++ more)) (cookie_after sid history writes) (before + 1)
+    (λ n least. agree-longer history writes more n (omega (arith, least, low))) (cookie-longer sid history writes more (before + 1) low) before refl

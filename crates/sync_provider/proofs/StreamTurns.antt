@@ -6,7 +6,7 @@ use Rattle.entry_tree.specs.declared.entry.Entry.{Entry}
 use Rattle.sync_model.specs.Incremental.{sent_entry}
 use Rattle.sync_model.specs.Message.{SyncMessage}
 use Rattle.sync_model.specs.Stream.{SyncOperation, Start, is_delete_phase, end_of, later, stream}
-use Rattle.sync_model.proofs.Gather.{Each, each-append}
+use Rattle.sync_model.proofs.Gather.{Each}
 use Rattle.sync_model.proofs.Groups.{each_one}
 use Rattle.sync_model.proofs.LaterWrites.{each_weaker, each_entry, place_in}
 use Rattle.sync_model.proofs.NextMessages.{HasNext, Next, some_next}
@@ -14,7 +14,7 @@ use Rattle.sync_wire.specs.Sending as wire
 use Rattle.sync_provider.specs.HandingOut.{turn_of_message}
 use Rattle.sync_provider.specs.HandingOut.Turn.{Hands, Closes}
 use Rattle.sync_provider.specs.Search.{whole_walk, refresh_from}
-use Rattle.sync_provider.proofs.Growing.{GoesOn, part_goes, refresh_from-goes, later_all_go}
+use Rattle.sync_provider.proofs.Growing.{GoesOn, part_goes, stream_goes}
 use Rattle.sync_provider.proofs.Kept.{hands}
 use Rattle.sync_provider.proofs.RefreshTaken.{part, last, follows, midst_part}
 
@@ -47,9 +47,7 @@ module _ (operation : SyncOperation) (start : Start) (opened count : ℕ) where
   -- of a search that goes on
   lasting : operation.persists ≡ true → Each IsHands Messages
   lasting goes =
-      each_weaker GoesOn IsHands Messages (hands 1)
-      (each-append GoesOn (refresh_from operation start opened) (cond operation.persists (later operation opened count) []) (refresh_from-goes operation start opened goes)
-      (subst (λ b. Each GoesOn (cond b (later operation opened count) [])) (sym goes) (later_all_go count operation opened)))
+      each_weaker GoesOn IsHands Messages (hands 1) (stream_goes operation start opened count goes)
 
   -- of one that ends
   ending : operation.persists ≡ false → (earlier rest : List SyncMessage) (m : SyncMessage) → Next Part earlier Last m rest → IsHanded operation.persists m rest ⊎ IsClosing operation.persists m rest

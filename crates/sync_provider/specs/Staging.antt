@@ -1,18 +1,13 @@
 -- How a write is reported to the open searches before it is accepted (RFC 4533, section 3.4).
-use Rattle.std.specs.Prelude.{ℕ, ◌≡◌, ◌<◌, ◌≤◌, ◌⊎◌, ⊤, ◌-◌, ◌^◌, Bool, true, false, min, cond, List, [], ◌∷◌, ◌++◌, length, map, flat_map, Option, Some, None, Ok, IfSome}
-use Rattle.csn_cookie.specs.Cookie.{cookie_text}
+use Rattle.std.specs.Prelude.{ℕ, ◌≡◌, ◌<◌, ◌≤◌, ◌⊎◌, ⊤, ◌-◌, ◌^◌, Bool, true, false, min, cond, List, [], ◌∷◌, length, map, flat_map, Option, Some, None, IfSome}
 use Rattle.csn_cookie.specs.declared.cookie.Cookie as cookies
 use Rattle.dn_names.specs.Writing.{name_text}
 use Rattle.entry_tree.specs.declared.entry.Entry.{Entry}
-use Rattle.entry_tree.specs.declared.op.Op.{Op}
-use Rattle.entry_tree.specs.declared.op.Write.{Write}
 use Rattle.entry_tree.specs.declared.touched.EntryChange.{EntryChange}
 use Rattle.entry_tree.specs.Selection.{Search, is_selected}
-use Rattle.entry_tree.specs.Touched.{touched}
 use Rattle.sync_model.specs.Message.{CookieText, SyncMessage}
 use Rattle.sync_model.specs.Message.SyncMessage.{AddOrModify, Delete, Present, IdSet, NewCookie, RefreshDelete, RefreshPresent, Done, Ignored}
 use Rattle.sync_model.specs.Stream.{notified}
-use Rattle.directory_writes.specs.Directory.{DirectoryState, cookie_at, entries_of, entries_after, judged}
 use Rattle.sync_provider.specs.Queueing.{message_weight, is_queueing, pushed}
 use Rattle.sync_provider.specs.Search.{SearchState}
 use Rattle.sync_provider.specs.declared.content_change.ContentChange.{ContentChange}
@@ -121,16 +116,6 @@ AreStaged entry_changes cookie [] = ⊤
 AreStaged entry_changes cookie (kept ∷ held) =
     (kept.1.staged ≡ Some (staged_for kept.1.search entry_changes cookie))
     × AreStaged entry_changes cookie held
-
--- the operation is accepted where memory suffices, and the messages of the write
--- that it then is are made
-pub record IsNotifiedAhead
-    (d : DirectoryState) (op : Op) (now : ℕ) (held : List (ℕ × HeldSearch)) : Type 0 where
-  pub write : Write
-  pub accepted : judged d op now ≡ Ok write
-  pub staged :
-      AreStaged (touched (entries_of d) (entries_after d.history (d.writes ++ write ∷ [])))
-      (cookie_text (cookie_at d.sid d.history write.csn)) held
 
 -- what was staged is put after what is due
 abbrev pub pushed_staged : ℕ → Option (List SyncMessage) → SearchState → SearchState

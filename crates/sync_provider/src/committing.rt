@@ -1,6 +1,6 @@
 //! Commits that are staged, all or none (RFC 4533, section 3.3).
 
-ghost use Rattle.std.specs.Prelude.{◌≡◌, ◌<◌, ◌+◌, ◌↔◌, true, length, None, IfOk, IfErr, OnOk, OnErr, IsErrOf};
+ghost use Rattle.std.specs.Prelude.{◌≡◌, ◌<◌, ◌+◌, ◌↔◌, true, length, None, IfOk, IfErr, OnOk, IsErrOf};
 ghost use Rattle.std.specs.List.{list_all};
 ghost use Rattle.directory_writes.specs.Snapshot.{IsSnapshotOf, back_at};
 ghost use Rattle.entry_tree.specs.Fitting.{is_light};
@@ -31,32 +31,45 @@ pub struct StagedCommit {
 
 impl Provider {
     /// Adds one write for each of these commits, in their order, where the clock shows `now`, as
-    /// `commit` does: all of them or none. Each is judged on what the ones before it left. The answer
-    /// is the number of accepted writes after them, or the first cause against one of them, which
-    /// leaves all as it was. A root with a commit to make is reported so, whether there is memory or not.
+    /// `commit` does: all of them or none. Each is judged on what the ones before it left. The
+    /// answer is the number of accepted writes after them, or the first cause against one of them,
+    /// which leaves all as it was. A root with a commit to make is reported so, whether there is
+    /// memory or not.
     #[tactic(auto, using(crate::proofs::Rooted::root_refuses, crate::proofs::Rooted::only_root))]
     pub fn commit_each(&mut self, commits: Vec<StagedCommit>, now: u64) -> Result<u64, CommitFault>
         requires sound { list_all (λ commit. list_all is_sound_put commit.puts) commits.items
             ≡ true }
         requires light { list_all (λ commit. list_all is_light commit.puts) commits.items ≡ true }
-        ensures accepted { OnOk result (machine.refusal_of_each self.old commits.items now ≡ None) }
-        ensures refused { IfErr result
-            (Opposes (machine.refusal_of_each self.old commits.items now)) }
-        ensures state { OnOk result (self.new ≡ machine.committed_each self.old commits.items now) }
-        ensures err { OnErr result (self.new ≡ self.old) }
+        ensures leaves { CommitsLeave self.old commits.items now result self.new }
         ensures root { IsErrOf result faults.NotAReplica
             ↔ (self.old.kind ≡ Kind.Root) × (0 < length commits.items) }
-        ensures number { IfOk result (λ number. number ≡ length self.new.directory.writes) }
         ensures count { IfOk result (λ number.
             number ≡ length self.old.directory.writes + length commits.items) }
-        ensures leaves { CommitsLeave self.old commits.items now result self.new }
     {
         match self.kind {
             Kind::Root if !commits.is_empty() => {
                 discard(commits);
                 Err(CommitFault::NotAReplica)
             }
+            _ if commits.len() == 1 => self.commit_only(commits, now),
             _ => self.commit_all(commits, now),
+        }
+    }
+
+    /// The same for one commit alone, which by itself is made whole or not at all.
+    fn commit_only(&mut self, commits: Vec<StagedCommit>, now: u64) -> Result<u64, CommitFault>
+        requires sound { list_all (λ commit. list_all is_sound_put commit.puts) commits.items
+            ≡ true }
+        requires light { list_all (λ commit. list_all is_light commit.puts) commits.items ≡ true }
+        requires one { length commits.items ≡ 1 }
+        ensures leaves { CommitsLeave self.old commits.items now result self.new }
+        ensures count { IfOk result (λ number.
+            number ≡ length self.old.directory.writes + length commits.items) }
+    {
+        let mut commits = commits;
+        match commits.pop() {
+            Some(staged) => self.commit(staged.puts, staged.drops, now),
+            None => Ok(self.writes()),
         }
     }
 
@@ -66,12 +79,7 @@ impl Provider {
         requires sound { list_all (λ commit. list_all is_sound_put commit.puts) commits.items
             ≡ true }
         requires light { list_all (λ commit. list_all is_light commit.puts) commits.items ≡ true }
-        ensures accepted { OnOk result (machine.refusal_of_each self.old commits.items now ≡ None) }
-        ensures refused { IfErr result
-            (Opposes (machine.refusal_of_each self.old commits.items now)) }
-        ensures state { OnOk result (self.new ≡ machine.committed_each self.old commits.items now) }
-        ensures err { OnErr result (self.new ≡ self.old) }
-        ensures number { IfOk result (λ number. number ≡ length self.new.directory.writes) }
+        ensures leaves { CommitsLeave self.old commits.items now result self.new }
         ensures count { IfOk result (λ number.
             number ≡ length self.old.directory.writes + length commits.items) }
     {

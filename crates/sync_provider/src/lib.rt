@@ -1,13 +1,14 @@
-//! A directory with its accepted writes, and the searches with content synchronisation that are open
-//! on it (RFC 4533, section 3, the server's part).
+//! A directory with its accepted writes, and the searches with content synchronisation that are
+//! open on it (RFC 4533, section 3, the server's part).
 //!
 //! The directory of a root has the writes of clients. That of a replica has commits of what it took
-//! from the provider that it follows; each of them is one write, and is reported to its own searches.
+//! from the provider that it follows; each of them is one write, and is reported to its own
+//! searches.
 //!
 //! Each search begins with a refresh, whose end carries the cookie of the content. Without a cookie
 //! every entry that its specification selects is sent whole. With a cookie of the directory only
-//! what was touched since then is sent. The rest is a delete phase, where the session log reports what
-//! was touched, and else a present phase.
+//! what was touched since then is sent. The rest is a delete phase, where the session log reports
+//! what was touched, and else a present phase.
 //!
 //! In the mode refreshOnly the search is over then. In the mode refreshAndPersist it goes on: each
 //! accepted write puts, in the same call, one message for each identity that it changes in the

@@ -12,8 +12,8 @@ use dn_names::Dn;
 use std::collections::BTreeMap;
 use std::marker::Model;
 
-/// The searches that were open at one moment, each at its place then, with the suffix, the number of
-/// writes and the cookie of the content at that moment.
+/// The searches that were open at one moment, each at its place then, with the suffix, the number
+/// of writes and the cookie of the content at that moment.
 #[derive(Drop)]
 pub struct OpenSearches {
     suffix: Dn,

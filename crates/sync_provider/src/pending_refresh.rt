@@ -82,8 +82,8 @@ impl PendingRefresh {
         self.handed += 1;
     }
 
-    /// The next message, in a search that goes on after its refresh or not, and in a delete phase or
-    /// a present phase.
+    /// The next message, in a search that goes on after its refresh or not, and in a delete phase
+    /// or a present phase.
     #[tactic(auto, using(crate::proofs::Turns::first_part, crate::proofs::Turns::first_end))]
     pub(crate) fn message(
         &self,

@@ -1,10 +1,9 @@
 //! A directory with the searches that are open on it.
 
-ghost use Rattle.std.specs.Prelude.{◌≡◌, ◌≤◌, ◌-◌, ◌<◌, ◌^◌, true, length, slice_get, is_some, Some, IfOk, IfSome};
+ghost use Rattle.std.specs.Prelude.{◌≡◌, ◌≤◌, ◌-◌, ◌<◌, ◌^◌, length, slice_get, Some, IfOk};
 ghost use Rattle.csn_cookie.specs.Csn as csn_specs;
 ghost use Rattle.directory_writes.specs.Directory as directory;
 ghost use Rattle.sync_provider.specs.Answering.{HandOutLeaves, DropLeaves};
-ghost use Rattle.sync_provider.specs.HandingOut as handing;
 ghost use Rattle.sync_provider.specs.Machine as machine;
 
 use crate::NoMemory;
@@ -92,13 +91,6 @@ impl Provider {
     /// still pending; where there is no message none is asked for.
     #[tactic(auto, using(crate::proofs::Turns::closed_after, crate::proofs::Turns::open_after, crate::proofs::Turns::found_has_message, crate::proofs::Held::turn_found, crate::proofs::Held::search_found, crate::proofs::Held::search_none))]
     pub fn hand_out(&mut self, number: u64) -> Handed
-        ensures turn { IfSome (handing.turn_of result)
-            (λ turn. turn ≡ handing.turn_at self.old.searches number) }
-        ensures memory { result ≡ Handed.NoMemory
-            → handing.has_message (handing.turn_at self.old.searches number) ≡ true }
-        ensures state { self.new ≡ record self.old {
-          searches = handing.after_answer self.old.searches number (handing.turn_of result);
-        } }
         ensures leaves { HandOutLeaves self.old number result self.new }
     {
         let Some(search) = self.searches.get_mut(&number) else {
@@ -114,8 +106,6 @@ impl Provider {
     /// Closes the search with this number. False where none is open.
     #[tactic(auto, using(crate::proofs::Held::held_closed, crate::proofs::Held::search_some))]
     pub fn drop_search(&mut self, number: u64) -> bool
-        ensures open { result ≡ is_some (handing.search_at self.old.searches number) }
-        ensures state { self.new ≡ machine.dropped self.old number }
         ensures leaves { DropLeaves self.old number result self.new }
     {
         let removed = self.searches.remove(&number);

@@ -58,19 +58,14 @@ pub enum Accepted {
 impl Provider {
     /// Opens a search under the smallest free number, or reports the first of the codes against it:
     /// protocolError for a control's value outside its grammar, noSuchObject for a base outside the
-    /// suffix, adminLimitExceeded where the 64 numbers are all in use, and e-syncRefreshRequired for
-    /// a cookie that is neither blank nor servable, from a client that does not ask to reload then. A
-    /// search in the mode refreshAndPersist goes on after its refresh.
+    /// suffix, adminLimitExceeded where the 64 numbers are all in use, and e-syncRefreshRequired
+    /// for a cookie that is neither blank nor servable, from a client that does not ask to reload
+    /// then. A search in the mode refreshAndPersist goes on after its refresh.
     ///
     /// A cookie is servable where it is of the directory's history and its CSN is not above the
     /// last one. The search then begins with the content after the writes that it names.
     #[tactic(auto, using(crate::proofs::Asking::value_refused, crate::proofs::Asking::value_read))]
     pub fn accept(&mut self, ask: SyncSearch) -> Accepted
-        ensures answer { accepting.Answers result
-            (accepting.answer_to self.old.directory self.old.searches ask) }
-        ensures state { self.new ≡ record self.old {
-          searches = accepting.after_answer self.old.directory self.old.searches ask result;
-        } }
         ensures leaves { AcceptLeaves self.old ask result self.new }
     {
         match SyncRequest::read(self.alloc, ask.control.as_slice()) {

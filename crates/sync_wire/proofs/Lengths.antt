@@ -37,6 +37,7 @@ use Rattle.sync_model.specs.Message.{phase_end}
 use Rattle.sync_model.specs.Message.SyncMessage.{AddOrModify, Delete, IdSet, Done}
 use Rattle.sync_wire.specs.CanBeSent.{CanBeSent}
 use Rattle.sync_wire.specs.Sending.{raw_of, single, uuid_text, operational_attributes_of, attributes_of, entry_of, kind_of, result_of, state_name, done_name, info_name, sent}
+use Rattle.sync_wire.proofs.Sizes.{flag_size, kind_size, uuids_size}
 
 attributes_size : (attrs : List Attribute) → All (λ a. a.values ≢ []) attrs → list_all is_given attrs ≡ true
     → length (flat_map attribute_octets (map raw_of attrs)) ≤ 25 * weight_of attrs
@@ -96,13 +97,6 @@ entry_size e can =
       sent_attributes_size e can,
     )
 
-kind_size : (kind : State) → length (integer_octets (kind_number kind)) ≡ 1
-unfolding integer_octets
-kind_size state.Present = refl
-kind_size state.Add = refl
-kind_size state.Modify = refl
-kind_size state.Delete = refl
-
 text_octets_size : (cookie : Option (List ℕ)) → IsText cookie → length (cookie_octets cookie) ≤ 103
 text_octets_size None is = omega arith
 text_octets_size (Some text) is = omega (arith, element_size 4 text, text_size text is)
@@ -139,16 +133,6 @@ gone_size uuid name cookie short is =
     let named : length state_name ≡ 24 = refl in
     omega (arith, message_size (entry (name, [])) state_name value, named, bare_size name, short, state_size state.Delete uuid cookie is)
 
-uuids_size : (uuids : List ℕ) → length (flat_map uuid_octets uuids) ≤ 22 * length uuids
-uuids_size [] = omega arith
-uuids_size (u ∷ us) =
-    let long : length (to_be_bytes w128 u) ≡ 16 = refl in
-    omega (arith, length-append (uuid_octets u) (flat_map uuid_octets us), element_size 4 (to_be_bytes w128 u), long, uuids_size us)
-
-flag_size : (deletes : Bool) → length (flag_octets 1 false deletes) ≤ 7
-flag_size false = omega arith
-flag_size true = omega (arith, element_size 1 (255 ∷ []))
-
 info_size : (deletes : Bool) (uuids : List ℕ) → length (info_octets (info.IdSet None deletes uuids)) ≤ 22 * length uuids + 19
 unfolding info_octets
 info_size deletes uuids =
@@ -158,7 +142,7 @@ info_size deletes uuids =
       arith,
       element_size 163 (flag ++ element 49 ids),
       length-append flag (element 49 ids),
-      flag_size deletes,
+      flag_size false deletes,
       element_size 49 ids,
       uuids_size uuids,
     )
@@ -191,7 +175,7 @@ notified_size : (text : List ℕ) (deletes : Bool) → length (done_octets (reco
 unfolding done_octets
 notified_size text deletes =
     let flag = flag_octets 1 false deletes in
-    omega (arith, element_size 48 (element 4 text ++ flag), length-append (element 4 text) flag, element_size 4 text, flag_size deletes)
+    omega (arith, element_size 48 (element 4 text ++ flag), length-append (element 4 text) flag, element_size 4 text, flag_size false deletes)
 
 -- that of the end of a search with its cookie
 pub done_size : (deletes : Bool) (cookie : Cookie) → length (message_octets (sent 1 (Done (pos SUCCESS) (Some (deletes, Some (cookie_text cookie)))))) ≤ 4194304
@@ -202,23 +186,17 @@ done_size deletes cookie =
 
 -- ---- the end of a refresh of a search that goes on
 
-either_size : (usual flag : Bool) → length (flag_octets 1 usual flag) ≤ 7
-either_size false false = omega arith
-either_size true true = omega arith
-either_size false true = omega (arith, element_size 1 (255 ∷ []))
-either_size true false = omega (arith, element_size 1 (0 ∷ []))
-
 delete_value_size : (done : Bool) (cookie : Option (List ℕ)) → IsText cookie → length (info_octets (info.RefreshDelete cookie done)) ≤ 116
 unfolding info_octets
 delete_value_size done cookie is =
     let flag = flag_octets 1 true done in
-    omega (arith, element_size 161 (cookie_octets cookie ++ flag), length-append (cookie_octets cookie) flag, text_octets_size cookie is, either_size true done)
+    omega (arith, element_size 161 (cookie_octets cookie ++ flag), length-append (cookie_octets cookie) flag, text_octets_size cookie is, flag_size true done)
 
 present_value_size : (done : Bool) (cookie : Option (List ℕ)) → IsText cookie → length (info_octets (info.RefreshPresent cookie done)) ≤ 116
 unfolding info_octets
 present_value_size done cookie is =
     let flag = flag_octets 1 true done in
-    omega (arith, element_size 162 (cookie_octets cookie ++ flag), length-append (cookie_octets cookie) flag, text_octets_size cookie is, either_size true done)
+    omega (arith, element_size 162 (cookie_octets cookie ++ flag), length-append (cookie_octets cookie) flag, text_octets_size cookie is, flag_size true done)
 
 -- that of the end of a refresh of a search that goes on
 pub phase_size : (deletes done : Bool) (cookie : Option (List ℕ)) → IsText cookie → length (message_octets (sent 1 (phase_end deletes done cookie))) ≤ 4194304

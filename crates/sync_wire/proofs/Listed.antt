@@ -1,11 +1,10 @@
 -- Attributes of which each has a type of its own are joined as they are.
 use Rattle.std.proofs.Common.{◌≡◌, ◌≢◌, ℕ, suc, Bool, true, false, not, ◌&&◌, ◌==◌, cond, List, [], ◌∷◌, ◌++◌, map, append-nil, ap, sym, ◌∙◌, refl, arith}
 use Rattle.std.specs.List.{All, AllPairs, list_all, filter, flat_map}
-use Rattle.std.proofs.lemmas.Bool.{ne_eqb, eq-eqb, eqb-false}
+use Rattle.std.proofs.lemmas.Bool.{ne_eqb, eq-eqb, eqb-false, and_parts, not-true}
 use Rattle.std.proofs.lemmas.List.Elements.{All-head, All-tail}
 use Rattle.schema_rules.specs.declared.attributes.Attribute.{Attribute}
 use Rattle.schema_rules.specs.Attributes.{kinds_of, values_of, joined, IsAttributeList}
-use Rattle.sync_wire.proofs.Lists.{both, not_true}
 
 abbrev kind_in : Attribute → ℕ
 kind_in a = a.kind
@@ -25,7 +24,7 @@ apart kind (a ∷ attrs) all =
 others_kept : (kind : ℕ) (attrs : List Attribute) → lack kind attrs ≡ true → filter (λ other. not (other == kind)) (map kind_in attrs) ≡ map kind_in attrs
 others_kept kind [] none = refl
 others_kept kind (a ∷ attrs) none =
-    let h = both (not (a.kind == kind)) (lack kind attrs) none in
+    let h = and_parts (not (a.kind == kind)) (lack kind attrs) none in
     let rest = filter (λ other. not (other == kind)) (map kind_in attrs) in
     ap (λ b. cond b (a.kind ∷ rest) rest) h.0 ∙ ap (λ kinds. a.kind ∷ kinds) (others_kept kind attrs h.1)
 
@@ -49,9 +48,9 @@ kinds_once (a ∷ attrs) h =
 no_values : (kind : ℕ) (attrs : List Attribute) → lack kind attrs ≡ true → values_of attrs kind ≡ []
 no_values kind [] none = refl
 no_values kind (a ∷ attrs) none =
-    let h = both (not (a.kind == kind)) (lack kind attrs) none in
+    let h = and_parts (not (a.kind == kind)) (lack kind attrs) none in
     let rest = filter (λ other. other.kind == kind) attrs in
-    ap (λ b. flat_map (λ other. other.values) (cond b (a ∷ rest) rest)) (not_true (a.kind == kind) h.0) ∙ no_values kind attrs h.1
+    ap (λ b. flat_map (λ other. other.values) (cond b (a ∷ rest) rest)) (not-true (a.kind == kind) h.0) ∙ no_values kind attrs h.1
 
 abbrev gathered : List Attribute → ℕ → Attribute
 gathered attrs kind = record { kind = kind; values = values_of attrs kind }
@@ -73,8 +72,8 @@ gathered_other a attrs kind other =
 gathered_others : (a : Attribute) (attrs more : List Attribute) → lack a.kind more ≡ true → map (gathered (a ∷ attrs)) (map kind_in more) ≡ map (gathered attrs) (map kind_in more)
 gathered_others a attrs [] none = refl
 gathered_others a attrs (b ∷ more) none =
-    let h = both (not (b.kind == a.kind)) (lack a.kind more) none in
-    ap (λ first. first ∷ map (gathered (a ∷ attrs)) (map kind_in more)) (gathered_other a attrs b.kind (not_true (b.kind == a.kind) h.0))
+    let h = and_parts (not (b.kind == a.kind)) (lack a.kind more) none in
+    ap (λ first. first ∷ map (gathered (a ∷ attrs)) (map kind_in more)) (gathered_other a attrs b.kind (not-true (b.kind == a.kind) h.0))
     ∙ ap (λ rest. gathered attrs b.kind ∷ rest) (gathered_others a attrs more h.1)
 
 gathered_once : (attrs : List Attribute) → Once attrs → map (gathered attrs) (map kind_in attrs) ≡ attrs

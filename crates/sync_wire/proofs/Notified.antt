@@ -1,5 +1,6 @@
 -- What is sent is decoded, message by message.
 use Rattle.std.proofs.Common.{◌≡◌, ℕ, Bool, true, false, ◌&&◌, if◌then◌else◌, List, [], ◌∷◌, Option, None, Some, Result, Ok, Err, ap, ◌∙◌, refl}
+use Rattle.std.proofs.Math.Bool.{and-false}
 use Rattle.schema_rules.specs.declared.raw.RawAttribute.{RawAttribute}
 use Rattle.schema_rules.specs.declared.raw.Change.TheVariants as change
 use Rattle.dn_names.specs.Writing.{name_text}
@@ -90,10 +91,6 @@ in_place : (persisting : Bool) (kind : State) (uuid : ℕ) (cookie : Option Cook
     ≡ and_then (checked_uuid uuid raws) (λ checked. contents kind uuid cookie name raws)
 in_place persisting kind uuid cookie name placed raws = ap (λ b. if b then Err OutOfPlace else and_then (checked_uuid uuid raws) (λ checked. contents kind uuid cookie name raws)) placed
 
-never : (persisting : Bool) → (persisting && false) ≡ false
-never true = refl
-never false = refl
-
 added_or_modified : (adds : Bool) → is_present (kind_of adds) ≡ false
 added_or_modified true = refl
 added_or_modified false = refl
@@ -106,7 +103,7 @@ put_contents false e cookie can = ap (on_ok (λ entry. AddOrModify false entry c
 put_said : (persisting adds : Bool) (e : Entry) (cookie : Option CookieText) → CanBeSent e
     → entry_said persisting (name_text e.dn) (attributes_of e) (record { state = kind_of adds; uuid = e.uuid; cookie = cookie }) ≡ Ok (AddOrModify adds e cookie)
 put_said persisting adds e cookie can =
-    in_place persisting (kind_of adds) e.uuid cookie (name_text e.dn) (ap (λ b. persisting && b) (added_or_modified adds) ∙ never persisting) (attributes_of e)
+    in_place persisting (kind_of adds) e.uuid cookie (name_text e.dn) (ap (λ b. persisting && b) (added_or_modified adds) ∙ and-false persisting) (attributes_of e)
     ∙ ap (λ checked. and_then checked (λ nothing. contents (kind_of adds) e.uuid cookie (name_text e.dn) (attributes_of e))) (uuid_agrees e can)
     ∙ put_contents adds e cookie can
 
@@ -126,7 +123,7 @@ each_decoded persisting (AddOrModify adds e cookie) can =
     ∙ put_said persisting adds e cookie can.0
 each_decoded persisting (Delete uuid name cookie) can =
     ap (λ read. and_then read (entry_said persisting name [])) (state_said state.Delete uuid cookie can.0 can.1)
-    ∙ in_place persisting state.Delete uuid cookie name (never persisting) []
+    ∙ in_place persisting state.Delete uuid cookie name (and-false persisting) []
 each_decoded persisting (Present uuid cookie) can =
     ap (λ read. and_then read (entry_said persisting [] [])) (state_said state.Present uuid cookie can.1 can.2)
     ∙ in_place persisting state.Present uuid cookie [] (ap (λ b. b && true) can.0) []

@@ -5,7 +5,7 @@ use Rattle.std.specs.Option.{option_map}
 use Rattle.std.specs.List.{list_all, filter, filter_map, flat_map, range_with_len}
 use Rattle.std.specs.Int.{w128, from_be_bytes, to_be_bytes, byte_at, bytes_high_first}
 use Rattle.std.specs.Str.{str_eq_ignore_ascii_case}
-use Rattle.std.proofs.lemmas.Bool.{cases_lt, le-ltb, eq-eqb}
+use Rattle.std.proofs.lemmas.Bool.{cases_lt, le-ltb, eq-eqb, and_parts, not-true}
 use Rattle.std.proofs.lemmas.List.{get_or_past}
 use Rattle.std.proofs.lemmas.List.Concat.{flat_map-append}
 use Rattle.std.proofs.lemmas.List.Elements.{All-nil, All-cons, All-head, All-tail, filter-append, filter_map-append}
@@ -33,8 +33,7 @@ use Rattle.sync_wire.specs.declared.fault.DecodeFault.{DecodeFault}
 use Rattle.sync_wire.specs.Refusals.{and_then, bad_entry}
 use Rattle.sync_wire.specs.CanBeSent.{CanBeSent}
 use Rattle.sync_wire.specs.Sending.{uuid_text, raw_of, operational_attributes_of, attributes_of as sent_attributes}
-use Rattle.sync_wire.specs.WireEntry.{values_named, uuid_of, uuid_values, first_other, same_or_refused, checked_uuid, are_uuids, or_65, one_csn, entry_csn, is_kept_by, kept_values, unless_empty, kept_of, kept, attributes_of, is_of_its_syntax, or_34, checked_syntax, checked_weight, entry_of}
-use Rattle.sync_wire.proofs.Lists.{both, not_true}
+use Rattle.sync_wire.specs.WireEntry.{values_named, uuid_of, uuid_values, first_other, same_or_refused, checked_uuid, are_uuids, or_object_class_violation, one_csn, entry_csn, is_kept_by, kept_values, unless_empty, kept_of, kept, attributes_of, is_of_its_syntax, or_invalid_dn_syntax, checked_syntax, checked_weight, entry_of}
 use Rattle.sync_wire.proofs.Listed.{joined-once}
 use Rattle.sync_wire.proofs.Keeping.{some_if}
 
@@ -78,16 +77,16 @@ csn_mark = refl
 no_mark : (name : List ℕ) (kind : ℕ) → IsMark name → is_operational kind ≡ false → str_eq_ignore_ascii_case (type_name kind) name ≡ false
 no_mark name kind mark given =
     let other = at_type (differs name) kind mark (known kind given) in
-    not_true (str_eq_ignore_ascii_case (type_name kind) name) (sym (ap (λ b. b || not (str_eq_ignore_ascii_case (type_name kind) name)) given) ∙ other)
+    not-true (str_eq_ignore_ascii_case (type_name kind) name) (sym (ap (λ b. b || not (str_eq_ignore_ascii_case (type_name kind) name)) given) ∙ other)
 
 -- ---- the values of the marks
 
 given_of : (a : Attribute) (attrs : List Attribute) → list_all is_given (a ∷ attrs) ≡ true
     → (is_operational a.kind ≡ false) × (list_all (is_of_syntax a.kind) a.values ≡ true) × (list_all is_given attrs ≡ true)
 given_of a attrs given =
-    let h = both (is_given a) (list_all is_given attrs) given in
-    let k = both (not (is_operational a.kind)) (list_all (is_of_syntax a.kind) a.values) h.0 in
-    (not_true (is_operational a.kind) k.0, k.1, h.1)
+    let h = and_parts (is_given a) (list_all is_given attrs) given in
+    let k = and_parts (not (is_operational a.kind)) (list_all (is_of_syntax a.kind) a.values) h.0 in
+    (not-true (is_operational a.kind) k.0, k.1, h.1)
 
 abbrev has_name : List ℕ → RawAttribute → Bool
 has_name name raw = str_eq_ignore_ascii_case raw.name name
@@ -158,7 +157,7 @@ uuids_agree e can =
 -- ---- the CSN
 
 csn_agrees : (e : Entry) → CanBeSent e → entry_csn (sent_attributes e) ≡ Ok e.csn
-csn_agrees e can = ap one_csn (csns_of e can.given) ∙ ap or_65 (csn_of_text-csn_text e.csn can.is_csn)
+csn_agrees e can = ap one_csn (csns_of e can.given) ∙ ap or_object_class_violation (csn_of_text-csn_text e.csn can.is_csn)
 
 -- ---- the other attributes
 
@@ -179,7 +178,7 @@ value_kept kind value has = kept_by_syntax (type_rule kind) value has
 values_kept : (kind : ℕ) (values : List (List ℕ)) → list_all (is_of_syntax kind) values ≡ true → kept_values kind values ≡ values
 values_kept kind [] all = refl
 values_kept kind (value ∷ values) all =
-    let h = both (is_of_syntax kind value) (list_all (is_of_syntax kind) values) all in
+    let h = and_parts (is_of_syntax kind value) (list_all (is_of_syntax kind) values) all in
     ap (λ b. cond b (value ∷ kept_values kind values) (kept_values kind values)) (value_kept kind value h.0) ∙ ap (λ rest. value ∷ rest) (values_kept kind values h.1)
 
 not_empty : (a : Attribute) → a.values ≢ [] → unless_empty a.kind a.values ≡ Some a
@@ -240,7 +239,7 @@ entry_agrees e can =
     let raws = sent_attributes e in
     let made : CsnValue → List Attribute → Entry = λ csn attrs. record { uuid = e.uuid; csn = csn; dn = e.dn; attrs = attrs } in
     let beyond = λ (attrs : List Attribute). λ (checked : Unit {0}). and_then (entry_csn raws) (λ csn. checked_weight (made csn attrs)) in
-    ap (λ read. and_then (or_34 read) (λ dn. and_then (checked_syntax raws (attributes_of raws)) (λ checked. and_then (entry_csn raws) (λ csn.
+    ap (λ read. and_then (or_invalid_dn_syntax read) (λ dn. and_then (checked_syntax raws (attributes_of raws)) (λ checked. and_then (entry_csn raws) (λ csn.
     checked_weight (record { uuid = e.uuid; csn = csn; dn = dn; attrs = attributes_of raws }))))) (name_read_again e.dn can.name)
     ∙ ap (λ attrs. and_then (checked_syntax raws attrs) (beyond attrs)) (attributes_agree e can)
     ∙ ap (λ checked. and_then checked (beyond e.attrs)) (syntax_agrees e can)

@@ -29,13 +29,15 @@ cookie_size : (cookie : Option CookieText) → IsShort cookie → length (cookie
 cookie_size None short = omega arith
 cookie_size (Some cookie) short = omega (arith, element_size 4 cookie, short)
 
-flag_size : (usual flag : Bool) → length (flag_octets 1 usual flag) ≤ 7
+-- what the octets of a flag are at most
+pub flag_size : (usual flag : Bool) → length (flag_octets 1 usual flag) ≤ 7
 flag_size false false = omega arith
 flag_size true true = omega arith
 flag_size false true = omega (arith, element_size 1 (255 ∷ []))
 flag_size true false = omega (arith, element_size 1 (0 ∷ []))
 
-kind_size : (kind : State) → length (integer_octets (kind_number kind)) ≡ 1
+-- the number of a kind takes an octet
+pub kind_size : (kind : State) → length (integer_octets (kind_number kind)) ≡ 1
 unfolding integer_octets
 kind_size state.Present = refl
 kind_size state.Add = refl
@@ -47,7 +49,8 @@ uuid_size uuid =
     let long : length (to_be_bytes w128 uuid) ≡ 16 = refl in
     omega (arith, element_size 4 (to_be_bytes w128 uuid), long)
 
-uuids_size : (uuids : List ℕ) → length (flat_map uuid_octets uuids) ≤ 22 * length uuids
+-- an identity takes 22 octets at most
+pub uuids_size : (uuids : List ℕ) → length (flat_map uuid_octets uuids) ≤ 22 * length uuids
 uuids_size [] = omega arith
 uuids_size (uuid ∷ uuids) =
     omega (arith, length-append (uuid_octets uuid) (flat_map uuid_octets uuids), uuid_size uuid, uuids_size uuids)

@@ -1,18 +1,15 @@
--- What a function answered, seen by `view`, is what reading gives, unless memory ran out.
+-- What a refusal reports of a reading, and readings one after another.
 use Rattle.std.specs.Prelude.{◌≡◌, ⊤, ℕ, Result, Ok, Err}
 use Rattle.sync_wire.specs.declared.fault.DecodeFault.{DecodeFault}
 use Rattle.sync_wire.specs.declared.fault.DecodeFault.TheVariants.{OutOfPlace, BadValue, UuidDiffers, BadEntry, NoMemory}
 
+-- the refusal is that of the reading; out of memory may come in place of any answer
 abbrev pub Fails : {Y : Type 0} → DecodeFault → Result Y DecodeFault → Type 0
 Fails OutOfPlace read = read ≡ Err OutOfPlace
 Fails BadValue read = read ≡ Err BadValue
 Fails (UuidDiffers uuid other) read = read ≡ Err (UuidDiffers uuid other)
 Fails (BadEntry code) read = read ≡ Err (BadEntry code)
 Fails NoMemory read = ⊤
-
-abbrev pub Gives : {X Y : Type 0} → (X → Y) → Result X DecodeFault → Result Y DecodeFault → Type 0
-Gives view (Ok x) read = read ≡ Ok (view x)
-Gives view (Err refusal) read = Fails refusal read
 
 -- the second step where the first gave a value
 abbrev pub and_then :

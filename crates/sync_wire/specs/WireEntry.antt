@@ -52,12 +52,13 @@ checked_uuid uuid raws = same_or_refused uuid (first_other uuid (uuid_values raw
 abbrev pub are_uuids : List RawAttribute → Bool
 are_uuids raws = list_all (λ value. is_some (uuid_of value)) (uuid_values raws)
 
-abbrev pub or_65 : Option CsnValue → Result CsnValue DecodeFault
-or_65 None = Err (bad_entry OBJECT_CLASS_VIOLATION)
-or_65 (Some csn) = Ok csn
+-- objectClassViolation in place of none
+abbrev pub or_object_class_violation : Option CsnValue → Result CsnValue DecodeFault
+or_object_class_violation None = Err (bad_entry OBJECT_CLASS_VIOLATION)
+or_object_class_violation (Some csn) = Ok csn
 
 abbrev pub csn_of : List ℕ → Result CsnValue DecodeFault
-csn_of text = or_65 (csn_of_text text)
+csn_of text = or_object_class_violation (csn_of_text text)
 
 -- one value, which is a CSN, or objectClassViolation
 abbrev pub one_csn : List (List ℕ) → Result CsnValue DecodeFault
@@ -107,13 +108,13 @@ is_of_its_syntax attribute = list_all (is_of_syntax attribute.kind) attribute.va
 
 -- ---- the entry
 
--- invalidDNSyntax
-abbrev pub or_34 : {X : Type 0} → Result X NameFault → Result X DecodeFault
-or_34 (Ok x) = Ok x
-or_34 (Err fault) = Err (bad_entry INVALID_DN_SYNTAX)
+-- invalidDNSyntax in place of each fault
+abbrev pub or_invalid_dn_syntax : {X : Type 0} → Result X NameFault → Result X DecodeFault
+or_invalid_dn_syntax (Ok x) = Ok x
+or_invalid_dn_syntax (Err fault) = Err (bad_entry INVALID_DN_SYNTAX)
 
 abbrev pub name_of : List ℕ → Result (List (List TypeAndValue)) DecodeFault
-name_of text = or_34 (name_of_text text)
+name_of text = or_invalid_dn_syntax (name_of_text text)
 
 -- invalidAttributeSyntax
 abbrev pub checked_syntax : List RawAttribute → List Attribute → Result (Unit {0}) DecodeFault

@@ -1,8 +1,9 @@
 //! What a message says to a search.
 
-ghost use Rattle.std.specs.Prelude.{◌≡◌};
+ghost use Rattle.std.specs.Prelude.{◌≡◌, Ok};
 ghost use Rattle.sync_wire.specs.Decoding as spec;
-ghost use Rattle.sync_wire.specs.Refusals.{Gives, on_ok};
+ghost use Rattle.ldap_ber.specs.Gives.{Gives};
+ghost use Rattle.sync_wire.specs.Refusals.{Fails, on_ok};
 
 use crate::fault::DecodeFault;
 use crate::operational::check_uuid;
@@ -55,7 +56,8 @@ pub enum SyncEvent {
 /// `OutOfPlace` for a message that does not belong there; then `BadValue` for a value outside its
 /// grammar; then, of an entry, `UuidDiffers` or `BadEntry`; or `NoMemory`.
 pub fn decode(alloc: Global, message: &Message, persisting: bool) -> Result<SyncEvent, DecodeFault>
-    ensures { Gives (λ h. h) result (on_ok spec.decoded_of (spec.said persisting message.now)) }
+    ensures { Gives Fails (λ h. Ok h) result
+        (on_ok spec.decoded_of (spec.said persisting message.now)) }
 {
     let controls = message.controls.list();
     match &message.op {
@@ -97,7 +99,7 @@ fn entry_decoded(
     name: &Octets,
     raws: &[RawAttribute],
 ) -> Result<SyncEvent, DecodeFault>
-    ensures { Gives (λ h. h) result
+    ensures { Gives Fails (λ h. Ok h) result
         (on_ok spec.decoded_of (spec.entry_said persisting name.now raws.now state)) }
 {
     if persisting && matches!(state.state, State::Present) {
@@ -121,7 +123,7 @@ fn response_decoded(
     name: &Option<Octets>,
     value: &Option<Octets>,
 ) -> Result<SyncEvent, DecodeFault>
-    ensures { Gives (λ h. h) result
+    ensures { Gives Fails (λ h. Ok h) result
         (on_ok spec.decoded_of (spec.response_said name.now value.now)) }
 {
     if !is_sync_info(name) {

@@ -1,8 +1,9 @@
 //! The values of controls and of Sync Info messages (RFC 4533, section 2).
 
-ghost use Rattle.std.specs.Prelude.{◌≡◌};
+ghost use Rattle.std.specs.Prelude.{◌≡◌, Ok};
 ghost use Rattle.std.specs.Option.{option_copied};
-ghost use Rattle.sync_wire.specs.Refusals.{Gives};
+ghost use Rattle.ldap_ber.specs.Gives.{Gives};
+ghost use Rattle.sync_wire.specs.Refusals.{Fails};
 ghost use Rattle.sync_wire.specs.Values as spec;
 
 use crate::fault::DecodeFault;
@@ -37,7 +38,7 @@ fn control_named<'a>(controls: &'a [Control], name: &[u8]) -> Option<&'a Control
 
 /// The bytes of a value, which have to be there.
 fn given(value: &Option<Octets>) -> Result<&[u8], DecodeFault>
-    ensures { Gives (λ bytes. bytes.now) result (spec.given_value value.now) }
+    ensures { Gives Fails (λ bytes. Ok bytes.now) result (spec.given_value value.now) }
 {
     match value {
         Some(value) => Ok(value.as_slice()),
@@ -47,7 +48,7 @@ fn given(value: &Option<Octets>) -> Result<&[u8], DecodeFault>
 
 /// What the Sync State control says, where an entry has one.
 pub(crate) fn sync_state(alloc: Global, controls: &[Control]) -> Result<SyncState, DecodeFault>
-    ensures { Gives (λ state. state) result (spec.sync_state controls.now) }
+    ensures { Gives Fails (λ state. Ok state) result (spec.sync_state controls.now) }
 {
     let Some(control) = control_named(controls, SYNC_STATE) else {
         return Err(DecodeFault::OutOfPlace);
@@ -61,7 +62,7 @@ pub(crate) fn sync_done(
     alloc: Global,
     controls: &[Control],
 ) -> Result<Option<SyncDone>, DecodeFault>
-    ensures { Gives (λ done. done) result (spec.sync_done controls.now) }
+    ensures { Gives Fails (λ done. Ok done) result (spec.sync_done controls.now) }
 {
     let Some(control) = control_named(controls, SYNC_DONE) else {
         return Ok(None);
@@ -72,7 +73,7 @@ pub(crate) fn sync_done(
 
 /// What a Sync Info message says.
 pub(crate) fn sync_info(alloc: Global, value: &Option<Octets>) -> Result<SyncInfo, DecodeFault>
-    ensures { Gives (λ info. info) result (spec.sync_info value.now) }
+    ensures { Gives Fails (λ info. Ok info) result (spec.sync_info value.now) }
 {
     let value = given(value)?;
     Ok(SyncInfo::read(alloc, value)?)

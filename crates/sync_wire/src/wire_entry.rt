@@ -1,9 +1,10 @@
 //! Entries as they are sent.
 
-ghost use Rattle.std.specs.Prelude.{◌≡◌, IfOk};
+ghost use Rattle.std.specs.Prelude.{◌≡◌, Ok, IfOk};
 ghost use Rattle.std.specs.List.{list_all};
 ghost use Rattle.schema_rules.specs.Schema.{type_rule};
-ghost use Rattle.sync_wire.specs.Refusals.{Gives};
+ghost use Rattle.ldap_ber.specs.Gives.{Gives};
+ghost use Rattle.sync_wire.specs.Refusals.{Fails};
 ghost use Rattle.sync_wire.specs.WireEntry as spec;
 
 use crate::fault::DecodeFault;
@@ -27,7 +28,7 @@ pub(crate) fn entry_of(
     name: &Octets,
     raws: &[RawAttribute],
 ) -> Result<Entry, DecodeFault>
-    ensures { Gives (λ entry. entry) result (spec.entry_of uuid name.now raws.now) }
+    ensures { Gives Fails (λ entry. Ok entry) result (spec.entry_of uuid name.now raws.now) }
 {
     let dn = name_of(alloc, name)?;
     let attrs = attributes_of(alloc, raws)?;
@@ -47,7 +48,7 @@ pub(crate) fn entry_of(
 }
 
 fn name_of(alloc: Global, text: &Octets) -> Result<Dn, DecodeFault>
-    ensures { Gives (λ dn. dn) result (spec.name_of text.now) }
+    ensures { Gives Fails (λ dn. Ok dn) result (spec.name_of text.now) }
 {
     match Dn::parse(alloc, text.as_slice()) {
         Ok(dn) => Ok(dn),
@@ -69,7 +70,7 @@ fn attributes_of(alloc: Global, raws: &[RawAttribute]) -> Result<Attrs, NoMemory
             add_values(&mut items, attribute.kind, attribute.values.list())?;
         }
     }
-    Ok(Attrs::of(items))
+    Attrs::of(items)
 }
 
 /// What is kept of an attribute: nothing where its type is unknown or operational, or where it

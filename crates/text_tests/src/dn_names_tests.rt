@@ -114,12 +114,34 @@ const BUILT: [Row; 2] = [
     ),
 ];
 
+/// Names and their path keys: of each RDN the number of its pairs, and of each pair the number of
+/// its type, the length of its key, and the key; numbers and lengths in four octets.
+const PATHS: [Row; 5] = [
+    ("", "true []"),
+    ("DC=X", "true [0, 0, 0, 1, 0, 0, 0, 12, 0, 0, 0, 1, 120]"),
+    // The RDN at the root comes first.
+    (
+        "L=B,o=c",
+        "true [0, 0, 0, 1, 0, 0, 0, 10, 0, 0, 0, 1, 99, 0, 0, 0, 1, 0, 0, 0, 11, 0, 0, 0, 1, 98]",
+    ),
+    // The pair of ou is less than that of l.
+    (
+        "L=B+OU=A",
+        "true [0, 0, 0, 2, 0, 0, 0, 9, 0, 0, 0, 1, 97, 0, 0, 0, 11, 0, 0, 0, 1, 98]",
+    ),
+    (
+        "cn=ab+ou=A,dc=x",
+        "true [0, 0, 0, 1, 0, 0, 0, 12, 0, 0, 0, 1, 120, 0, 0, 0, 2, 0, 0, 0, 1, 0, 0, 0, 2, 97, 98, 0, 0, 0, 9, 0, 0, 0, 1, 97]",
+    ),
+];
+
 #[test]
 fn names(rt: HostRuntime) -> Result<(), Fail> {
     check_rows(&rt, rt.alloc(), "written", &WRITTEN)?;
     check_rows(&rt, rt.alloc(), "fault", &REFUSED)?;
     check_rows(&rt, rt.alloc(), "long", &LONG)?;
     check_rows(&rt, rt.alloc(), "compared", &COMPARED)?;
+    check_rows(&rt, rt.alloc(), "path", &PATHS)?;
     check_rows(&rt, rt.alloc(), "rdn", &RDNS)?;
     check_rows(&rt, rt.alloc(), "built", &BUILT)
 }
@@ -138,6 +160,7 @@ fn reported(alloc: Global, word: &str, text: &str) -> Result<String, Fail> {
         "written" => rewritten(alloc, text),
         "long" => long(alloc, text),
         "compared" => compared(alloc, text),
+        "path" => path(alloc, text),
         "rdn" => rdn(alloc, text),
         "built" => built(alloc, text),
         _ => read(alloc, text),
@@ -186,6 +209,14 @@ fn compared(alloc: Global, text: &str) -> Result<String, NameFault> {
         "{is_same} {is_below} {} {has_key}",
         name.is_child_of(&base)
     )?)
+}
+
+/// The path key of a name, and whether the one that it lends is the same.
+fn path(alloc: Global, text: &str) -> Result<String, NameFault> {
+    let name = Dn::parse(alloc, text.as_bytes())?;
+    let path = name.copy()?.path_key()?;
+    let is_lent = name.path() == path.as_slice();
+    Ok(format!(in alloc; "{is_lent} {:?}", path.as_slice())?)
 }
 
 fn rdn(alloc: Global, text: &str) -> Result<String, NameFault> {

@@ -18,7 +18,7 @@ loop-left-preserved c =
     let one = takes_at c.loop-left.provider c.take_one.new.provider c.loop-left.consumer_node c.take_one.new.consumer_node c.loop-left.out.lineage c.args.out.now.lineage c.loop-left.out c.take_one.new.out (Ok c.in_ok-take_one.field-0) same c.in_ok-take_one.ensures.does in
     record {
       left = took_one whole c.loop-left.left (agreement_of c.loop-left.provider c.loop-left.consumer_node c.args.out.now.lineage) (agreement_of c.take_one.new.provider c.take_one.new.consumer_node c.args.out.now.lineage) _ _ _ c.in_ok-take_one.field-0 c.loop-left-test.true c.loop-left.invariant.left one c.if-not-branch.false;
-      directory = c.in_ok-take_one.ensures.directory ∙ c.loop-left.invariant.directory;
-      queue_limit = c.in_ok-take_one.ensures.queue_limit ∙ c.loop-left.invariant.queue_limit;
-      kind = c.in_ok-take_one.ensures.kind ∙ c.loop-left.invariant.kind;
+      directory = c.in_ok-take_one.ensures.provider.directory ∙ c.loop-left.invariant.directory;
+      queue_limit = c.in_ok-take_one.ensures.provider.queue_limit ∙ c.loop-left.invariant.queue_limit;
+      kind = c.in_ok-take_one.ensures.provider.kind ∙ c.loop-left.invariant.kind;
     }

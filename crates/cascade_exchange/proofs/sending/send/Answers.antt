@@ -18,7 +18,7 @@ loop-left-preserved c =
     let one = sends_at c.loop-left.provider c.send_one.new.provider c.loop-left.consumer_node c.send_one.new.consumer_node c.loop-left.out.lineage c.args.out.now.lineage c.loop-left.out c.send_one.new.out (Ok c.in_ok-send_one.field-0) same c.in_ok-send_one.ensures.does in
     record {
       goes = sent_one whole c.loop-left.left (agreement_of c.loop-left.provider c.loop-left.consumer_node c.args.out.now.lineage) (agreement_of c.send_one.new.provider c.send_one.new.consumer_node c.args.out.now.lineage) _ _ _ c.loop-left-test.true c.loop-left.invariant.goes (rw c.if-not-branch.false at one);
-      directory = c.in_ok-send_one.ensures.directory ∙ c.loop-left.invariant.directory;
-      queue_limit = c.in_ok-send_one.ensures.queue_limit ∙ c.loop-left.invariant.queue_limit;
-      kind = c.in_ok-send_one.ensures.kind ∙ c.loop-left.invariant.kind;
+      directory = c.in_ok-send_one.ensures.provider.directory ∙ c.loop-left.invariant.directory;
+      queue_limit = c.in_ok-send_one.ensures.provider.queue_limit ∙ c.loop-left.invariant.queue_limit;
+      kind = c.in_ok-send_one.ensures.provider.kind ∙ c.loop-left.invariant.kind;
     }

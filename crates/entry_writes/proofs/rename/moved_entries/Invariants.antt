@@ -6,10 +6,9 @@ use Rattle.entry_writes.specs.Touched.{is_change}
 use Rattle.entry_writes.proofs.Identities.{stepped}
 use Rattle.entry_writes.proofs.rename.moved_entries.Given as goal
 
--- the entries so far are moved, what differs is reported, and no name is too long
+-- what differs of the entries so far is reported, and no name is too long
 abbrev pub invariant-loop-entry : goal.invariant-loop-entry
 invariant-loop-entry l = record {
-  made : l.moved.entries.items ≡ map (moved l.top l.renamed.name l.renamed.attrs l.csn) (take l.entry-index l.entries);
-  shown : l.moved.entry_changes ≡ filter is_change (map (stepped (λ e. Some (moved l.top l.renamed.name l.renamed.attrs l.csn e))) (take l.entry-index l.entries));
+  shown : l.entry_changes ≡ filter is_change (map (stepped (λ e. Some (moved l.top l.renamed.name l.renamed.attrs l.csn e))) (take l.entry-index l.entries));
   short : has_too_long (take l.entry-index l.entries) l.top l.renamed.name ≡ false;
 }

@@ -2,36 +2,33 @@
 use Rattle.std.proofs.Common.{◌≡◌, ◌∙◌, ◌-◌, Some, None, sym, ap, subst, arith}
 use Rattle.sync_model.specs.Copy.{slot}
 use Rattle.sync_consumer.specs.Staging.{IsStage, change_of, changes_of, count_of, weight_within, slot_before}
-use Rattle.sync_consumer.proofs.Stages.{short, within, staged_enough, staged_stage}
+use Rattle.sync_consumer.proofs.Stages.{roomy, staged_enough, staged_stage}
 use Rattle.sync_consumer.proofs.changes.set.Goals as goal
+use Rattle.sync_consumer.proofs.changes.set.Goals.{In-Had}
 
-pub add-requires-clause-few : goal.add-requires-clause-few
-add-requires-clause-few c =
-    (within (changes_of c.args.changes.now.items) c.args.load.now.count c.args.load.now.weight c.requires.stage (short c.args.changes.now)).0
+-- what was staged of the identity
+was : (c : In-Had) → Some (change_of c.in-Had.old).1 ≡ slot (changes_of c.args.changes.now.items) (change_of c.args.change).0
+was c = sym (ap slot_before c.in-Had.is) ∙ c.stage_one-before.ensures.was
 
-pub add-requires-clause-light : goal.add-requires-clause-light
-add-requires-clause-light c =
-    (within (changes_of c.args.changes.now.items) c.args.load.now.count c.args.load.now.weight c.requires.stage (short c.args.changes.now)).1
+pub add-requires : goal.add-requires
+add-requires c =
+    let room = roomy c.args.changes.now c.args.load.now.count c.args.load.now.weight c.requires.stage in
+    record { few = room.0; light = room.1 }
 
-pub remove-requires-clause-counted : goal.remove-requires-clause-counted
-remove-requires-clause-counted c =
-    let stage = changes_of c.args.changes.now.items in
-    let was : Some (change_of c.in-Had.old).1 ≡ slot stage (change_of c.args.change).0 = sym (ap slot_before c.in-Had.is) ∙ c.stage_one-before.ensures.was in
-    rw c.add.ensures.count ((staged_enough stage (change_of c.args.change) c.args.load.now.count c.args.load.now.weight c.requires.stage (Some (change_of c.in-Had.old).1) was).0)
-
-pub remove-requires-clause-weighed : goal.remove-requires-clause-weighed
-remove-requires-clause-weighed c =
-    let stage = changes_of c.args.changes.now.items in
-    let was : Some (change_of c.in-Had.old).1 ≡ slot stage (change_of c.args.change).0 = sym (ap slot_before c.in-Had.is) ∙ c.stage_one-before.ensures.was in
-    rw c.add.ensures.weight ((staged_enough stage (change_of c.args.change) c.args.load.now.count c.args.load.now.weight c.requires.stage (Some (change_of c.in-Had.old).1) was).1)
+pub remove-requires : goal.remove-requires
+remove-requires c =
+    let enough =
+    staged_enough (changes_of c.args.changes.now.items) (change_of c.args.change) c.args.load.now.count c.args.load.now.weight c.requires.stage
+    (Some (change_of c.in-Had.old).1) (was (goal.at.remove-requires c).In-Had) in
+    record { counted = rw c.add.ensures.count (enough.0); weighed = rw c.add.ensures.weight (enough.1) }
 
 pub returns-in-Had-clause-stage : goal.returns-in-Had-clause-stage
 returns-in-Had-clause-stage c =
     let stage = changes_of c.args.changes.now.items in
     let load = c.args.load.now in
-    let was : Some (change_of c.in-Had.old).1 ≡ slot stage (change_of c.args.change).0 = sym (ap slot_before c.in-Had.is) ∙ c.stage_one-before.ensures.was in
+    let had = was (goal.at.returns-in-Had-clause-stage c).In-Had in
     subst (λ stage. IsStage stage c.remove.new.self.count c.remove.new.self.weight) (sym c.stage_one-before.ensures.value)
-    (staged_stage stage (change_of c.args.change) load.count load.weight c.requires.stage (Some (change_of c.in-Had.old).1) was c.remove.new.self.count c.remove.new.self.weight
+    (staged_stage stage (change_of c.args.change) load.count load.weight c.requires.stage (Some (change_of c.in-Had.old).1) had c.remove.new.self.count c.remove.new.self.weight
     (c.remove.ensures.count ∙ ap (λ n. n - count_of (change_of c.in-Had.old).1) c.add.ensures.count)
     (c.remove.ensures.weight ∙ ap (λ n. n - weight_within (change_of c.in-Had.old).1) c.add.ensures.weight))
 

@@ -1,5 +1,5 @@
 use Rattle.sync_provider.specs.Machine.{fresh, run}
-use Rattle.sync_provider.proofs.Overflows.{overflows_exactly}
+use Rattle.sync_provider.proofs.Followed.{overflows_exactly}
 use Rattle.sync_provider.proofs.laws.queues_overflow_exactly.Goals as goal
 
 pub returns : goal.returns

@@ -1,5 +1,5 @@
 use Rattle.sync_provider.specs.Machine.{fresh, run}
-use Rattle.sync_provider.proofs.Streams.{delivers_its_stream}
+use Rattle.sync_provider.proofs.Followed.{delivers_its_stream}
 use Rattle.sync_provider.proofs.laws.searches_deliver_their_streams.Goals as goal
 
 pub returns : goal.returns

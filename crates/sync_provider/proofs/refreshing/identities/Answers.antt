@@ -1,13 +1,15 @@
-use Rattle.std.proofs.Common.{rules, ◌≡◌, sym, subst, IfOk}
+use Rattle.std.proofs.Common.{◌≡◌, ◌∙◌, ap, sym, subst}
 use Rattle.std.specs.List.Sorted.{IsStrictlySortedBy}
 use Rattle.std.specs.Ordering.{nat_cmp}
-use Rattle.std.proofs.lemmas.Result.{IfOk-weaker}
+use Rattle.std.proofs.lemmas.List.{take_all}
+use Rattle.entry_tree.specs.Touched.{identities}
 use Rattle.sync_provider.specs.Refreshing.{all_identities}
 use Rattle.sync_provider.proofs.Deciding.{all_sorted}
 use Rattle.sync_provider.proofs.refreshing.identities.Goals as goal
 
 pub returns-clause-ascends : goal.returns-clause-ascends
 returns-clause-ascends c =
-    let exact : IfOk c.collect.result (λ uuids. uuids.items ≡ all_identities c.args.directory.now) = search rules in
-    IfOk-weaker c.collect.result (λ uuids. uuids.items ≡ all_identities c.args.directory.now) (λ uuids. IsStrictlySortedBy nat_cmp uuids.items)
-    (λ uuids is. subst (IsStrictlySortedBy nat_cmp) (sym is) (all_sorted c.args.directory.now)) exact
+    let whole = take_all c.loop-entry.entry-index c.entries-entries.result.now c.loop-entry-test.false in
+    let exact : c.loop-entry.uuids.items ≡ all_identities c.args.directory.now =
+    c.loop-entry.invariant ∙ ap identities (whole ∙ c.entries-entries.ensures ∙ c.tree.ensures) in
+    subst (IsStrictlySortedBy nat_cmp) (sym exact) (all_sorted c.args.directory.now)

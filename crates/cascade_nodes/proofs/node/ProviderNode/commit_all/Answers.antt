@@ -11,4 +11,4 @@ returns-in-Ok-clause-does c =
     let commits : c.in_ok-commits.field-0.commits.items ≡ map commit_of c.args.stages.items = search rules in
     let notes : c.in_ok-commits.field-0.notes.items ≡ map (note_of wants) c.args.stages.items = search rules in
     all_committed c.args.now wants c.args.self.now _ c.args.stages.items c.in_ok-commits.field-0.commits.items c.in_ok-commits.field-0.notes.items
-    c.requires.can commits notes c.in-Ok.ensures.accepted refl c.in-Ok.ensures.state c.in_ok-append.ensures.ok
+    c.requires.can commits notes c.in-Ok.ensures.leaves.accepted refl c.in-Ok.ensures.leaves.state c.in_ok-append.ensures.ok

@@ -7,13 +7,13 @@ use Rattle.dn_names.proofs.dn.Dn.parse.Goals as goal
 pub returns-then-is_empty-clause-ok : goal.returns-then-is_empty-clause-ok
 returns-then-is_empty-clause-ok c = rw c.empty.ensures (name_of_text-empty c.args.text.now (sym c.is_empty.ensures ∙ c.if-is_empty.true))
 
-pub returns-in_err-read_rdns-clause-fault : goal.returns-in_err-read_rdns-clause-fault
-returns-in_err-read_rdns-clause-fault c =
-    let p = err_from_is_err_and c.from_residual-in_err-read_rdns.result c.from_residual-in_err-read_rdns.ensures.1 in
+pub returns-in_err-rdns-clause-fault : goal.returns-in_err-rdns-clause-fault
+returns-in_err-rdns-clause-fault c =
+    let p = err_from_is_err_and c.from_residual-in_err-rdns.result c.from_residual-in_err-rdns.ensures.1 in
     rw (p.1, p.2, name_of_text-rdns c.args.text.now (sym c.is_empty.ensures ∙ c.if-is_empty.false))
-    (rw (c.as_slice.ensures.value, c.in_ok-signs.ensures.value) at c.in_err-read_rdns.ensures.fault)
+    (rw (c.as_slice.ensures.value, c.in_ok-signs.ensures.value) at c.in_err-rdns.ensures.fault)
 
 pub returns-clause-ok : goal.returns-clause-ok
 returns-clause-ok c =
-    name_of_text-rdns c.args.text.now (sym c.is_empty.ensures ∙ c.if-is_empty.false)
-    ∙ rw (c.as_slice.ensures.value, c.in_ok-signs.ensures.value) at c.in_ok-read_rdns.ensures.ok
+    rw c.in_ok-of.ensures (name_of_text-rdns c.args.text.now (sym c.is_empty.ensures ∙ c.if-is_empty.false)
+    ∙ rw (c.as_slice.ensures.value, c.in_ok-signs.ensures.value) at c.in_ok-rdns.ensures.ok)

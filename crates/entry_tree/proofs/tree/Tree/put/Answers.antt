@@ -1,32 +1,48 @@
--- The entry that has the identity is part of the weight, and is what the write differs in.
-use Rattle.std.proofs.Common.{◌≡◌, ◌<◌, ◌≤◌, ◌+◌, [], ◌∷◌, length, ap, sym, ◌∙◌, arith}
-use Rattle.std.specs.List.{filter}
-use Rattle.std.specs.Option.{option_copied}
-use Rattle.schema_rules.specs.Attributes.{weight_of}
-use Rattle.entry_writes.specs.State.{entry_at, total_weight, most_entries, most_weight}
-use Rattle.entry_writes.specs.Touched.{is_change}
-use Rattle.entry_tree.proofs.Putting.{found_weight, found_le, put_directory, put_change, touched_put}
+-- What is left after the drops ascends, and what is put into it is a directory.
+use Rattle.std.proofs.Common.{◌∙◌, not, ap, sym, subst, arith}
+use Rattle.entry_writes.specs.Effects.{is_one_of}
+use Rattle.entry_writes.specs.State.{ascends, IsDirectory}
+use Rattle.entry_writes.specs.Touched.{CanBeMade, drops_of, puts_of, with_changes}
+use Rattle.entry_tree.proofs.Committing.{left_by_steps, committed_by_steps}
+use Rattle.entry_tree.proofs.Directory.{ascends_filter}
+use Rattle.entry_tree.proofs.Weighing.{directory_made, weighs_made}
 use Rattle.entry_tree.proofs.tree.Tree.put.Goals as goal
 
-pub weight_without-requires : goal.weight_without-requires
-weight_without-requires c =
-    let held = c.self.inside.entries.items in
-    let found : option_copied c.get-was.result ≡ entry_at held c.args.entry.uuid = c.get-was.ensures.value ∙ ap (λ es. entry_at es c.args.entry.uuid) (sym c.self.view_is) in
-    omega (arith, ap found_weight found, found_le held c.args.entry.uuid, c.self.invariant.weighed)
+pub weight_with-weight-requires-clause-before : goal.weight_with-weight-requires-clause-before
+weight_with-weight-requires-clause-before c =
+    let es = c.self.inside.entries.items in
+    let changes = c.list-changes.result.now in
+    let can = subst (CanBeMade es) (sym c.list-changes.ensures) (subst (λ xs. CanBeMade xs c.args.entry_changes.now) (sym c.self.view_is) c.requires) in
+    omega (arith, c.self.invariant.weighed, (weighs_made es changes c.self.invariant.ascends can).before)
+
+pub weight_with-weight-requires-clause-after : goal.weight_with-weight-requires-clause-after
+weight_with-weight-requires-clause-after c =
+    let es = c.self.inside.entries.items in
+    let changes = c.list-changes.result.now in
+    let can = subst (CanBeMade es) (sym c.list-changes.ensures) (subst (λ xs. CanBeMade xs c.args.entry_changes.now) (sym c.self.view_is) c.requires) in
+    omega (arith, can.directory.light, (weighs_made es changes c.self.invariant.ascends can).after)
+
+pub put_each-requires-clause-ascends : goal.put_each-requires-clause-ascends
+put_each-requires-clause-ascends c =
+    let es = c.self.inside.entries.items in
+    let drops = drops_of c.list-changes.result.now in
+    let left = left_by_steps es c.reserve.new.self.items c.remove_each.new.entries.items drops c.in_ok-dropped.dropped.keys c.reserve.ensures.items c.in_ok-dropped.ensures c.remove_each.ensures.items in
+    ap ascends left ∙ ascends_filter (λ e. not (is_one_of drops e)) es c.self.invariant.ascends
 
 pub invariant_of-self-2 : goal.invariant_of-self-2
 invariant_of-self-2 c =
-    let held = c.self.inside.entries.items in
-    let found : option_copied c.get-was.result ≡ entry_at held c.args.entry.uuid = c.get-was.ensures.value ∙ ap (λ es. entry_at es c.args.entry.uuid) (sym c.self.view_is) in
-    let few : length held < most_entries = rw c.self.view_is c.requires.few in
-    let light : total_weight held + weight_of c.args.entry.attrs ≤ most_weight = rw c.self.view_is c.requires.light in
-    rw c.in_ok-put_entry.ensures.ok
-    (put_directory c.args.entry held c.self.inside.weight (c.weight_without.result + c.weight.result) c.self.invariant few light
-    (omega (arith, ap found_weight found, c.weight_without.ensures, c.weight.ensures, light)))
+    let es = c.self.inside.entries.items in
+    let changes = c.list-changes.result.now in
+    let can = subst (CanBeMade es) (sym c.list-changes.ensures) (subst (λ xs. CanBeMade xs c.args.entry_changes.now) (sym c.self.view_is) c.requires) in
+    let left = left_by_steps es c.reserve.new.self.items c.remove_each.new.entries.items (drops_of changes) c.in_ok-dropped.dropped.keys c.reserve.ensures.items c.in_ok-dropped.ensures c.remove_each.ensures.items in
+    let whole = committed_by_steps es (puts_of changes) c.remove_each.new.entries.items c.in_ok-puts.puts.items c.put_each.new.entries.items (drops_of changes) left c.in_ok-puts.ensures c.put_each.ensures in
+    subst (λ xs. IsDirectory xs c.weight_with-weight.result) (sym whole)
+    (directory_made es changes c.self.inside.weight c.weight_with-weight.result c.self.invariant can c.weight_with-weight.ensures)
 
-pub returns-clause-touched : goal.returns-clause-touched
-returns-clause-touched c =
-    let held = c.self.inside.entries.items in
-    let found : option_copied c.get-was.result ≡ entry_at held c.args.entry.uuid = c.get-was.ensures.value ∙ ap (λ es. entry_at es c.args.entry.uuid) (sym c.self.view_is) in
-    rw (c.in_ok-entry_changes.ensures, c.in_ok-put_entry.ensures.ok, ← c.self.view_is)
-    (ap (λ was. filter is_change (put_change was c.args.entry ∷ [])) found ∙ sym (touched_put c.args.entry held c.self.invariant.ascends))
+pub returns-clause-ok : goal.returns-clause-ok
+returns-clause-ok c =
+    let es = c.self.inside.entries.items in
+    let changes = c.list-changes.result.now in
+    let left = left_by_steps es c.reserve.new.self.items c.remove_each.new.entries.items (drops_of changes) c.in_ok-dropped.dropped.keys c.reserve.ensures.items c.in_ok-dropped.ensures c.remove_each.ensures.items in
+    let whole = committed_by_steps es (puts_of changes) c.remove_each.new.entries.items c.in_ok-puts.puts.items c.put_each.new.entries.items (drops_of changes) left c.in_ok-puts.ensures c.put_each.ensures in
+    whole ∙ (λ i. with_changes (c.self.view_is i) (c.list-changes.ensures i))

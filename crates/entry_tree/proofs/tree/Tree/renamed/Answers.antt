@@ -1,5 +1,5 @@
 -- The codes against the new name and attributes, one after another.
-use Rattle.std.proofs.Common.{◌≡◌, ◌+◌, ◌∷◌, None, ap, sym, ◌∙◌}
+use Rattle.std.proofs.Common.{◌≡◌, ◌+◌, ◌∷◌, None, ap, sym, ◌∙◌, arith}
 use Rattle.std.specs.Result.{result_ok}
 use Rattle.std.proofs.lemmas.Result.{err_from_is_err_and}
 use Rattle.ldap_constants.specs.declared.result_codes.TheConstants.{ADMIN_LIMIT_EXCEEDED}
@@ -15,7 +15,8 @@ use Rattle.entry_tree.proofs.tree.Tree.renamed.Goals as goal
 
 pub weight_without-requires : goal.weight_without-requires
 weight_without-requires c =
-    part_le c.self.inside.entries.items c.args.top.now c.self.inside.weight c.self.invariant (held_seen c.self.inside.entries.items c.args.self.now c.args.top.now c.self.view_is c.requires)
+    let part = part_le c.self.inside.entries.items c.args.top.now c.self.inside.weight c.self.invariant (held_seen c.self.inside.entries.items c.args.self.now c.args.top.now c.self.view_is c.requires) in
+    omega (arith, part)
 
 pub returns-in_err-check_weight-clause-refused : goal.returns-in_err-check_weight-clause-refused
 returns-in_err-check_weight-clause-refused c =

@@ -5,8 +5,8 @@ use Rattle.sync_wire.specs.Requesting.{persists}
 use Rattle.sync_consumer.specs.declared.consumer.Taken.{Taken}
 use Rattle.sync_consumer.specs.declared.consumer.Taken.TheVariants.{Stored, Copied}
 use Rattle.sync_consumer.specs.declared.session.SyncSession as kept
-use Rattle.sync_consumer.specs.declared.session.Step.{Step}
-use Rattle.sync_consumer.specs.declared.session.Step.TheVariants.{Goes, Ends}
+use Rattle.sync_consumer.specs.declared.session.SearchStep.{SearchStep}
+use Rattle.sync_consumer.specs.declared.session.SearchStep.TheVariants.{Goes, Ends}
 use Rattle.sync_consumer.specs.SyncSession.{session_of, copy_with, within, last_changes, refresh_ended, StepsTo}
 use Rattle.sync_consumer.specs.Staging.{staged_each}
 use Rattle.sync_consumer.proofs.Phases.{refresh_steps}
@@ -25,7 +25,7 @@ returns-in-Ok c =
     cc (c.in_ok-undo.ensures.ok, c.in_ok-changes.ensures) in
     let answer_taken : Taken = cond (is_some c.args.cookie) (Stored c.in-Ok.commit) (Copied c.in-Ok.commit) in
     let step : c.after_refresh.result ≡ cond (persists c.args.self.now.mode) (Goes answer_taken) (Ends answer_taken) = cc (c.after_refresh.ensures, c.took_effect.ensures, c.is_some-has_cookie.ensures) in
-    subst (λ (s : Step). StepsTo c.args.held.now c.args.self.now c.commit_stage.new.self after (Ok s)
+    subst (λ (s : SearchStep). StepsTo c.args.held.now c.args.self.now c.commit_stage.new.self after (Ok s)
     (within false c.args.held.now c.args.self.now (refresh_ended (copy_with c.args.held.now c.args.self.now) (session_of c.args.self.now) c.args.deletes c.args.cookie))) (sym step)
     (refresh_steps c.args.held.now c.args.self.now c.commit_stage.new.self after c.args.deletes c.args.cookie c.in-Ok.commit stage staged
     c.in-Ok.ensures.within c.in-Ok.ensures.entries c.in-Ok.ensures.cookie c.in-Ok.ensures.commit

@@ -5,14 +5,14 @@ use Rattle.std.proofs.lemmas.Bool.{le-ltb}
 use Rattle.sync_model.specs.Copy.{puts_of, staged}
 use Rattle.sync_model.specs.Within.{is_crowded}
 use Rattle.sync_consumer.specs.Staging.{changes_of}
-use Rattle.sync_consumer.proofs.Stages.{short, within}
+use Rattle.sync_consumer.proofs.Stages.{roomy}
 use Rattle.sync_consumer.proofs.Rooms.{room_by_weight, no_room}
 use Rattle.sync_consumer.proofs.stage.Stage.has_room.Goals as goal
 
 pub overflow_add-result : goal.overflow_add-result
 overflow_add-result c =
     let inside = c.self.inside in
-    let light = (within (changes_of inside.changes.items) inside.load.count inside.load.weight c.self.invariant (short inside.changes)).1 in
+    let light = (roomy inside.changes inside.load.count inside.load.weight c.self.invariant).1 in
     let kept = c.load_without-load.ensures.weight in
     let from = c.from.ensures in
     let weight = c.weight.ensures in

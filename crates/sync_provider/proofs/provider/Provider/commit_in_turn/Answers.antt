@@ -67,7 +67,7 @@ returns-in_err-commit-clause-refused c =
     let fault : CommitFault = c.in_err-commit.field-0.0 in
     let turn = YieldsList-turn (YieldsList-from_vec {s = c.into_iter-staged-iterator.result} c.args.commits.items (search rules) (search rules)) so_far c.loop-staged.staged-iterator c.loop-staged.yielded_by
     c.next.result c.next.new.self commit c.in-Some.is c.next.ensures.steps in
-    let against : Opposes (commit_refusal before.kind before.directory commit.puts commit.drops now) fault = c.in_err-commit.ensures.refused in
+    let against : Opposes (commit_refusal before.kind before.directory commit.puts commit.drops now) fault = c.in_err-commit.ensures.leaves.refused in
     let is = c.loop-staged.invariant in
     let so : GoesOn now c.args.self.now before commits (drop (length so_far) commits) = record { grown = is.grown; leaves = is.leaves; refusal = is.refusal } in
     let opposed : Opposes (refusal_of_each c.args.self.now commits now) fault =

@@ -1,0 +1,75 @@
+//! The parts of path keys.
+ghost use Rattle.std.specs.Prelude.{◌≡◌, ◌<◌, ◌^◌, ◌++◌, true, map, IfOk, OnOk};
+ghost use Rattle.std.specs.List.{flat_map, list_all};
+ghost use Rattle.dn_names.specs.Paths as spec;
+
+use crate::pair::Pair;
+use ldap_ber::NoMemory;
+use std::alloc::{AllocError, Global};
+use std::collections::BTreeSet;
+
+/// The largest number that has a place in four octets.
+const LARGEST_NUMBER: usize = 4_294_967_295;
+
+/// Appends how many pairs there are, and then these in ascending order. It is `NoMemory` where memory
+/// runs out, and where a number has no place in four octets.
+pub(crate) fn append_rdn_path(
+    alloc: Global,
+    path: &mut Vec<u8>,
+    pairs: &[Pair],
+) -> Result<(), NoMemory>
+    ensures path { OnOk result (path.new.items ≡ path.old.items ++ spec.rdn_path pairs.now) }
+    ensures numbers { OnOk result (spec.has_small_numbers pairs.now ≡ true) }
+{
+    let mut pieces = piece_set(alloc, pairs)?;
+    path.extend_from_slice(&four_octets(pieces.len())?)?;
+    append_pieces(path, &mut pieces)
+}
+
+/// Appends the texts of a set in ascending order, and takes them out of it.
+fn append_pieces(path: &mut Vec<u8>, pieces: &mut BTreeSet<Vec<u8>>) -> Result<(), NoMemory>
+    ensures { OnOk result (path.new.items
+        ≡ path.old.items ++ flat_map (λ piece. piece) (map (λ piece. piece.items) pieces.old.keys)) }
+{
+    while let Some(piece) = pieces.pop_first() {
+        path.extend_from_slice(piece.as_slice())?;
+    }
+    Ok(())
+}
+
+/// The pairs as a set of their pieces.
+fn piece_set(alloc: Global, pairs: &[Pair]) -> Result<BTreeSet<Vec<u8>>, NoMemory>
+    ensures set { IfOk result (λ set.
+        map (λ piece. piece.items) set.keys ≡ spec.piece_set pairs.now) }
+    ensures short { OnOk result (list_all spec.has_short_key pairs.now ≡ true) }
+{
+    let mut set = BTreeSet::new(alloc);
+    for pair in pairs {
+        let _ = set.insert(pair_piece(alloc, pair)?)?;
+    }
+    Ok(set)
+}
+
+/// The number of the type, the length of the key, and the key.
+fn pair_piece(alloc: Global, pair: &Pair) -> Result<Vec<u8>, NoMemory>
+    ensures piece { IfOk result (λ piece. piece.items ≡ spec.pair_piece pair.now) }
+    ensures short { OnOk result (spec.has_short_key pair.now ≡ true) }
+{
+    let key = pair.key();
+    let mut piece = Vec::new(alloc);
+    piece.extend_from_slice(&pair.kind.number().to_be_bytes())?;
+    piece.extend_from_slice(&four_octets(key.len())?)?;
+    piece.extend_from_slice(key)?;
+    Ok(piece)
+}
+
+/// A number in four octets, where it has a place in them.
+fn four_octets(number: usize) -> Result<[u8; 4], NoMemory>
+    ensures octets { IfOk result (λ octets. octets ≡ spec.four_octets number) }
+    ensures small { OnOk result (number < 2 ^ 32) }
+{
+    if number > LARGEST_NUMBER {
+        return Err(AllocError);
+    }
+    Ok((number as u32).to_be_bytes())
+}

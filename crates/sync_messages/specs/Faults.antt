@@ -1,0 +1,12 @@
+-- What a fault reports of a reading.
+use Rattle.std.specs.Prelude.{◌≡◌, Result, Err}
+use Rattle.sync_messages.specs.declared.fault.SyncFault.{SyncFault}
+use Rattle.sync_messages.specs.declared.fault.SyncFault.TheVariants.{Ber, BadMode, BadUuidLength, BadState, NoMemory}
+
+-- the fault is that of the reading; out of memory may come in place of any answer
+abbrev pub Fails : {Y : Type 0} → SyncFault → Result Y SyncFault → Type 0
+Fails (Ber fault) read = read ≡ Err (Ber fault)
+Fails (BadMode number) read = read ≡ Err (BadMode number)
+Fails (BadUuidLength count) read = read ≡ Err (BadUuidLength count)
+Fails (BadState number) read = read ≡ Err (BadState number)
+Fails NoMemory read = Unit {0}
