@@ -14,12 +14,11 @@ cut_idle pair old new busy is free line =
     reported_one (cut pair) old new pair (Nothing pair.consumer_node.name) (rw idle' refl) line
 
 -- a cut of a busy consumer drops its search, and what its link and its stage hold
-pub cut_busy : (pair after : Agreement) (old new : Report) (busy : Bool) → busy ≡ is_busy pair.consumer_node → busy ≡ true → after ≡ given_up pair (copy_of pair.consumer_node) → new ≡ said old (Cut after.consumer_node.name ∷ [])
+pub cut_busy : (pair after : Agreement) (old new : Report) (busy : Bool) → busy ≡ is_busy pair.consumer_node → busy ≡ true → after ≡ given_up pair (copy_of pair.consumer_node) → new ≡ said old (Cut pair.consumer_node.name ∷ [])
     → Does (cut pair) old after new (Ok tt)
 cut_busy pair after old new busy is taken up line =
     let busy' : is_busy pair.consumer_node ≡ true = sym is ∙ taken in
-    reported_one (cut pair) old new after (Cut pair.consumer_node.name) (rw busy' (ap (λ q. Ok (q, Cut pair.consumer_node.name ∷ [])) (sym up)))
-    (line ∙ ap (λ (q : Agreement). said old (Cut q.consumer_node.name ∷ [])) up)
+    reported_one (cut pair) old new after (Cut pair.consumer_node.name) (rw busy' (ap (λ q. Ok (q, Cut pair.consumer_node.name ∷ [])) (sym up))) line
 
 -- one that is not busy goes on as it is
 pub idle_free : (pair : Agreement) (text : Report) (busy : Bool) → busy ≡ is_busy pair.consumer_node → busy ≡ false → Does (idle pair) text pair text (Ok tt)

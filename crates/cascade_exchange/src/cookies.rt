@@ -1,5 +1,5 @@
 //! Cookies that a script takes from a consumer, or gives to it.
-ghost use Rattle.std.specs.Prelude.{◌≡◌, Some, None, option_map, IfOk};
+ghost use Rattle.std.specs.Prelude.{◌≡◌, Some, None, option_map, IfOk, OnErr};
 ghost use Rattle.csn_cookie.specs.Cookie.{cookie_of_text};
 ghost use Rattle.cascade_exchange.specs.Cookies as spec;
 ghost use Rattle.cascade_exchange.specs.Exchange.{with_text};
@@ -21,9 +21,11 @@ pub fn lose(consumer_node: &mut ConsumerNode)
     consumer_node.consumer.lose_cookie();
 }
 
-/// The consumer gets this text for its cookie, unless the text is later than what it holds.
+/// The consumer gets this text for its cookie, unless the text is later than what it holds. After a
+/// refusal it is as before.
 pub fn give(alloc: Global, consumer_node: &mut ConsumerNode, text: Octets) -> Result<(), Cause>
-    ensures { Gives consumer_node.old text consumer_node.new result }
+    ensures gives { Gives consumer_node.old text consumer_node.new result }
+    ensures err { OnErr result (consumer_node.new ≡ consumer_node.old) }
 {
     if is_later(consumer_node.consumer.inner().cookie(), text.as_slice()) {
         let held = copy_of(alloc, consumer_node.consumer.inner().cookie())?;
@@ -33,7 +35,8 @@ pub fn give(alloc: Global, consumer_node: &mut ConsumerNode, text: Octets) -> Re
     Ok(())
 }
 
-/// Whether the text that is given spells a cookie of a node's history which is later than what is held.
+/// Whether the text that is given spells a cookie of a node's history which is later than what is
+/// held.
 fn is_later(held: Option<&[u8]>, given: &[u8]) -> bool
     ensures { result ≡ spec.is_later (option_map (λ text. text.now) held.entry) given.now }
 {

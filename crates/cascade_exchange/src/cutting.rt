@@ -1,5 +1,5 @@
 //! The end of what goes on between a consumer and its provider.
-ghost use Rattle.std.specs.Prelude.{◌≡◌, Some};
+ghost use Rattle.std.specs.Prelude.{◌≡◌, Some, OnErr};
 ghost use Rattle.cascade_exchange.specs.Exchange as spec;
 ghost use Rattle.cascade_exchange.specs.Exchange.{agreement_of};
 ghost use Rattle.cascade_report.specs.Origins.{Lineage};
@@ -33,7 +33,7 @@ pub fn drop_all(provider: &mut ScriptProvider, consumer_node: &mut ConsumerNode)
     consumer_node.consumer.cut();
 }
 
-/// Cuts a busy consumer.
+/// Cuts a busy consumer. After a refusal both are as before.
 pub fn cut(
     provider: &mut ScriptProvider,
     consumer_node: &mut ConsumerNode,
@@ -42,12 +42,14 @@ pub fn cut(
     ensures does { Does (spec.cut (agreement_of provider.old consumer_node.old out.old.lineage))
         out.old (agreement_of provider.new consumer_node.new out.old.lineage) out.new result }
     ensures provider { KeepsAllButSearches provider.old provider.new }
+    ensures provider_err { OnErr result (provider.new ≡ provider.old) }
+    ensures consumer_node_err { OnErr result (consumer_node.new ≡ consumer_node.old) }
 {
     if !is_busy(consumer_node) {
         out.nothing(consumer_node.name.as_slice())?;
         return Ok(());
     }
-    drop_all(provider, consumer_node);
     out.cut(consumer_node.name.as_slice())?;
+    drop_all(provider, consumer_node);
     Ok(())
 }

@@ -1,5 +1,5 @@
-//! What goes on between a consumer and its provider in an event of a script: messages of LDAP as bytes
-//! in a link, which the consumer takes as what they spell.
+//! What goes on between a consumer and its provider in an event of a script: messages of LDAP as
+//! bytes in a link, which the consumer takes as what they spell.
 #![tactic(auto)]
 
 mod cookies;

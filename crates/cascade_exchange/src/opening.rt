@@ -1,5 +1,5 @@
 //! Searches that a consumer opens at its provider.
-ghost use Rattle.std.specs.Prelude.{◌≡◌, Some, Ok, IfOk, OnOk};
+ghost use Rattle.std.specs.Prelude.{◌≡◌, Some, Ok, IfOk, OnOk, OnErr};
 ghost use Rattle.ldap_messages.specs.Whole.{whole_of};
 ghost use Rattle.sync_consumer.specs.Taking.{asked_of};
 ghost use Rattle.sync_messages.specs.Request.{request_of};
@@ -40,8 +40,8 @@ pub fn open_search(
     ask_once(alloc, provider, consumer_node, mode, out)
 }
 
-/// Opens a search that ends with its refresh, and asks for it a second time where the cookie does not
-/// serve.
+/// Opens a search that ends with its refresh, and asks for it a second time where the cookie does
+/// not serve.
 #[tactic(auto, using(crate::proofs::Doing::refused_first))]
 pub fn open_anew(
     alloc: Global,
@@ -95,7 +95,7 @@ fn ask_again(
     Ok(())
 }
 
-/// Cuts a consumer that is busy.
+/// Cuts a consumer that is busy. After a refusal both are as before.
 #[tactic(auto, using(crate::proofs::Openings::idle_cut, crate::proofs::Cuts::idle_free))]
 pub fn cut_if_busy(
     provider: &mut ScriptProvider,
@@ -105,6 +105,8 @@ pub fn cut_if_busy(
     ensures does { Does (spec.idle (agreement_of provider.old consumer_node.old out.old.lineage))
         out.old (agreement_of provider.new consumer_node.new out.old.lineage) out.new result }
     ensures provider { KeepsAllButSearches provider.old provider.new }
+    ensures provider_err { OnErr result (provider.new ≡ provider.old) }
+    ensures consumer_node_err { OnErr result (consumer_node.new ≡ consumer_node.old) }
 {
     if is_busy(consumer_node) {
         return cut(provider, consumer_node, out);
@@ -154,8 +156,8 @@ fn asked(alloc: Global, consumer_node: &mut ConsumerNode, mode: Mode) -> Result<
     control
 }
 
-/// Reports that a search is refused, which its consumer takes at once. True where the cookie does not
-/// serve.
+/// Reports that a search is refused, which its consumer takes at once. True where the cookie does
+/// not serve.
 fn refuse(
     alloc: Global,
     consumer_node: &mut ConsumerNode,

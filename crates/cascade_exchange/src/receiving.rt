@@ -105,7 +105,8 @@ fn take_found(
     }
 }
 
-/// Takes a message, and reports what came of it. One that ends a refresh without a cookie is refused.
+/// Takes a message, and reports what came of it. One that ends a refresh without a cookie is
+/// refused.
 #[tactic(auto, using(crate::proofs::Reception::bare, crate::proofs::Reception::not_bare))]
 fn take_message(
     alloc: Global,
@@ -164,8 +165,8 @@ fn hand_to_consumer(
     }
 }
 
-/// Reports what a consumer holds now that a stage took effect, with the prefix of its provider's writes
-/// that its cookie names.
+/// Reports what a consumer holds now that a stage took effect, with the prefix of its provider's
+/// writes that its cookie names.
 fn report_stored(
     provider: &ScriptProvider,
     consumer_node: &mut ConsumerNode,

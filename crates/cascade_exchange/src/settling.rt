@@ -14,9 +14,9 @@ use cascade_report::Report;
 use cascade_script::Cause;
 use std::alloc::Global;
 
-/// Brings the consumer up to its provider: it takes what its link holds, and what the search that is
-/// open has pending. A consumer whose persistent search has done its refresh is up then; another one
-/// gets there by a new search.
+/// Brings the consumer up to its provider: it takes what its link holds, and what the search that
+/// is open has pending. A consumer whose persistent search has done its refresh is up then; another
+/// one gets there by a new search.
 #[tactic(auto, using(crate::proofs::Settled::settled, crate::proofs::Settled::drain_refused, crate::proofs::Settled::run_refused, crate::proofs::Settled::catching_refused))]
 pub fn settle(
     alloc: Global,

@@ -1,4 +1,5 @@
 //! Consumers that want something else.
+ghost use Rattle.std.specs.Prelude.{◌≡◌, OnErr};
 ghost use Rattle.entry_tree.specs.Selection.{search_of};
 ghost use Rattle.cascade_exchange.specs.Exchange as spec;
 ghost use Rattle.cascade_exchange.specs.Exchange.{agreement_of};
@@ -10,7 +11,7 @@ use cascade_report::Report;
 use cascade_script::Cause;
 use entry_tree::Spec;
 
-/// A busy consumer is cut, and wants this from now on.
+/// A busy consumer is cut, and wants this from now on. After a refusal both are as before.
 pub fn want(
     provider: &mut ScriptProvider,
     consumer_node: &mut ConsumerNode,
@@ -22,6 +23,8 @@ pub fn want(
         (agreement_of provider.old consumer_node.old out.old.lineage))
         out.old (agreement_of provider.new consumer_node.new out.old.lineage) out.new result }
     ensures provider { KeepsAllButSearches provider.old provider.new }
+    ensures provider_err { OnErr result (provider.new ≡ provider.old) }
+    ensures consumer_node_err { OnErr result (consumer_node.new ≡ consumer_node.old) }
 {
     match cut_if_busy(provider, consumer_node, out) {
         Ok(()) => {

@@ -75,24 +75,24 @@ pending_counted lin p f mode cut None messages has = ap length (sym has.0)
 pending_counted lin p f mode cut (Some at) messages has = ap pending_count has.found ∙ ap length has.same
 
 module _ (lin : Lineage) (number : ℕ) (p : ProviderState) (f : ConsumerNode) (opening : Opening) (entries : List Entry) (goes : GoesOn number p f opening entries) (drained : IsDrained (agreement_of p f lin)) where
-  no_link : goes.linked ≡ []
-  no_link = map_none goes.linked (sym goes.link ∙ drained.link)
+  no_link : goes.session.linked ≡ []
+  no_link = map_none goes.session.linked (sym goes.link ∙ drained.link)
 
-  no_pending : goes.pending ≡ []
-  no_pending = length_none goes.pending (sym (pending_counted lin p f opening.persists goes.cut f.search goes.pending goes.search) ∙ drained.none)
+  no_pending : goes.session.pending ≡ []
+  no_pending = length_none goes.session.pending (sym (pending_counted lin p f opening.persists goes.session.cut f.search goes.session.pending goes.search) ∙ drained.none)
 
-  nothing_left : goes.linked ++ goes.pending ≡ []
+  nothing_left : goes.session.linked ++ goes.session.pending ≡ []
   nothing_left = (λ i. no_link i ++ no_pending i)
 
   -- all of the Stream was taken
-  pub all_taken : (goes.cut ≡ false) × (goes.ahead ≡ [])
-  all_taken = by goes.cut refl (subst (λ ms. Delivers goes.cut ms goes.ahead) nothing_left goes.left)
+  pub all_taken : (goes.session.cut ≡ false) × (goes.session.ahead ≡ [])
+  all_taken = by goes.session.cut refl (subst (λ ms. Delivers goes.session.cut ms goes.session.ahead) nothing_left goes.session.left)
     where
       filled : (prefix : List SyncMessage) → [] ≡ prefix ++ busy ∷ [] → ⊥
       filled [] same = cc
       filled (m ∷ prefix) same = cc
 
-      by : (cut : Bool) → goes.cut ≡ cut → Delivers cut [] goes.ahead → (goes.cut ≡ false) × (goes.ahead ≡ [])
+      by : (cut : Bool) → goes.session.cut ≡ cut → Delivers cut [] goes.session.ahead → (goes.session.cut ≡ false) × (goes.session.ahead ≡ [])
       by false is left = (is, sym left)
       by true is left = absurd (filled left.prefix left.is)
 
@@ -109,38 +109,38 @@ module _ (lin : Lineage) (number : ℕ) (suffix : Name) (p : ProviderState) (f :
   texts : (count : ℕ) → (cookie : Cookie) × (operation.cookies count ≡ cookie_text cookie)
   texts count = (cookie_at number number (last_csn (start number) (take count writes)), refl)
 
-  none_ahead : goes.ahead ≡ []
+  none_ahead : goes.session.ahead ≡ []
   none_ahead = (all_taken lin number p f opening entries goes drained).1
 
-  in_refresh : InRefresh operation goes.start opening.writes goes.count entries f.consumer.copy goes.taken goes.ahead → ⊥
-  in_refresh is = let bad : [] ≡ is.some.next ∷ (is.some.later ++ cond operation.persists (later operation opening.writes goes.count) []) =
-      sym none_ahead ∙ is.beyond ∙ ap (λ ms. ms ++ cond operation.persists (later operation opening.writes goes.count) []) is.some.same in
+  in_refresh : InRefresh operation goes.session.start opening.writes goes.session.count entries f.consumer.copy goes.session.taken goes.session.ahead → ⊥
+  in_refresh is = let bad : [] ≡ is.some.next ∷ (is.some.later ++ cond operation.persists (later operation opening.writes goes.session.count) []) =
+      sym none_ahead ∙ is.beyond ∙ ap (λ ms. ms ++ cond operation.persists (later operation opening.writes goes.session.count) []) is.some.same in
       let never : ⊥ = cc in
       never
 
-  whole_is : AtWhole operation opening.writes goes.count entries f.consumer.copy goes.ahead → entries ≡ all_content number p f
+  whole_is : AtWhole operation opening.writes goes.session.count entries f.consumer.copy goes.session.ahead → entries ≡ all_content number p f
   whole_is is =
       is.content
       ∙ past.none_left operation (λ n. ascends-state_of number writes n) (λ n. (source.good n).within)
-      (λ n. (source.good n).sent) texts opening.writes goes.count is.more is.number (sym is.beyond ∙ none_ahead)
-      ∙ ap (content_after operation) (is.sum ∙ goes.upto)
+      (λ n. (source.good n).sent) texts opening.writes goes.session.count is.more is.number (sym is.beyond ∙ none_ahead)
+      ∙ ap (content_after operation) (is.sum ∙ goes.session.upto)
       ∙ content_of_all number p f
 
-  group_is : InGroup operation opening.writes goes.count entries f.consumer.copy goes.ahead → ⊥
+  group_is : InGroup operation opening.writes goes.session.count entries f.consumer.copy goes.session.ahead → ⊥
   group_is is =
       past.group_filled operation (λ n. ascends-state_of number writes n) (λ n. (source.good n).within)
-      (λ n. (source.good n).sent) texts opening.writes goes.count entries f.consumer.copy
-      (subst (InGroup operation opening.writes goes.count entries f.consumer.copy) none_ahead is)
+      (λ n. (source.good n).sent) texts opening.writes goes.session.count entries f.consumer.copy
+      (subst (InGroup operation opening.writes goes.session.count entries f.consumer.copy) none_ahead is)
 
   pub up_to_date : entries ≡ all_content number p f
   up_to_date = by goes.place
     where
-      by_past : AtWhole operation opening.writes goes.count entries f.consumer.copy goes.ahead ⊎ InGroup operation opening.writes goes.count entries f.consumer.copy goes.ahead → entries ≡ all_content number p f
+      by_past : AtWhole operation opening.writes goes.session.count entries f.consumer.copy goes.session.ahead ⊎ InGroup operation opening.writes goes.session.count entries f.consumer.copy goes.session.ahead → entries ≡ all_content number p f
       by_past (inl is) = whole_is is
       by_past (inr is) = absurd (group_is is)
 
-      by : InRefresh operation goes.start opening.writes goes.count entries f.consumer.copy goes.taken goes.ahead
-          ⊎ ((operation.persists ≡ true) × (AtWhole operation opening.writes goes.count entries f.consumer.copy goes.ahead ⊎ InGroup operation opening.writes goes.count entries f.consumer.copy goes.ahead))
+      by : InRefresh operation goes.session.start opening.writes goes.session.count entries f.consumer.copy goes.session.taken goes.session.ahead
+          ⊎ ((operation.persists ≡ true) × (AtWhole operation opening.writes goes.session.count entries f.consumer.copy goes.session.ahead ⊎ InGroup operation opening.writes goes.session.count entries f.consumer.copy goes.session.ahead))
           → entries ≡ all_content number p f
       by (inl is) = absurd (in_refresh is)
       by (inr is) = by_past is.1

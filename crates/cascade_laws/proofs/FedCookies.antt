@@ -30,22 +30,10 @@ own_cookie name known cookie = ap (λ same. cond same (record known { cookie = c
 goes_with : (number : ℕ) (p : ProviderState) (f : ConsumerNode) (opening : Opening) (entries : List Entry) (cookie : Option (List ℕ)) → GoesOn number p f opening entries
     → GoesOn number p (with_text f cookie) opening entries
 goes_with number p f opening entries cookie goes = record {
-  count = goes.count;
-  upto = goes.upto;
-  start = goes.start;
-  from = goes.from;
-  taken = goes.taken;
-  ahead = goes.ahead;
-  whole = goes.whole;
-  cut = goes.cut;
-  lasts = goes.lasts;
-  linked = goes.linked;
-  pending = goes.pending;
-  left = goes.left;
-  reported = goes.reported;
+  session = goes.session;
   link = goes.link;
   search = goes.search;
-  place = place_with (session_over number f.consumer.spec p.directory.writes opening) goes.start opening.writes goes.count entries f.consumer.copy goes.taken goes.ahead cookie goes.place;
+  place = place_with (session_over number f.consumer.spec p.directory.writes opening) goes.session.start opening.writes goes.session.count entries f.consumer.copy goes.session.taken goes.session.ahead cookie goes.place;
 }
 
 fed_with : (number : ℕ) (p : ProviderState) (f : ConsumerNode) (known : Known) (cookie : Option (List ℕ)) → IsFed number p f known

@@ -120,19 +120,21 @@ module _ (lin : Lineage) (number : ℕ) (suffix : Name) (p : ProviderState) (f :
 
   opened_goes : GoesOn number after (with_search f persists at) opened known.entries
   opened_goes = record {
-    count = 0;
-    upto = omega (arith, counted);
-    start = start;
-    from = from;
-    taken = [];
-    ahead = ahead;
-    whole = refl;
-    cut = false;
-    lasts = λ bad. absurd (false≢true bad);
-    linked = [];
-    pending = ahead;
-    left = refl;
-    reported = refl;
+    session = record {
+      count = 0;
+      upto = omega (arith, counted);
+      start = start;
+      from = from;
+      taken = [];
+      ahead = ahead;
+      whole = refl;
+      cut = false;
+      lasts = λ bad. absurd (false≢true bad);
+      linked = [];
+      pending = ahead;
+      left = refl;
+      reported = refl;
+    };
     link = rest.link;
     search = record {
       search = opening p.directory message_id f.consumer.spec start persists;
@@ -254,7 +256,7 @@ OpenedIn number suffix pair known persists (Err cause) = ⊥
 
 -- a search that goes on without a message in the link is open
 open_search : (number : ℕ) (p : ProviderState) (f : ConsumerNode) (opening : Opening) (entries : List Entry) → GoesOn number p f opening entries → IsAtRest f → ⊥
-open_search number p f opening entries goes rest = let is = where_session (session_over number f.consumer.spec p.directory.writes opening) goes.start opening.writes goes.count entries f.consumer.copy goes.taken goes.ahead goes.place in
+open_search number p f opening entries goes rest = let is = where_session (session_over number f.consumer.spec p.directory.writes opening) goes.session.start opening.writes goes.session.count entries f.consumer.copy goes.session.taken goes.session.ahead goes.place in
     let bad : None ≡ Some is.session = sym rest.session ∙ is.runs in
     let never : ⊥ = cc in
     never

@@ -47,26 +47,28 @@ pub own_sent : (name message : List ℕ) (known : Known) → known_after name kn
 own_sent name message known = ap (λ same. cond same (record known { opening = option_map (with_sent message) known.opening }) known) ((bytes_eq-Decides name name).1 refl)
 
 sent_goes : (number : ℕ) (p : ProviderState) (searches : Searches) (f : ConsumerNode) (own : Option ℕ) (opening : Opening) (entries : List Entry) (first : SyncMessage) (rest : List SyncMessage)
-    (goes : GoesOn number p f opening entries) → goes.pending ≡ first ∷ rest → HasPending searches f.consumer.spec opening.persists goes.cut own rest
+    (goes : GoesOn number p f opening entries) → goes.session.pending ≡ first ∷ rest → HasPending searches f.consumer.spec opening.persists goes.session.cut own rest
     → GoesOn number (with_searches p searches) (linked f own (octets_of first)) (with_sent (octets_of first) opening) entries
 sent_goes number p searches f own opening entries first rest goes some has = record {
-  count = goes.count;
-  upto = goes.upto;
-  start = goes.start;
-  from = goes.from;
-  taken = goes.taken;
-  ahead = goes.ahead;
-  whole = goes.whole;
-  cut = goes.cut;
-  lasts = goes.lasts;
-  linked = goes.linked ++ first ∷ [];
-  pending = rest;
-  left = subst (λ ms. Delivers goes.cut ms goes.ahead) (sym (moved goes.linked rest goes.pending first some)) goes.left;
-  reported =
-      ap (λ ms. ms ++ octets_of first ∷ []) goes.reported
-      ∙ sym (map-append octets_of (goes.taken ++ goes.linked) (first ∷ []))
-      ∙ ap (map octets_of) (append_assoc goes.taken goes.linked (first ∷ []));
-  link = ap (λ link. link ++ octets_of first ∷ []) goes.link ∙ sym (map-append octets_of goes.linked (first ∷ []));
+  session = record {
+    count = goes.session.count;
+    upto = goes.session.upto;
+    start = goes.session.start;
+    from = goes.session.from;
+    taken = goes.session.taken;
+    ahead = goes.session.ahead;
+    whole = goes.session.whole;
+    cut = goes.session.cut;
+    lasts = goes.session.lasts;
+    linked = goes.session.linked ++ first ∷ [];
+    pending = rest;
+    left = subst (λ ms. Delivers goes.session.cut ms goes.session.ahead) (sym (moved goes.session.linked rest goes.session.pending first some)) goes.session.left;
+    reported =
+        ap (λ ms. ms ++ octets_of first ∷ []) goes.session.reported
+        ∙ sym (map-append octets_of (goes.session.taken ++ goes.session.linked) (first ∷ []))
+        ∙ ap (map octets_of) (append_assoc goes.session.taken goes.session.linked (first ∷ []));
+  };
+  link = ap (λ link. link ++ octets_of first ∷ []) goes.link ∙ sym (map-append octets_of goes.session.linked (first ∷ []));
   search = has;
   place = goes.place;
 }
@@ -80,7 +82,7 @@ prefix_within number writes (Some text) None a from is = let never : ⊥ = cc in
 prefix_within number writes (Some text) (Some n) a from is = let same : n ≡ a = cc in omega (arith, same, from.counted, upto_low writes from.serves.cookie.csn)
 
 module _ (lin : Lineage) (number : ℕ) (suffix : Name) (p : ProviderState) (f : ConsumerNode) (opening : Opening) (entries : List Entry) (goes : GoesOn number p f opening entries) (first : SyncMessage) (rest : List SyncMessage)
-    (some : goes.pending ≡ first ∷ rest) where
+    (some : goes.session.pending ≡ first ∷ rest) where
   abbrev writes : List Write
   writes = p.directory.writes
 
@@ -88,38 +90,38 @@ module _ (lin : Lineage) (number : ℕ) (suffix : Name) (p : ProviderState) (f :
   operation = session_over number f.consumer.spec writes opening
 
   abbrev Stream : List SyncMessage
-  Stream = stream_over number f.consumer.spec writes opening goes.start goes.count
+  Stream = stream_over number f.consumer.spec writes opening goes.session.start goes.session.count
 
   abbrev before : List SyncMessage
-  before = goes.taken ++ goes.linked
+  before = goes.session.taken ++ goes.session.linked
 
   -- in its place in the Stream, or the end with busy
-  in_place : (cut : Bool) → goes.cut ≡ cut → Delivers cut (goes.linked ++ goes.pending) goes.ahead → HasPending p.searches f.consumer.spec opening.persists cut f.search goes.pending
+  in_place : (cut : Bool) → goes.session.cut ≡ cut → Delivers cut (goes.session.linked ++ goes.session.pending) goes.session.ahead → HasPending p.searches f.consumer.spec opening.persists cut f.search goes.session.pending
       → Follows opening.persists Stream before first
-  in_place false is left has = inl (rest, place_of goes.taken goes.linked goes.pending rest first Stream some (ap (λ ms. goes.taken ++ ms) left ∙ goes.whole))
-  in_place true is left has = inr (left.left, whole, last, goes.lasts is)
+  in_place false is left has = inl (rest, place_of goes.session.taken goes.session.linked goes.session.pending rest first Stream some (ap (λ ms. goes.session.taken ++ ms) left ∙ goes.session.whole))
+  in_place true is left has = inr (left.left, whole, last, goes.session.lasts is)
     where
-      only : (own : Option ℕ) → HasPending p.searches f.consumer.spec opening.persists true own goes.pending → goes.pending ≡ busy ∷ []
+      only : (own : Option ℕ) → HasPending p.searches f.consumer.spec opening.persists true own goes.session.pending → goes.session.pending ≡ busy ∷ []
       only None has' = let bad : [] ≡ first ∷ rest = sym has'.0 ∙ some in let never : ⊥ = cc in absurd never
       only (Some at) has' = sym has'.same ∙ ap (λ b. cond b (busy_end ∷ []) (has'.search.rest ++ has'.search.due)) has'.over
 
-      one : goes.pending ≡ busy ∷ []
+      one : goes.session.pending ≡ busy ∷ []
       one = only f.search has
 
       last : first ≡ busy
       last = heads first busy rest [] (sym some ∙ one)
 
-      prefixes : goes.linked ≡ left.prefix
-      prefixes = (same_from_push goes.linked left.prefix busy busy (ap (λ ms. goes.linked ++ ms) (sym one) ∙ left.is)).0
+      prefixes : goes.session.linked ≡ left.prefix
+      prefixes = (same_from_push goes.session.linked left.prefix busy busy (ap (λ ms. goes.session.linked ++ ms) (sym one) ∙ left.is)).0
 
       whole : before ++ left.left ≡ Stream
-      whole = append_assoc goes.taken goes.linked left.left ∙ ap (λ ms. goes.taken ++ (ms ++ left.left)) prefixes ∙ ap (λ ms. goes.taken ++ ms) left.split ∙ goes.whole
+      whole = append_assoc goes.session.taken goes.session.linked left.left ∙ ap (λ ms. goes.session.taken ++ (ms ++ left.left)) prefixes ∙ ap (λ ms. goes.session.taken ++ ms) left.split ∙ goes.session.whole
 
   place : Follows opening.persists Stream before first
-  place = in_place goes.cut refl goes.left goes.search
+  place = in_place goes.session.cut refl goes.session.left goes.search
 
   -- an entry that a refresh from a cookie sends was touched since
-  entry_changes : length before < length (refresh_over number f.consumer.spec writes opening goes.start) → (a : ℕ) (entry : Entry) → number_of goes.start ≡ Some a → sent_entry first ≡ Some entry
+  entry_changes : length before < length (refresh_over number f.consumer.spec writes opening goes.session.start) → (a : ℕ) (entry : Entry) → number_of goes.session.start ≡ Some a → sent_entry first ≡ Some entry
       → among entry.uuid (touched_over number writes a opening.writes) ≡ true
   entry_changes low a entry from is = by place
     where
@@ -127,31 +129,31 @@ module _ (lin : Lineage) (number : ℕ) (suffix : Name) (p : ProviderState) (f :
       within =
           omega (
             arith,
-            prefix_within number (take opening.writes writes) opening.cookie (number_of goes.start) a goes.from from,
+            prefix_within number (take opening.writes writes) opening.cookie (number_of goes.session.start) a goes.session.from from,
             length-take opening.writes writes,
           )
 
       by : Follows opening.persists Stream before first → among entry.uuid (touched_over number writes a opening.writes) ≡ true
       by (inl next) =
-          refresh_sends operation goes.start opening.writes goes.count (λ (e : Entry). among e.uuid (touched_over number writes a opening.writes) ≡ true) before next.0 first next.1 low
-          (refresh_sent operation (λ n. ascends-state_of number writes n) goes.start a opening.writes (whole_walk operation goes.start opening.writes) from within
-          (record { cut = append-nil (walk operation goes.start opening.writes); rises = (omega arith, tt) })) entry is
+          refresh_sends operation goes.session.start opening.writes goes.session.count (λ (e : Entry). among e.uuid (touched_over number writes a opening.writes) ≡ true) before next.0 first next.1 low
+          (refresh_sent operation (λ n. ascends-state_of number writes n) goes.session.start a opening.writes (whole_walk operation goes.session.start opening.writes) from within
+          (record { cut = append-nil (walk operation goes.session.start opening.writes); rises = (omega arith, tt) })) entry is
       by (inr end) = let bad : None ≡ Some entry = ap sent_entry (sym end.2) ∙ is in let never : ⊥ = cc in absurd never
 
   abbrev Reports : ℕ → Type 0
-  Reports most = ReportsChange operation (refresh_over number f.consumer.spec writes opening goes.start) opening.writes most before first
+  Reports most = ReportsChange operation (refresh_over number f.consumer.spec writes opening goes.session.start) opening.writes most before first
 
-  changes : length (refresh_over number f.consumer.spec writes opening goes.start) ≤ length before → (first ≡ busy) ⊎ Reports (length writes)
+  changes : length (refresh_over number f.consumer.spec writes opening goes.session.start) ≤ length before → (first ≡ busy) ⊎ Reports (length writes)
   changes high = by place
     where
       by : Follows opening.persists Stream before first → (first ≡ busy) ⊎ Reports (length writes)
-      by (inl next) = inr (up (stream_reports operation goes.start opening.writes goes.count before next.0 first next.1 high))
+      by (inl next) = inr (up (stream_reports operation goes.session.start opening.writes goes.session.count before next.0 first next.1 high))
         where
-          up : Reports (opening.writes + goes.count) → Reports (length writes)
+          up : Reports (opening.writes + goes.session.count) → Reports (length writes)
           up is = record {
             number = is.number;
             from = is.from;
-            upto = omega (arith, is.upto, goes.upto);
+            upto = omega (arith, is.upto, goes.session.upto);
             prefix = is.prefix;
             place = is.place;
             rest = is.rest;
@@ -164,12 +166,12 @@ module _ (lin : Lineage) (number : ℕ) (suffix : Name) (p : ProviderState) (f :
 
   next_is : IsNextOf number f.consumer.spec writes opening (octets_of first)
   next_is = record {
-    start = goes.start;
-    begins = goes.from;
-    count = goes.count;
-    upto = omega (arith, goes.upto);
+    start = goes.session.start;
+    begins = goes.session.from;
+    count = goes.session.count;
+    upto = omega (arith, goes.session.upto);
     earlier = before;
-    before = goes.reported;
+    before = goes.session.reported;
     message = first;
     spelled = refl;
     place = place;
@@ -185,7 +187,7 @@ module _ (lin : Lineage) (number : ℕ) (suffix : Name) (p : ProviderState) (f :
     pub now : GoesOn number after.provider after.consumer_node (with_sent message opening) entries
 
   module _ (known : Known) (latest : known.opening ≡ Some opening) (held : known.entries ≡ entries) (source : IsSource number suffix p) (fed : IsFed number p f known) where
-    linked_is : (later : Searches) (at : ℕ) (own : Option ℕ) → f.search ≡ Some at → IsAfter p.searches later f.consumer.spec opening.persists goes.cut at own rest
+    linked_is : (later : Searches) (at : ℕ) (own : Option ℕ) → f.search ≡ Some at → IsAfter p.searches later f.consumer.spec opening.persists goes.session.cut at own rest
         → IsLinked known (agreement_of (with_searches p later) (linked f own (octets_of first)) lin) (octets_of first)
     linked_is later at own is now = record {
       kept = record {
@@ -220,7 +222,7 @@ module _ (lin : Lineage) (number : ℕ) (suffix : Name) (p : ProviderState) (f :
     IsSentOut Overflows = Unit {0}
 
     -- a message is sent where the link has room for it
-    sends_kept : (at : ℕ) (own : Option ℕ) → f.search ≡ Some at → IsAfter p.searches (after_turn p.searches at (turn_at p.searches at)) f.consumer.spec opening.persists goes.cut at own rest
+    sends_kept : (at : ℕ) (own : Option ℕ) → f.search ≡ Some at → IsAfter p.searches (after_turn p.searches at (turn_at p.searches at)) f.consumer.spec opening.persists goes.session.cut at own rest
         → IsSentOut (sends (agreement_of p f lin) own (octets_of first))
     sends_kept at own is now = by (fits f (octets_of first))
       where
@@ -232,27 +234,27 @@ module _ (lin : Lineage) (number : ℕ) (suffix : Name) (p : ProviderState) (f :
         by false = tt
 
     goes_out : (at : ℕ) → f.search ≡ Some at → turn_at p.searches at ≡ Hands (wire.sent message_id first)
-        → IsAfter p.searches (after_turn p.searches at (turn_at p.searches at)) f.consumer.spec opening.persists goes.cut at (Some at) rest → IsSentOut (sending_by (agreement_of p f lin) (turn_at p.searches at))
+        → IsAfter p.searches (after_turn p.searches at (turn_at p.searches at)) f.consumer.spec opening.persists goes.session.cut at (Some at) rest → IsSentOut (sending_by (agreement_of p f lin) (turn_at p.searches at))
     goes_out at is turn now =
         subst (λ t. IsSentOut (sending_by (agreement_of p f lin) t)) (sym turn)
         (subst (λ own. IsSentOut (sends (agreement_of p f lin) own (octets_of first))) (sym is) (sends_kept at (Some at) is now))
 
     comes_last : (at : ℕ) (code : ℕ) → f.search ≡ Some at → turn_at p.searches at ≡ Closes (pos code) (wire.sent message_id first)
-        → IsAfter p.searches (after_turn p.searches at (turn_at p.searches at)) f.consumer.spec opening.persists goes.cut at None rest → IsSentOut (sending_by (agreement_of p f lin) (turn_at p.searches at))
+        → IsAfter p.searches (after_turn p.searches at (turn_at p.searches at)) f.consumer.spec opening.persists goes.session.cut at None rest → IsSentOut (sending_by (agreement_of p f lin) (turn_at p.searches at))
     comes_last at code is turn now = subst (λ t. IsSentOut (sending_by (agreement_of p f lin) t)) (sym turn) (sends_kept at None is now)
 
     abbrev After : Option ℕ → ℕ → Bool → Type 0
     After own at cut = IsAfter p.searches (after_turn p.searches at (turn_at p.searches at)) f.consumer.spec opening.persists cut at own rest
 
-    cut_is : (own : Option ℕ) (at : ℕ) (cut : Bool) → goes.cut ≡ cut → After own at cut → After own at goes.cut
+    cut_is : (own : Option ℕ) (at : ℕ) (cut : Bool) → goes.session.cut ≡ cut → After own at cut → After own at goes.session.cut
     cut_is own at cut same now = subst (After own at) (sym same) now
 
-    turn_now : (at : ℕ) → f.search ≡ Some at → (cut : Bool) → goes.cut ≡ cut → Delivers cut (goes.linked ++ goes.pending) goes.ahead → IsPending p.searches f.consumer.spec opening.persists cut at goes.pending
+    turn_now : (at : ℕ) → f.search ≡ Some at → (cut : Bool) → goes.session.cut ≡ cut → Delivers cut (goes.session.linked ++ goes.session.pending) goes.session.ahead → IsPending p.searches f.consumer.spec opening.persists cut at goes.session.pending
         → IsSentOut (sending_by (agreement_of p f lin) (turn_at p.searches at))
-    turn_now at is false open' left has = by (stream_turn operation goes.start opening.writes goes.count before rest first whole)
+    turn_now at is false open' left has = by (stream_turn operation goes.session.start opening.writes goes.session.count before rest first whole)
       where
         whole : before ++ first ∷ rest ≡ Stream
-        whole = place_of goes.taken goes.linked goes.pending rest first Stream some (ap (λ ms. goes.taken ++ ms) left ∙ goes.whole)
+        whole = place_of goes.session.taken goes.session.linked goes.session.pending rest first Stream some (ap (λ ms. goes.session.taken ++ ms) left ∙ goes.session.whole)
 
         turn : turn_at p.searches at ≡ turn_of_message message_id first
         turn = turn_is p.searches at has.search first rest has.found (has.same ∙ some) has.id
@@ -265,7 +267,7 @@ module _ (lin : Lineage) (number : ℕ) (suffix : Name) (p : ProviderState) (f :
         by (inl hands) =
             let now = turn ∙ hands.turn in
             goes_out at is now
-            (cut_is (Some at) at false open' (handed_out p.searches f.consumer.spec opening.persists at goes.pending rest first has some now (λ w. hands.more (no_wait opening.persists w)) source.apart))
+            (cut_is (Some at) at false open' (handed_out p.searches f.consumer.spec opening.persists at goes.session.pending rest first has some now (λ w. hands.more (no_wait opening.persists w)) source.apart))
         by (inr closes) =
             let now = turn ∙ closes.turn in
             comes_last at 0 is now
@@ -275,7 +277,7 @@ module _ (lin : Lineage) (number : ℕ) (suffix : Name) (p : ProviderState) (f :
         comes_last at BUSY is now
         (cut_is None at true closed' (closed_then p.searches f.consumer.spec opening.persists true at (Closes (pos BUSY) (wire.sent message_id first)) rest now refl none (cut_waits opening.persists) source.apart))
       where
-        one : goes.pending ≡ busy ∷ []
+        one : goes.session.pending ≡ busy ∷ []
         one = sym has.same ∙ ap (λ b. cond b (busy_end ∷ []) (has.search.rest ++ has.search.due)) has.over
 
         last : first ≡ busy
@@ -290,8 +292,8 @@ module _ (lin : Lineage) (number : ℕ) (suffix : Name) (p : ProviderState) (f :
             ∙ ap (turn_of_message message_id) last
             ∙ ap (λ m. Closes (pos BUSY) (wire.sent message_id m)) (sym last)
 
-    pub pending_kept : (at : ℕ) → f.search ≡ Some at → IsPending p.searches f.consumer.spec opening.persists goes.cut at goes.pending → IsSentOut (sending_by (agreement_of p f lin) (turn_at p.searches at))
-    pending_kept at is has = turn_now at is goes.cut refl goes.left has
+    pub pending_kept : (at : ℕ) → f.search ≡ Some at → IsPending p.searches f.consumer.spec opening.persists goes.session.cut at goes.session.pending → IsSentOut (sending_by (agreement_of p f lin) (turn_at p.searches at))
+    pending_kept at is has = turn_now at is goes.session.cut refl goes.session.left has
 
 -- what a consumer whose search goes on is sent
 abbrev pub GoingSent : ℕ → Name → Agreement → Known → Opening → Sending → Type 0
@@ -307,7 +309,7 @@ going_sent lin number suffix p f known opening latest source fed goes = by f.sea
     Good : Sending → Type 0
     Good s = GoingSent number suffix (agreement_of p f lin) known opening s
 
-    some_sent : (at : ℕ) → f.search ≡ Some at → IsPending p.searches f.consumer.spec opening.persists goes.cut at goes.pending → (first : SyncMessage) (rest : List SyncMessage) → goes.pending ≡ first ∷ rest
+    some_sent : (at : ℕ) → f.search ≡ Some at → IsPending p.searches f.consumer.spec opening.persists goes.session.cut at goes.session.pending → (first : SyncMessage) (rest : List SyncMessage) → goes.session.pending ≡ first ∷ rest
         → Good (sending_by (agreement_of p f lin) (turn_at p.searches at))
     some_sent at is has first rest some = both (sending_by (agreement_of p f lin) (turn_at p.searches at)) (pending_kept lin number suffix p f opening known.entries goes first rest some known latest refl source fed at is has)
       where
@@ -316,15 +318,15 @@ going_sent lin number suffix p f known opening latest source fed goes = by f.sea
         both Rests is' = absurd is'
         both Overflows is' = tt
 
-    none_sent : (at : ℕ) → IsPending p.searches f.consumer.spec opening.persists goes.cut at goes.pending → goes.pending ≡ [] → Good (sending_by (agreement_of p f lin) (turn_at p.searches at))
+    none_sent : (at : ℕ) → IsPending p.searches f.consumer.spec opening.persists goes.session.cut at goes.session.pending → goes.session.pending ≡ [] → Good (sending_by (agreement_of p f lin) (turn_at p.searches at))
     none_sent at has none =
         subst (λ t. Good (sending_by (agreement_of p f lin) t)) (sym (ap turn_of_found has.found ∙ ap (turn_of_pending has.search.id) (has.same ∙ none))) tt
 
-    by : (own : Option ℕ) → f.search ≡ own → HasPending p.searches f.consumer.spec opening.persists goes.cut own goes.pending → Good (sending_by (agreement_of p f lin) (turn_of p own))
+    by : (own : Option ℕ) → f.search ≡ own → HasPending p.searches f.consumer.spec opening.persists goes.session.cut own goes.session.pending → Good (sending_by (agreement_of p f lin) (turn_of p own))
     by None is has = tt
-    by (Some at) is has = pend goes.pending refl
+    by (Some at) is has = pend goes.session.pending refl
       where
-        pend : (messages : List SyncMessage) → goes.pending ≡ messages → Good (sending_by (agreement_of p f lin) (turn_at p.searches at))
+        pend : (messages : List SyncMessage) → goes.session.pending ≡ messages → Good (sending_by (agreement_of p f lin) (turn_at p.searches at))
         pend [] none = none_sent at has none
         pend (first ∷ rest) some = some_sent at is has first rest some
 

@@ -181,7 +181,7 @@ module _ (lin : Lineage) (number : ℕ) (suffix : Name) (p : ProviderState) (f :
         ⊎ ((known_after f.name known line).entries ≡ content_at number f.consumer.spec writes opening.writes)))
     pub still : (known_after f.name known line).opening ≡ known.opening
 
-  module _ (m : SyncMessage) (rest : List SyncMessage) (first : goes.linked ≡ m ∷ rest) where
+  module _ (m : SyncMessage) (rest : List SyncMessage) (first : goes.session.linked ≡ m ∷ rest) where
     abbrev outcome : Copy × Answer
     outcome = taken_within 1 held m
 
@@ -191,11 +191,11 @@ module _ (lin : Lineage) (number : ℕ) (suffix : Name) (p : ProviderState) (f :
     abbrev after : Copy → ConsumerNode
     after copy = record (with_copy f copy) { link = left }
 
-    remains : Delivers goes.cut (m ∷ (rest ++ goes.pending)) goes.ahead
-    remains = subst (λ ms. Delivers goes.cut (ms ++ goes.pending) goes.ahead) first goes.left
+    remains : Delivers goes.session.cut (m ∷ (rest ++ goes.session.pending)) goes.session.ahead
+    remains = subst (λ ms. Delivers goes.session.cut (ms ++ goes.session.pending) goes.session.ahead) first goes.session.left
 
     has_session : HasSession opening.persists held
-    has_session = where_session operation goes.start opening.writes goes.count known.entries held goes.taken goes.ahead goes.place
+    has_session = where_session operation goes.session.start opening.writes goes.session.count known.entries held goes.session.taken goes.session.ahead goes.place
 
     -- the bytes are decoded as the message
     decoded_is : IsOfSearch m → ends_bare m ≡ false → received held (octets_of m) ≡ (outcome.0, came_of outcome.1)
@@ -210,40 +210,42 @@ module _ (lin : Lineage) (number : ℕ) (suffix : Name) (p : ProviderState) (f :
 
     -- ---- the next message of the Stream
 
-    module _ (is : IsFirst goes.cut goes.ahead m (rest ++ goes.pending)) where
-      more_taken : (goes.taken ++ m ∷ []) ++ is.beyond ≡ stream_over number f.consumer.spec writes opening goes.start goes.count
-      more_taken = append_assoc goes.taken (m ∷ []) is.beyond ∙ ap (λ ms. goes.taken ++ ms) (sym is.next) ∙ goes.whole
+    module _ (is : IsFirst goes.session.cut goes.session.ahead m (rest ++ goes.session.pending)) where
+      more_taken : (goes.session.taken ++ m ∷ []) ++ is.beyond ≡ stream_over number f.consumer.spec writes opening goes.session.start goes.session.count
+      more_taken = append_assoc goes.session.taken (m ∷ []) is.beyond ∙ ap (λ ms. goes.session.taken ++ ms) (sym is.next) ∙ goes.session.whole
 
-      reported_still : opening.sent ≡ map octets_of ((goes.taken ++ m ∷ []) ++ rest)
-      reported_still = goes.reported ∙ ap (λ ms. map octets_of (goes.taken ++ ms)) first ∙ ap (map octets_of) (sym (append_assoc goes.taken (m ∷ []) rest))
+      reported_still : opening.sent ≡ map octets_of ((goes.session.taken ++ m ∷ []) ++ rest)
+      reported_still = goes.session.reported ∙ ap (λ ms. map octets_of (goes.session.taken ++ ms)) first ∙ ap (map octets_of) (sym (append_assoc goes.session.taken (m ∷ []) rest))
 
       -- the search goes on from there
-      goes_now : (copy : Copy) (entries : List Entry) → IsWhere operation goes.start opening.writes goes.count entries copy (goes.taken ++ m ∷ []) is.beyond → GoesOn number p (after copy) opening entries
+      goes_now : (copy : Copy) (entries : List Entry) → IsWhere operation goes.session.start opening.writes goes.session.count entries copy (goes.session.taken ++ m ∷ []) is.beyond → GoesOn number p (after copy) opening entries
       goes_now copy entries place = record {
-        count = goes.count;
-        upto = goes.upto;
-        start = goes.start;
-        from = goes.from;
-        taken = goes.taken ++ m ∷ [];
-        ahead = is.beyond;
-        whole = more_taken;
-        cut = goes.cut;
-        lasts = goes.lasts;
-        linked = rest;
-        pending = goes.pending;
-        left = is.left;
-        reported = reported_still;
+        session = record {
+          count = goes.session.count;
+          upto = goes.session.upto;
+          start = goes.session.start;
+          from = goes.session.from;
+          taken = goes.session.taken ++ m ∷ [];
+          ahead = is.beyond;
+          whole = more_taken;
+          cut = goes.session.cut;
+          lasts = goes.session.lasts;
+          linked = rest;
+          pending = goes.session.pending;
+          left = is.left;
+          reported = reported_still;
+        };
         link = refl;
         search = goes.search;
         place = place;
       }
 
-      takes : TakesOne operation ascending within sent texts goes.start opening.writes goes.count known.entries held goes.taken m is.beyond
+      takes : TakesOne operation ascending within sent texts goes.session.start opening.writes goes.session.count known.entries held goes.session.taken m is.beyond
       takes =
-          one_comes operation ascending within sent texts goes.start opening.writes goes.count known.entries held goes.taken is.beyond m fed.ascending
-          (subst (IsWhere operation goes.start opening.writes goes.count known.entries held goes.taken) is.next goes.place)
+          one_comes operation ascending within sent texts goes.session.start opening.writes goes.session.count known.entries held goes.session.taken is.beyond m fed.ascending
+          (subst (IsWhere operation goes.session.start opening.writes goes.session.count known.entries held goes.session.taken) is.next goes.place)
 
-      staged_is : StagesOne operation ascending within sent texts goes.start opening.writes goes.count known.entries held (goes.taken ++ m ∷ []) is.beyond outcome → Is outcome.0 (came_of outcome.1)
+      staged_is : StagesOne operation ascending within sent texts goes.session.start opening.writes goes.session.count known.entries held (goes.session.taken ++ m ∷ []) is.beyond outcome → Is outcome.0 (came_of outcome.1)
       staged_is now =
           subst (λ a. Is outcome.0 (came_of a)) (sym now.answer) (record {
             kept = kept-reported number suffix (agreement_of p f lin) (agreement_of p (after outcome.0) lin) (reported.Taken f.name) known (λ name k. refl) tt (record {
@@ -268,42 +270,42 @@ module _ (lin : Lineage) (number : ℕ) (suffix : Name) (p : ProviderState) (f :
 
       -- ---- a content is stored
 
-      module _ (now : StoresOne operation ascending within sent texts goes.start opening.writes goes.count known.entries is.beyond outcome) where
+      module _ (now : StoresOne operation ascending within sent texts goes.session.start opening.writes goes.session.count known.entries is.beyond outcome) where
         abbrev content : List Entry
-        content = content_at number f.consumer.spec writes now.number
+        content = content_at number f.consumer.spec writes now.stored.number
 
         abbrev n : ℕ
         n = stored_number p.directory outcome.0.cookie
 
         abbrev stored : Storing
-        stored = storing (agreement_of p f lin) outcome.0 now.commit
+        stored = storing (agreement_of p f lin) outcome.0 now.stored.commit
 
         abbrev line : ReportLine
         line = reported.Stored f.name stored
 
         abbrev then_known : Known
-        then_known = record known { entries = outcome.0.held; cookie = now.commit.cookie }
+        then_known = record known { entries = outcome.0.held; cookie = now.stored.commit.cookie }
 
-        low : now.number ≤ length writes
-        low = omega (arith, now.upto, goes.upto)
+        low : now.stored.number ≤ length writes
+        low = omega (arith, now.stored.upto, goes.session.upto)
 
-        right_number : n ≡ now.number
-        right_number = ap (stored_number p.directory) now.cookie ∙ cookie_numbers number suffix p now.number source low
+        right_number : n ≡ now.stored.number
+        right_number = ap (stored_number p.directory) now.stored.cookie ∙ cookie_numbers number suffix p now.stored.number source low
 
         -- its cookie is that of the content
-        text_is : now.commit.cookie ≡ Some (cookie_after number number writes n)
-        text_is = now.text ∙ ap (λ k. Some (cookie_after number number writes k)) (sym right_number)
+        text_is : now.stored.commit.cookie ≡ Some (cookie_after number number writes n)
+        text_is = now.stored.text ∙ ap (λ k. Some (cookie_after number number writes k)) (sym right_number)
 
         right_entries : IsRightOf number (frame_of (agreement_of p f lin)) known stored
         right_entries = record {
           prefix = omega (arith, right_number, low);
           opening = opening;
           latest = latest;
-          no_shorter = omega (arith, right_number, now.from);
-          exactly = now.held ∙ ap (λ k. select f.consumer.spec (entries_after number (take k writes))) (sym right_number);
+          no_shorter = omega (arith, right_number, now.stored.from);
+          exactly = now.stored.held ∙ ap (λ k. select f.consumer.spec (entries_after number (take k writes))) (sym right_number);
           cookie = text_is;
           names = cookie_names number suffix p n source (omega (arith, right_number, low));
-          staged = now.staged ∙ sym now.held;
+          staged = now.stored.staged ∙ sym now.stored.held;
           wanted = refl;
           from = refl;
         }
@@ -311,47 +313,47 @@ module _ (lin : Lineage) (number : ℕ) (suffix : Name) (p : ProviderState) (f :
         -- and promises nothing of what another history has
         promises_elsewhere : KeepsPromises number f.consumer.spec known then_known
         promises_elsewhere other later least most far promised =
-            subst (λ c. IsPromised other f.consumer.spec later outcome.0.held (held_cookie c)) (sym now.text)
-            (subst (IsPromised other f.consumer.spec later outcome.0.held) (sym (cookie_read number suffix p now.number source)) (λ own. absurd (far (sym own))))
+            subst (λ c. IsPromised other f.consumer.spec later outcome.0.held (held_cookie c)) (sym now.stored.text)
+            (subst (IsPromised other f.consumer.spec later outcome.0.held) (sym (cookie_read number suffix p now.stored.number source)) (λ own. absurd (far (sym own))))
 
         content_ascends : ascends content ≡ true
-        content_ascends = ascends_filter (is_selected f.consumer.spec) (state_of number writes now.number) (ascends-state_of number writes now.number)
+        content_ascends = ascends_filter (is_selected f.consumer.spec) (state_of number writes now.stored.number) (ascends-state_of number writes now.stored.number)
 
         -- the new cookie promises what is held
         promised_now : IsPromised number f.consumer.spec writes outcome.0.held (held_cookie outcome.0.cookie)
         promised_now =
-            subst (λ es. IsPromised number f.consumer.spec writes es (held_cookie outcome.0.cookie)) (sym now.held)
-            (subst (λ c. IsPromised number f.consumer.spec writes content (held_cookie c)) (sym now.cookie)
-            (subst (IsPromised number f.consumer.spec writes content) (sym (cookie_read number suffix p now.number source))
-            (λ own. record { count = now.number; within = low; not_below = is_upto-itself (last_csn (start number) (take now.number writes)); same = refl })))
+            subst (λ es. IsPromised number f.consumer.spec writes es (held_cookie outcome.0.cookie)) (sym now.stored.held)
+            (subst (λ c. IsPromised number f.consumer.spec writes content (held_cookie c)) (sym now.stored.cookie)
+            (subst (IsPromised number f.consumer.spec writes content) (sym (cookie_read number suffix p now.stored.number source))
+            (λ own. record { count = now.stored.number; within = low; not_below = is_upto-itself (last_csn (start number) (take now.stored.number writes)); same = refl })))
 
-        no_more : IsOver operation ascending within sent texts goes.start opening.writes goes.count is.beyond outcome.0 → goes.cut ≡ false
-        no_more over = by goes.cut refl
+        no_more : IsOver operation ascending within sent texts goes.session.start opening.writes goes.session.count is.beyond outcome.0 → goes.session.cut ≡ false
+        no_more over = by goes.session.cut refl
           where
-            by : (cut : Bool) → goes.cut ≡ cut → goes.cut ≡ false
+            by : (cut : Bool) → goes.session.cut ≡ cut → goes.session.cut ≡ false
             by false here = here
-            by true here = absurd (true≢false (sym (goes.lasts here) ∙ over.ends))
+            by true here = absurd (true≢false (sym (goes.session.lasts here) ∙ over.ends))
 
-        rests : IsOver operation ascending within sent texts goes.start opening.writes goes.count is.beyond outcome.0 → IsAtRest (after outcome.0)
-        rests over = record { search = own_over p.searches f.search p f opening.persists goes.cut goes.pending none.1 (ap (λ b. waits b goes.cut) over.ends) goes.search; session = over.session; link = ap (map octets_of) none.0 }
+        rests : IsOver operation ascending within sent texts goes.session.start opening.writes goes.session.count is.beyond outcome.0 → IsAtRest (after outcome.0)
+        rests over = record { search = own_over p.searches f.search p f opening.persists goes.session.cut goes.session.pending none.1 (ap (λ b. waits b goes.session.cut) over.ends) goes.search; session = over.session; link = ap (map octets_of) none.0 }
           where
-            none : (rest ≡ []) × (goes.pending ≡ [])
-            none = none_left rest goes.pending (subst (λ cut. Delivers cut (rest ++ goes.pending) is.beyond) (no_more over) is.left ∙ over.none)
+            none : (rest ≡ []) × (goes.session.pending ≡ [])
+            none = none_left rest goes.session.pending (subst (λ cut. Delivers cut (rest ++ goes.session.pending) is.beyond) (no_more over) is.left ∙ over.none)
 
-        state_now : IsPast operation opening.writes goes.count (content_after operation now.number) outcome.0 is.beyond ⊎ IsOver operation ascending within sent texts goes.start opening.writes goes.count is.beyond outcome.0
+        state_now : IsPast operation opening.writes goes.session.count (content_after operation now.stored.number) outcome.0 is.beyond ⊎ IsOver operation ascending within sent texts goes.session.start opening.writes goes.session.count is.beyond outcome.0
             → GoesOn number p (after outcome.0) opening outcome.0.held ⊎ (IsAtRest (after outcome.0) × ((opening.persists ≡ true) ⊎ (outcome.0.held ≡ content_at number f.consumer.spec writes opening.writes)))
-        state_now (inl past) = inl (subst (GoesOn number p (after outcome.0) opening) (sym now.held) (goes_now outcome.0 content (inr past)))
-        state_now (inr over) = inr (rests over, inr (now.held ∙ ap (content_at number f.consumer.spec writes) (ends_there over)))
+        state_now (inl past) = inl (subst (GoesOn number p (after outcome.0) opening) (sym now.stored.held) (goes_now outcome.0 content (inr past)))
+        state_now (inr over) = inr (rests over, inr (now.stored.held ∙ ap (content_at number f.consumer.spec writes) (ends_there over)))
           where
-            ends_there : IsOver operation ascending within sent texts goes.start opening.writes goes.count is.beyond outcome.0 → now.number ≡ opening.writes
+            ends_there : IsOver operation ascending within sent texts goes.session.start opening.writes goes.session.count is.beyond outcome.0 → now.stored.number ≡ opening.writes
             ends_there over = now.whole over.ends
 
         fed_now : GoesOn number p (after outcome.0) opening outcome.0.held ⊎ (IsAtRest (after outcome.0) × ((opening.persists ≡ true) ⊎ (outcome.0.held ≡ content_at number f.consumer.spec writes opening.writes)))
             → IsFed number p (after outcome.0) then_known
         fed_now state = record {
           held = refl;
-          ascending = ap ascends now.held ∙ content_ascends;
-          cookie = now.cookie ∙ sym now.text;
+          ascending = ap ascends now.stored.held ∙ content_ascends;
+          cookie = now.stored.cookie ∙ sym now.stored.text;
           promised = promised_now;
           below = fed.below;
           state = by state;
@@ -363,7 +365,7 @@ module _ (lin : Lineage) (number : ℕ) (suffix : Name) (p : ProviderState) (f :
             by (inr rest') = inl rest'.0
 
         stored_is : Is outcome.0 (came_of outcome.1)
-        stored_is = subst (λ a. Is outcome.0 (came_of a)) (sym now.answer) (record {
+        stored_is = subst (λ a. Is outcome.0 (came_of a)) (sym now.stored.answer) (record {
           kept = record {
             source = source;
             fed = subst (IsFed number p (after outcome.0)) (sym known_is) (fed_now (state_now now.then));
@@ -387,37 +389,37 @@ module _ (lin : Lineage) (number : ℕ) (suffix : Name) (p : ProviderState) (f :
       first_is : IsTaken (taken_as (agreement_of p f lin) left (received held (octets_of m)).0 (received held (octets_of m)).1).0 (taken_as (agreement_of p f lin) left (received held (octets_of m)).0 (received held (octets_of m)).1).1
       first_is = subst (λ (h : Copy × Came). Is h.0 h.1) (sym (decoded_is takes.can (cookied takes.comes))) (by takes.comes)
         where
-          cookied : StagesOne operation ascending within sent texts goes.start opening.writes goes.count known.entries held (goes.taken ++ m ∷ []) is.beyond outcome
-              ⊎ StoresOne operation ascending within sent texts goes.start opening.writes goes.count known.entries is.beyond outcome → ends_bare m ≡ false
+          cookied : StagesOne operation ascending within sent texts goes.session.start opening.writes goes.session.count known.entries held (goes.session.taken ++ m ∷ []) is.beyond outcome
+              ⊎ StoresOne operation ascending within sent texts goes.session.start opening.writes goes.session.count known.entries is.beyond outcome → ends_bare m ≡ false
           cookied (inl now) = agrees Staged now.answer
-          cookied (inr now) = agrees (Stored now.commit) now.answer
+          cookied (inr now) = agrees (Stored now.stored.commit) now.stored.answer
 
-          by : StagesOne operation ascending within sent texts goes.start opening.writes goes.count known.entries held (goes.taken ++ m ∷ []) is.beyond outcome
-              ⊎ StoresOne operation ascending within sent texts goes.start opening.writes goes.count known.entries is.beyond outcome → Is outcome.0 (came_of outcome.1)
+          by : StagesOne operation ascending within sent texts goes.session.start opening.writes goes.session.count known.entries held (goes.session.taken ++ m ∷ []) is.beyond outcome
+              ⊎ StoresOne operation ascending within sent texts goes.session.start opening.writes goes.session.count known.entries is.beyond outcome → Is outcome.0 (came_of outcome.1)
           by (inl now) = staged_is now
           by (inr now) = stored_is now
 
     -- ---- the end with busy
 
-    module _ (is : IsBusy goes.cut m (rest ++ goes.pending)) where
+    module _ (is : IsBusy goes.session.cut m (rest ++ goes.session.pending)) where
       abbrev ended : Copy
       ended = record { held = held.held; cookie = held.cookie; session = None }
 
       goes_past : opening.persists ≡ true
-      goes_past = goes.lasts is.over_is
+      goes_past = goes.session.lasts is.over_is
 
       outcome_is : outcome ≡ (ended, Over (pos BUSY))
       outcome_is = ap (taken_within 1 held) is.message ∙ taken_over held has_session.session has_session.runs has_session.id (has_session.mode ∙ goes_past)
 
       rests_now : IsAtRest (after ended)
       rests_now = record {
-        search = own_over p.searches f.search p f opening.persists goes.cut goes.pending none.1 (ap (waits opening.persists) is.over_is ∙ cut_waits opening.persists) goes.search;
+        search = own_over p.searches f.search p f opening.persists goes.session.cut goes.session.pending none.1 (ap (waits opening.persists) is.over_is ∙ cut_waits opening.persists) goes.search;
         session = refl;
         link = ap (map octets_of) none.0;
       }
         where
-          none : (rest ≡ []) × (goes.pending ≡ [])
-          none = none_left rest goes.pending is.none
+          none : (rest ≡ []) × (goes.session.pending ≡ [])
+          none = none_left rest goes.session.pending is.none
 
       ended_is : Is ended (came_of (Over (pos BUSY)))
       ended_is = record {
@@ -447,9 +449,9 @@ module _ (lin : Lineage) (number : ℕ) (suffix : Name) (p : ProviderState) (f :
           (subst (λ (o : Copy × Answer). Is o.0 (came_of o.1)) (sym outcome_is) ended_is)
 
     pub one_taken : IsTaken (taken_as (agreement_of p f lin) left (received held (octets_of m)).0 (received held (octets_of m)).1).0 (taken_as (agreement_of p f lin) left (received held (octets_of m)).0 (received held (octets_of m)).1).1
-    one_taken = by (first_left goes.cut goes.ahead m (rest ++ goes.pending) remains)
+    one_taken = by (first_left goes.session.cut goes.session.ahead m (rest ++ goes.session.pending) remains)
       where
-        by : IsFirst goes.cut goes.ahead m (rest ++ goes.pending) ⊎ IsBusy goes.cut m (rest ++ goes.pending)
+        by : IsFirst goes.session.cut goes.session.ahead m (rest ++ goes.session.pending) ⊎ IsBusy goes.session.cut m (rest ++ goes.session.pending)
             → IsTaken (taken_as (agreement_of p f lin) left (received held (octets_of m)).0 (received held (octets_of m)).1).0 (taken_as (agreement_of p f lin) left (received held (octets_of m)).0 (received held (octets_of m)).1).1
         by (inl is) = first_is is
         by (inr is) = busy_is is
@@ -462,12 +464,12 @@ GoingTaken lin number suffix p f known opening latest source fed goes (Some next
 
 pub going_taken : (lin : Lineage) (number : ℕ) (suffix : Name) (p : ProviderState) (f : ConsumerNode) (known : Known) (opening : Opening) (latest : known.opening ≡ Some opening) (source : IsSource number suffix p)
     (fed : IsFed number p f known) (goes : GoesOn number p f opening known.entries) → GoingTaken lin number suffix p f known opening latest source fed goes (taking (agreement_of p f lin))
-going_taken lin number suffix p f known opening latest source fed goes = by goes.linked refl
+going_taken lin number suffix p f known opening latest source fed goes = by goes.session.linked refl
   where
     Good : List (List ℕ) → Type 0
     Good link = GoingTaken lin number suffix p f known opening latest source fed goes (taken_from (agreement_of p f lin) link)
 
-    by : (linked : List SyncMessage) → goes.linked ≡ linked → Good f.link
+    by : (linked : List SyncMessage) → goes.session.linked ≡ linked → Good f.link
     by [] none = subst Good (sym (goes.link ∙ ap (map octets_of) none)) (goes.link ∙ ap (map octets_of) none)
     by (m ∷ rest) some = subst Good (sym (goes.link ∙ ap (map octets_of) some)) (one_taken lin number suffix p f known opening latest source fed goes m rest some)
 

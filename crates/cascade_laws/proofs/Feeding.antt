@@ -67,25 +67,30 @@ session_at number persists search writes = session_of persists number number sea
 abbrev pub Promises : ℕ → Search → List Write → Known → Type 0
 Promises number search writes known = IsPromised number search writes known.entries (held_cookie known.cookie)
 
--- a search of that opening goes on: its messages, up to all writes after the opening, are those that were taken and
--- those to come; what is in the link and what is pending are those to come, or are cut short
-pub record GoesOn (number : ℕ) (p : ProviderState) (f : ConsumerNode) (opening : Opening) (entries : List Entry) : Type 0 where
+-- how far the search of an opening is over these writes: its messages, up to all writes after the opening, are those
+-- that were taken and those to come; what is in the link and what is pending are those to come, or are cut short
+pub record IsUnderWay (number : ℕ) (search : Search) (writes : List Write) (opening : Opening) : Type 0 where
   pub count : ℕ
-  pub upto : opening.writes + count ≡ length p.directory.writes
+  pub upto : opening.writes + count ≡ length writes
   pub start : Start
-  pub from : BeginsFrom number (take opening.writes p.directory.writes) opening.cookie (number_of start)
+  pub from : BeginsFrom number (take opening.writes writes) opening.cookie (number_of start)
   pub taken : List SyncMessage
   pub ahead : List SyncMessage
-  pub whole : taken ++ ahead ≡ stream_over number f.consumer.spec p.directory.writes opening start count
+  pub whole : taken ++ ahead ≡ stream_over number search writes opening start count
   pub cut : Bool
   pub lasts : cut ≡ true → opening.persists ≡ true
   pub linked : List SyncMessage
   pub pending : List SyncMessage
   pub left : Delivers cut (linked ++ pending) ahead
   pub reported : opening.sent ≡ map octets_of (taken ++ linked)
-  pub link : f.link ≡ map octets_of linked
-  pub search : HasPending p.searches f.consumer.spec opening.persists cut f.search pending
-  pub place : IsWhere (session_over number f.consumer.spec p.directory.writes opening) start opening.writes count entries f.consumer.copy taken ahead
+
+-- a search of that opening goes on between the provider and the consumer: the link, the open search and what is held
+-- are as far as it is
+pub record GoesOn (number : ℕ) (p : ProviderState) (f : ConsumerNode) (opening : Opening) (entries : List Entry) : Type 0 where
+  pub session : IsUnderWay number f.consumer.spec p.directory.writes opening
+  pub link : f.link ≡ map octets_of session.linked
+  pub search : HasPending p.searches f.consumer.spec opening.persists session.cut f.search session.pending
+  pub place : IsWhere (session_over number f.consumer.spec p.directory.writes opening) session.start opening.writes session.count entries f.consumer.copy session.taken session.ahead
 
 -- the search of the latest opening goes on
 pub record IsGoing (number : ℕ) (p : ProviderState) (f : ConsumerNode) (known : Known) : Type 0 where

@@ -19,21 +19,9 @@ use Rattle.cascade_laws.proofs.Feeding.{GoesOn, IsGoing, IsFed, KeepsOthers}
 going-other : (number : ℕ) (p : ProviderState) (later : Searches) (g : ConsumerNode) (opening : Opening) (entries : List Entry) → OwnStays p.searches later g.search
     → GoesOn number p g opening entries → GoesOn number (with_searches p later) g opening entries
 going-other number p later g opening entries stays goes = record {
-  count = goes.count;
-  upto = goes.upto;
-  start = goes.start;
-  from = goes.from;
-  taken = goes.taken;
-  ahead = goes.ahead;
-  whole = goes.whole;
-  cut = goes.cut;
-  lasts = goes.lasts;
-  linked = goes.linked;
-  pending = goes.pending;
-  left = goes.left;
-  reported = goes.reported;
+  session = goes.session;
   link = goes.link;
-  search = pending-other p.searches later g.consumer.spec opening.persists goes.cut g.search goes.pending stays goes.search;
+  search = pending-other p.searches later g.consumer.spec opening.persists goes.session.cut g.search goes.session.pending stays goes.search;
   place = goes.place;
 }
 
@@ -58,7 +46,7 @@ fed_search number p g known at is fed = by fed.state
   where
     by : IsAtRest g ⊎ IsGoing number p g known → (s : SearchState) × (search_at p.searches at ≡ Some s)
     by (inl rest) = let none = rest.search in let never : ⊥ = cc in absurd never
-    by (inr going) = let goes = going.goes in own_search p.searches g.consumer.spec going.opening.persists goes.cut g.search at goes.pending is goes.search
+    by (inr going) = let goes = going.goes in own_search p.searches g.consumer.spec going.opening.persists goes.session.cut g.search at goes.session.pending is goes.search
 
 -- ---- what a change of one search keeps
 

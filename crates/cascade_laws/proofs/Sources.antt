@@ -17,8 +17,8 @@ use Rattle.directory_laws.proofs.States.{IsWithin-state_of}
 use Rattle.directory_writes.specs.Commits as commits
 use Rattle.directory_writes.specs.Directory.{DirectoryState, entries_after, entries_of, last_csn, has_room, judged, judged_at, csn_of_next_write, with_write, with_log_limit, most_writes, most_writes_weight}
 use Rattle.directory_writes.specs.Weights.{kept_weight, op_weight}
-use Rattle.directory_writes.specs.declared.commit.CommitFault as causes
-use Rattle.directory_writes.specs.declared.commit.CommitFault.TheVariants as cause
+use Rattle.directory_writes.specs.declared.commit.DirectoryFault.{DirectoryFault}
+use Rattle.directory_writes.specs.declared.commit.DirectoryFault.TheVariants as cause
 use Rattle.directory_writes.proofs.Commits.{commit_open}
 use Rattle.directory_writes.proofs.Judged.{IsJudged, judged_is}
 use Rattle.directory_writes.proofs.Csns.{rises-none, rises-push, next_rises}
@@ -154,50 +154,50 @@ module _ (number : ℕ) (suffix : Name) (p : ProviderState) (w : Write) (source 
   grown : length (writes ++ w ∷ []) ≡ length writes + 1
   grown = length-append writes (w ∷ [])
 
-  within : opening.writes + goes.count ≤ length writes
-  within = omega (arith, goes.upto)
+  within : opening.writes + goes.session.count ≤ length writes
+  within = omega (arith, goes.session.upto)
 
-  from_now : BeginsFrom number (take opening.writes (writes ++ w ∷ [])) opening.cookie (number_of goes.start)
+  from_now : BeginsFrom number (take opening.writes (writes ++ w ∷ [])) opening.cookie (number_of goes.session.start)
   from_now =
-      subst (λ ws. BeginsFrom number ws opening.cookie (number_of goes.start)) (sym (prefix-push writes w opening.writes (omega (arith, goes.upto)))) goes.from
+      subst (λ ws. BeginsFrom number ws opening.cookie (number_of goes.session.start)) (sym (prefix-push writes w opening.writes (omega (arith, goes.session.upto)))) goes.session.from
 
-  whole_now : goes.taken ++ goes.ahead ≡ stream_over number g.consumer.spec (writes ++ w ∷ []) opening goes.start goes.count
-  whole_now = goes.whole ∙ sym (stream_same number opening.persists g.consumer.spec writes w goes.start opening.writes goes.count within)
+  whole_now : goes.session.taken ++ goes.session.ahead ≡ stream_over number g.consumer.spec (writes ++ w ∷ []) opening goes.session.start goes.session.count
+  whole_now = goes.session.whole ∙ sym (stream_same number opening.persists g.consumer.spec writes w goes.session.start opening.writes goes.session.count within)
 
-  place_now : IsWhere longer goes.start opening.writes goes.count entries g.consumer.copy goes.taken goes.ahead
-  place_now = place_longer number opening.persists g.consumer.spec writes w goes.start opening.writes goes.count within entries g.consumer.copy goes.taken goes.ahead goes.place
+  place_now : IsWhere longer goes.session.start opening.writes goes.session.count entries g.consumer.copy goes.session.taken goes.session.ahead
+  place_now = place_longer number opening.persists g.consumer.spec writes w goes.session.start opening.writes goes.session.count within entries g.consumer.copy goes.session.taken goes.session.ahead goes.place
 
   -- ---- what is in the link and what is pending, after the write
 
   -- what the write sends
   abbrev next : List SyncMessage
-  next = cond opening.persists (group longer (opening.writes + goes.count)) []
+  next = cond opening.persists (group longer (opening.writes + goes.session.count)) []
 
   record IsInformed : Type 0 where
     cut : Bool
     lasts : cut ≡ true → opening.persists ≡ true
     pending : List SyncMessage
-    left : Delivers cut (goes.linked ++ pending) (goes.ahead ++ next)
+    left : Delivers cut (goes.session.linked ++ pending) (goes.session.ahead ++ next)
     search : HasPending after.searches g.consumer.spec opening.persists cut g.search pending
 
   -- a search that is over at the provider, whose last messages are in the link
-  closed_informed : g.search ≡ None → waits opening.persists goes.cut ≡ false → HasPending p.searches g.consumer.spec opening.persists goes.cut None goes.pending → IsInformed
+  closed_informed : g.search ≡ None → waits opening.persists goes.session.cut ≡ false → HasPending p.searches g.consumer.spec opening.persists goes.session.cut None goes.session.pending → IsInformed
   closed_informed own ends has = record {
-    cut = goes.cut;
-    lasts = goes.lasts;
-    pending = goes.pending;
-    left = by opening.persists goes.cut refl ends;
-    search = subst (λ o. HasPending after.searches g.consumer.spec opening.persists goes.cut o goes.pending) (sym own) has;
+    cut = goes.session.cut;
+    lasts = goes.session.lasts;
+    pending = goes.session.pending;
+    left = by opening.persists goes.session.cut refl ends;
+    search = subst (λ o. HasPending after.searches g.consumer.spec opening.persists goes.session.cut o goes.session.pending) (sym own) has;
   }
     where
-      by : (persists cut : Bool) → goes.cut ≡ cut → waits persists cut ≡ false
-          → Delivers goes.cut (goes.linked ++ goes.pending) (goes.ahead ++ cond persists (group longer (opening.writes + goes.count)) [])
-      by false cut is ends = subst (Delivers goes.cut (goes.linked ++ goes.pending)) (sym (append-nil goes.ahead)) goes.left
-      by true true is ends = delivers_longer goes.cut (goes.linked ++ goes.pending) goes.ahead (group longer (opening.writes + goes.count)) is goes.left
+      by : (persists cut : Bool) → goes.session.cut ≡ cut → waits persists cut ≡ false
+          → Delivers goes.session.cut (goes.session.linked ++ goes.session.pending) (goes.session.ahead ++ cond persists (group longer (opening.writes + goes.session.count)) [])
+      by false cut is ends = subst (Delivers goes.session.cut (goes.session.linked ++ goes.session.pending)) (sym (append-nil goes.session.ahead)) goes.session.left
+      by true true is ends = delivers_longer goes.session.cut (goes.session.linked ++ goes.session.pending) goes.session.ahead (group longer (opening.writes + goes.session.count)) is goes.session.left
       by true false is bad = absurd (true≢false bad)
 
   -- a search that is open
-  module _ (at : ℕ) (own : g.search ≡ Some at) (has : IsPending p.searches g.consumer.spec opening.persists goes.cut at goes.pending) where
+  module _ (at : ℕ) (own : g.search ≡ Some at) (has : IsPending p.searches g.consumer.spec opening.persists goes.session.cut at goes.session.pending) where
     abbrev now : SearchState
     now = informed p.queue_limit p.directory w has.search
 
@@ -210,14 +210,14 @@ module _ (number : ℕ) (suffix : Name) (p : ProviderState) (w : Write) (source 
         ∙ (λ i. group (session_of opening.persists (ap (λ (d : DirectoryState). d.sid) source.directory i) (ap (λ (d : DirectoryState). d.history) source.directory i) g.consumer.spec (writes ++ w ∷ [])) (length writes))
 
     sent_is : cond has.search.persists (group_of p.directory has.search w) [] ≡ next
-    sent_is = λ i. cond (has.persists i) ((group_is ∙ ap (group longer) (sym goes.upto)) i) []
+    sent_is = λ i. cond (has.persists i) ((group_is ∙ ap (group longer) (sym goes.session.upto)) i) []
 
-    delivers_now : Delivers now.over (goes.linked ++ pending now) (goes.ahead ++ next)
+    delivers_now : Delivers now.over (goes.session.linked ++ pending now) (goes.session.ahead ++ next)
     delivers_now =
-        subst (λ sent. Delivers now.over (goes.linked ++ pending now) (goes.ahead ++ sent)) sent_is
-        (informed_delivers p.queue_limit p.directory w has.search goes.linked goes.ahead
-        (subst (λ o. Delivers o (goes.linked ++ pending has.search) goes.ahead) (sym has.over)
-        (subst (λ ms. Delivers goes.cut (goes.linked ++ ms) goes.ahead) (sym has.same) goes.left)))
+        subst (λ sent. Delivers now.over (goes.session.linked ++ pending now) (goes.session.ahead ++ sent)) sent_is
+        (informed_delivers p.queue_limit p.directory w has.search goes.session.linked goes.session.ahead
+        (subst (λ o. Delivers o (goes.session.linked ++ pending has.search) goes.session.ahead) (sym has.over)
+        (subst (λ ms. Delivers goes.session.cut (goes.session.linked ++ ms) goes.session.ahead) (sym has.same) goes.session.left)))
 
     -- one that ends with its refresh is as before
     still : opening.persists ≡ false → now ≡ has.search
@@ -228,7 +228,7 @@ module _ (number : ℕ) (suffix : Name) (p : ProviderState) (w : Write) (source 
       where
         by : (persists : Bool) → opening.persists ≡ persists → opening.persists ≡ true
         by true is = is
-        by false is = goes.lasts (sym (ap (λ (s : SearchState). s.over) (still is) ∙ has.over) ∙ on)
+        by false is = goes.session.lasts (sym (ap (λ (s : SearchState). s.over) (still is) ∙ has.over) ∙ on)
 
     some_now : waits opening.persists now.over ≡ false → HasNext (pending now)
     some_now none = by opening.persists refl now.over refl
@@ -236,7 +236,7 @@ module _ (number : ℕ) (suffix : Name) (p : ProviderState) (w : Write) (source 
         by : (persists : Bool) → opening.persists ≡ persists → (over : Bool) → now.over ≡ over → HasNext (pending now)
         by true mode true on = record { next = busy; later = []; same = pending_over now on }
         by true mode false off = absurd (true≢false (sym (λ i. waits (mode i) (off i)) ∙ none))
-        by false mode over is = subst HasNext (sym (ap pending (still mode) ∙ has.same)) (has.some (ap (λ b. waits b goes.cut) mode))
+        by false mode over is = subst HasNext (sym (ap pending (still mode) ∙ has.same)) (has.some (ap (λ b. waits b goes.session.cut) mode))
 
     open_informed : IsInformed
     open_informed = record {
@@ -260,31 +260,33 @@ module _ (number : ℕ) (suffix : Name) (p : ProviderState) (w : Write) (source 
   is_informed : IsInformed
   is_informed = by g.search refl goes.search
     where
-      by : (own : Option ℕ) → g.search ≡ own → HasPending p.searches g.consumer.spec opening.persists goes.cut own goes.pending → IsInformed
+      by : (own : Option ℕ) → g.search ≡ own → HasPending p.searches g.consumer.spec opening.persists goes.session.cut own goes.session.pending → IsInformed
       by None own has = closed_informed own has.1 has
       by (Some at) own has = open_informed at own has
 
   pub going-push : GoesOn number after g opening entries
   going-push = record {
-    count = suc goes.count;
-    upto = omega (arith, goes.upto, grown);
-    start = goes.start;
-    from = from_now;
-    taken = goes.taken;
-    ahead = goes.ahead ++ next;
-    whole =
-        sym (append_assoc goes.taken goes.ahead next)
-        ∙ ap (λ ms. ms ++ next) whole_now
-        ∙ sym (stream_more longer goes.start opening.writes goes.count);
-    cut = is_informed.cut;
-    lasts = is_informed.lasts;
-    linked = goes.linked;
-    pending = is_informed.pending;
-    left = is_informed.left;
-    reported = goes.reported;
+    session = record {
+      count = suc goes.session.count;
+      upto = omega (arith, goes.session.upto, grown);
+      start = goes.session.start;
+      from = from_now;
+      taken = goes.session.taken;
+      ahead = goes.session.ahead ++ next;
+      whole =
+          sym (append_assoc goes.session.taken goes.session.ahead next)
+          ∙ ap (λ ms. ms ++ next) whole_now
+          ∙ sym (stream_more longer goes.session.start opening.writes goes.session.count);
+      cut = is_informed.cut;
+      lasts = is_informed.lasts;
+      linked = goes.session.linked;
+      pending = is_informed.pending;
+      left = is_informed.left;
+      reported = goes.session.reported;
+    };
     link = goes.link;
     search = is_informed.search;
-    place = place_grows longer goes.start opening.writes goes.count entries g.consumer.copy goes.taken goes.ahead place_now;
+    place = place_grows longer goes.session.start opening.writes goes.session.count entries g.consumer.copy goes.session.taken goes.session.ahead place_now;
   }
 
 fed-push : (number : ℕ) (suffix : Name) (p : ProviderState) (w : Write) → IsSource number suffix p → (g : ConsumerNode) (known : Known) → IsFed number p g known → IsFed number (written_once p w) g known
@@ -424,11 +426,11 @@ log_limits false true spent = tt
 log_limits false false true = tt
 log_limits false false false = tt
 
-or_none : (found : Option causes.CommitFault) → option_or found None ≡ found
+or_none : (found : Option DirectoryFault) → option_or found None ≡ found
 or_none None = refl
 or_none (Some x) = refl
 
-abbrev doubled : ℕ × ℕ → causes.CommitFault
+abbrev doubled : ℕ × ℕ → DirectoryFault
 doubled pair = cause.DuplicateName pair.0 pair.1
 
 within_none : (entries : List Entry) → IsWithin entries → commits.held_refusal entries ≡ None
@@ -471,7 +473,7 @@ module _ (number : ℕ) (suffix : Name) (p : ProviderState) (puts : List Entry) 
   held_none : commits.held_refusal (committed (entries_of p.directory) puts drops) ≡ None
   held_none = within_none (committed (entries_of p.directory) puts drops) good.within
 
-  abbrev log_refusal : Option causes.CommitFault
+  abbrev log_refusal : Option DirectoryFault
   log_refusal = commits.log_refusal p.directory (op_weight (Commit puts drops)) now
 
   refusal_is : p.kind ≡ Replica → commit_refusal p.kind p.directory puts drops now ≡ option_map fault_of log_refusal
@@ -504,22 +506,24 @@ commits_are_kept number suffix p puts drops now source replica good = commit_is 
 going-limited : (number : ℕ) (p q : ProviderState) (g : ConsumerNode) (opening : Opening) (entries : List Entry) → q.directory.writes ≡ p.directory.writes → q.searches ≡ p.searches
     → GoesOn number p g opening entries → GoesOn number q g opening entries
 going-limited number p q g opening entries writes searches goes = record {
-  count = goes.count;
-  upto = goes.upto ∙ ap (λ (ws : List Write). length ws) (sym writes);
-  start = goes.start;
-  from = subst (λ ws. BeginsFrom number (take opening.writes ws) opening.cookie (number_of goes.start)) (sym writes) goes.from;
-  taken = goes.taken;
-  ahead = goes.ahead;
-  whole = goes.whole ∙ ap (λ ws. stream_over number g.consumer.spec ws opening goes.start goes.count) (sym writes);
-  cut = goes.cut;
-  lasts = goes.lasts;
-  linked = goes.linked;
-  pending = goes.pending;
-  left = goes.left;
-  reported = goes.reported;
+  session = record {
+    count = goes.session.count;
+    upto = goes.session.upto ∙ ap (λ (ws : List Write). length ws) (sym writes);
+    start = goes.session.start;
+    from = subst (λ ws. BeginsFrom number (take opening.writes ws) opening.cookie (number_of goes.session.start)) (sym writes) goes.session.from;
+    taken = goes.session.taken;
+    ahead = goes.session.ahead;
+    whole = goes.session.whole ∙ ap (λ ws. stream_over number g.consumer.spec ws opening goes.session.start goes.session.count) (sym writes);
+    cut = goes.session.cut;
+    lasts = goes.session.lasts;
+    linked = goes.session.linked;
+    pending = goes.session.pending;
+    left = goes.session.left;
+    reported = goes.session.reported;
+  };
   link = goes.link;
-  search = subst (λ es. HasPending es g.consumer.spec opening.persists goes.cut g.search goes.pending) (sym searches) goes.search;
-  place = subst (λ ws. IsWhere (session_over number g.consumer.spec ws opening) goes.start opening.writes goes.count entries g.consumer.copy goes.taken goes.ahead) (sym writes) goes.place;
+  search = subst (λ es. HasPending es g.consumer.spec opening.persists goes.session.cut g.search goes.session.pending) (sym searches) goes.search;
+  place = subst (λ ws. IsWhere (session_over number g.consumer.spec ws opening) goes.session.start opening.writes goes.session.count entries g.consumer.copy goes.session.taken goes.session.ahead) (sym writes) goes.place;
 }
 
 fed-limited : (number : ℕ) (p q : ProviderState) (g : ConsumerNode) (known : Known) → q.directory.writes ≡ p.directory.writes → q.directory.suffix ≡ p.directory.suffix → q.searches ≡ p.searches

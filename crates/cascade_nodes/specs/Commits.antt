@@ -4,8 +4,8 @@ use Rattle.std.specs.Prelude.{◌≡◌, ⊤, ℕ, true, fold, map, Option, Some
 use Rattle.std.specs.Option.{option_or}
 use Rattle.directory_writes.specs.Commits.{commit_refusal}
 use Rattle.directory_writes.specs.Directory.{entries_of, judged}
-use Rattle.directory_writes.specs.declared.commit.CommitFault as causes
-use Rattle.directory_writes.specs.declared.commit.CommitFault.TheVariants as cause
+use Rattle.directory_writes.specs.declared.commit.DirectoryFault.{DirectoryFault}
+use Rattle.directory_writes.specs.declared.commit.DirectoryFault.TheVariants as cause
 use Rattle.entry_tree.specs.Effects.{committed}
 use Rattle.entry_tree.specs.Fitting.{may_be_held}
 use Rattle.entry_tree.specs.Selection.{Search}
@@ -34,7 +34,7 @@ commit_of stage = record { puts = stage.puts; drops = stage.drops }
 abbrev pub with_stage : ℕ → ProviderState → StoredStage → ProviderState
 with_stage now p stage = after_judged p (judged p.directory (Commit stage.puts stage.drops) now)
 
-abbrev pub limit_in : Option causes.CommitFault → Option ℕ
+abbrev pub limit_in : Option DirectoryFault → Option ℕ
 limit_in None = None
 limit_in (Some (cause.LimitReached limit)) = Some limit
 limit_in (Some (cause.DuplicateName one other)) = None

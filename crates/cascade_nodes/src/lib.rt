@@ -1,5 +1,5 @@
-//! The nodes of a script: providers whose searches are those of a script, consumers with their links,
-//! and what a replica commits to its own directory.
+//! The nodes of a script: providers whose searches are those of a script, consumers with their
+//! links, and what a replica commits to its own directory.
 #![tactic(auto)]
 
 mod committing;

@@ -23,8 +23,8 @@ use std::marker::Model;
 use sync_consumer::{Commit, Consumer, EntryMap, Taken};
 use sync_messages::Mode;
 
-/// A consumer, and how far the text of its entries is digested (SHA-256). What is digested is kept as
-/// long as those entries stay, so that only what comes after them is digested anew.
+/// A consumer, and how far the text of its entries is digested (SHA-256). What is digested is kept
+/// as long as those entries stay, so that only what comes after them is digested anew.
 #[derive(Drop)]
 pub struct Digested {
     consumer: Consumer,
@@ -83,8 +83,8 @@ impl Digested {
         })
     }
 
-    /// The digest of the text of its entries, of which those that stayed since it was last asked for,
-    /// up to the first that did not, cost nothing.
+    /// The digest of the text of its entries, of which those that stayed since it was last asked
+    /// for, up to the first that did not, cost nothing.
     #[tactic(auto, using(crate::proofs::Digests::all_digested, crate::proofs::Digests::digest_is, crate::proofs::Digests::same_digested))]
     pub fn digest(&mut self) -> Result<[u8; 32], NoMemory>
         ensures same { self.new ≡ self.old }
@@ -113,8 +113,8 @@ impl Digested {
         self.consumer.request(id, mode)
     }
 
-    /// Takes a message, as the consumer does. Where a stage puts or drops some entry that is digested,
-    /// the digest begins again.
+    /// Takes a message, as the consumer does. Where a stage puts or drops some entry that is
+    /// digested, the digest begins again.
     #[tactic(auto, using(crate::proofs::Digests::digested_on, crate::proofs::Digests::nothing_digested))]
     pub fn take(&mut self, message: &Message) -> Taken
         ensures exact { taking.Takes self.old.copy message.now self.new.copy result }

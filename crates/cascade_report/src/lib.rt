@@ -1,5 +1,5 @@
-//! What is reported of the events of a script: the lines of its report with their digests, the stages that
-//! took effect, and of which writes of a root they are.
+//! What is reported of the events of a script: the lines of its report with their digests, the
+//! stages that took effect, and of which writes of a root they are.
 #![tactic(auto)]
 
 mod digested;

@@ -13,8 +13,8 @@ use sync_consumer::Commit;
 use sync_messages::IdList;
 use sync_provider::Kind;
 
-/// A stage that took effect: the entries that it put, the identities that it dropped, and the origin
-/// of what is held then, where one is known. What it put is fit for a commit.
+/// A stage that took effect: the entries that it put, the identities that it dropped, and the
+/// origin of what is held then, where one is known. What it put is fit for a commit.
 #[derive(Drop)]
 pub struct StoredStage {
     puts: EntryList,
@@ -59,9 +59,9 @@ impl StoredStage {
     }
 }
 
-/// The lines of an event so far, as bytes, and the stages that took effect in it. It knows where the
-/// content of the event's provider is from: the root at the top of its providers, which is itself at
-/// a root, and the notes of a replica's commits.
+/// The lines of an event so far, as bytes, and the stages that took effect in it. It knows where
+/// the content of the event's provider is from: the root at the top of its providers, which is
+/// itself at a root, and the notes of a replica's commits.
 #[derive(Drop)]
 pub struct Report<'a> {
     top: Octets,

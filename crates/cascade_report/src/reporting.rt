@@ -90,8 +90,8 @@ impl Report<'_> {
         push_settled(&mut self.text, name, writes)
     }
 
-    /// A stage took effect, with which a consumer holds this prefix of its provider's writes, of this
-    /// origin.
+    /// A stage took effect, with which a consumer holds this prefix of its provider's writes, of
+    /// this origin.
     pub fn stored(
         &mut self,
         name: &[u8],

@@ -1,4 +1,5 @@
-//! What goes on between a consumer and its provider, and what a replica commits at the end of an event.
+//! What goes on between a consumer and its provider, and what a replica commits at the end of an
+//! event.
 ghost use Rattle.std.specs.Prelude.{◌≡◌, ◌<◌, ℕ, List, length, slice_get, IfSome, OnErr};
 ghost use Rattle.cascade_exchange.specs.Exchange.{part_of};
 ghost use Rattle.cascade_nodes.specs.Commits.{Leaves};
@@ -16,8 +17,8 @@ use cascade_script::Cause;
 use ldap_ber::Octets;
 
 impl Nodes {
-    /// Does what goes on between a consumer and its provider, and then the commits of a replica. After
-    /// a refusal the world is as before.
+    /// Does what goes on between a consumer and its provider, and then the commits of a replica.
+    /// After a refusal the world is as before.
     pub(crate) fn exchange(&mut self, name: Octets, exchange: Exchange) -> Result<Lines, Cause>
         requires in_step { AreInStep self.old }
         ensures steps { Does (spec.exchange self.old name (part_of exchange)) self.new result }
@@ -96,12 +97,13 @@ impl Nodes {
         }
     }
 
-    /// The node at this place commits these stages, one write for each, where it is a replica. After a
-    /// refusal its directory is as before.
+    /// The node at this place commits these stages, one write for each, where it is a replica.
+    /// After a refusal its directory is as before.
     #[tactic(auto, using(crate::proofs::OwnCommits::at_place, crate::proofs::OwnCommits::commits_nothing, crate::proofs::OwnCommits::own_same))]
     fn commit(&mut self, place: usize, stages: Vec<StoredStage>) -> Result<(), Cause>
         requires place { place < length self.old.consumer_nodes }
-        requires can { IfSome (slice_get self.old.consumer_nodes place) (OwnCanCommit self.old stages.items) }
+        requires can { IfSome (slice_get self.old.consumer_nodes place)
+            (OwnCanCommit self.old stages.items) }
         ensures does { IfSome (slice_get self.old.consumer_nodes place)
             (λ consumer_node.
             Leaves (spec.commits_of self.old consumer_node stages.items) self.new result) }

@@ -46,8 +46,8 @@ impl Nodes {
         Ok(no_lines(self.alloc))
     }
 
-    /// Whether a name is free, its provider is there and offers what is wanted, and there is room for
-    /// a node. The answer is its number.
+    /// Whether a name is free, its provider is there and offers what is wanted, and there is room
+    /// for a node. The answer is its number.
     #[tactic(auto, using(crate::proofs::Declaring::taken, crate::proofs::Declaring::no_source, crate::proofs::Declaring::outside, crate::proofs::Declaring::no_room, crate::proofs::Declaring::followed))]
     fn next_consumer_node(
         &self,

@@ -255,7 +255,8 @@ fn write_to(
 {
     match read_op(alloc, change) {
         Ok(op) => {
-            // The line of an accepted write is made before the write, which then can't fail any more.
+            // The line of an accepted write is made before the write, which then can't fail any
+            // more.
             let number = provider.writes();
             let accepted = wrote_lines(alloc, name, SUCCESS, number + 1)?;
             let reply = provider.write(op, now);

@@ -44,7 +44,8 @@ impl Nodes {
         Ok(lines)
     }
 
-    /// A consumer wants this from now on: a busy one is cut, loses its cookie, and keeps its entries.
+    /// A consumer wants this from now on: a busy one is cut, loses its cookie, and keeps its
+    /// entries.
     pub(crate) fn respec(&mut self, name: Octets, wanted: Spec) -> Result<Lines, Cause>
         requires in_step { AreInStep self.old }
         ensures steps { Does (spec.step self.old (order.Respec name (search_of wanted)))

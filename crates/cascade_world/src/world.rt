@@ -13,8 +13,8 @@ use std::marker::Model;
 /// The lines of an event as bytes, each ended by a line feed.
 pub type Lines = Octets;
 
-/// The nodes of a script, where the directory of each replica holds what its consumer holds. So each
-/// stage that takes effect can be committed there, up to the limits of a directory's writes.
+/// The nodes of a script, where the directory of each replica holds what its consumer holds. So
+/// each stage that takes effect can be committed there, up to the limits of a directory's writes.
 #[derive(Drop)]
 pub struct World {
     nodes: Nodes,

@@ -1,6 +1,7 @@
-//! Messages, in words. An entry: `add`, `modify`, `delete` or `present`, its identity, a cookie or `-`, its name,
-//! and its attributes with bars between them, each `type=value;value` or `type` alone, where `CSN` stands for an
-//! entryCSN. `done` and `doneDeletes`: a code, and a cookie or `-` where there is a Sync Done control.
+//! Messages, in words. An entry: `add`, `modify`, `delete` or `present`, its identity, a cookie or
+//! `-`, its name, and its attributes with bars between them, each `type=value;value` or `type`
+//! alone, where `CSN` stands for an entryCSN. `done` and `doneDeletes`: a code, and a cookie or `-`
+//! where there is a Sync Done control.
 use ldap_ber::{NoMemory, Octets, OctetsList};
 use ldap_constants::{SUCCESS, SYNC_DONE, SYNC_INFO, SYNC_STATE};
 use ldap_messages::{Control, ControlList, LdapResult, Message, Protocol};
@@ -211,7 +212,8 @@ fn bad_controls(alloc: Global, word: &str) -> Result<ControlList, NoMemory> {
     controls_of(alloc, name, octets(alloc, "\x04")?)
 }
 
-/// A reference, of this search or of another one, the end of another search, or no message of a search.
+/// A reference, of this search or of another one, the end of another search, or no message of a
+/// search.
 fn odd(alloc: Global, word: &str) -> Result<Message, NoMemory> {
     let op = match word {
         "unbind" => Protocol::UnbindRequest,

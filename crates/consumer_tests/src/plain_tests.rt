@@ -18,8 +18,9 @@ add 2 - o=b CSN
 done 0 c0
 ";
 
-/// Entries that are added, modified, deleted and present, with a cookie or without; sets of identities; a new
-/// cookie; the ends of phases, and with each the refresh; ends of the search; and references.
+/// Entries that are added, modified, deleted and present, with a cookie or without; sets of
+/// identities; a new cookie; the ends of phases, and with each the refresh; ends of the search; and
+/// references.
 const TOLD: &str = "\
 add 1 - o=d CSN
 modify 2 c1 o=e CSN
@@ -179,8 +180,8 @@ fn each_agrees(alloc: Global, pairs: &[Pair], copies: &mut Vec<Pair>) -> Result<
     Ok(true)
 }
 
-/// Whether both make the same of all sequences of three messages after the first ones, after one of which at
-/// least the search goes on.
+/// Whether both make the same of all sequences of three messages after the first ones, after one of
+/// which at least the search goes on.
 fn sequences_agree(
     alloc: Global,
     mut pair: Pair,

@@ -11,8 +11,9 @@ use std::test::Fail;
 use sync_consumer::Consumer;
 use sync_messages::Mode;
 
-/// Requests with the message ID 7 in the mode refreshOnly, by their names: for all below `o=x` with the cookie
-/// c1, and with those that the rows call `''`, odd and long; and for what is right below `ou=a,o=x`, without one.
+/// Requests with the message ID 7 in the mode refreshOnly, by their names: for all below `o=x` with
+/// the cookie c1, and with those that the rows call `''`, odd and long; and for what is right below
+/// `ou=a,o=x`, without one.
 const REQUESTS: [(&str, &[u8]); 5] = [
     (
         "c1",

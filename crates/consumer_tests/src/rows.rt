@@ -1,8 +1,9 @@
-//! Rows of tests: a message or something that is done with a consumer, and after ` -> ` what is reported of it.
-//! A line that begins with `#` says something of the rows below it.
+//! Rows of tests: a message or something that is done with a consumer, and after ` -> ` what is
+//! reported of it. A line that begins with `#` says something of the rows below it.
 //!
-//! `new`, `once` and `stay` begin with a new consumer, or a search in one of the modes. There are two
-//! consumers: `copy` makes the second one a copy of the first, and `swap` puts each in the other's place.
+//! `new`, `once` and `stay` begin with a new consumer, or a search in one of the modes. There are
+//! two consumers: `copy` makes the second one a copy of the first, and `swap` puts each in the
+//! other's place.
 use crate::messages::{CSN, discard, number, octets, parted, sent};
 use crate::requests::{is_presence, requested};
 use dn_names::Dn;

@@ -1,6 +1,6 @@
-//! What holds of a directory after any writes that it accepted: each of its entries is read again as a search sends it
-//! (RFC 4511, section 4.5.2), and all of them keep within the limits. There is no code here but the functions that carry
-//! the laws, and one that reports what holds of a write.
+//! What holds of a directory after any writes that it accepted: each of its entries is read again
+//! as a search sends it (RFC 4511, section 4.5.2), and all of them keep within the limits. There is
+//! no code here but the functions that carry the laws, and one that reports what holds of a write.
 #![tactic(auto)]
 
 ghost use Rattle.std.specs.Prelude.{◌≡◌, false};
@@ -20,7 +20,8 @@ pub fn writes_keep_entries()
     ensures { WritesKeepEntries }
 {}
 
-/// The parts of an entry that can be sent are read again as they were written: its name, its CSN and its attributes.
+/// The parts of an entry that can be sent are read again as they were written: its name, its CSN
+/// and its attributes.
 pub fn sent_is_read_again()
     ensures { SentIsReadAgain }
 {}
@@ -35,8 +36,9 @@ pub fn prefixes_were_accepted()
     ensures { PrefixesWereAccepted }
 {}
 
-/// Each state of a directory keeps within the limits: it has at most n entries, of at most so much weight, after
-/// any number of writes, and no two of one name as long as the identities that writes give do not begin again.
+/// Each state of a directory keeps within the limits: it has at most n entries, of at most so much
+/// weight, after any number of writes, and no two of one name as long as the identities that writes
+/// give do not begin again.
 pub fn states_are_within()
     ensures small { StatesAreSmall }
     ensures within { StatesAreWithin }
@@ -52,8 +54,8 @@ pub fn read_writes_are_sound()
     ensures { ReadWritesAreSound }
 {}
 
-/// Reports of what a client asks for that its names are names, and what it adds is a list of attributes. It does
-/// nothing.
+/// Reports of what a client asks for that its names are names, and what it adds is a list of
+/// attributes. It does nothing.
 pub fn is_well_formed(op: &Op)
     requires { is_commit op.now ≡ false }
     ensures { IsWellFormed op.now }

@@ -22,8 +22,8 @@ use Rattle.entry_tree.specs.declared.op.Write.{Write}
 use Rattle.directory_writes.specs.Commits.{held_refusal, log_refusal, commit_refusal, Opposes}
 use Rattle.directory_writes.specs.Directory.{DirectoryState, entries_of, csn_of_next_write, most_writes, most_writes_weight, judged, write_code, code_of_judged}
 use Rattle.directory_writes.specs.Weights.{op_weight, kept_weight}
-use Rattle.directory_writes.specs.declared.commit.CommitFault.{CommitFault}
-use Rattle.directory_writes.specs.declared.commit.CommitFault.TheVariants.{LimitReached, DuplicateName, NoMemory}
+use Rattle.directory_writes.specs.declared.commit.DirectoryFault.{DirectoryFault}
+use Rattle.directory_writes.specs.declared.commit.DirectoryFault.TheVariants.{LimitReached, DuplicateName, NoMemory}
 use Rattle.directory_writes.proofs.Writes.{judged_good}
 
 -- an operation that is no commit fits
@@ -96,7 +96,7 @@ open_held entries = by (nat_lt most_entries (length entries)) (nat_lt most_weigh
     by false false (Some pair) h = absurd (false≢true h)
     by false false None h = refl
 
-abbrev of_refusal : CommitRefusal → CommitFault
+abbrev of_refusal : CommitRefusal → DirectoryFault
 of_refusal refusals.TooMany = LimitReached most_entries
 of_refusal refusals.TooHeavy = LimitReached most_weight
 of_refusal (refusals.SameName one other) = DuplicateName one other
@@ -139,20 +139,20 @@ log_capped d weight capped now is =
     (ap (λ w. nat_lt most_writes_weight (kept_weight d.writes + w)) is ∙ capped_heavy (kept_weight d.writes) weight)
 
 -- the first of two causes
-pub first_opposed : (first second : Option CommitFault) (fault : CommitFault) → Opposes first fault → Opposes (option_or first second) fault
+pub first_opposed : (first second : Option DirectoryFault) (fault : DirectoryFault) → Opposes first fault → Opposes (option_or first second) fault
 first_opposed first second (LimitReached limit) is = ap (λ o. option_or o second) is
 first_opposed first second (DuplicateName one other) is = ap (λ o. option_or o second) is
 first_opposed first second NoMemory is = is
 
-pub second_opposed : (first second : Option CommitFault) (fault : CommitFault) → first ≡ None → Opposes second fault → Opposes (option_or first second) fault
+pub second_opposed : (first second : Option DirectoryFault) (fault : DirectoryFault) → first ≡ None → Opposes second fault → Opposes (option_or first second) fault
 second_opposed first second fault none is = subst (λ o. Opposes (option_or o second) fault) (sym none) is
 
 -- where the first gives no refusal, that of the second is the whole one
-pub second_of : {T : Type 0} (first second : Option CommitFault) (outcome : Result T CommitFault) → first ≡ None → IfErr outcome (Opposes second)
+pub second_of : {T : Type 0} (first second : Option DirectoryFault) (outcome : Result T DirectoryFault) → first ≡ None → IfErr outcome (Opposes second)
     → IfErr outcome (Opposes (option_or first second))
 second_of first second (Ok x) none is = is
 second_of first second (Err fault) none is = second_opposed first second fault none is
 
 -- where neither gives a refusal there is none
-pub none_opposed : (first second : Option CommitFault) → first ≡ None → second ≡ None → option_or first second ≡ None
+pub none_opposed : (first second : Option DirectoryFault) → first ≡ None → second ≡ None → option_or first second ≡ None
 none_opposed first second none other = ap (λ o. option_or o second) none ∙ other

@@ -8,9 +8,9 @@ use Rattle.entry_tree.specs.declared.touched.EntryChange.{EntryChange}
 use Rattle.sync_model.specs.Incremental.{about}
 use Rattle.sync_model.specs.Message.{SyncMessage}
 use Rattle.sync_model.specs.Stream.{SyncOperation, content_after, among, group}
-use Rattle.sync_model.proofs.Gather.{Each}
+use Rattle.sync_model.proofs.Gather.{Each, each_weaker}
 use Rattle.sync_model.proofs.Later.{each-touched}
-use Rattle.sync_model.proofs.LaterWrites.{each_weaker, about_touch, all_notified}
+use Rattle.sync_model.proofs.LaterWrites.{about_touch, all_notified}
 use Rattle.directory_writes.specs.Touches.{uuids_of}
 
 each_own : (touches : List EntryChange) → Each (λ t. among t.uuid (uuids_of touches) ≡ true) touches

@@ -179,19 +179,25 @@ pub record IsPushed (d : DirectoryState) (entries after : List Entry) (numbers l
   pub notes : log ≡ logged (length d.writes + 1) entries after d.log
   pub renews : IsRenewed (length d.writes + 1) (touched entries after) numbers later
 
+-- what putting a write that was previewed leaves: it is the last of the writes, and its changes are made, noted and numbered
+pub record IsPut (d : DirectoryState) (op : Op) (preview : Preview) (entries after : List Entry) (numbers later : Numbers) (log : Log) (writes : List Write) : Type 0 where
+  pub last : writes ≡ d.writes ++ (record { csn = preview.csn; op = op }) ∷ []
+  pub made : after ≡ with_changes entries preview.touched
+  pub notes : log ≡ noted_each (length d.writes + 1) (uuids_of preview.touched) d.log
+  pub renews : IsRenewed (length d.writes + 1) preview.touched numbers later
+
 -- what making the changes that were previewed makes of them
-pub planned_push : (d : DirectoryState) (op : Op) (preview : Preview) (entries after : List Entry) (numbers later : Numbers) (log : Log) → entries ≡ entries_of d → IsPlanned d op preview
-    → after ≡ with_changes entries preview.touched → log ≡ noted_each (length d.writes + 1) (uuids_of preview.touched) d.log
-    → IsRenewed (length d.writes + 1) preview.touched numbers later → IsPushed d entries after numbers later log (record { csn = preview.csn; op = op })
-planned_push d op preview entries after numbers later log was plan made notes renews = record {
+planned_push : (d : DirectoryState) (op : Op) (preview : Preview) (entries after : List Entry) (numbers later : Numbers) (log : Log) (writes : List Write) → entries ≡ entries_of d → IsPlanned d op preview
+    → IsPut d op preview entries after numbers later log writes → IsPushed d entries after numbers later log (record { csn = preview.csn; op = op })
+planned_push d op preview entries after numbers later log writes was plan put = record {
   leads = leads;
   good = plan.accepted;
-  notes = notes ∙ ap (λ ts. noted_each (length d.writes + 1) (uuids_of ts) d.log) touches;
-  renews = subst (λ ts. IsRenewed (length d.writes + 1) ts numbers later) touches renews;
+  notes = put.notes ∙ ap (λ ts. noted_each (length d.writes + 1) (uuids_of ts) d.log) touches;
+  renews = subst (λ ts. IsRenewed (length d.writes + 1) ts numbers later) touches put.renews;
 }
   where
     leads : after ≡ entries_after d.history (d.writes ++ (record { csn = preview.csn; op = op }) ∷ [])
-    leads = made ∙ ap (λ es. with_changes es preview.touched) was ∙ plan.leads
+    leads = put.made ∙ ap (λ es. with_changes es preview.touched) was ∙ plan.leads
 
     touches : preview.touched ≡ touched entries after
     touches = planned_touches d op preview plan ∙ (λ i. touched (sym was i) (sym leads i))
@@ -220,13 +226,29 @@ kept_push d entries after last kept total numbers later log w was weighs room be
 
 -- a directory keeps its invariant after a write that was previewed
 pub kept_after : (d : DirectoryState) (op : Op) (preview : Preview) (entries after : List Entry) (last drawn : CsnValue) (kept : ℕ) (numbers later : Numbers) (log : Log) (writes : List Write)
-    → IsKept d entries last kept numbers → IsPlanned d op preview → writes ≡ d.writes ++ (record { csn = preview.csn; op = op }) ∷ [] → drawn ≡ preview.csn
-    → IsPushed d entries after numbers later log (record { csn = preview.csn; op = op }) → IsKept (record d { writes = writes; log = log }) after drawn preview.weight later
-kept_after d op preview entries after last drawn kept numbers later log writes was plan all is push =
+    → IsKept d entries last kept numbers → IsPlanned d op preview → drawn ≡ preview.csn → IsPut d op preview entries after numbers later log writes
+    → IsKept (record d { writes = writes; log = log }) after drawn preview.weight later
+kept_after d op preview entries after last drawn kept numbers later log writes was plan is put =
     let w : Write = record { csn = preview.csn; op = op } in
-    subst (λ ws. IsKept (record d { writes = ws; log = log }) after drawn preview.weight later) (sym all)
+    let push = planned_push d op preview entries after numbers later log writes was.made plan put in
+    subst (λ ws. IsKept (record d { writes = ws; log = log }) after drawn preview.weight later) (sym put.last)
     (subst (λ s. IsKept (record d { writes = d.writes ++ w ∷ []; log = log }) after s preview.weight later) (sym is)
     (kept_push d entries after last kept preview.weight numbers later log w was plan.weighed plan.room plan.later push))
+
+-- what is kept beside another log and other numbers of the same writes
+kept_with : (d : DirectoryState) (entries : List Entry) (last : CsnValue) (kept : ℕ) (numbers later : Numbers) (log : Log) → IsKept d entries last kept numbers
+    → IsLogged d.history d.writes log → AreNumbered d.history d.writes entries later → IsKept (record d { log = log }) entries last kept later
+kept_with d entries last kept numbers later log was logged touched = record {
+  made = was.made;
+  stamped = was.stamped;
+  weighed = was.weighed;
+  light = was.light;
+  numbered = was.numbered;
+  accepted = was.accepted;
+  rises = was.rises;
+  logged = logged;
+  touched = touched;
+}
 
 -- a write that is refused leaves what is kept, but for places that are made and taken back
 pub kept_refused : (d : DirectoryState) (entries after : List Entry) (last : CsnValue) (kept : ℕ) (numbers later : Numbers) (log : Log) (writes : List Write) → IsKept d entries last kept numbers
@@ -234,40 +256,24 @@ pub kept_refused : (d : DirectoryState) (entries after : List Entry) (last : Csn
 kept_refused d entries after last kept numbers later log writes was same is keeps all =
     subst (λ ws. IsKept (record d { writes = ws; log = log }) after last kept later) (sym all)
     (subst (λ es. IsKept (record d { log = log }) es last kept later) (sym same)
-    (record {
-      made = was.made;
-      stamped = was.stamped;
-      weighed = was.weighed;
-      light = was.light;
-      numbered = was.numbered;
-      accepted = was.accepted;
-      rises = was.rises;
-      logged = subst (IsLogged d.history d.writes) (sym is) was.logged;
-      touched = numbered-kept d.history d.writes entries numbers later was.made keeps was.touched;
-    }))
+    (kept_with d entries last kept numbers later log was (subst (IsLogged d.history d.writes) (sym is) was.logged) (numbered-kept d.history d.writes entries numbers later was.made keeps was.touched)))
 
 -- a log that is trimmed keeps what it is the rest of
 pub kept_trimmed : (d : DirectoryState) (entries after : List Entry) (last : CsnValue) (kept : ℕ) (numbers later : Numbers) (log : Log) (limit : ℕ) → IsKept d entries last kept numbers
     → after ≡ entries → log ≡ trimmed limit d.log → later ≡ numbers → IsKept (record d { log = log }) after last kept later
 kept_trimmed d entries after last kept numbers later log limit was left is same =
     subst (λ es. IsKept (record d { log = log }) es last kept later) (sym left)
-    (record {
-      made = was.made;
-      stamped = was.stamped;
-      weighed = was.weighed;
-      light = was.light;
-      numbered = was.numbered;
-      accepted = was.accepted;
-      rises = was.rises;
-      logged = subst (IsLogged d.history d.writes) (sym is) (IsLogOf-trimmed (all_notes (state_of d.history d.writes) (length d.writes)) d.log limit was.logged);
-      touched = subst (AreNumbered d.history d.writes entries) (sym same) was.touched;
-    })
+    (kept_with d entries last kept numbers later log was
+    (subst (IsLogged d.history d.writes) (sym is) (IsLogOf-trimmed (all_notes (state_of d.history d.writes) (length d.writes)) d.log limit was.logged))
+    (subst (AreNumbered d.history d.writes entries) (sym same) was.touched))
 
 -- the directory that is kept after a write is the one that the write makes
-pub put_is : (d : DirectoryState) (entries after : List Entry) (numbers later : Numbers) (log : Log) (w : Write) (writes : List Write) → entries ≡ entries_of d
-    → writes ≡ d.writes ++ w ∷ [] → IsPushed d entries after numbers later log w → record d { writes = writes; log = log } ≡ with_write d w
-put_is d entries after numbers later log w writes was all push =
-    λ i. record d { writes = all i; log = log_is d entries after numbers later log w was push i }
+pub put_is : (d : DirectoryState) (op : Op) (preview : Preview) (entries after : List Entry) (numbers later : Numbers) (log : Log) (writes : List Write) → entries ≡ entries_of d
+    → IsPlanned d op preview → IsPut d op preview entries after numbers later log writes → record d { writes = writes; log = log } ≡ with_write d (record { csn = preview.csn; op = op })
+put_is d op preview entries after numbers later log writes was plan put =
+    let w : Write = record { csn = preview.csn; op = op } in
+    let push = planned_push d op preview entries after numbers later log writes was plan put in
+    λ i. record d { writes = put.last i; log = log_is d entries after numbers later log w was push i }
 
 -- out of memory, which other reports, is no code of a write, so what has it leaves the directory
 pub unwritten : (d : DirectoryState) (op : Op) (now : ℕ) → write_code d op now ≡ OTHER → written d op now ≡ d

@@ -8,12 +8,12 @@ use Rattle.entry_tree.specs.declared.entry.Entry.{Entry}
 use Rattle.entry_tree.specs.declared.op.Op.TheVariants.{Commit}
 use Rattle.directory_writes.specs.Directory.{DirectoryState, entries_of, csn_of_next_write, most_writes, most_writes_weight}
 use Rattle.directory_writes.specs.Weights.{op_weight, kept_weight}
-use Rattle.directory_writes.specs.declared.commit.CommitFault.{CommitFault}
-use Rattle.directory_writes.specs.declared.commit.CommitFault.TheVariants.{LimitReached, DuplicateName, NoMemory}
+use Rattle.directory_writes.specs.declared.commit.DirectoryFault.{DirectoryFault}
+use Rattle.directory_writes.specs.declared.commit.DirectoryFault.TheVariants.{LimitReached, DuplicateName, NoMemory}
 
 -- what rejects the entries that a commit would leave: more than 20,000, then heavier than 64
 -- MiB, then two of one name
-abbrev pub held_refusal : List Entry → Option CommitFault
+abbrev pub held_refusal : List Entry → Option DirectoryFault
 held_refusal entries =
     if nat_lt most_entries (length entries) then Some (LimitReached most_entries)
     else if nat_lt most_weight (total_weight entries) then Some (LimitReached most_weight)
@@ -21,7 +21,7 @@ held_refusal entries =
 
 -- what rejects one more write of this weight where the clock shows `now`: as many writes are
 -- kept as may be, then the kept writes would be too heavy, then no CSN is left
-abbrev pub log_refusal : DirectoryState → ℕ → ℕ → Option CommitFault
+abbrev pub log_refusal : DirectoryState → ℕ → ℕ → Option DirectoryFault
 log_refusal d weight now =
     if nat_le most_writes (length d.writes) then Some (LimitReached most_writes)
     else if nat_lt most_writes_weight (kept_weight d.writes + weight)
@@ -31,13 +31,13 @@ log_refusal d weight now =
 
 -- what rejects a commit to the directory: first what rejects one more write, then what is
 -- against the entries after it
-abbrev pub commit_refusal : DirectoryState → List Entry → List ℕ → ℕ → Option CommitFault
+abbrev pub commit_refusal : DirectoryState → List Entry → List ℕ → ℕ → Option DirectoryFault
 commit_refusal d puts drops now =
     option_or (log_refusal d (op_weight (Commit puts drops)) now)
     (held_refusal (committed (entries_of d) puts drops))
 
 -- a fault reports what rejects a commit; out of memory reports nothing
-abbrev pub Opposes : Option CommitFault → CommitFault → Type 0
+abbrev pub Opposes : Option DirectoryFault → DirectoryFault → Type 0
 Opposes refusal (LimitReached limit) = refusal ≡ Some (LimitReached limit)
 Opposes refusal (DuplicateName one other) = refusal ≡ Some (DuplicateName one other)
 Opposes refusal NoMemory = Unit {0}

@@ -4,7 +4,7 @@ ghost use Rattle.std.specs.Prelude.{◌≡◌, List};
 ghost use Rattle.entry_tree.specs.Fitting as fitting;
 ghost use Rattle.entry_tree.specs.declared.entry.Entry.{Entry};
 ghost use Rattle.directory_writes.specs.Commits.{held_refusal, Opposes};
-ghost use Rattle.directory_writes.specs.declared.commit.CommitFault.TheVariants.{NoMemory};
+ghost use Rattle.directory_writes.specs.declared.commit.DirectoryFault.TheVariants.{NoMemory};
 
 use entry_tree::CommitRefusal;
 use std::alloc::AllocError;
@@ -15,9 +15,9 @@ const MOST_ENTRIES: u64 = 20_000;
 /// The most that the entries of a directory weigh, 64 MiB.
 const MOST_WEIGHT: u64 = 67_108_864;
 
-/// Why a commit of a replica is refused.
+/// Why a directory refuses a commit of a replica.
 #[derive(Clone, Copy, Debug, PartialEq, Eq)]
-pub enum CommitFault {
+pub enum DirectoryFault {
     /// A limit would be passed: n writes are kept, so much the kept writes may weigh, so high
     /// the counts of change numbers go, n entries there may be, or so much they may weigh.
     LimitReached(u64),
@@ -27,26 +27,26 @@ pub enum CommitFault {
     NoMemory,
 }
 
-impl From<AllocError> for CommitFault {
+impl From<AllocError> for DirectoryFault {
     ghost from_gives = { λ _ fault. fault ≡ NoMemory };
 
-    fn from(_error: AllocError) -> CommitFault {
-        CommitFault::NoMemory
+    fn from(_error: AllocError) -> DirectoryFault {
+        DirectoryFault::NoMemory
     }
 }
 
 /// The fault reports the same of the entries.
-impl From<CommitRefusal> for CommitFault {
+impl From<CommitRefusal> for DirectoryFault {
     ghost from_gives = { λ given fault. (entries : List Entry)
         → fitting.Opposes entries given → Opposes (held_refusal entries) fault };
 
     #[tactic(auto, using(crate::proofs::Commits::held_opposed))]
-    fn from(refusal: CommitRefusal) -> CommitFault {
+    fn from(refusal: CommitRefusal) -> DirectoryFault {
         match refusal {
-            CommitRefusal::TooMany => CommitFault::LimitReached(MOST_ENTRIES),
-            CommitRefusal::TooHeavy => CommitFault::LimitReached(MOST_WEIGHT),
-            CommitRefusal::SameName(one, other) => CommitFault::DuplicateName(one, other),
-            CommitRefusal::NoMemory => CommitFault::NoMemory,
+            CommitRefusal::TooMany => DirectoryFault::LimitReached(MOST_ENTRIES),
+            CommitRefusal::TooHeavy => DirectoryFault::LimitReached(MOST_WEIGHT),
+            CommitRefusal::SameName(one, other) => DirectoryFault::DuplicateName(one, other),
+            CommitRefusal::NoMemory => DirectoryFault::NoMemory,
         }
     }
 }

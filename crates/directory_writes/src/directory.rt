@@ -18,7 +18,7 @@ ghost use Rattle.directory_writes.specs.Weights as weights;
 ghost use Rattle.directory_writes.specs.Weights.{kept_weight};
 
 use crate::NoMemory;
-use crate::commit::CommitFault;
+use crate::commit::DirectoryFault;
 use crate::held::Held;
 use crate::preview::Preview;
 use crate::start::Start;
@@ -309,7 +309,12 @@ impl Directory {
     /// Whether a commit that puts these entries and drops these identities may be kept where the
     /// clock shows `now`, or the first cause against it.
     #[tactic(auto, using(crate::proofs::Commits::log_capped, crate::proofs::Commits::first_opposed, crate::proofs::Commits::none_opposed))]
-    pub fn check_commit(&self, puts: &[Entry], drops: &[u128], now: u64) -> Result<(), CommitFault>
+    pub fn check_commit(
+        &self,
+        puts: &[Entry],
+        drops: &[u128],
+        now: u64,
+    ) -> Result<(), DirectoryFault>
         ensures ok { OnOk result (commit_refusal self.now puts.now drops.now now ≡ None) }
         ensures refused { IfErr result (Opposes (commit_refusal self.now puts.now drops.now now)) }
     {
@@ -319,20 +324,20 @@ impl Directory {
     }
 
     /// Whether one more write of this weight may be kept, or the first cause against it.
-    fn check_log(&self, weight: u64, now: u64) -> Result<(), CommitFault>
+    fn check_log(&self, weight: u64, now: u64) -> Result<(), DirectoryFault>
         ensures ok { OnOk result (log_refusal self.now weight now ≡ None) }
         ensures refused { IfErr result (Opposes (log_refusal self.now weight now)) }
     {
         if self.accepted.len() >= MOST_WRITES {
-            return Err(CommitFault::LimitReached(MOST_WRITES as u64));
+            return Err(DirectoryFault::LimitReached(MOST_WRITES as u64));
         }
         if weight > MOST_WRITES_WEIGHT - self.weight {
-            return Err(CommitFault::LimitReached(MOST_WRITES_WEIGHT));
+            return Err(DirectoryFault::LimitReached(MOST_WRITES_WEIGHT));
         }
         let mut csn_maker = self.csn_maker.copy();
         match csn_maker.next(now) {
             Ok(_) => Ok(()),
-            Err(_) => Err(CommitFault::LimitReached(GREATEST_COUNT)),
+            Err(_) => Err(DirectoryFault::LimitReached(GREATEST_COUNT)),
         }
     }
 

@@ -8,7 +8,7 @@ ghost use Rattle.directory_writes.specs.Commits.{held_refusal, Opposes};
 ghost use Rattle.directory_writes.specs.Touches.{noted_each, uuids_of, KeepsNumbers, IsRenewed};
 
 use crate::NoMemory;
-use crate::commit::CommitFault;
+use crate::commit::DirectoryFault;
 use crate::touches::Touches;
 use entry_tree::{Entry, Touched, Tree};
 use std::alloc::Global;
@@ -92,7 +92,7 @@ impl Held {
 
     /// Whether the entries after a commit may be held, or the first cause against them.
     #[tactic(auto, using(crate::proofs::Commits::open_held))]
-    pub(crate) fn check_commit(&self, puts: &[Entry], drops: &[u128]) -> Result<(), CommitFault>
+    pub(crate) fn check_commit(&self, puts: &[Entry], drops: &[u128]) -> Result<(), DirectoryFault>
         ensures ok { OnOk result
             (held_refusal (committed self.now.entries puts.now drops.now) ≡ None) }
         ensures refused { IfErr result
@@ -100,7 +100,7 @@ impl Held {
     {
         match self.tree.check_commit(puts, drops) {
             Ok(()) => Ok(()),
-            Err(refusal) => Err(CommitFault::from(refusal)),
+            Err(refusal) => Err(DirectoryFault::from(refusal)),
         }
     }
 

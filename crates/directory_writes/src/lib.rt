@@ -12,7 +12,7 @@ mod start;
 mod touches;
 mod weights;
 
-pub use commit::CommitFault;
+pub use commit::DirectoryFault;
 pub use directory::Directory;
 pub use ldap_ber::NoMemory;
 pub use preview::Preview;

@@ -167,3 +167,8 @@ name_refl name = same_name-AreEqual name name (AreEqual-refl name)
 -- the test of equality of names goes both ways
 pub name_sym : (one other : List (List TypeAndValue)) → same_name one other ≡ true → same_name other one ≡ true
 name_sym one other same = same_name-AreEqual other one (AreEqual-sym one other (AreEqual-same_name one other same))
+
+-- and goes through a name between
+pub name_trans : (one other third : List (List TypeAndValue)) → same_name one other ≡ true → same_name other third ≡ true → same_name one third ≡ true
+name_trans one other third first second =
+    same_name-AreEqual one third (AreEqual-trans one other third (AreEqual-same_name one other first) (AreEqual-same_name other third second))

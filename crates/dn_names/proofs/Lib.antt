@@ -1,5 +1,4 @@
 pub mod Alike
-pub mod Appending
 pub mod Cuts
 pub mod EqualNames
 pub mod Equality

@@ -87,8 +87,8 @@ impl Dn {
         }
     }
 
-    /// The same name, whose RDNs are shared with this one. It is `NoMemory` where no more copies can
-    /// be counted.
+    /// The same name, whose RDNs are shared with this one. It is `NoMemory` where no more copies
+    /// can be counted.
     pub fn copy(&self) -> Result<Dn, NoMemory>
         ensures { IfOk result (λ dn. dn ≡ self.now) }
     {

@@ -5,12 +5,12 @@ ghost use Rattle.dn_names.specs.declared.fault.NameFault.TheVariants.{NoMemory};
 use std::alloc::{AllocError, AllocFailed};
 use thiserror::Error;
 
-/// Why a text is not a name. A place is the offset of the first byte of the refused RDN, or where it
-/// had to begin.
+/// Why a text is not a name. A place is the offset of the first byte of the refused RDN, or where
+/// it had to begin.
 #[derive(Clone, Copy, Debug, PartialEq, Eq, Error)]
 pub enum NameFault {
-    /// The text is not of the form, a value is not of its type's syntax, or a type stands twice with
-    /// one key.
+    /// The text is not of the form, a value is not of its type's syntax, or a type stands twice
+    /// with one key.
     #[error("not a name at byte {0}")]
     BadName(usize),
     /// The type is not in the schema, or is operational.

@@ -31,8 +31,8 @@ impl Model for Name {
 }
 
 impl Name {
-    /// The RDNs, as names can share them. It is `NoMemory` where memory runs out, and where a number
-    /// of the path key has no place in four octets.
+    /// The RDNs, as names can share them. It is `NoMemory` where memory runs out, and where a
+    /// number of the path key has no place in four octets.
     pub(crate) fn shared(alloc: Global, rdns: Vec<Rdn>) -> Result<Arc<Name>, NoMemory>
         ensures value { IfOk result (λ name. name.value ≡ rdns.items) }
         ensures numbers { IfOk result (λ name. AllPass has_small_numbers rdns.items) }

@@ -11,8 +11,8 @@ use std::collections::BTreeSet;
 /// The largest number that has a place in four octets.
 const LARGEST_NUMBER: usize = 4_294_967_295;
 
-/// Appends how many pairs there are, and then these in ascending order. It is `NoMemory` where memory
-/// runs out, and where a number has no place in four octets.
+/// Appends how many pairs there are, and then these in ascending order. It is `NoMemory` where
+/// memory runs out, and where a number has no place in four octets.
 pub(crate) fn append_rdn_path(
     alloc: Global,
     path: &mut Vec<u8>,
@@ -29,7 +29,8 @@ pub(crate) fn append_rdn_path(
 /// Appends the texts of a set in ascending order, and takes them out of it.
 fn append_pieces(path: &mut Vec<u8>, pieces: &mut BTreeSet<Vec<u8>>) -> Result<(), NoMemory>
     ensures { OnOk result (path.new.items
-        ≡ path.old.items ++ flat_map (λ piece. piece) (map (λ piece. piece.items) pieces.old.keys)) }
+        ≡ path.old.items
+        ++ flat_map (λ piece. piece) (map (λ piece. piece.items) pieces.old.keys)) }
 {
     while let Some(piece) = pieces.pop_first() {
         path.extend_from_slice(piece.as_slice())?;

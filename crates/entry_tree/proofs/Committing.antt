@@ -125,7 +125,8 @@ nowhere (e ∷ es) u off =
     let other : nat_eq e.uuid u ≡ false = ne_eqb e.uuid u (λ same. false≢true (sym p.0 ∙ eq-eqb u e.uuid (sym same))) in
     ap (λ b. cond b (Some e) (entry_at es u)) other ∙ nowhere es u p.1
 
-above_identities : (u : ℕ) (es : List Entry) → below_all u (identities es) ≡ above u es
+-- a number is below the identities of entries that are above it
+pub above_identities : (u : ℕ) (es : List Entry) → below_all u (identities es) ≡ above u es
 above_identities u [] = refl
 above_identities u (e ∷ es) = ap (λ b. nat_lt u e.uuid && b) (above_identities u es)
 

@@ -1,11 +1,11 @@
 -- Entries in ascending order: equal where what they have at each identity is.
-use Rattle.std.proofs.Common.{◌≡◌, ℕ, ◌<◌, Bool, true, false, cond, nat_eq, nat_lt, List, [], ◌∷◌, refl, sym, ap, ◌∙◌, Some, None, Option, ◌⊎◌, inl, inr}
+use Rattle.std.proofs.Common.{◌≡◌, ℕ, ◌<◌, Bool, true, false, cond, nat_eq, List, [], ◌∷◌, refl, sym, ap, ◌∙◌, Some, None, Option, ◌⊎◌, inl, inr}
 use Rattle.std.specs.Prelude.{filter}
-use Rattle.std.proofs.lemmas.Bool.{eqb-true, eq-eqb, ne_eqb, lt-ltb, cases_order, cases_eq, cond-false, cond-true, and_parts, and_from}
+use Rattle.std.proofs.lemmas.Bool.{eqb-true, eq-eqb, ne_eqb, cases_order, cases_eq, cond-false, cond-true, and_parts}
 use Rattle.std.proofs.lemmas.Map.Entries.{option_filter}
 use Rattle.entry_writes.specs.declared.entry.Entry.{Entry}
 use Rattle.entry_writes.specs.State.{ascends, entry_at}
-use Rattle.entry_writes.proofs.Identities.{above, above_lower, none_at}
+use Rattle.entry_writes.proofs.Identities.{above, above_all, none_at}
 
 -- what passes a test is, at one identity, what is there if that passes
 pub entry_at-filter : (test : Entry → Bool) (entries : List Entry) (u : ℕ) → ascends entries ≡ true → entry_at (filter test entries) u ≡ option_filter test (entry_at entries u)
@@ -23,10 +23,8 @@ entry_at-filter test (e ∷ entries) u asc =
     step later ih false true p q = cond-false _ _ _ p ∙ ih
     step later ih false false p q = ih
 
-above_all : (u : ℕ) (e : Entry) (entries : List Entry) → u < e.uuid → above e.uuid entries ≡ true → above u (e ∷ entries) ≡ true
-above_all u e entries less later = and_from (nat_lt u e.uuid) (above u entries) (lt-ltb u e.uuid less) (above_lower entries u e.uuid less later)
-
-at_head : (e : Entry) (entries : List Entry) → entry_at (e ∷ entries) e.uuid ≡ Some e
+-- the first entry is the one at its identity
+pub at_head : (e : Entry) (entries : List Entry) → entry_at (e ∷ entries) e.uuid ≡ Some e
 at_head e entries = cond-true _ _ _ (eq-eqb e.uuid e.uuid refl)
 
 differ : {X : Type 0} (x : X) (found other : Option X) → found ≡ Some x → other ≡ None → found ≡ other → ⊥

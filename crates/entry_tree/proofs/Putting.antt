@@ -14,24 +14,27 @@ use Rattle.entry_writes.specs.declared.touched.EntryChange.{EntryChange}
 use Rattle.entry_writes.specs.State.{ascends, entry_at, found_weight, put, total_weight, most_entries, most_weight, IsDirectory}
 use Rattle.entry_writes.specs.Touched.{identities, joined, change_at, is_change, touched}
 use Rattle.entry_tree.proofs.Directory.{above_filter}
-use Rattle.entry_writes.proofs.Identities.{above, above_lower, holds, insert_same, each_held, none_at}
+use Rattle.entry_writes.proofs.Identities.{above, above_all, holds, insert_same, each_held, none_at}
 use Rattle.entry_writes.proofs.Passing.{list_all-filter}
 use Rattle.entry_writes.proofs.Same.{one_found-same}
 
-abbrev lower : ℕ → List Entry → List Entry
+-- entries below an identity, and those above it
+abbrev pub lower : ℕ → List Entry → List Entry
 lower u es = filter (λ x. nat_lt x.uuid u) es
 
-abbrev higher : ℕ → List Entry → List Entry
+abbrev pub higher : ℕ → List Entry → List Entry
 higher u es = filter (λ x. nat_lt u x.uuid) es
 
-none_lower : (u : ℕ) (es : List Entry) → above u es ≡ true → lower u es ≡ []
+-- none of those that are above an identity is below it
+pub none_lower : (u : ℕ) (es : List Entry) → above u es ≡ true → lower u es ≡ []
 none_lower u [] h = refl
 none_lower u (x ∷ es) h =
     let p = and_parts (nat_lt u x.uuid) (above u es) h in
     let far : u < x.uuid = ltb-true u x.uuid p.0 in
     ap (λ b. cond b (x ∷ lower u es) (lower u es)) (le-ltb x.uuid u (omega arith)) ∙ none_lower u es p.1
 
-all_higher : (u : ℕ) (es : List Entry) → above u es ≡ true → higher u es ≡ es
+-- all of those that are above an identity are
+pub all_higher : (u : ℕ) (es : List Entry) → above u es ≡ true → higher u es ≡ es
 all_higher u [] h = refl
 all_higher u (x ∷ es) h =
     let p = and_parts (nat_lt u x.uuid) (above u es) h in
@@ -52,9 +55,6 @@ put_there e x es same later =
     ∙ ap (λ xs. xs ++ e ∷ higher e.uuid es) (none_lower e.uuid es far)
     ∙ ap (λ xs. e ∷ xs) (all_higher e.uuid es far)
 
-above_all : (u : ℕ) (x : Entry) (es : List Entry) → u < x.uuid → above x.uuid es ≡ true → above u (x ∷ es) ≡ true
-above_all u x es less later = and_from (nat_lt u x.uuid) (above u es) (lt-ltb u x.uuid less) (above_lower es u x.uuid less later)
-
 put_before : (e x : Entry) (es : List Entry) → e.uuid < x.uuid → above x.uuid es ≡ true → put e (x ∷ es) ≡ e ∷ x ∷ es
 put_before e x es less later =
     let far = above_all e.uuid x es less later in
@@ -66,7 +66,8 @@ Order x e = (x.uuid ≡ e.uuid) ⊎ ((x.uuid < e.uuid) ⊎ (e.uuid < x.uuid))
 
 -- ---- order, number and weight
 
-above_put : (u : ℕ) (e : Entry) (es : List Entry) → u < e.uuid → above u es ≡ true → above u (put e es) ≡ true
+-- what is below all entries and one more is below them when that is put
+pub above_put : (u : ℕ) (e : Entry) (es : List Entry) → u < e.uuid → above u es ≡ true → above u (put e es) ≡ true
 above_put u e es less later =
     list_all-append (λ (x : Entry). nat_lt u x.uuid) (lower e.uuid es) (e ∷ higher e.uuid es)
     ∙ and_from (above u (lower e.uuid es)) (above u (e ∷ higher e.uuid es)) (above_filter (λ (x : Entry). nat_lt x.uuid e.uuid) u es later)

@@ -4,6 +4,7 @@
 use Rattle.std.specs.Prelude.{◌≡◌, ℕ, Option, None, List, [], ◌∷◌, ◌++◌, fold, refl, ◌==◌, if◌then◌else◌}
 use Rattle.std.specs.Coded.{Coded, code_by, coded×, coded_ℕ, coded_list, coded_option}
 use Rattle.std.proofs.Common.{ap, ◌∙◌}
+use Rattle.std.proofs.lemmas.List.Sums.{fold-append}
 use Rattle.ldap_filter.specs.FilterTree.{FilterTree, Trees, all_of, any_of, negated, equal, substrings, at_least, at_most, present, approx, extensible, no_trees, more_trees}
 
 abbrev bytes_code : Coded (List ℕ)
@@ -88,22 +89,17 @@ top (t ∷ trees) = t
 abbrev tree_by : List Sign → FilterTree
 tree_by signs = top (built_by ([], []) signs).0
 
-fold_on :
-    (stacks : Stacks) (one two : List Sign)
-    → built_by stacks (one ++ two) ≡ built_by (built_by stacks one) two
-fold_on stacks [] two = refl
-fold_on stacks (s ∷ one) two = fold_on (act_by stacks s) one two
-
 mutual
-  built_again : (t : FilterTree) (stacks : Stacks) → built_by stacks (signs_of t) ≡ on_trees t stacks
+  built_again :
+      (t : FilterTree) (stacks : Stacks) → built_by stacks (signs_of t) ≡ on_trees t stacks
   built_again (all_of ts) stacks =
-      fold_on stacks (signs_of_list ts) _
+      fold-append act_by stacks (signs_of_list ts) _
       ∙ ap (λ s. built_by s (sign 0 [] [] ∷ [])) (list_built_again ts stacks)
   built_again (any_of ts) stacks =
-      fold_on stacks (signs_of_list ts) _
+      fold-append act_by stacks (signs_of_list ts) _
       ∙ ap (λ s. built_by s (sign 1 [] [] ∷ [])) (list_built_again ts stacks)
   built_again (negated t) stacks =
-      fold_on stacks (signs_of t) _
+      fold-append act_by stacks (signs_of t) _
       ∙ ap (λ s. built_by s (sign 2 [] [] ∷ [])) (built_again t stacks)
   built_again (equal name value) stacks = refl
   built_again (substrings name initial middle last) stacks = refl
@@ -117,9 +113,9 @@ mutual
       (ts : Trees) (stacks : Stacks) → built_by stacks (signs_of_list ts) ≡ on_lists ts stacks
   list_built_again no_trees stacks = refl
   list_built_again (more_trees t ts) stacks =
-      fold_on stacks (signs_of t) _
+      fold-append act_by stacks (signs_of t) _
       ∙ ap (λ s. built_by s (signs_of_list ts ++ sign 11 [] [] ∷ [])) (built_again t stacks)
-      ∙ fold_on (on_trees t stacks) (signs_of_list ts) _
+      ∙ fold-append act_by (on_trees t stacks) (signs_of_list ts) _
       ∙ ap (λ s. built_by s (sign 11 [] [] ∷ [])) (list_built_again ts (on_trees t stacks))
 
 pub same_tree_again : (t : FilterTree) → tree_by (signs_of t) ≡ t

@@ -19,7 +19,8 @@ is_light e = nat_le (weight_of e.attrs) most_entry_weight
 abbrev pub may_be_held : List Entry → Bool
 may_be_held entries = not (is_crowded entries) && is_none (same_named entries)
 
--- what a commit puts is light, and what it leaves may be held; of the other writes their codes report
+-- what a commit puts is light, and what it leaves may be held; of the other writes their codes
+-- report
 abbrev pub fits : List Entry → Op → Bool
 fits entries (Add name attrs) = true
 fits entries (Delete name) = true

@@ -31,7 +31,8 @@ unfoldable pub differing_over : (ℕ → List Entry) → ℕ → ℕ → List �
 differing_over states from zero = []
 differing_over states from (suc steps) =
     joined (differing_over states from steps)
-    (map (λ entry_change. entry_change.uuid) (touched (states (from + steps)) (states (from + steps + 1))))
+    (map (λ entry_change. entry_change.uuid)
+    (touched (states (from + steps)) (states (from + steps + 1))))
 
 -- the identities that the writes after number `from` up to number `upto` change
 abbrev pub touched_over : ℕ → List Write → ℕ → ℕ → List ℕ

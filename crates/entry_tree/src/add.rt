@@ -71,7 +71,8 @@ impl Tree {
 /// What an identity had and its entry, where these differ.
 fn change(alloc: Global, was: Option<&Entry>, now: &Entry) -> Result<Touched, NoMemory>
     ensures { IfOk result (λ entry_changes. entry_changes ≡ filter is_change
-        (record { uuid = now.now.uuid; before = option_copied was.entry; after = Some now.now } ∷ [])) }
+        (record { uuid = now.now.uuid; before = option_copied was.entry; after = Some now.now }
+        ∷ [])) }
 {
     let mut entry_changes = Touched::new(alloc);
     entry_changes.push_change(was, now)?;

@@ -90,10 +90,10 @@ impl Tree {
         self.entries.iter().find(|entry| entry.dn.same(dn))
     }
 
-    /// Applies a write to the directory with this suffix, or reports the first code that rejects it.
-    /// An entry that is added gets the identity, and each entry that is added or changed the CSN;
-    /// what a commit puts keeps its own, and `check_commit` reports whether there is room for it. The
-    /// answer is what differs, with what was and what is. A refusal leaves the entries.
+    /// Applies a write to the directory with this suffix, or reports the first code that rejects
+    /// it. An entry that is added gets the identity, and each entry that is added or changed the
+    /// CSN; what a commit puts keeps its own, and `check_commit` reports whether there is room for
+    /// it. The answer is what differs, with what was and what is. A refusal leaves the entries.
     pub fn apply(&mut self, op: &Op, suffix: &Dn, uuid: u128, csn: Csn) -> Result<Touched, OpFault>
         requires sound { is_sound_op op.now ≡ true }
         requires fits { fits self.old op.now ≡ true }

@@ -56,6 +56,10 @@ above_lower (e ∷ es) a b less h =
     let far : b < e.uuid = ltb-true b e.uuid p.0 in
     and_from (nat_lt a e.uuid) (above a es) (lt-ltb a e.uuid (omega arith)) (above_lower es a b less p.1)
 
+-- what is below the first entry, below which none of the others is, is below all of them
+pub above_all : (u : ℕ) (e : Entry) (es : List Entry) → u < e.uuid → above e.uuid es ≡ true → above u (e ∷ es) ≡ true
+above_all u e es less later = and_from (nat_lt u e.uuid) (above u es) (lt-ltb u e.uuid less) (above_lower es u e.uuid less later)
+
 -- each entry is found by its identity
 pub at_each : (old : List Entry) → ascends old ≡ true → All (λ e. entry_at old e.uuid ≡ Some e) old
 at_each [] asc k d low = absurd (omega arith)

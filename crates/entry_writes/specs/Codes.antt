@@ -23,7 +23,8 @@ has_own_pairs attrs name = list_all (has_pair_value attrs) (own_pairs name)
 -- adminLimitExceeded where an entry would weigh too much, or all entries
 abbrev pub weight_code : ℕ → ℕ → Option ℕ
 weight_code weight total =
-    if nat_lt most_entry_weight weight || nat_lt most_weight total then Some ADMIN_LIMIT_EXCEEDED else None
+    if nat_lt most_entry_weight weight || nat_lt most_weight total then Some ADMIN_LIMIT_EXCEEDED
+    else None
 
 -- ---- Add (section 4.7)
 

@@ -96,7 +96,8 @@ abbrev pub after_edit : List Attribute → Edit → List Attribute
 after_edit attrs edit = changed edit.how attrs edit.kind edit.values
 
 abbrev pub how_code : How → List Attribute → ℕ → List (List ℕ) → Option ℕ
-how_code how.Add attrs kind values = if has_some attrs kind values then Some ATTRIBUTE_OR_VALUE_EXISTS else None
+how_code how.Add attrs kind values =
+    if has_some attrs kind values then Some ATTRIBUTE_OR_VALUE_EXISTS else None
 how_code how.Delete attrs kind values =
     if has_kind attrs kind && has_each attrs kind values then None else Some NO_SUCH_ATTRIBUTE
 how_code how.Replace attrs kind values = None

@@ -44,7 +44,8 @@ moved top name attrs csn e =
     else e
 
 abbrev pub renamed :
-    List Entry → Option Entry → List TypeAndValue → Bool → Option (List (List TypeAndValue)) → CsnValue
+    List Entry → Option Entry → List TypeAndValue → Bool → Option (List (List TypeAndValue))
+    → CsnValue
     → List Entry
 renamed entries None rdn deletes superior csn = entries
 renamed entries (Some top) rdn deletes superior csn =

@@ -18,7 +18,8 @@ joined xs ys = fold (insert_key nat_cmp) xs ys
 
 -- what an identity had, and what it has
 abbrev pub change_at : List Entry → List Entry → ℕ → EntryChange
-change_at old new uuid = record { uuid = uuid; before = entry_at old uuid; after = entry_at new uuid }
+change_at old new uuid =
+    record { uuid = uuid; before = entry_at old uuid; after = entry_at new uuid }
 
 abbrev pub is_change : EntryChange → Bool
 is_change entry_change = not (is_one_found entry_change.before entry_change.after)

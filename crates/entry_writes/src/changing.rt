@@ -1,5 +1,5 @@
 //! Changes of a list of attributes: edits, and those of a new RDN.
-ghost use Rattle.std.specs.Prelude.{◌≡◌, true, None, fold, not, IfOk, IfErr, OnOk};
+ghost use Rattle.std.specs.Prelude.{◌≡◌, [], ◌∷◌, true, None, fold, not, IfOk, IfErr, OnOk};
 ghost use Rattle.std.specs.List.{list_any, list_all};
 ghost use Rattle.dn_names.specs.Names.{same_pair, has_pair};
 ghost use Rattle.entry_writes.specs.Codes.{has_own_pairs};
@@ -259,7 +259,8 @@ fn changed(alloc: Global, attributes: &[Attribute], edit: &Edit) -> Result<Vec<A
     match edit.how {
         How::Add => {
             let mut items = copies(alloc, attributes)?;
-            add_values(&mut items, edit.kind, edit.values.list())?;
+            let values = edit.values.copy()?;
+            add_values(&mut items, edit.kind, values)?;
             Ok(items)
         }
         How::Delete => deleted(alloc, attributes, edit.kind, &edit.values),
@@ -363,8 +364,18 @@ fn with_pair(alloc: Global, attrs: &Attrs, pair: &Pair) -> Result<Attrs, NoMemor
         return attrs.copy();
     }
     let mut items = copies(alloc, attrs.list())?;
-    add_values(&mut items, pair.kind, from_ref(&pair.value))?;
+    let values = list_of_one(alloc, &pair.value)?;
+    add_values(&mut items, pair.kind, values)?;
     Attrs::of(items)
+}
+
+/// A list of this value alone.
+fn list_of_one(alloc: Global, value: &Octets) -> Result<OctetsList, NoMemory>
+    ensures { IfOk result (λ values. values ≡ value.now ∷ []) }
+{
+    let mut values = OctetsList::new(alloc);
+    values.push(value.copy()?)?;
+    Ok(values)
 }
 
 /// The attributes without the values that match the pair's.

@@ -15,12 +15,13 @@ pub enum Op {
     Delete(Dn),
     /// Edits the attributes of the entry of that name (RFC 4511, section 4.6).
     Modify(Dn, Edits),
-    /// Gives the entry of that name another RDN, and another superior where one is reported; all below
-    /// it move with it. The values of the old RDN go where this is asked for (RFC 4511, section 4.9).
+    /// Gives the entry of that name another RDN, and another superior where one is reported; all
+    /// below it move with it. The values of the old RDN go where this is asked for (RFC 4511,
+    /// section 4.9).
     Rename(Dn, Rdn, bool, Option<Dn>),
-    /// Puts entries, each in the place of one of its identity, and drops the identities that it does
-    /// not put: what a replica takes from its provider at one time (RFC 4533, section 3.3). No client
-    /// asks for it.
+    /// Puts entries, each in the place of one of its identity, and drops the identities that it
+    /// does not put: what a replica takes from its provider at one time (RFC 4533, section 3.3). No
+    /// client asks for it.
     Commit(EntryList, IdList),
 }
 

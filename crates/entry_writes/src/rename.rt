@@ -91,7 +91,8 @@ fn moved_dn(dn: &Dn, from: &Dn, to: &Dn) -> Result<Dn, OpFault>
     ensures short { OnOk result
         (nat_lt most_rdns (length (moved_name dn.now from.now to.now)) ≡ false) }
     ensures refused { IfErr result
-        (HasCode (if nat_lt most_rdns (length (moved_name dn.now from.now to.now)) then Some ADMIN_LIMIT_EXCEEDED
+        (HasCode (if nat_lt most_rdns (length (moved_name dn.now from.now to.now))
+        then Some ADMIN_LIMIT_EXCEEDED
         else None)) }
 {
     match dn.moved(from, to) {

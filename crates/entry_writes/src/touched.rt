@@ -88,7 +88,11 @@ impl Touched {
         now: Option<&Entry>,
     ) -> Result<(), NoMemory>
         ensures ok { OnOk result (self.new ≡ self.old ++ filter is_change
-            (record { uuid = uuid; before = option_copied was.entry; after = option_copied now.entry }
+            (record {
+              uuid = uuid;
+              before = option_copied was.entry;
+              after = option_copied now.entry;
+            }
             ∷ [])) }
         ensures err { OnErr result (self.new ≡ self.old) }
     {

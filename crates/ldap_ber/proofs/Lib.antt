@@ -5,6 +5,7 @@ pub mod ElementLemmas
 pub mod CutLemmas
 pub mod ManyLemmas
 pub mod SkipLemmas
+pub mod CountLemmas
 pub mod ExactLemmas
 pub mod IntegerLemmas
 pub mod CanonicalLemmas

@@ -159,16 +159,19 @@ whole_put begun count before between after body header all counted =
     ∙ ap (λ (x : List ℕ). before ++ x) (element_is begun count body counted)
 
 -- the octets of the content and of the headers count the body of the innermost element
-pub body_counted : (begun others : List Begun) (last : Begun) (headers : List Header) (content : List ℕ) (octets count : ℕ) → begun ≡ last ∷ others → AreKept begun headers content octets
+body_counted : (begun others : List Begun) (last : Begun) (headers : List Header) (content : List ℕ) (octets count : ℕ) → begun ≡ last ∷ others → AreKept begun headers content octets
     → count + (last.start + last.octets) ≡ length content + octets → count ≡ length (body_of last headers content)
 body_counted begun others last headers content octets count top kept sum =
     let is : IsBegun last headers content octets = (subst (λ (x : List Begun). AreKept x headers content octets) top kept).0 in
     omega (arith, is.counted)
 
 -- an element whose body is short enough is small
-pub ends_small : (begun others : List Begun) (last : Begun) (headers : List Header) (content done : List ℕ) → begun ≡ last ∷ others → length (body_of last headers content) ≤ 4294967289
-    → EndsSmall (written begun headers content done)
-ends_small begun others last headers content done top short = rw top (small_element last.tag (body_of last headers content) short)
+pub ends_small : (begun others : List Begun) (last : Begun) (headers : List Header) (content done : List ℕ) (octets count : ℕ) → begun ≡ last ∷ others → AreKept begun headers content octets
+    → count + (last.start + last.octets) ≡ length content + octets → count ≤ 4294967289 → EndsSmall (written begun headers content done)
+ends_small begun others last headers content done octets count top kept sum small =
+    let counted = body_counted begun others last headers content octets count top kept sum in
+    let short : length (body_of last headers content) ≤ 4294967289 = omega (arith, counted, small) in
+    rw top (small_element last.tag (body_of last headers content) short)
 
 -- the headers of the element around the innermost one, once that has its length
 inner_headers : (outer last : Begun) (headers : List Header) (count : ℕ) → last.place < length headers → outer.place < last.place
@@ -259,14 +262,16 @@ pub record EndsInner (begun rest : List Begun) (headers after : List Header) (co
   pub value : written (reverse rest) after content done ≡ after_end (written (reverse begun) headers content done)
   pub kept : AreKept (reverse rest) after content octets
 
-pub ends_inner : (begun rest : List Begun) (last : Begun) (headers after : List Header) (content done : List ℕ) (octets all count : ℕ) → reverse begun ≡ last ∷ reverse (take (length begun - 1) begun) → length begun ≢ 1
-    → rest ≡ take (length begun - 1) begun → after ≡ set headers last.place (ended last count) → all ≡ octets + length (header_octets (ended last count))
-    → count ≡ length (body_of last headers content) → count < 2 ^ 32 → AreKept (reverse begun) headers content octets → EndsInner begun rest headers after content done all
-ends_inner begun rest last headers after content done octets all count top many rest_is after_is all_is counted small kept =
+pub ends_inner : (begun rest : List Begun) (last : Begun) (headers after : List Header) (content done : List ℕ) (octets all count number : ℕ) → reverse begun ≡ last ∷ reverse (take (length begun - 1) begun) → number ≡ length begun → number ≢ 1
+    → rest ≡ take (number - 1) begun → after ≡ set headers last.place (ended last count) → all ≡ octets + length (header_octets (ended last count))
+    → count + (last.start + last.octets) ≡ length content + octets → count ≤ 4294967289 → AreKept (reverse begun) headers content octets → EndsInner begun rest headers after content done all
+ends_inner begun rest last headers after content done octets all count number top number_is many rest_are after_is all_is sum small kept =
     let others = reverse (take (length begun - 1) begun) in
     let size : length begun ≡ length (last ∷ others) = sym (length-reverse begun) ∙ ap (λ (x : List Begun). length x) top in
-    let some : others ≢ [] = λ (none : others ≡ []). omega (arith, size, many, ap (λ (x : List Begun). length x) none) in
-    let end = ends others last headers content done octets count some counted small (subst (λ (x : List Begun). AreKept x headers content octets) top kept) in
+    let some : others ≢ [] = λ (none : others ≡ []). omega (arith, size, number_is, many, ap (λ (x : List Begun). length x) none) in
+    let rest_is : rest ≡ take (length begun - 1) begun = rest_are ∙ ap (λ (n : ℕ). take (n - 1) begun) number_is in
+    let counted = body_counted (reverse begun) others last headers content octets count top kept sum in
+    let end = ends others last headers content done octets count some counted (omega (arith, small)) (subst (λ (x : List Begun). AreKept x headers content octets) top kept) in
     record {
       value =
           ap (λ (x : List Begun). written (reverse x) after content done) rest_is

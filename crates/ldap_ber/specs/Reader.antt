@@ -1,5 +1,5 @@
 -- Reading elements from left to right: the next one, or the first refused place.
-use Rattle.std.specs.Prelude.{◌≡◌, ℕ, ◌-◌, ◌%◌, List, [], ◌∷◌, length, take, drop, Bool, false, not, ◌||◌, nat_lt, nat_eq, ◌==◌, if◌then◌else◌, Option, Some, None, Result, Ok, Err, ℤ}
+use Rattle.std.specs.Prelude.{ℕ, ◌-◌, ◌%◌, List, [], ◌∷◌, length, take, drop, Bool, false, not, ◌||◌, nat_lt, nat_eq, ◌==◌, if◌then◌else◌, Option, Some, None, Result, Ok, Err, ℤ}
 use Rattle.ldap_ber.specs.Element.{number_after, integer_of}
 use Rattle.ldap_ber.specs.declared.fault.BerKind.{BerKind}
 use Rattle.ldap_ber.specs.declared.fault.BerKind.TheVariants.{Short, Indefinite, LongLength, WrongTag, BadInteger, BadBoolean, Trailing}
@@ -99,8 +99,3 @@ boolean_of at (octet ∷ another ∷ more) = Err (record { kind = BadBoolean; at
 
 abbrev pub boolean_in : Element → Result Bool BerFault
 boolean_in e = boolean_of e.at e.body
-
--- what a function that takes no memory answered, seen by `view`, is what reading gives
-abbrev pub Answers : {X Y E : Type 0} → (X → Y) → Result X E → Result Y E → Type 0
-Answers view (Ok x) read = read ≡ Ok (view x)
-Answers view (Err e) read = read ≡ Err e

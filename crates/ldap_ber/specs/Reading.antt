@@ -61,6 +61,10 @@ any_at stop bytes = element_at stop bytes >>= λ e. Ok ((e.0.tag, e.0.body), e.1
 unfoldable pub skip_at : ℕ → List ℕ → Result (Unit {0}) BerFault
 skip_at stop bytes = many_at any_at stop bytes >>= λ es. Ok tt
 
+-- how many elements there are up to the end of the bytes
+unfoldable pub count_at : ℕ → List ℕ → Result ℕ BerFault
+count_at stop bytes = many_at any_at stop bytes >>= λ es. Ok (length es)
+
 abbrev pub tagged_at : {X E : Type 0} → (BerFault → E) → ℕ → Reading E X → Reading E X
 tagged_at reword tag f stop bytes =
     reworded reword (expect_at tag stop bytes) >>= λ e.

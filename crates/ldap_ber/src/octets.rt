@@ -100,6 +100,14 @@ impl OctetsList {
         }
     }
 
+    /// Makes an empty list with room for n strings. It is `NoMemory` where memory runs out.
+    pub fn with_room(alloc: Global, count: usize) -> Result<OctetsList, NoMemory>
+        ensures { IfOk result (λ list. list ≡ []) }
+    {
+        let items = Vec::with_capacity(alloc, count)?;
+        Ok(OctetsList { items })
+    }
+
     /// Puts the string at the end.
     pub fn push(&mut self, item: Octets) -> Result<(), NoMemory>
         ensures ok { OnOk result (self.new ≡ self.old ++ item ∷ []) }

@@ -2,8 +2,9 @@
 
 ghost use Rattle.std.specs.Prelude.{◌≡◌, ◌-◌, ◌==◌, ◌≤◌, ◌<◌, [], length, IfOk, OnErr, OnOk};
 ghost use Rattle.ldap_ber.specs.Element.{number_after, filler, extended};
-ghost use Rattle.ldap_ber.specs.Reader.{Answers, length_at, parts_at, element_at, expect_at, tag_at, has_tag, end_at, integer_in, boolean_in};
-ghost use Rattle.ldap_ber.specs.Reading.{octets_at, integer_at, boolean_at, default_at, skip_at};
+ghost use Rattle.ldap_ber.specs.Gives.{Answers};
+ghost use Rattle.ldap_ber.specs.Reader.{length_at, parts_at, element_at, expect_at, tag_at, has_tag, end_at, integer_in, boolean_in};
+ghost use Rattle.ldap_ber.specs.Reading.{octets_at, integer_at, boolean_at, default_at, skip_at, count_at};
 ghost use Rattle.ldap_ber.specs.Tlv.{element_of};
 
 use crate::fault::{BerFault, BerKind};
@@ -230,6 +231,24 @@ impl<'a> Reader<'a> {
         }
         self.left = ahead.left;
         Ok(())
+    }
+
+    /// How many elements are left, whatever their tags. The first that is none is refused with a
+    /// fault of `next`.
+    #[tactic(auto, using(crate::proofs::CountLemmas::count_goes_on, crate::proofs::CountLemmas::count_fails, crate::proofs::CountLemmas::count_ends))]
+    pub fn count(&self) -> Result<usize, BerFault>
+        ensures { result ≡ count_at self.now.stop self.now.left }
+    {
+        let octets = self.left.len();
+        let mut ahead = self.copy();
+        let mut count = 0;
+        while !ahead.is_empty() {
+            ahead.next()?;
+            // An element has an octet at least, so there are no more elements than octets.
+            prove!(count < octets);
+            count += 1;
+        }
+        Ok(count)
     }
 
     /// Whether no byte is left, or else it is `Trailing`.

@@ -53,6 +53,14 @@ impl FilterList {
         }
     }
 
+    /// Makes an empty list with room for n filters. It is `NoMemory` where memory runs out.
+    pub fn with_room(alloc: Global, count: usize) -> Result<FilterList, NoMemory>
+        ensures { IfOk result (λ list. parts_of list ≡ []) }
+    {
+        let items = Vec::with_capacity(alloc, count)?;
+        Ok(FilterList { items })
+    }
+
     /// Puts the filter at the end.
     pub fn push(&mut self, item: Filter) -> Result<(), NoMemory>
         ensures ok { OnOk result (parts_of self.new ≡ parts_of self.old ++ item ∷ []) }

@@ -60,7 +60,8 @@ fn edits_in(alloc: Global, reader: &mut Reader) -> Result<EditList, PartFault>
     ensures { Gives Fails (λ edits. Ok edits) result
         (many_at edit_at reader.old.stop reader.old.left) }
 {
-    let mut edits = EditList::new(alloc);
+    let room = reader.count().unwrap_or(0);
+    let mut edits = EditList::with_room(alloc, room)?;
     while !reader.is_empty() {
         let edit = edit_of(alloc, reader)?;
         edits.push(edit)?;

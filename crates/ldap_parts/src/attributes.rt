@@ -68,7 +68,8 @@ fn attributes_in(alloc: Global, reader: &mut Reader) -> Result<RawList, PartFaul
     ensures { Gives Fails (λ attributes. Ok attributes) result
         (many_at attribute_at reader.old.stop reader.old.left) }
 {
-    let mut attributes = RawList::new(alloc);
+    let room = reader.count().unwrap_or(0);
+    let mut attributes = RawList::with_room(alloc, room)?;
     while !reader.is_empty() {
         let attribute = attribute_of(alloc, reader)?;
         attributes.push(attribute)?;

@@ -9,7 +9,7 @@
 //!      controlValue            OCTET STRING OPTIONAL }
 //! ```
 
-ghost use Rattle.std.specs.Prelude.{◌≡◌, ◌<◌, [], ◌∷◌, ◌++◌, false, length, Ok, OnOk, OnErr};
+ghost use Rattle.std.specs.Prelude.{◌≡◌, ◌<◌, [], ◌∷◌, ◌++◌, false, length, Ok, IfOk, OnOk, OnErr};
 ghost use Rattle.std.specs.List.{flat_map};
 ghost use Rattle.ldap_ber.specs.Canonical.{element, flag_octets};
 ghost use Rattle.ldap_ber.specs.Reading.{many_at};
@@ -58,6 +58,14 @@ impl ControlList {
         }
     }
 
+    /// Makes an empty list with room for n controls. It is `NoMemory` where memory runs out.
+    pub fn with_room(alloc: Global, count: usize) -> Result<ControlList, NoMemory>
+        ensures { IfOk result (λ list. list ≡ []) }
+    {
+        let items = Vec::with_capacity(alloc, count)?;
+        Ok(ControlList { items })
+    }
+
     /// Puts the control at the end.
     pub fn push(&mut self, item: Control) -> Result<(), NoMemory>
         ensures ok { OnOk result (self.new ≡ self.old ++ item ∷ []) }
@@ -100,7 +108,8 @@ fn controls_in(alloc: Global, reader: &mut Reader) -> Result<ControlList, PartFa
     ensures { Gives Fails (λ controls. Ok controls) result
         (many_at control_at reader.old.stop reader.old.left) }
 {
-    let mut controls = ControlList::new(alloc);
+    let room = reader.count().unwrap_or(0);
+    let mut controls = ControlList::with_room(alloc, room)?;
     while !reader.is_empty() {
         let control = control_of(alloc, reader)?;
         controls.push(control)?;

@@ -101,7 +101,8 @@ fn filters_in(alloc: Global, reader: &mut Reader, levels: usize) -> Result<Filte
     ensures { Gives Fails (λ list. Ok (map tree_of (parts_of list))) result
         (many_at (filter_in levels) reader.old.stop reader.old.left) }
 {
-    let mut filters = FilterList::new(alloc);
+    let room = reader.count().unwrap_or(0);
+    let mut filters = FilterList::with_room(alloc, room)?;
     while !reader.is_empty() {
         let filter = filter_of(alloc, reader, levels)?;
         filters.push(filter)?;

@@ -36,7 +36,8 @@ fn strings_in(alloc: Global, reader: &mut Reader) -> Result<OctetsList, PartFaul
     ensures { Gives Fails (λ strings. Ok strings) result
         (many_at (string_at 4) reader.old.stop reader.old.left) }
 {
-    let mut strings = OctetsList::new(alloc);
+    let room = reader.count().unwrap_or(0);
+    let mut strings = OctetsList::with_room(alloc, room)?;
     while !reader.is_empty() {
         let string = string_of(alloc, reader, 0x04)?;
         strings.push(string)?;

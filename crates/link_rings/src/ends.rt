@@ -57,8 +57,8 @@ impl Producer {
 }
 
 impl Consumer {
-    /// The item that was offered first of those that were not taken yet, or None where there is none.
-    /// Takes no memory.
+    /// The item that was offered first of those that were not taken yet, or None where there is
+    /// none. Takes no memory.
     ///
     /// The consumer asks the ring only where it knows of no item.
     pub fn take(&mut self) -> Option<Bytes>

@@ -1,5 +1,5 @@
-//! Commits, in words: units that are put, each its identity, `:` and its name; and `-` before an identity that
-//! is dropped.
+//! Commits, in words: units that are put, each its identity, `:` and its name; and `-` before an
+//! identity that is dropped.
 ghost use Rattle.std.specs.Prelude.{◌≡◌, true, nat_le, IfOk};
 ghost use Rattle.std.specs.List.{list_all};
 ghost use Rattle.entry_tree.specs.Fitting.{is_light};

@@ -8,7 +8,7 @@ ghost use Rattle.directory_writes.specs.Directory.{entries_of};
 use crate::commits::{drops_of, puts_of};
 use crate::rows::{discard, number, parted, push_counted, push_csn, push_word};
 use crate::writes::change;
-use directory_writes::{CommitFault, Directory, Preview, Start};
+use directory_writes::{Directory, DirectoryFault, Preview, Start};
 use dn_names::Dn;
 use entry_tree::{EntryChange, Op, OpFault, read_op};
 use ldap_ber::NoMemory;
@@ -16,10 +16,10 @@ use std::alloc::Global;
 use std::process::Abort;
 use std::test::Fail;
 
-/// Steps of a directory, each with what the clock shows, and what is reported of it. Of a write that is not yet
-/// done: its CSN and a letter for each entry that it adds, changes or deletes, or its code; the numbers of
-/// writes and entries then; and when it is done its code, these numbers, and the last CSN. Of a commit that
-/// something rejects: that alone.
+/// Steps of a directory, each with what the clock shows, and what is reported of it. Of a write
+/// that is not yet done: its CSN and a letter for each entry that it adds, changes or deletes, or
+/// its code; the numbers of writes and entries then; and when it is done its code, these numbers,
+/// and the last CSN. Of a commit that something rejects: that alone.
 const ROWS: &str = "\
 0 first => 19700101000000.000000Z#000001#001#000000 a n0 e0 c0 n1 e1 19700101000000.000000Z#000001#001#000000
 5 add ou=a,dc=x => 19700101000000.000005Z#000000#001#000000 a n1 e1 c0 n2 e2 19700101000000.000005Z#000000#001#000000
@@ -115,7 +115,7 @@ fn commit(
     let drops = drops_of(alloc, of)?;
     match directory.check_commit(puts.list(), drops.list(), 0) {
         Ok(()) => done(alloc, directory, Op::Commit(puts, drops), 0, text),
-        Err(CommitFault::DuplicateName(one, other)) => {
+        Err(DirectoryFault::DuplicateName(one, other)) => {
             Ok(push_word(text, &format!(in alloc; "same{one},{other}")?)?)
         }
         Err(_) => Err(Fail::from("a limit, or out of memory")),
@@ -181,8 +181,8 @@ fn push_state(alloc: Global, directory: &Directory, text: &mut String) -> Result
     }
 }
 
-/// The identities that were touched after the first write, each by its last 62 bits, which are the number of the
-/// write that gave it.
+/// The identities that were touched after the first write, each by its last 62 bits, which are the
+/// number of the write that gave it.
 fn push_since(alloc: Global, directory: &Directory, text: &mut String) -> Result<(), Fail> {
     if directory.accepted().is_empty() {
         return Err(Fail::from("no write"));

@@ -1,8 +1,9 @@
 //! Messages that are handed out, in words: `+`, `~` or `!` for an entry that is added, modified or
-//! deleted, the number of the write that gave its identity, `:` and its name; `-` or `=` and such numbers for
-//! identities that are named as deleted or as present; `deletes` or `presents` for the end of a refresh, with
-//! `on-` before it where the search goes on; `busy` for the end of a search whose queue was full. After it,
-//! `@` and the number of writes that its cookie names. Where there is no message: `nothing` or `none`.
+//! deleted, the number of the write that gave its identity, `:` and its name; `-` or `=` and such
+//! numbers for identities that are named as deleted or as present; `deletes` or `presents` for the
+//! end of a refresh, with `on-` before it where the search goes on; `busy` for the end of a search
+//! whose queue was full. After it, `@` and the number of writes that its cookie names. Where there
+//! is no message: `nothing` or `none`.
 use crate::rows::{discard, number, parted, push_word, utf8};
 use csn_cookie::Cookie;
 use ldap_ber::{NoMemory, Octets};

@@ -1,11 +1,11 @@
-//! Rows of tests: steps with `; ` between them, and after ` => ` what is reported of them, word by word. A line
-//! that begins with `^` has the steps that the rows below it begin with, and one with `#` says something
-//! of them. What `aside` does to three open searches is undone then.
+//! Rows of tests: steps with `; ` between them, and after ` => ` what is reported of them, word by
+//! word. A line that begins with `^` has the steps that the rows below it begin with, and one with
+//! `#` says something of them. What `aside` does to three open searches is undone then.
 //!
 //! A write reports `w` and the number of writes, or `c` and the code that rejects it. `add` is of a
 //! unit with the name of its first part, `first` of `dc=x`, `addto` of units up to n writes.
-//! `replace` gives an attribute one value, `swell` a description of n octets. `rename` has the name,
-//! the new first part and perhaps a new superior; `swing` lets two first parts take turns.
+//! `replace` gives an attribute one value, `swell` a description of n octets. `rename` has the
+//! name, the new first part and perhaps a new superior; `swing` lets two first parts take turns.
 ghost use Rattle.std.specs.Prelude.{◌≡◌};
 
 use crate::commits::{commit, commit_both};
@@ -149,8 +149,8 @@ fn drop_search(provider: &mut Provider, search: u64, text: &mut String) -> Resul
     Ok(push_word(text, if was_open { "dropped" } else { "none" })?)
 }
 
-/// Reports what the first two of three searches hand out up to their ends, and drops the third. Then the
-/// searches are again those before.
+/// Reports what the first two of three searches hand out up to their ends, and drops the third.
+/// Then the searches are again those before.
 #[tactic(auto, using(sync_provider::proofs::Returns::no_write_came))]
 fn take_aside(alloc: Global, provider: &mut Provider, text: &mut String) -> Result<(), Fail> {
     let searches = provider.open_searches()?;
@@ -168,8 +168,8 @@ fn end_searches(alloc: Global, provider: &mut Provider, text: &mut String) -> Re
     drop_search(provider, 3, text)
 }
 
-/// The numbers of writes and entries with the history, the CSN of a write or of an entry, or the number
-/// of writes up to a CSN.
+/// The numbers of writes and entries with the history, the CSN of a write or of an entry, or the
+/// number of writes up to a CSN.
 fn look(
     alloc: Global,
     provider: &Provider,

@@ -1,8 +1,10 @@
-//! Searches, in words: the mode, with `!` after it for the reloadHint; the base, after `one:` or `base:`
-//! where the scope is no subtree; the filter, or `*` for all entries; and the cookie. That is `-` for none,
-//! `''` for one without a letter, N/H for that of the content after N writes of the history H, or a text.
+//! Searches, in words: the mode, with `!` after it for the reloadHint; the base, after `one:` or
+//! `base:` where the scope is no subtree; the filter, or `*` for all entries; and the cookie. That
+//! is `-` for none, `''` for one without a letter, N/H for that of the content after N writes of
+//! the history H, or a text.
 //!
-//! An opened search reports `s`, its number, `@` and the number of writes, another one `c` and a code.
+//! An opened search reports `s`, its number, `@` and the number of writes, another one `c` and a
+//! code.
 use crate::rows::{number, parted, push_counted, push_word};
 use dn_names::Dn;
 use entry_tree::{Scope, Spec};

@@ -1,5 +1,5 @@
-//! Messages as they are spelled, put together from RFC 4511, RFC 4533 and ITU-T X.690 element by element,
-//! apart from this program.
+//! Messages as they are spelled, put together from RFC 4511, RFC 4533 and ITU-T X.690 element by
+//! element, apart from this program.
 ghost use Rattle.std.specs.Prelude.{◌≡◌, IsTrue};
 ghost use Rattle.ldap_messages.specs.Operation.{IsOfGrammar, operation_of};
 ghost use Rattle.ldap_messages.specs.Outcome.{RefersOn};

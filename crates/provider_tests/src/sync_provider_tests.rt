@@ -1,5 +1,5 @@
-//! What a provider does, row by row. What is expected was put together by hand, or computed by another
-//! program after RFC 4533.
+//! What a provider does, row by row. What is expected was put together by hand, or computed by
+//! another program after RFC 4533.
 use crate::rows::check_rows;
 use std::test::Fail;
 
@@ -120,8 +120,8 @@ queue 0; times 64 stay dc=x * ''; add ou=c,dc=x; stay dc=x * ''; drop 7; stay dc
 stay dc=x (description=*) ''; hand 1 9; swing ou=a ou=z 64; swell ou=r,dc=x 1932; hand 1 1; swell ou=b,ou=a,dc=x 65407; hand 1 1; swell ou=b,ou=a,dc=x 65408; hand 1 9 => w1 w2 w3 w4 w5 w6 w7 w8 w9 w10 w11 s1@11 +3:ou=b,ou=a,dc=x +4:ou=c,ou=a,dc=x +5:ou=d,ou=a,dc=x +6:ou=e,ou=a,dc=x on-presents@11 nothing w75 w76 ~3:ou=b,ou=z,dc=x w77 ~4:ou=c,ou=z,dc=x w78 busy
 ";
 
-/// Searches that stay, each opened after some writes, with a limit of n messages of later writes, and
-/// messages that are handed out between the writes.
+/// Searches that stay, each opened after some writes, with a limit of n messages of later writes,
+/// and messages that are handed out between the writes.
 const SEQUENCES: &str = "\
 ^root
 queue 4096; stay dc=x * -; first; add ou=a,dc=x; person cn=k,ou=a,dc=x; rename ou=a,dc=x ou=b; replace cn=k,ou=b,dc=x sn=t; delete cn=k,ou=b,dc=x; hand 1 20 => s1@0 w1 w2 w3 w4 w5 w6 on-presents@0 +1:dc=x@1 +2:ou=a,dc=x@2 +3:cn=k,ou=a,dc=x@3 ~2:ou=b,dc=x ~3:cn=k,ou=b,dc=x@4 ~3:cn=k,ou=b,dc=x@5 !3:cn=k,ou=b,dc=x@6 nothing
@@ -168,7 +168,8 @@ queue 3; first; add ou=a,dc=x; stay base:cn=k,ou=b,dc=x (sn=T) -; person cn=k,ou
 queue 1; first; add ou=a,dc=x; person cn=k,ou=a,dc=x; stay base:cn=k,ou=b,dc=x (sn=T) -; rename ou=a,dc=x ou=b; replace cn=k,ou=b,dc=x sn=t; delete cn=k,ou=b,dc=x; hand 1 9; hand 1 20 => w1 w2 w3 s1@3 w4 w5 w6 busy none
 ";
 
-/// A replica takes commits, and no writes of clients; its searches are reported of commits as of writes.
+/// A replica takes commits, and no writes of clients; its searches are reported of commits as of
+/// writes.
 const COMMITS: &str = "\
 ^replica
 # Commits, and what a refresh reports of the entries then.

@@ -4,8 +4,9 @@ use csn_cookie::{Cookie, Csn, CsnMaker, is_blank};
 use std::alloc::{AllocError, Global};
 use std::test::Fail;
 
-/// Texts, and what is read of them: of a change number its parts and how it is written, of a cookie its
-/// parts; and the change numbers that are drawn, each above the one before, and the last one then.
+/// Texts, and what is read of them: of a change number its parts and how it is written, of a cookie
+/// its parts; and the change numbers that are drawn, each above the one before, and the last one
+/// then.
 const ROWS: &str = "\
 csn 19700101000000.000000Z#000001#001#000000 => 0 1 1 0 19700101000000.000000Z#000001#001#000000
 csn 19700101000001.000000Z#000000#001#000000 => 1000000 0 1 0 19700101000001.000000Z#000000#001#000000

@@ -1,5 +1,6 @@
 //! Tests of the layers of replication: change numbers and cookies, the session log, the phases of a
-//! refresh, queues and rings. Each file tests the crates that it is named for, by their public calls.
+//! refresh, queues and rings. Each file tests the crates that it is named for, by their public
+//! calls.
 #![tactic(auto)]
 
 #[cfg(test)]

@@ -5,8 +5,8 @@ use link_rings::{Full, ring};
 use std::alloc::{AllocError, Global};
 use std::test::Fail;
 
-/// In a ring of two slots: a, b and c are offered; three are taken; c is offered again; how many are
-/// there; one is taken, and how many are there then.
+/// In a ring of two slots: a, b and c are offered; three are taken; c is offered again; how many
+/// are there; one is taken, and how many are there then.
 const ROWS: &str = "\
 ring => Ok(()) Ok(()) Err(Full(b\"c\")) Some(b\"a\") Some(b\"b\") None Ok(()) 1 Some(b\"c\") 0
 ";

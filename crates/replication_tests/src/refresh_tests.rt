@@ -9,7 +9,8 @@ use std::alloc::{AllocError, Global};
 use std::test::Fail;
 
 /// After which write the phase begins, and what is decided of the entries: as a whole, and of the
-/// entries as one slice. The third entry is not selected, and the last one by a present phase alone.
+/// entries as one slice. The third entry is not selected, and the last one by a present phase
+/// alone.
 const ROWS: &str = "\
 present none => [Send(1), Send(2), Send(7)] [Send(1), Send(2), Send(7)]
 present 0 => [Send(1), Send(2), Send(7)] [Send(1), Send(2), Send(7)]

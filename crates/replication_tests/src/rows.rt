@@ -1,5 +1,5 @@
-//! Rows of tests: a word that says what is asked, what it is asked of, and after ` => ` what is reported.
-//! A line that begins with `#` says something of the rows below it.
+//! Rows of tests: a word that says what is asked, what it is asked of, and after ` => ` what is
+//! reported. A line that begins with `#` says something of the rows below it.
 use crate::{
     csn_cookie_tests, link_rings_tests, persist_queues_tests, refresh_tests, session_log_tests,
 };

@@ -4,8 +4,9 @@ use session_log::SessionLog;
 use std::alloc::{AllocError, Global};
 use std::test::Fail;
 
-/// Notes of a number and an identity, trims to a limit, and a copy that goes on in the log's place, each
-/// with a number after it: the floor after it, and what is reported of that number where it is covered.
+/// Notes of a number and an identity, trims to a limit, and a copy that goes on in the log's place,
+/// each with a number after it: the floor after it, and what is reported of that number where it is
+/// covered.
 const ROWS: &str = "\
 log note 1 7 0;note 2 5 0;note 2 9 1;note 3 5 1;note 4 6 2;copy 2;note 5 5 1;trim 2 3;trim 2 4;trim 9 5;trim 0 4;note 6 1 6;trim 2 5;note 7 340282366920938463463374607431768211455 6 => 0 Some([7]);0 Some([5, 7]);0 Some([5, 9]);1 Some([5, 9]);2 Some([5, 6]);2 Some([5, 6]);2 None;3 Some([5, 6]);3 Some([5]);3 Some([]);5 None;6 Some([]);6 None;6 Some([340282366920938463463374607431768211455]);
 ";

@@ -45,7 +45,8 @@ values_code kind values =
 
 abbrev pub typed_code : Option ℕ → List (List ℕ) → Option ℕ
 typed_code None values = Some UNDEFINED_ATTRIBUTE_TYPE
-typed_code (Some kind) values = if is_operational kind then Some CONSTRAINT_VIOLATION else values_code kind values
+typed_code (Some kind) values =
+    if is_operational kind then Some CONSTRAINT_VIOLATION else values_code kind values
 
 -- the code of an attribute by itself
 abbrev pub raw_code : RawAttribute → Option ℕ
@@ -80,7 +81,8 @@ abbrev pub repeats_value : Attribute → Bool
 repeats_value a = has_duplicates (keys_of a.kind a.values)
 
 abbrev pub without_duplicates : List Attribute → Result (List Attribute) ℕ
-without_duplicates attributes = if list_any repeats_value attributes then Err ATTRIBUTE_OR_VALUE_EXISTS else Ok attributes
+without_duplicates attributes =
+    if list_any repeats_value attributes then Err ATTRIBUTE_OR_VALUE_EXISTS else Ok attributes
 
 abbrev pub read_joined : Option ℕ → List Attribute → Result (List Attribute) ℕ
 read_joined None attributes = without_duplicates attributes

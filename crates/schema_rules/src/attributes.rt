@@ -158,7 +158,8 @@ fn joined(alloc: Global, raws: &[RawAttribute]) -> Result<Vec<Attribute>, Schema
     let mut items = Vec::new(alloc);
     for raw in raws {
         let kind = checked_type(alloc, raw)?;
-        add_values(&mut items, kind, raw.values.list())?;
+        let values = raw.values.copy()?;
+        add_values(&mut items, kind, values)?;
     }
     Ok(items)
 }
@@ -194,25 +195,21 @@ fn checked_type(alloc: Global, raw: &RawAttribute) -> Result<AttributeType, Sche
     Ok(kind)
 }
 
-/// Puts values of a type after its other values, or after all attributes. After an `Err` the list
-/// is as before.
+/// Puts values of a type, which it takes over, after its other values, or after all attributes.
+/// After an `Err` the list is as before.
 pub fn add_values(
     attributes: &mut Vec<Attribute>,
     kind: AttributeType,
-    values: &[Octets],
+    values: OctetsList,
 ) -> Result<(), NoMemory>
     ensures ok { OnOk result
-        (attributes.new.items ≡ spec.with_values attributes.old.items kind values.now) }
+        (attributes.new.items ≡ spec.with_values attributes.old.items kind values) }
     ensures err { OnErr result (attributes.new.items ≡ attributes.old.items) }
 {
-    let copies = copies_of(*attributes.allocator(), values)?;
     if let Some(place) = place_of(attributes, kind) {
-        return attributes[place].values.append(copies);
+        return attributes[place].values.append(values);
     }
-    attributes.push(Attribute {
-        kind,
-        values: copies,
-    })?;
+    attributes.push(Attribute { kind, values })?;
     Ok(())
 }
 
@@ -222,16 +219,6 @@ fn place_of(attributes: &[Attribute], kind: AttributeType) -> Option<usize>
     attributes
         .iter()
         .position(|attribute| attribute.kind == kind)
-}
-
-fn copies_of(alloc: Global, values: &[Octets]) -> Result<OctetsList, NoMemory>
-    ensures { IfOk result (λ copies. copies ≡ values.now) }
-{
-    let mut copies = OctetsList::new(alloc);
-    for value in values {
-        copies.push(value.copy()?)?;
-    }
-    Ok(copies)
 }
 
 /// Whether two values of the attribute are equal.

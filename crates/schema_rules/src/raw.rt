@@ -1,5 +1,5 @@
 //! Writes as they come in, with nothing read of them yet (RFC 4511, sections 4.6 to 4.9).
-ghost use Rattle.std.specs.Prelude.{◌≡◌, [], ◌∷◌, ◌++◌, OnOk, OnErr};
+ghost use Rattle.std.specs.Prelude.{◌≡◌, [], ◌∷◌, ◌++◌, IfOk, OnOk, OnErr};
 
 use ldap_ber::{NoMemory, Octets, OctetsList};
 use std::alloc::Global;
@@ -63,6 +63,14 @@ impl RawList {
         }
     }
 
+    /// Makes an empty list with room for n attributes. It is `NoMemory` where memory runs out.
+    pub fn with_room(alloc: Global, count: usize) -> Result<RawList, NoMemory>
+        ensures { IfOk result (λ list. list ≡ []) }
+    {
+        let items = Vec::with_capacity(alloc, count)?;
+        Ok(RawList { items })
+    }
+
     /// Puts the attribute at the end.
     pub fn push(&mut self, item: RawAttribute) -> Result<(), NoMemory>
         ensures ok { OnOk result (self.new ≡ self.old ++ item ∷ []) }
@@ -103,6 +111,14 @@ impl EditList {
         EditList {
             items: Vec::new(alloc),
         }
+    }
+
+    /// Makes an empty list with room for n edits. It is `NoMemory` where memory runs out.
+    pub fn with_room(alloc: Global, count: usize) -> Result<EditList, NoMemory>
+        ensures { IfOk result (λ list. list ≡ []) }
+    {
+        let items = Vec::with_capacity(alloc, count)?;
+        Ok(EditList { items })
     }
 
     /// Puts the edit at the end.

@@ -125,15 +125,16 @@ impl AttributeType {
         self.row().rule
     }
 
-    /// Reports whether an entry has at most one value of the type (SINGLE-VALUE of RFC 4512, section
-    /// 4.1.2).
+    /// Reports whether an entry has at most one value of the type (SINGLE-VALUE of RFC 4512,
+    /// section 4.1.2).
     pub fn single(&self) -> bool
         ensures { result ≡ schema.is_single self.now }
     {
         self.row().single
     }
 
-    /// Reports whether the type is operational (RFC 4512, section 3.4), so that no client writes it.
+    /// Reports whether the type is operational (RFC 4512, section 3.4), so that no client writes
+    /// it.
     pub fn operational(&self) -> bool
         ensures { result ≡ schema.is_operational self.now }
     {

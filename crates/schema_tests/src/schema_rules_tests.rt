@@ -173,7 +173,7 @@ fn added(alloc: Global, rows: &[(&str, &[&[u8]])]) -> Result<Vec<Attribute>, Fai
     for (name, values) in rows {
         let kind = AttributeType::find(name.as_bytes()).ok_or(*name)?;
         let values = octets_of(alloc, values)?;
-        add_values(&mut attributes, kind, values.list())?;
+        add_values(&mut attributes, kind, values)?;
     }
     Ok(attributes)
 }
@@ -681,8 +681,8 @@ fn verdict_together(
     verdict_without(alloc, &given, "")
 }
 
-/// The structural class makes an entry beside each other one exactly where one of both is a superior
-/// of the other.
+/// The structural class makes an entry beside each other one exactly where one of both is a
+/// superior of the other.
 fn check_line(rt: &impl Abort, alloc: Global, class: &'static str) {
     for (other, kind, _, _, _) in &CLASSES {
         if *kind == ClassKind::Structural && class != *other {

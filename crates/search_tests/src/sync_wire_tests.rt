@@ -19,7 +19,8 @@ use sync_wire::{
     id_set_message, search_request, tag_of,
 };
 
-// What these calls answer is compared when the tests run: the proofs of the tests know nothing of it.
+// What these calls answer is compared when the tests run: the proofs of the tests know nothing of
+// it.
 
 /// The example of RFC 9562, section 4.
 const UUID: u128 = 0xf81d4fae_7dec_11d0_a765_00a0c91e6bf6;

@@ -5,8 +5,8 @@ use Rattle.entry_tree.specs.declared.entry.Entry.{Entry}
 use Rattle.entry_tree.specs.State.{ascends, entry_at}
 use Rattle.entry_tree.specs.Touched.{identities}
 use Rattle.entry_tree.proofs.Identities.{above, none_at}
+use Rattle.entry_tree.proofs.Putting.{none_lower, all_higher}
 use Rattle.sync_consumer.specs.Staging.{lower, higher, IsAt, IsGapFor}
-use Rattle.sync_consumer.proofs.Merging.{none_lower, all_higher}
 use Rattle.sync_consumer.proofs.Rising.{gap_tail, gap_head, gap_first, no_gap, at_tail, at_head, not_at, rises-identities}
 
 -- ---- entries cut at a place

@@ -4,12 +4,12 @@ use Rattle.std.proofs.Common.{◌≡◌, ◌<◌, ℕ, suc, true, not, cond, nat
 use Rattle.std.specs.List.{filter}
 use Rattle.std.specs.Map.{keys_of}
 use Rattle.std.proofs.lemmas.Bool.{and_parts, and_from, lt-ltb, ltb-true, le-ltb, eq-eqb, ne_eqb, cases_order}
-use Rattle.std.proofs.lemmas.List.Folds.{list_all-append}
 use Rattle.entry_tree.specs.declared.entry.Entry.{Entry}
-use Rattle.entry_tree.specs.State.{ascends, put, is_identified}
+use Rattle.entry_tree.specs.State.{ascends, is_identified}
 use Rattle.entry_tree.proofs.Directory.{above_filter}
-use Rattle.entry_tree.proofs.Identities.{above, above_lower}
+use Rattle.entry_tree.proofs.Identities.{above, above_all}
 use Rattle.entry_tree.proofs.Rising.{below_lower}
+use Rattle.entry_tree.proofs.Putting.{none_lower, all_higher, above_put}
 use Rattle.sync_model.specs.Copy.{put_or_dropped, effected}
 use Rattle.sync_consumer.specs.declared.stage.StagedChange.{StagedChange}
 use Rattle.sync_consumer.specs.declared.stage.StagedChange.TheVariants.{AddOrModify, Delete}
@@ -28,21 +28,6 @@ keys ss = keys_of (changes_of ss)
 
 -- ---- entries above an identity
 
--- no entry is below an identity that all of them are above
-pub none_lower : (u : ℕ) (es : List Entry) → above u es ≡ true → lower u es ≡ []
-none_lower u [] h = refl
-none_lower u (x ∷ es) h =
-    let p = and_parts (nat_lt u x.uuid) (above u es) h in
-    let far : u < x.uuid = ltb-true u x.uuid p.0 in
-    ap (λ b. cond b (x ∷ lower u es) (lower u es)) (le-ltb x.uuid u (omega (arith, far))) ∙ none_lower u es p.1
-
--- all entries are above an identity that is below each of them
-pub all_higher : (u : ℕ) (es : List Entry) → above u es ≡ true → higher u es ≡ es
-all_higher u [] h = refl
-all_higher u (x ∷ es) h =
-    let p = and_parts (nat_lt u x.uuid) (above u es) h in
-    ap (λ b. cond b (x ∷ higher u es) (higher u es)) p.0 ∙ ap (λ xs. x ∷ xs) (all_higher u es p.1)
-
 none_identified : (u : ℕ) (es : List Entry) → above u es ≡ true → filter (λ entry. not (is_identified u entry)) es ≡ es
 none_identified u [] h = refl
 none_identified u (x ∷ es) h =
@@ -50,15 +35,6 @@ none_identified u (x ∷ es) h =
     let far : u < x.uuid = ltb-true u x.uuid p.0 in
     let rest = filter (λ entry. not (is_identified u entry)) es in
     ap (λ b. cond (not b) (x ∷ rest) rest) (ne_eqb x.uuid u (λ same. omega (arith, far, same))) ∙ ap (λ xs. x ∷ xs) (none_identified u es p.1)
-
-pub above_all : (u : ℕ) (x : Entry) (es : List Entry) → u < x.uuid → above x.uuid es ≡ true → above u (x ∷ es) ≡ true
-above_all u x es less later = and_from (nat_lt u x.uuid) (above u es) (lt-ltb u x.uuid less) (above_lower es u x.uuid less later)
-
-above_put : (u : ℕ) (e : Entry) (es : List Entry) → u < e.uuid → above u es ≡ true → above u (put e es) ≡ true
-above_put u e es less later =
-    list_all-append (λ (x : Entry). nat_lt u x.uuid) (lower e.uuid es) (e ∷ higher e.uuid es)
-    ∙ and_from (above u (lower e.uuid es)) (above u (e ∷ higher e.uuid es)) (above_filter (λ (x : Entry). nat_lt x.uuid e.uuid) u es later)
-    (and_from (nat_lt u e.uuid) (above u (higher e.uuid es)) (lt-ltb u e.uuid less) (above_filter (λ (x : Entry). nat_lt e.uuid x.uuid) u es later))
 
 above_effect : (u : ℕ) (s : StagedChange) (es : List Entry) → u < own s → above u es ≡ true → above u (one_effect es s) ≡ true
 above_effect u (AddOrModify k) es less later = above_put u k.value es less later

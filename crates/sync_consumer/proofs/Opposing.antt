@@ -1,7 +1,7 @@
 -- What rejects entries that a directory may not have.
 use Rattle.std.proofs.Common.{◌≡◌, ℕ, Bool, true, false, not, ◌&&◌, cond, nat_lt, List, length, Option, Some, None, refl, ap, subst, ◌∙◌}
-use Rattle.std.specs.Prelude.{◌||◌, is_none, option_map}
-use Rattle.std.proofs.lemmas.Bool.{lt-ltb}
+use Rattle.std.specs.Prelude.{is_none, option_map}
+use Rattle.std.proofs.lemmas.Bool.{lt-ltb, or_left, or_right}
 use Rattle.entry_tree.specs.declared.commit.CommitRefusal.{CommitRefusal}
 use Rattle.entry_tree.specs.declared.commit.CommitRefusal.TheVariants.{TooMany, TooHeavy, SameName, NoMemory}
 use Rattle.entry_tree.specs.declared.entry.Entry.{Entry}
@@ -20,19 +20,12 @@ by_name pair = option_map (λ (p : ℕ × ℕ). DuplicateName p.0 p.1) pair
 crowded : (entries : List Entry) → is_crowded entries ≡ true → against entries ≡ Some StageFull
 crowded entries many = ap (λ b. cond b (Some StageFull) (by_name (same_named entries))) many
 
-left_or : (a b : Bool) → a ≡ true → (a || b) ≡ true
-left_or a b h = rw h refl
-
-right_or : (a b : Bool) → b ≡ true → (a || b) ≡ true
-right_or true b h = refl
-right_or false b h = h
-
 -- a refusal of entries is the first limit that they pass
 pub opposed : (entries : List Entry) (found : CommitRefusal) → Opposes entries found → RefusesBy (against entries) (refusal_against found)
 opposed entries TooMany many =
-    (StageFull, crowded entries (left_or (nat_lt most_entries (length entries)) (nat_lt most_weight (total_weight entries)) (lt-ltb most_entries (length entries) many)), refl)
+    (StageFull, crowded entries (or_left (nat_lt most_entries (length entries)) (nat_lt most_weight (total_weight entries)) (lt-ltb most_entries (length entries) many)), refl)
 opposed entries TooHeavy heavy =
-    (StageFull, crowded entries (right_or (nat_lt most_entries (length entries)) (nat_lt most_weight (total_weight entries)) (lt-ltb most_weight (total_weight entries) heavy.1)), refl)
+    (StageFull, crowded entries (or_right (nat_lt most_entries (length entries)) (nat_lt most_weight (total_weight entries)) (lt-ltb most_weight (total_weight entries) heavy.1)), refl)
 opposed entries (SameName one other) same = (
   DuplicateName one other,
   ap (λ b. cond b (Some StageFull) (by_name (same_named entries))) same.0 ∙ ap by_name same.1,

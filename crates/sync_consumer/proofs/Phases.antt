@@ -1,5 +1,6 @@
 -- What the ends of phases come to.
 use Rattle.std.proofs.Common.{◌≡◌, Bool, true, false, cond, List, [], Option, Some, None, is_some, Ok, refl, sym, ap, ◌∙◌, subst}
+use Rattle.std.proofs.Math.Bool.{or-false, or-true}
 use Rattle.std.specs.Prelude.{not, ◌||◌}
 use Rattle.std.specs.Option.{option_or}
 use Rattle.entry_tree.specs.declared.entry.Entry.{Entry}
@@ -20,20 +21,12 @@ use Rattle.sync_consumer.specs.Taking.{taken_commit}
 use Rattle.sync_wire.specs.Requesting.{persists}
 use Rattle.sync_consumer.proofs.Outcomes.{staged_dropped, limited}
 
-or_false : (b : Bool) → b ≡ (b || false)
-or_false true = refl
-or_false false = refl
-
-or_true : (b : Bool) → true ≡ (b || true)
-or_true true = refl
-or_true false = refl
-
 -- the end of a phase, by what it stages
 pub ends_as : (held : List Entry) (session : SyncSession) (deletes : Bool)
     → ends_phase held session deletes ≡ record session { stage = staged_each session.stage (last_changes held session deletes); ended = session.ended || not deletes }
-ends_as held session true = λ i. record session { ended = or_false session.ended i }
+ends_as held session true = λ i. record session { ended = sym (or-false session.ended) i }
 ends_as held session false =
-    λ i. record session { stage = sym (staged_dropped (unmentioned session.named session.stage held) session.stage) i; ended = or_true session.ended i }
+    λ i. record session { stage = sym (staged_dropped (unmentioned session.named session.stage held) session.stage) i; ended = sym (or-true session.ended) i }
 
 -- ---- the end of a refresh
 

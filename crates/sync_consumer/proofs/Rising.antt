@@ -11,6 +11,7 @@ use Rattle.entry_tree.specs.declared.entry.Entry.{Entry}
 use Rattle.entry_tree.specs.State.{ascends}
 use Rattle.entry_tree.specs.Touched.{identities}
 use Rattle.entry_tree.proofs.Rising.{below-insert, below_lower}
+use Rattle.entry_tree.proofs.Committing.{above_identities}
 use Rattle.sync_model.specs.Stream.{among}
 use Rattle.sync_consumer.specs.Staging.{rises, IsAt, IsGapFor}
 
@@ -115,14 +116,10 @@ among_gap (n ∷ ns) u (suc place) gap = grind (arith, nat_tests, gap_head n ns 
 
 -- ---- entries
 
-all_identified : (u : ℕ) (es : List Entry) → below_all u (identities es) ≡ list_all (λ (later : Entry). nat_lt u later.uuid) es
-all_identified u [] = refl
-all_identified u (e ∷ es) = ap (λ b. nat_lt u e.uuid && b) (all_identified u es)
-
 -- identities ascend exactly where their entries do
 pub rises-identities : (es : List Entry) → rises (identities es) ≡ ascends es
 rises-identities [] = refl
-rises-identities (e ∷ es) = λ i. all_identified e.uuid es i && rises-identities es i
+rises-identities (e ∷ es) = λ i. above_identities e.uuid es i && rises-identities es i
 
 -- ---- what came of a search
 

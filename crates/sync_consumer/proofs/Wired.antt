@@ -14,6 +14,7 @@ use Rattle.entry_tree.specs.declared.entry.Entry.{Entry}
 use Rattle.entry_tree.specs.Fitting.{is_light}
 use Rattle.entry_tree.specs.Sound.{is_sound_attribute, is_sound_put}
 use Rattle.entry_tree.specs.State.{most_entry_weight}
+use Rattle.entry_tree.proofs.Passing.{list_all-filter}
 use Rattle.sync_wire.specs.Refusals.{and_then, bad_entry}
 use Rattle.sync_wire.specs.WireEntry.{kept, kept_of, kept_values, unless_empty, attributes_of, is_of_its_syntax, are_uuids, checked_syntax, checked_weight, name_of, entry_csn, entry_of}
 use Rattle.sync_wire.specs.declared.fault.DecodeFault.{DecodeFault}
@@ -51,25 +52,12 @@ kept_free : (raws : List RawAttribute) → all_free (filter_map kept raws) ≡ t
 kept_free [] = refl
 kept_free (raw ∷ raws) = more_free (kept raw) (filter_map kept raws) (free_of (type_named raw.name) raw.values) (kept_free raws)
 
-others_free : (kind : ℕ) (kinds : List ℕ) → list_all is_free kinds ≡ true → list_all is_free (filter (λ other. not (nat_eq other kind)) kinds) ≡ true
-others_free kind [] h = refl
-others_free kind (k ∷ kinds) h =
-    let parts = and_parts (is_free k) (list_all is_free kinds) h in
-    by (nat_eq k kind) parts.0 (others_free kind kinds parts.1)
-  where
-    rest : List ℕ
-    rest = filter (λ other. not (nat_eq other kind)) kinds
-
-    by : (b : Bool) → is_free k ≡ true → list_all is_free rest ≡ true → list_all is_free (cond (not b) (k ∷ rest) rest) ≡ true
-    by true first all = all
-    by false first all = and_from (is_free k) (list_all is_free rest) first all
-
 kinds_free : (attrs : List Attribute) → all_free attrs ≡ true → list_all is_free (kinds_of attrs) ≡ true
 kinds_free [] h = refl
 kinds_free (a ∷ attrs) h =
     let parts = and_parts (is_free a.kind) (all_free attrs) h in
     and_from (is_free a.kind) (list_all is_free (filter (λ other. not (nat_eq other a.kind)) (kinds_of attrs))) parts.0
-    (others_free a.kind (kinds_of attrs) (kinds_free attrs parts.1))
+    (list_all-filter is_free (λ other. not (nat_eq other a.kind)) (kinds_of attrs) (kinds_free attrs parts.1))
 
 joined_free : (attrs : List Attribute) → all_free attrs ≡ true → all_free (joined attrs) ≡ true
 joined_free attrs h =

@@ -16,4 +16,5 @@ AppendsPiece old new Failed piece = Keeps old new
 
 -- the bytes are a prefix, which was appended, and a rest
 abbrev pub AppendsPrefix : Option (List ℕ) → Option (List ℕ) → List ℕ → Type 0
-AppendsPrefix old new bytes = (prefix rest : List ℕ) × (bytes ≡ prefix ++ rest) × Appends old new prefix
+AppendsPrefix old new bytes =
+    (prefix rest : List ℕ) × (bytes ≡ prefix ++ rest) × Appends old new prefix

@@ -5,8 +5,8 @@ use crate::faults::count_fault;
 use crate::{Piece, Source};
 use std::io::Read;
 
-/// A source over any reader, as standard input. It counts the reads that fail, and reports the bytes
-/// that the reader reports.
+/// A source over any reader, as standard input. It counts the reads that fail, and reports the
+/// bytes that the reader reports.
 #[derive(Drop)]
 pub struct Reading<R: Read + Drop> {
     pub reader: R,

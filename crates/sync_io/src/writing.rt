@@ -5,9 +5,9 @@ use crate::faults::count_fault;
 use crate::{Put, Sink};
 use std::io::Write;
 
-/// A sink over any writer, as standard output. It counts the writes and flushes that fail, and reports
-/// the bytes that the writer reports. A write that takes nothing of a piece is a fault too, since
-/// trying again might never end.
+/// A sink over any writer, as standard output. It counts the writes and flushes that fail, and
+/// reports the bytes that the writer reports. A write that takes nothing of a piece is a fault too,
+/// since trying again might never end.
 #[derive(Drop)]
 pub struct Writing<W: Write + Drop> {
     pub writer: W,

@@ -1,6 +1,6 @@
 //! Lists of identities.
 
-ghost use Rattle.std.specs.Prelude.{◌≡◌, [], ◌∷◌, ◌++◌, OnOk, OnErr};
+ghost use Rattle.std.specs.Prelude.{◌≡◌, [], ◌∷◌, ◌++◌, IfOk, OnOk, OnErr};
 
 use ldap_ber::NoMemory;
 use std::alloc::Global;
@@ -28,6 +28,14 @@ impl IdList {
         IdList {
             items: Vec::new(alloc),
         }
+    }
+
+    /// Makes an empty list with room for n identities. It is `NoMemory` where memory runs out.
+    pub fn with_room(alloc: Global, count: usize) -> Result<IdList, NoMemory>
+        ensures { IfOk result (λ list. list ≡ []) }
+    {
+        let items = Vec::with_capacity(alloc, count)?;
+        Ok(IdList { items })
     }
 
     /// Puts the identity at the end.

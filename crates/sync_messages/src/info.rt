@@ -162,7 +162,8 @@ fn uuids_at(alloc: Global, reader: &mut Reader) -> Result<IdList, SyncFault>
 fn uuids_in(alloc: Global, reader: &mut Reader) -> Result<IdList, SyncFault>
     ensures { Gives Fails (λ ids. Ok ids) result (many_at uuid_at reader.old.stop reader.old.left) }
 {
-    let mut ids = IdList::new(alloc);
+    let room = reader.count().unwrap_or(0);
+    let mut ids = IdList::with_room(alloc, room)?;
     while !reader.is_empty() {
         let id = uuid_of(reader)?;
         ids.push(id)?;

@@ -1,8 +1,9 @@
 -- The examples, by computing them.
 use Rattle.std.proofs.Common.{◌≡◌, pos, Bool, true, false, cond, nat_eq, [], ◌∷◌, ◌++◌, map, refl, ap, ◌∙◌, Some, None, Option}
 use Rattle.std.specs.Prelude.{not, filter}
-use Rattle.std.proofs.lemmas.Bool.{eq-eqb, cond-true}
+use Rattle.std.proofs.lemmas.Bool.{eq-eqb}
 use Rattle.ldap_constants.specs.declared.result_codes.TheConstants.{SUCCESS}
+use Rattle.entry_tree.proofs.Order.{at_head}
 use Rattle.entry_tree.specs.declared.entry.Entry.{Entry}
 use Rattle.entry_tree.specs.declared.touched.EntryChange.{EntryChange}
 use Rattle.entry_tree.specs.State.{entry_at}
@@ -15,11 +16,8 @@ use Rattle.sync_model.specs.Stream.{decided, gathered}
 use Rattle.sync_model.specs.Copy.{Copy}
 use Rattle.sync_model.specs.Examples.{EmptyIsEnded, AddedIsSent, DeletedIsNamed, DeletedIsWalked, KeptIsNamed, MessagesAreAnswered, empty_copy}
 
-found_alone : (entry : Entry) → entry_at (entry ∷ []) entry.uuid ≡ Some entry
-found_alone entry = cond-true _ _ _ (eq-eqb entry.uuid entry.uuid refl)
-
 found_selected : (selection : Search) (entry : Entry) → is_selected selection entry ≡ true → entry_at (select selection (entry ∷ [])) entry.uuid ≡ Some entry
-found_selected selection entry h = ap (λ b. entry_at (cond b (entry ∷ []) []) entry.uuid) h ∙ found_alone entry
+found_selected selection entry h = ap (λ b. entry_at (cond b (entry ∷ []) []) entry.uuid) h ∙ at_head entry []
 
 -- an empty directory sends the end alone
 pub empty_is_ended : EmptyIsEnded
@@ -41,7 +39,7 @@ deleted_is_named = λ selection cookies entry. refl
 pub deleted_is_walked : DeletedIsWalked
 unfolding differing_over
 deleted_is_walked = λ selection cookies entry.
-    ap (λ found. let t : EntryChange = record { uuid = entry.uuid; before = found; after = None } in joined [] (map (λ entry_change. entry_change.uuid) (filter is_change (t ∷ [])))) (found_alone entry)
+    ap (λ found. let t : EntryChange = record { uuid = entry.uuid; before = found; after = None } in joined [] (map (λ entry_change. entry_change.uuid) (filter is_change (t ∷ [])))) (at_head entry [])
 
 -- an entry that was not touched is named as present where the log does not cover the cookie
 pub kept_is_named : KeptIsNamed

@@ -1,7 +1,6 @@
 -- What is sent in one piece meets no limit, where each state of the directory keeps within its limits.
 use Rattle.std.proofs.Common.{◌≡◌, ℕ, zero, suc, ◌+◌, ◌-◌, Bool, true, false, cond, List, [], ◌∷◌, ◌++◌, refl, sym, ap, ◌∙◌, arith, Some, None, Option, subst}
-use Rattle.std.specs.Prelude.{◌&&◌, ⊤, flat_map, is_some}
-use Rattle.std.proofs.lemmas.Bool.{cond-false}
+use Rattle.std.specs.Prelude.{⊤, flat_map, is_some}
 use Rattle.std.proofs.lemmas.List.{append-nil}
 use Rattle.entry_tree.specs.declared.entry.Entry.{Entry}
 use Rattle.entry_tree.specs.declared.touched.EntryChange.{EntryChange}
@@ -12,12 +11,11 @@ use Rattle.entry_tree.specs.History.{differing_over}
 use Rattle.sync_model.specs.Message.{CookieText, SyncMessage}
 use Rattle.sync_model.specs.Message.SyncMessage.{AddOrModify, Delete, Present, IdSet, NewCookie, RefreshDelete, RefreshPresent, Done, Ignored}
 use Rattle.sync_model.specs.Stream.{SyncOperation, Start, RefreshPiece, content_after, is_delete_phase, walk, decide_piece, gathered, late_uuids, end_of, after_walk, refresh, notified_all, group, later, stream}
-use Rattle.sync_model.specs.Copy.{Stage, Copy, Fault, Answer, staged, puts_of, effected, asked, goes_on, taken, taken_all, answers}
-use Rattle.sync_model.specs.Copy.Fault.{StageFull}
+use Rattle.sync_model.specs.Copy.{Stage, Copy, Answer, staged, effected, asked, goes_on, taken, taken_all, answers}
 use Rattle.sync_model.specs.Copy.Answer.{Staged, Stored, Copied, Over, Refused}
-use Rattle.sync_model.specs.Within.{is_crowded, puts_entry, against, limit_fault, refused_by, taken_within, taken_all_within, answers_within}
+use Rattle.sync_model.specs.Within.{puts_entry, against, limit_fault, refused_by, taken_within, taken_all_within, answers_within}
 use Rattle.sync_model.specs.Law.{Ascending, IsCut, Begins, settled, cookie_after, IsWithin}
-use Rattle.sync_model.proofs.Limits.{within_filter, nothing_against, IsAmong, Fits, fits-staged, fits-all_dropped, fits-none, puts_fit}
+use Rattle.sync_model.proofs.Limits.{within_filter, nothing_against, Fits, fits-staged, fits-all_dropped, fits-none, puts_fit, no_room_needed, among_now}
 use Rattle.sync_model.proofs.Steps.{over_none}
 use Rattle.sync_model.proofs.Gather.{Each, IsPart, EachM, each-gathered}
 use Rattle.sync_model.proofs.Taking.{refreshing, session_in, named_by, staged_by, taken-one}
@@ -48,10 +46,6 @@ within_same (message ∷ messages) id copy fit =
       ap (λ (outcome : Copy × Answer). taken_all_within id outcome.0 messages) one ∙ rest.0,
       ap (λ (outcome : Copy × Answer). outcome.1 ∷ answers_within id outcome.0 messages) one ∙ ap (λ notified. (taken id copy message).1 ∷ notified) rest.1,
     )
-
-no_room_needed : (puts : Bool) (stage : Stage) (other : Option Fault) → is_crowded (puts_of stage) ≡ false → other ≡ None → cond (puts && is_crowded (puts_of stage)) (Some StageFull) other ≡ None
-no_room_needed true stage other room none = cond-false _ _ _ room ∙ none
-no_room_needed false stage other room none = none
 
 -- a message that puts nothing
 no_put : (after : Copy) (answer : Answer) → against after.held ≡ None → limit_fault false after answer ≡ None
@@ -104,10 +98,6 @@ end_fits persists deletes cookie id copy within =
     (ap (λ puts. limit_fault puts outcome.0 outcome.1) (end_puts_none persists deletes cookie) ∙ no_put outcome.0 outcome.1 (nothing_against outcome.0.held within), tt)
 
 -- ---- a later write
-
-among_now : (target : List Entry) (uuid : ℕ) (now : Option Entry) → now ≡ entry_at target uuid → IsAmong target uuid now
-among_now target uuid None is = tt
-among_now target uuid (Some entry) is = sym is
 
 module _ (target : List Entry) (ascending : ascends target ≡ true) (within : IsWithin target) (new : CookieText) where
   touches_fit : (entry_changes : List EntryChange) (entry_change : EntryChange) (id : ℕ) (ended : Bool) (held : List Entry) (cookie : Option CookieText) (stage : Stage)

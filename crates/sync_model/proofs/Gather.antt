@@ -16,6 +16,11 @@ abbrev pub Each : {X : Type 0} → (X → Type 0) → List X → Type 0
 Each Q [] = ⊤
 Each Q (x ∷ xs) = Q x × Each Q xs
 
+-- what follows from what holds of each holds of each
+pub each_weaker : {X : Type 0} (P Q : X → Type 0) (xs : List X) → ((x : X) → P x → Q x) → Each P xs → Each Q xs
+each_weaker P Q [] h each = tt
+each_weaker P Q (x ∷ xs) h each = (h x each.0, each_weaker P Q xs h each.1)
+
 -- P of each entry that is sent, Q of each identity that is named
 abbrev pub EachD : (Entry → Type 0) → (ℕ → Type 0) → List WalkDecision → Type 0
 EachD P Q [] = ⊤

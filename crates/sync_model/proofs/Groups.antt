@@ -1,20 +1,17 @@
 -- What a copy makes of the messages of a later write, one after another.
-use Rattle.std.proofs.Common.{◌≡◌, ℕ, Bool, true, false, cond, List, [], ◌∷◌, ◌++◌, Option, Some, None, refl, ap, sym, ◌∙◌, subst}
-use Rattle.std.specs.Prelude.{◌&&◌}
-use Rattle.std.proofs.lemmas.Bool.{cond-false}
+use Rattle.std.proofs.Common.{◌≡◌, Bool, true, false, List, [], ◌∷◌, ◌++◌, Option, Some, None, refl, ap, sym, ◌∙◌, subst}
 use Rattle.entry_tree.specs.State.{ascends, entry_at}
 use Rattle.entry_tree.specs.Touched.{touched}
 use Rattle.entry_tree.specs.declared.entry.Entry.{Entry}
 use Rattle.entry_tree.specs.declared.touched.EntryChange.{EntryChange}
-use Rattle.sync_model.specs.Copy.{Stage, Copy, Answer, Fault, staged, puts_of, effected, commit_of, taken}
+use Rattle.sync_model.specs.Copy.{Stage, Copy, Answer, staged, puts_of, effected, commit_of, taken}
 use Rattle.sync_model.specs.Copy.Answer.{Staged, Stored}
-use Rattle.sync_model.specs.Copy.Fault.{StageFull}
 use Rattle.sync_model.specs.Law.{IsWithin, settled}
 use Rattle.sync_model.specs.Message.{CookieText}
 use Rattle.sync_model.specs.Within.{is_crowded, puts_entry, against, limit_fault, refused_by, taken_within}
 use Rattle.sync_model.proofs.Gather.{Each, each-prefix}
 use Rattle.sync_model.proofs.Later.{IsStep, NotifiedOne, one_staged, one_stored, stepping, staged_all, each-touched, each-now, effected-touched}
-use Rattle.sync_model.proofs.Limits.{nothing_against, IsAmong, Fits, fits-staged, fits-none, puts_fit}
+use Rattle.sync_model.proofs.Limits.{nothing_against, Fits, fits-staged, fits-none, puts_fit, no_room_needed, among_now}
 
 -- ---- lists
 
@@ -39,14 +36,6 @@ staged_all-push [] entry_change stage = refl
 staged_all-push (t ∷ entry_changes) entry_change stage = staged_all-push entry_changes entry_change (staged t.uuid t.after stage)
 
 -- ---- no limit is met
-
-room_needed : (puts : Bool) (stage : Stage) (other : Option Fault) → is_crowded (puts_of stage) ≡ false → other ≡ None → cond (puts && is_crowded (puts_of stage)) (Some StageFull) other ≡ None
-room_needed true stage other room none = cond-false _ _ _ room ∙ none
-room_needed false stage other room none = none
-
-among_now : (target : List Entry) (uuid : ℕ) (now : Option Entry) → now ≡ entry_at target uuid → IsAmong target uuid now
-among_now target uuid None is = tt
-among_now target uuid (Some entry) is = sym is
 
 fits-staged_all : (entry_changes : List EntryChange) (target : List Entry) (stage : Stage) → Each (λ (t : EntryChange). t.after ≡ entry_at target t.uuid) entry_changes → Fits target stage → Fits target (staged_all stage entry_changes)
 fits-staged_all [] target stage each fits = fits
@@ -90,7 +79,7 @@ module _ (old new : List Entry) (earlier : ascends old ≡ true) (later : ascend
       → taken_within 1 (midway ended cookie before) one.message ≡ (midway ended cookie (before ++ entry_change ∷ []), Staged)
   midway_staged before after entry_change one ended cookie is =
       ap (λ fault. refused_by fault (midway ended cookie before) (taken 1 (midway ended cookie before) one.message))
-      (ap (λ (outcome : Copy × Answer). limit_fault (puts_entry one.message) outcome.0 outcome.1) taken_is ∙ room_needed (puts_entry one.message) (staged_all [] (before ++ entry_change ∷ [])) None (room (before ++ entry_change ∷ []) after (pushed before after entry_change is)) refl)
+      (ap (λ (outcome : Copy × Answer). limit_fault (puts_entry one.message) outcome.0 outcome.1) taken_is ∙ no_room_needed (puts_entry one.message) (staged_all [] (before ++ entry_change ∷ [])) None (room (before ++ entry_change ∷ []) after (pushed before after entry_change is)) refl)
       ∙ taken_is
     where
       taken_is : taken 1 (midway ended cookie before) one.message ≡ (midway ended cookie (before ++ entry_change ∷ []), Staged)
@@ -104,7 +93,7 @@ module _ (old new : List Entry) (earlier : ascends old ≡ true) (later : ascend
   last_stored before entry_change text one ended cookie is =
       ap (λ fault. refused_by fault (midway ended cookie before) (taken 1 (midway ended cookie before) one.message))
       (ap (λ (outcome : Copy × Answer). limit_fault (puts_entry one.message) outcome.0 outcome.1) taken_is
-      ∙ room_needed (puts_entry one.message) (staged_all [] all) (against new) (room all [] (pushed before [] entry_change is)) (nothing_against new within))
+      ∙ no_room_needed (puts_entry one.message) (staged_all [] all) (against new) (room all [] (pushed before [] entry_change is)) (nothing_against new within))
       ∙ taken_is
     where
       all : List EntryChange

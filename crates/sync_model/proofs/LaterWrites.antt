@@ -5,6 +5,7 @@ use Rattle.std.specs.List.{cons_option}
 use Rattle.std.proofs.lemmas.List.{length-append}
 use Rattle.std.proofs.lemmas.List.Elements.{All-head, All-tail}
 use Rattle.dn_names.specs.Writing.{name_text}
+use Rattle.dn_names.proofs.KeyTexts.{not_empty}
 use Rattle.entry_tree.specs.State.{entry_at}
 use Rattle.entry_tree.specs.Touched.{identities, joined, change_at, is_change, touched}
 use Rattle.entry_tree.specs.declared.entry.Entry.{Entry}
@@ -60,11 +61,6 @@ each-found old new = go (joined (identities old) (identities new))
 
 -- ---- places
 
--- a list with an element in it is not empty
-pub not_empty : {X : Type 0} (earlier rest : List X) (x : X) → earlier ++ x ∷ rest ≡ [] → ⊥
-not_empty [] rest x same = cc
-not_empty (y ∷ earlier) rest x same = cc
-
 -- before the end of the first of two lists
 abbrev IsIn : {X : Type 0} → List X → List X → X → Type 0
 IsIn {X} earlier xs x = (more : List X) × (xs ≡ earlier ++ x ∷ more)
@@ -100,11 +96,6 @@ place_after earlier rest xs ys x same high = by (place_of earlier rest xs ys x s
     by : IsIn earlier xs x ⊎ IsAfter earlier rest xs ys x → IsAfter earlier rest xs ys x
     by (inl is) = absurd (omega (arith, high, ap length is.1, length-append earlier (x ∷ is.0)))
     by (inr is) = is
-
--- what follows from what holds of each holds of each
-pub each_weaker : {X : Type 0} (P Q : X → Type 0) (xs : List X) → ((x : X) → P x → Q x) → Each P xs → Each Q xs
-each_weaker P Q [] h each = tt
-each_weaker P Q (x ∷ xs) h each = (h x each.0, each_weaker P Q xs h each.1)
 
 -- what holds of an entry that is sent
 pub each_entry : (P : Entry → Type 0) (ms : List SyncMessage) → All P (filter_map sent_entry ms) → Each (λ m. (e : Entry) → sent_entry m ≡ Some e → P e) ms

@@ -1,6 +1,6 @@
 -- What is among entries within the limits is within them too.
 use Rattle.std.proofs.Common.{◌≡◌, ◌<◌, ℕ, Bool, true, false, cond, nat_eq, nat_lt, List, [], ◌∷◌, length, refl, sym, ap, ◌∙◌, arith, Some, None, Option, subst}
-use Rattle.std.specs.Prelude.{not, ◌||◌, ⊤, filter, option_map}
+use Rattle.std.specs.Prelude.{not, ◌||◌, ⊤, filter, option_map, ◌&&◌}
 use Rattle.std.specs.List.{cons_option}
 use Rattle.std.specs.Option.{option_or}
 use Rattle.std.specs.Ordering.{match_ordering}
@@ -13,13 +13,13 @@ use Rattle.dn_names.specs.Names.{TypeAndValue}
 use Rattle.entry_tree.specs.State.{ascends, entry_at, entry_named, is_named, total_weight, most_entries, most_weight}
 use Rattle.entry_tree.proofs.Directory.{ascends_filter, total_parts}
 use Rattle.entry_tree.proofs.Identities.{above, none_at}
-use Rattle.sync_model.specs.Copy.{Stage, slot, is_put, staged, all_dropped, puts_of}
+use Rattle.sync_model.specs.Copy.{Stage, slot, is_put, staged, all_dropped, puts_of, Fault}
 use Rattle.sync_model.specs.Copy.Fault.{StageFull, DuplicateName}
 use Rattle.sync_model.specs.Within.{is_crowded, same_named, against}
 use Rattle.sync_model.specs.Law.{IsWithin}
 use Rattle.sync_model.proofs.Maps.{entry_at-uuid}
 use Rattle.entry_tree.proofs.Order.{entry_at-filter, same_entries}
-use Rattle.sync_model.proofs.Gather.{Each}
+use Rattle.sync_model.proofs.Gather.{Each, each_weaker}
 
 -- ---- entries within the limits
 
@@ -98,10 +98,6 @@ each-staged Q (s ∷ stage) v change own each = step (each-staged Q stage v chan
   step ih false true _ same = (own s.0 (sym (eqb-true v s.0 same)), each.1)
   step ih false false _ _ = (each.0, ih)
 
-each-weaker : {X : Type 0} (Q R : X → Type 0) (xs : List X) → ((x : X) → Q x → R x) → Each Q xs → Each R xs
-each-weaker Q R [] h each = tt
-each-weaker Q R (x ∷ xs) h each = (h x each.0, each-weaker Q R xs h each.1)
-
 -- a stage in order is so with one change more
 pub ordered-staged : (stage : Stage) (v : ℕ) (change : Option Entry) → Ordered stage → Ordered (staged v change stage)
 ordered-staged [] v change ordered = (tt, tt)
@@ -110,7 +106,7 @@ ordered-staged (s ∷ stage) v change ordered = step (ordered-staged stage v cha
       → Ordered (match_ordering (cond l Less (cond q Equal Greater)) ((v, change) ∷ s ∷ stage) ((s.0, change) ∷ stage) (s ∷ staged v change stage))
   step ih true q less _ =
       let far : v < s.0 = ltb-true v s.0 less in
-      ((far, each-weaker (λ (later : ℕ × Option Entry). s.0 < later.0) (λ (later : ℕ × Option Entry). v < later.0) stage (λ later h. omega (arith, far, h)) ordered.0), ordered)
+      ((far, each_weaker (λ (later : ℕ × Option Entry). s.0 < later.0) (λ (later : ℕ × Option Entry). v < later.0) stage (λ later h. omega (arith, far, h)) ordered.0), ordered)
   step ih false true _ same = ordered
   step ih false false less same =
       let far : s.0 < v = omega (arith, ltb-false v s.0 less, eqb-false v s.0 same) in
@@ -201,3 +197,13 @@ pub puts_fit : (stage : Stage) (target : List Entry) → ascends target ≡ true
 puts_fit stage target ascending within fits =
     ap is_crowded (puts_are stage target ascending fits)
     ∙ not_crowded (filter (λ entry. is_put (slot stage entry.uuid)) target) (within_filter (λ entry. is_put (slot stage entry.uuid)) target within)
+
+-- no room is needed where nothing crowds
+pub no_room_needed : (puts : Bool) (stage : Stage) (other : Option Fault) → is_crowded (puts_of stage) ≡ false → other ≡ None → cond (puts && is_crowded (puts_of stage)) (Some StageFull) other ≡ None
+no_room_needed true stage other room none = cond-false _ _ _ room ∙ none
+no_room_needed false stage other room none = none
+
+-- what is there now is among the target
+pub among_now : (target : List Entry) (uuid : ℕ) (now : Option Entry) → now ≡ entry_at target uuid → IsAmong target uuid now
+among_now target uuid None is = tt
+among_now target uuid (Some entry) is = sym is

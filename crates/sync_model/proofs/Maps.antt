@@ -8,6 +8,7 @@ use Rattle.std.specs.Ordering.{nat_cmp}
 use Rattle.entry_tree.specs.declared.entry.Entry.{Entry}
 use Rattle.entry_tree.specs.State.{entry_at, is_identified}
 use Rattle.entry_tree.specs.Touched.{identities, joined}
+use Rattle.entry_tree.proofs.Rising.{among-insert}
 use Rattle.sync_model.specs.Stream.{among}
 use Rattle.sync_model.specs.Copy.{Stage, slot, staged, all_dropped}
 
@@ -16,14 +17,10 @@ pub slot-staged : (stage : Stage) (v : ℕ) (change : Option Entry) (u : ℕ) �
 slot-staged [] v change u = refl
 slot-staged (s ∷ stage) v change u = grind (arith, nat_tests, slot-staged stage v change u)
 
-pub among-inserted : (xs : List ℕ) (v u : ℕ) → among u (insert_key nat_cmp xs v) ≡ (nat_eq u v || among u xs)
-among-inserted [] v u = refl
-among-inserted (x ∷ xs) v u = grind (arith, nat_tests, among-inserted xs v u)
-
 -- an identity is in a union where it is in one of its parts
 pub among-joined : (ys xs : List ℕ) (u : ℕ) → among u (joined xs ys) ≡ (among u xs || among u ys)
 among-joined [] xs u = grind (arith, nat_tests)
-among-joined (y ∷ ys) xs u = grind (arith, nat_tests, among-joined ys (insert_key nat_cmp xs y) u, among-inserted xs y u)
+among-joined (y ∷ ys) xs u = grind (arith, nat_tests, among-joined ys (insert_key nat_cmp xs y) u, among-insert u xs y)
 
 -- an identity is in two lists together where it is in one of them
 pub among-append : (u : ℕ) (xs ys : List ℕ) → among u (xs ++ ys) ≡ (among u xs || among u ys)

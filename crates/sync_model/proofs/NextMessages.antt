@@ -12,6 +12,7 @@ use Rattle.sync_model.specs.Stream.WalkDecision.{Sends, Names}
 use Rattle.sync_model.specs.Within.{taken_within, taken_all_within, answers_within}
 use Rattle.sync_model.proofs.Gather.{EachD}
 use Rattle.sync_model.proofs.Taking.{refreshing, names_after, stage_after}
+use Rattle.dn_names.proofs.KeyTexts.{not_empty}
 
 -- ---- the next message
 
@@ -31,10 +32,6 @@ pub record IsEnd (part prefix : List SyncMessage) (last m : SyncMessage) (rest :
 abbrev pub Next : List SyncMessage → List SyncMessage → SyncMessage → SyncMessage → List SyncMessage → Type 0
 Next part prefix last m rest = IsMidst part prefix last m rest ⊎ IsEnd part prefix last m rest
 
-not_none : (prefix rest : List SyncMessage) (m : SyncMessage) → prefix ++ m ∷ rest ≡ [] → ⊥
-not_none [] rest m same = cc
-not_none (x ∷ prefix) rest m same = cc
-
 one_more : (part prefix : List SyncMessage) (last m : SyncMessage) (rest : List SyncMessage) (x y : SyncMessage) → x ≡ y → Next part prefix last m rest → Next (y ∷ part) (x ∷ prefix) last m rest
 one_more part prefix last m rest x y same (inl is) =
     inl (record { more = is.more; among = (λ i. sym same i ∷ is.among i); left = is.left })
@@ -53,7 +50,7 @@ next_is [] (x ∷ part) rest last m same =
     inl (record { more = part; among = ap (λ y. y ∷ part) (sym message); left = left })
 next_is (x ∷ prefix) [] rest last m same =
     let none : prefix ++ m ∷ rest ≡ [] = cc in
-    absurd (not_none prefix rest m none)
+    absurd (not_empty prefix rest m none)
 next_is (x ∷ prefix) (y ∷ part) rest last m same =
     let first : x ≡ y = cc in
     let others : prefix ++ m ∷ rest ≡ part ++ last ∷ [] = cc in

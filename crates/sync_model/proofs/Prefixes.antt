@@ -11,15 +11,16 @@ use Rattle.entry_tree.specs.State.{ascends}
 use Rattle.sync_model.specs.Message.{CookieText, SyncMessage}
 use Rattle.sync_model.specs.Message.SyncMessage.{AddOrModify, Delete, Present, IdSet, NewCookie, RefreshDelete, RefreshPresent, Done, Ignored}
 use Rattle.sync_model.specs.Stream.{SyncOperation, Start, RefreshPiece, WalkDecision, content_after, is_delete_phase, decide_piece, decide_late, gathered, last_mark, late_uuids, end_of, after_walk, refresh, notified, notified_all, group, later, stream}
-use Rattle.sync_model.specs.Stream.WalkDecision.{Sends, Names}
 use Rattle.sync_model.specs.Copy.{SyncSession, Copy, Fault, Answer, asked, staged, all_dropped, refused, goes_on, with_cookie, is_known, named_unless, ends_phase, taken_names, taken_info, taken_in, taken_by, taken, taken_all}
 use Rattle.sync_model.specs.Copy.Fault.{OutOfPlace, PresentUnknown}
 use Rattle.entry_tree.specs.Touched.{joined, touched}
 use Rattle.sync_model.specs.Copy.Answer.{Staged, Stored, Copied, Over, Refused}
 use Rattle.sync_model.specs.Law.{Ascending, IsCut, Begins, settled, cookie_after, is_nil, ShowsContent, ShowsAsBefore, Shows}
-use Rattle.sync_model.proofs.Gather.{Each, EachD, EachM, each-append, each-prefix, each-gathered}
+use Rattle.sync_model.proofs.Gather.{Each, EachM, each-append, each-prefix, each-gathered}
 use Rattle.sync_model.proofs.Refresh.{refresh_ends, marks-last, ascends-content}
 use Rattle.sync_model.proofs.Later.{IsStep, each-touched, notified_between, group_taken, later_ends, taken_all-append}
+use Rattle.sync_model.proofs.Groups.{heads, tails}
+use Rattle.sync_model.proofs.NextMessages.{any_decision}
 
 -- ---- messages that leave the entries and the cookie
 
@@ -121,33 +122,22 @@ quiet-part (RefreshPresent done cookie ∷ messages) deletes P Q part = absurd p
 quiet-part (Done code control ∷ messages) deletes P Q part = absurd part.0
 quiet-part (Ignored ∷ messages) deletes P Q part = absurd part.0
 
-any_decision : (decisions : List WalkDecision) → EachD (λ entry. ⊤) (λ uuid. ⊤) decisions
-any_decision [] = tt
-any_decision (Sends entry ∷ decisions) = (tt, any_decision decisions)
-any_decision (Names uuid ∷ decisions) = (tt, any_decision decisions)
-
 quiet-gathered : (deletes : Bool) (decisions : List WalkDecision) → AllQuiet (gathered deletes decisions)
 quiet-gathered deletes decisions =
     quiet-part (gathered deletes decisions) deletes (λ entry. ⊤) (λ uuid. ⊤) (each-gathered deletes (λ entry. ⊤) (λ uuid. ⊤) decisions (any_decision decisions))
 
 -- ---- prefixes of lists
 
-head_same : {X : Type 0} (x y : X) (xs ys : List X) → x ∷ xs ≡ y ∷ ys → x ≡ y
-head_same x y xs ys h = cc
-
-tail_same : {X : Type 0} (x y : X) (xs ys : List X) → x ∷ xs ≡ y ∷ ys → xs ≡ ys
-tail_same x y xs ys h = cc
-
 -- a prefix of two lists is one of the first, or the first and a prefix of the second
 split_prefix : {X : Type 0} (prefix rest xs ys : List X) → prefix ++ rest ≡ xs ++ ys → ((more : List X) × (prefix ++ more ≡ xs)) ⊎ ((over : List X) × (prefix ≡ xs ++ over) × (over ++ rest ≡ ys))
 split_prefix prefix rest [] ys h = inr (prefix, refl, h)
 split_prefix [] rest (x ∷ xs) ys h = inl (x ∷ xs, refl)
 split_prefix (first ∷ prefix) rest (x ∷ xs) ys h =
-    let same : first ≡ x = head_same first x (prefix ++ rest) (xs ++ ys) h in
+    let same : first ≡ x = heads first x (prefix ++ rest) (xs ++ ys) h in
     ⊎_elim
     (λ l. inl (l.0, λ i. same i ∷ l.1 i))
     (λ r. inr (r.0, λ i. same i ∷ r.1 i, r.2))
-    (split_prefix prefix rest xs ys (tail_same first x (prefix ++ rest) (xs ++ ys) h))
+    (split_prefix prefix rest xs ys (tails first x (prefix ++ rest) (xs ++ ys) h))
 
 nil_prefix : {X : Type 0} (prefix rest : List X) → prefix ++ rest ≡ [] → prefix ≡ []
 nil_prefix [] rest h = refl
@@ -171,8 +161,8 @@ closed_prefix messages prefix rest closed h = ⊎_elim
     over : (more : List SyncMessage) → prefix ≡ closed.quiet ++ more → more ++ rest ≡ closed.last ∷ [] → AllQuiet prefix ⊎ (prefix ≡ messages)
     over [] p q = inl (subst AllQuiet (sym (p ∙ append-nil closed.quiet)) closed.all)
     over (first ∷ more) p q =
-        let none : more ≡ [] = nil_prefix more rest (tail_same first closed.last (more ++ rest) [] q) in
-        let one : first ≡ closed.last = head_same first closed.last (more ++ rest) [] q in
+        let none : more ≡ [] = nil_prefix more rest (tails first closed.last (more ++ rest) [] q) in
+        let one : first ≡ closed.last = heads first closed.last (more ++ rest) [] q in
         inr (p ∙ (λ i. closed.quiet ++ one i ∷ none i) ∙ sym closed.is)
 
 -- ---- a refresh, and what a write sends, are closed

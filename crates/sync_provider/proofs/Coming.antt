@@ -1,13 +1,12 @@
 -- What comes of the next message of a search, in its refresh or after it.
-use Rattle.std.proofs.Common.{◌≡◌, ℕ, ◌+◌, ◌≤◌, Bool, true, false, cond, List, [], ◌∷◌, ◌++◌, Some, None, refl, ap, sym, ◌∙◌, inl, inr, arith, subst, append_assoc}
+use Rattle.std.proofs.Common.{◌≡◌, ℕ, Bool, true, false, cond, List, [], ◌∷◌, ◌++◌, Some, None, refl, ap, sym, ◌∙◌, inl, inr, arith, subst, append_assoc}
 use Rattle.std.specs.Prelude.{◌⊎◌, All}
 use Rattle.csn_cookie.specs.Cookie.{cookie_text}
 use Rattle.csn_cookie.specs.declared.cookie.Cookie as csns
-use Rattle.entry_tree.specs.Effects.{committed}
 use Rattle.entry_tree.specs.State.{ascends}
 use Rattle.entry_tree.specs.declared.entry.Entry.{Entry}
-use Rattle.sync_model.specs.Copy.{Copy, Commit, Answer}
-use Rattle.sync_model.specs.Copy.Answer.{Staged, Stored}
+use Rattle.sync_model.specs.Copy.{Copy, Answer}
+use Rattle.sync_model.specs.Copy.Answer.{Staged}
 use Rattle.sync_model.specs.Law.{Ascending, IsWithin, settled}
 use Rattle.sync_model.specs.Message.{SyncMessage}
 use Rattle.sync_model.specs.Stream.{SyncOperation, Start, content_after, is_delete_phase, end_of, later}
@@ -17,7 +16,7 @@ use Rattle.sync_model.proofs.NextMessages.{HasNext, IsMidst, IsEnd, Next, IsStag
 use Rattle.sync_wire.specs.CanBeSent.{CanBeSent}
 use Rattle.sync_wire.proofs.OfSearch.{IsOfSearch, of_phase}
 use Rattle.sync_provider.specs.Search.{refresh_from}
-use Rattle.sync_provider.proofs.Past.{IsMidway, IsDone, Comes, past_comes}
+use Rattle.sync_provider.proofs.Past.{StoresContent, IsMidway, IsDone, Comes, past_comes}
 use Rattle.sync_provider.proofs.RefreshTaken.{part, last, follows, midst_sent, midst_staged, end_stored}
 use Rattle.sync_provider.proofs.Whereabouts.{InRefresh, IsPast, IsWhere}
 
@@ -38,17 +37,9 @@ module _ (operation : SyncOperation) (ascending : Ascending operation) (within :
 
   -- or the content after some of the writes is held, with its cookie
   pub record StoresOne (entries : List Entry) (ahead : List SyncMessage) (outcome : Copy × Answer) : Type 0 where
-    pub number : ℕ
-    pub from : opened ≤ number
-    pub upto : number ≤ opened + count
-    pub commit : Commit
-    pub answer : outcome.1 ≡ Stored commit
-    pub text : commit.cookie ≡ Some (operation.cookies number)
-    pub staged : committed entries commit.puts commit.drops ≡ content_after operation number
-    pub held : outcome.0.held ≡ content_after operation number
-    pub cookie : outcome.0.cookie ≡ Some (operation.cookies number)
-    pub then : IsPast operation opened count (content_after operation number) outcome.0 ahead ⊎ IsOver ahead outcome.0
-    pub whole : operation.persists ≡ false → number ≡ opened
+    pub stored : StoresContent operation opened count entries outcome
+    pub then : IsPast operation opened count (content_after operation stored.number) outcome.0 ahead ⊎ IsOver ahead outcome.0
+    pub whole : operation.persists ≡ false → stored.number ≡ opened
 
   -- one of the two, and the message is one of a search
   pub record TakesOne (entries : List Entry) (held : Copy) (taken : List SyncMessage) (m : SyncMessage) (ahead : List SyncMessage) : Type 0 where
@@ -109,15 +100,17 @@ module _ (operation : SyncOperation) (ascending : Ascending operation) (within :
     end_comes end = record {
       can = subst IsOfSearch (sym end.message) (end_can operation.persists);
       comes = inr (record {
-        number = opened;
-        from = omega arith;
-        upto = omega arith;
-        commit = now.commit;
-        answer = ap (λ (o : Copy × Answer). o.1) same ∙ now.answer;
-        text = now.text;
-        staged = now.staged;
-        held = ap (λ (c : Copy). c.held) copy;
-        cookie = ap (λ (c : Copy). c.cookie) copy;
+        stored = record {
+          number = opened;
+          from = omega arith;
+          upto = omega arith;
+          commit = now.commit;
+          answer = ap (λ (o : Copy × Answer). o.1) same ∙ now.answer;
+          text = now.text;
+          staged = now.staged;
+          held = ap (λ (c : Copy). c.held) copy;
+          cookie = ap (λ (c : Copy). c.cookie) copy;
+        };
         then = by operation.persists refl;
         whole = λ ends. refl;
       });
@@ -178,15 +171,7 @@ module _ (operation : SyncOperation) (ascending : Ascending operation) (within :
           → StagesOne entries held (taken ++ m ∷ []) ahead (taken_within 1 held m) ⊎ StoresOne entries ahead (taken_within 1 held m)
       by (inl midway) = inl (record { answer = midway.answer; same = midway.same; cookie = midway.cookie; place = inr (is.0, inr midway.now) })
       by (inr done) = inr (record {
-        number = done.number;
-        from = done.from;
-        upto = done.upto;
-        commit = done.commit;
-        answer = done.answer;
-        text = done.text;
-        staged = done.staged;
-        held = done.held;
-        cookie = done.cookie;
+        stored = done.stored;
         then = inl (is.0, inl done.now);
         whole = λ ends. let bad : true ≡ false = sym is.0 ∙ ends in let never : ⊥ = cc in absurd never;
       })

@@ -8,7 +8,7 @@ use Rattle.entry_tree.specs.Sound.{is_commit}
 use Rattle.directory_writes.proofs.Commits.{plain_fits}
 use Rattle.directory_writes.specs.Commits as directory
 use Rattle.directory_writes.specs.Directory.{DirectoryState, judged}
-use Rattle.directory_writes.specs.declared.commit.CommitFault as causes
+use Rattle.directory_writes.specs.declared.commit.DirectoryFault.{DirectoryFault}
 use Rattle.sync_provider.specs.Committing.{fault_of, commit_refusal}
 use Rattle.sync_provider.specs.Machine.{ProviderState, after_judged, after_commit}
 use Rattle.sync_provider.specs.declared.provider.Kind.{Kind}
@@ -26,7 +26,7 @@ commit_case P p op now None before after = after
 commit_case P p op now (Some fault) before after = before
 
 -- nothing rejects it where nothing rejects it at the directory
-none_of : (refusal : Option causes.CommitFault) → option_map fault_of refusal ≡ None → refusal ≡ None
+none_of : (refusal : Option DirectoryFault) → option_map fault_of refusal ≡ None → refusal ≡ None
 none_of None is = refl
 none_of (Some fault) is = let never : ⊥ = cc in absurd never
 

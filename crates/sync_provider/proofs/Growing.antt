@@ -10,8 +10,7 @@ use Rattle.entry_tree.specs.declared.entry.Entry.{Entry}
 use Rattle.sync_model.specs.Message.{CookieText, SyncMessage}
 use Rattle.sync_model.specs.Message.SyncMessage.{AddOrModify, Delete, Present, IdSet, NewCookie, RefreshDelete, RefreshPresent, Done, Ignored}
 use Rattle.sync_model.specs.Stream.{SyncOperation, Start, WalkDecision, group, later, stream, notified, notified_all, gathered, end_of, is_delete_phase, content_after}
-use Rattle.sync_model.proofs.Gather.{Each, IsPart, each-append, each-gathered}
-use Rattle.sync_model.proofs.LaterWrites.{each_weaker}
+use Rattle.sync_model.proofs.Gather.{Each, each_weaker, IsPart, each-append, each-gathered}
 use Rattle.sync_model.proofs.NextMessages.{any_decision}
 use Rattle.entry_tree.specs.declared.touched.EntryChange.{EntryChange}
 use Rattle.entry_tree.specs.Touched.{touched}

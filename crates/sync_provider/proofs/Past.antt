@@ -39,6 +39,18 @@ notified_hands cookie entry_change one =
 
 -- ---- the next message
 
+-- a message after which the content after some of the writes is held, with its cookie
+pub record StoresContent (operation : SyncOperation) (opened count : ℕ) (entries : List Entry) (outcome : Copy × Answer) : Type 0 where
+  pub number : ℕ
+  pub from : opened ≤ number
+  pub upto : number ≤ opened + count
+  pub commit : Commit
+  pub answer : outcome.1 ≡ Stored commit
+  pub text : commit.cookie ≡ Some (operation.cookies number)
+  pub staged : committed entries commit.puts commit.drops ≡ content_after operation number
+  pub held : outcome.0.held ≡ content_after operation number
+  pub cookie : outcome.0.cookie ≡ Some (operation.cookies number)
+
 module _ (operation : SyncOperation) (ascending : Ascending operation) (within : (number : ℕ) → IsWithin (operation.states number)) (sent : (number : ℕ) → All CanBeSent (operation.states number))
     (texts : (number : ℕ) → (cookie : csns.Cookie) × (operation.cookies number ≡ cookie_text cookie)) (opened count : ℕ) where
   ascends_at : (number : ℕ) → ascends (content_after operation number) ≡ true
@@ -96,16 +108,8 @@ module _ (operation : SyncOperation) (ascending : Ascending operation) (within :
 
   -- or it is the last of its write, after which the content is held, with its cookie
   pub record IsDone (entries : List Entry) (rest : List SyncMessage) (outcome : Copy × Answer) : Type 0 where
-    pub number : ℕ
-    pub from : opened ≤ number
-    pub upto : number ≤ opened + count
-    pub commit : Commit
-    pub answer : outcome.1 ≡ Stored commit
-    pub text : commit.cookie ≡ Some (operation.cookies number)
-    pub staged : committed entries commit.puts commit.drops ≡ content_after operation number
-    pub held : outcome.0.held ≡ content_after operation number
-    pub cookie : outcome.0.cookie ≡ Some (operation.cookies number)
-    pub now : AtWhole operation opened count (content_after operation number) outcome.0 rest
+    pub stored : StoresContent operation opened count entries outcome
+    pub now : AtWhole operation opened count (content_after operation stored.number) outcome.0 rest
 
   -- and it can be carried
   pub record Comes (entries : List Entry) (held : Copy) (m : SyncMessage) (rest : List SyncMessage) : Type 0 where
@@ -140,20 +144,22 @@ module _ (operation : SyncOperation) (ascending : Ascending operation) (within :
       can = subst IsOfSearch here (of_search (Some text) one (texts (is.number + 1)));
       hands = subst (λ x. turn_of_message 1 x ≡ Hands (wire.sent 1 x)) here (notified_hands (Some text) is.entry_change one);
       comes = inr (record {
-        number = is.number + 1;
-        from = omega (arith, is.from);
-        upto = omega (arith, is.sum);
-        commit = commit_of (staged_all [] (is.before ++ is.entry_change ∷ [])) (Some text);
-        answer = ap (λ (o : Copy × Answer). o.1) outcome;
-        text = refl;
-        staged =
-            ap (λ es. committed es now_staged.puts now_staged.drops) is.content
-            ∙ stage_commits old (staged_all [] (is.before ++ is.entry_change ∷ [])) (ascends_at is.number)
-            (fine-touched (is.before ++ is.entry_change ∷ []) [] (subst (Each IsStep) touched_is (each-touched old new)) fine-none)
-            ∙ ap (λ entry_changes. effected old (staged_all [] entry_changes)) (sym touched_is)
-            ∙ effected-touched old new (ascends_at is.number) (ascends_at (is.number + 1));
-        held = ap (λ (o : Copy × Answer). o.0.held) outcome;
-        cookie = ap (λ (o : Copy × Answer). o.0.cookie) outcome;
+        stored = record {
+          number = is.number + 1;
+          from = omega (arith, is.from);
+          upto = omega (arith, is.sum);
+          commit = commit_of (staged_all [] (is.before ++ is.entry_change ∷ [])) (Some text);
+          answer = ap (λ (o : Copy × Answer). o.1) outcome;
+          text = refl;
+          staged =
+              ap (λ es. committed es now_staged.puts now_staged.drops) is.content
+              ∙ stage_commits old (staged_all [] (is.before ++ is.entry_change ∷ [])) (ascends_at is.number)
+              (fine-touched (is.before ++ is.entry_change ∷ []) [] (subst (Each IsStep) touched_is (each-touched old new)) fine-none)
+              ∙ ap (λ entry_changes. effected old (staged_all [] entry_changes)) (sym touched_is)
+              ∙ effected-touched old new (ascends_at is.number) (ascends_at (is.number + 1));
+          held = ap (λ (o : Copy × Answer). o.0.held) outcome;
+          cookie = ap (λ (o : Copy × Answer). o.0.cookie) outcome;
+        };
         now = record {
           number = is.number + 1;
           more = is.more;

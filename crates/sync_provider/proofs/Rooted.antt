@@ -5,8 +5,8 @@ use Rattle.std.specs.Option.{option_or}
 use Rattle.entry_tree.specs.declared.entry.Entry.{Entry}
 use Rattle.directory_writes.specs.Commits as directory
 use Rattle.directory_writes.specs.Directory.{DirectoryState}
-use Rattle.directory_writes.specs.declared.commit.CommitFault as causes
-use Rattle.directory_writes.specs.declared.commit.CommitFault.TheVariants as cause
+use Rattle.directory_writes.specs.declared.commit.DirectoryFault.{DirectoryFault}
+use Rattle.directory_writes.specs.declared.commit.DirectoryFault.TheVariants as cause
 use Rattle.sync_provider.specs.Committing.{fault_of, commit_refusal}
 use Rattle.sync_provider.specs.Machine.{ProviderState, committed, refusal_of_each}
 use Rattle.sync_provider.specs.declared.committing.StagedCommit.{StagedCommit}
@@ -23,7 +23,7 @@ root_refuses p (commit ∷ commits) now is some =
     ap (λ kind. option_or (commit_refusal kind p.directory commit.puts commit.drops now) (refusal_of_each (committed p commit.puts commit.drops now) commits now)) is
 
 -- a directory has other causes
-no_cause : (found : Option causes.CommitFault) → option_map fault_of found ≡ Some NotAReplica → ⊥
+no_cause : (found : Option DirectoryFault) → option_map fault_of found ≡ Some NotAReplica → ⊥
 no_cause None is = cc
 no_cause (Some (cause.DuplicateName one other)) is = cc
 no_cause (Some (cause.LimitReached limit)) is = cc

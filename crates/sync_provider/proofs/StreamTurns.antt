@@ -6,9 +6,9 @@ use Rattle.entry_tree.specs.declared.entry.Entry.{Entry}
 use Rattle.sync_model.specs.Incremental.{sent_entry}
 use Rattle.sync_model.specs.Message.{SyncMessage}
 use Rattle.sync_model.specs.Stream.{SyncOperation, Start, is_delete_phase, end_of, later, stream}
-use Rattle.sync_model.proofs.Gather.{Each}
+use Rattle.sync_model.proofs.Gather.{Each, each_weaker}
 use Rattle.sync_model.proofs.Groups.{each_one}
-use Rattle.sync_model.proofs.LaterWrites.{each_weaker, each_entry, place_in}
+use Rattle.sync_model.proofs.LaterWrites.{each_entry, place_in}
 use Rattle.sync_model.proofs.NextMessages.{HasNext, Next, some_next}
 use Rattle.sync_wire.specs.Sending as wire
 use Rattle.sync_provider.specs.HandingOut.{turn_of_message}

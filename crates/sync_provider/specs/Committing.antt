@@ -3,14 +3,14 @@ use Rattle.std.specs.Prelude.{◌≡◌, ℕ, List, Option, Some, option_map}
 use Rattle.entry_tree.specs.declared.entry.Entry.{Entry}
 use Rattle.directory_writes.specs.Commits as directory
 use Rattle.directory_writes.specs.Directory.{DirectoryState}
-use Rattle.directory_writes.specs.declared.commit.CommitFault as causes
-use Rattle.directory_writes.specs.declared.commit.CommitFault.TheVariants as cause
+use Rattle.directory_writes.specs.declared.commit.DirectoryFault.{DirectoryFault}
+use Rattle.directory_writes.specs.declared.commit.DirectoryFault.TheVariants as cause
 use Rattle.sync_provider.specs.declared.provider.Kind.{Kind}
 use Rattle.sync_provider.specs.declared.provider.Kind.TheVariants.{Root, Replica}
 use Rattle.sync_provider.specs.declared.writing.CommitFault.{CommitFault}
 use Rattle.sync_provider.specs.declared.writing.CommitFault.TheVariants.{DuplicateName, LimitReached, NoMemory, NotAReplica}
 
-abbrev pub fault_of : causes.CommitFault → CommitFault
+abbrev pub fault_of : DirectoryFault → CommitFault
 fault_of (cause.DuplicateName one other) = DuplicateName one other
 fault_of (cause.LimitReached limit) = LimitReached limit
 fault_of cause.NoMemory = NoMemory

@@ -13,8 +13,8 @@ ghost use Rattle.sync_provider.specs.Law.{
 };
 ghost use Rattle.sync_provider.specs.Returning.{ReturnsCountAsNone};
 
-/// After every list of calls whose writes and commits are sound, each write that is kept was accepted
-/// on the entries before it.
+/// After every list of calls whose writes and commits are sound, each write that is kept was
+/// accepted on the entries before it.
 pub fn writes_were_accepted()
     ensures { WritesWereAccepted }
 {}
@@ -25,8 +25,9 @@ pub fn cookies_name_their_prefix()
     ensures { CookiesNameTheirPrefix }
 {}
 
-/// After every list of calls, where the session log covers a number of writes it reports exactly the
-/// identities whose entries the writes since then touched; and it covers the number of all writes.
+/// After every list of calls, where the session log covers a number of writes it reports exactly
+/// the identities whose entries the writes since then touched; and it covers the number of all
+/// writes.
 pub fn logs_show_what_was_touched()
     ensures { LogsShowWhatWasTouched }
 {}
@@ -37,16 +38,16 @@ pub fn numbers_show_what_was_touched()
     ensures { NumbersShowWhatWasTouched }
 {}
 
-/// After every list of calls, what is pending of each open search is an end of its refresh and then an
-/// end of what the later writes send, all of that where something of the refresh is left; unless a
-/// write was too much for the search.
+/// After every list of calls, what is pending of each open search is an end of its refresh and then
+/// an end of what the later writes send, all of that where something of the refresh is left; unless
+/// a write was too much for the search.
 pub fn searches_keep_their_place()
     ensures { SearchesKeepTheirPlace }
 {}
 
 /// Over every list of calls, what a search handed out, followed by what was pending when it ended,
-/// was dropped or is looked at, is its Stream up to the writes at that moment; or, where a write was
-/// too much for it, a prefix of that and then the end with the code busy.
+/// was dropped or is looked at, is its Stream up to the writes at that moment; or, where a write
+/// was too much for it, a prefix of that and then the end with the code busy.
 pub fn searches_deliver_their_streams()
     ensures { SearchesDeliverTheirStreams }
 {}
@@ -66,8 +67,8 @@ pub fn refreshes_are_incremental()
 {}
 
 /// Over every list of calls with returns to the searches of earlier moments, each to a moment since
-/// which no write came, the provider is as after the calls that count alone: those that were returned
-/// over do not, but for changes of limits.
+/// which no write came, the provider is as after the calls that count alone: those that were
+/// returned over do not, but for changes of limits.
 pub fn returns_count_as_none()
     ensures { ReturnsCountAsNone }
 {}

@@ -12,7 +12,7 @@ ghost use Rattle.sync_provider.specs.Staging.{staged_for, pushed_staged, IsTried
 
 use crate::handed::Handed;
 use crate::notifying::messages_for;
-use crate::pending_refresh::PendingRefresh;
+use crate::pending_refresh::{PendingRefresh, shared};
 use crate::persist_message::PersistMessage;
 use crate::refresh_item::RefreshItem;
 use csn_cookie::Cookie;
@@ -23,6 +23,7 @@ use ldap_constants::{BUSY, SUCCESS};
 use persist_queues::SearchQueue;
 use std::alloc::{AllocError, Global};
 use std::marker::Model;
+use std::sync::Arc;
 use sync_wire::done_message;
 
 /// A search that is open: the messages of its refresh, as they were decided at its acceptance, and
@@ -32,7 +33,8 @@ pub struct OpenSearch {
     alloc: Global,
     /// What its messages are numbered with.
     id: u32,
-    spec: Spec,
+    /// Shared with the copies of the search.
+    spec: Arc<Spec>,
     start: Start,
     /// How many writes the directory had at acceptance.
     accepted: u64,
@@ -65,7 +67,7 @@ impl Model for OpenSearch {
     ghost view = { λ s. record {
       search = record {
         id = s.id;
-        spec = search_of s.spec;
+        spec = search_of s.spec.value;
         start = start_of s.start;
         accepted = s.accepted;
         persists = s.persists;
@@ -99,10 +101,10 @@ impl OpenSearch {
         accepted: u64,
         parts: Vec<RefreshItem>,
         cookie: Cookie,
-    ) -> OpenSearch
+    ) -> Result<OpenSearch, NoMemory>
         requires rid { cookie.rid < 1000 }
         requires sid { cookie.sid < 4096 }
-        ensures search { result.search ≡ record {
+        ensures search { IfOk result (λ opened. opened.search ≡ record {
           id = asked.id;
           spec = search_of asked.spec;
           start = start_of asked.start;
@@ -112,21 +114,23 @@ impl OpenSearch {
               (cookie_text cookie);
           due = [];
           over = false;
-        } }
-        ensures staged { result.staged ≡ None }
+        }) }
+        ensures staged { IfOk result (λ opened. opened.staged ≡ None) }
     {
-        OpenSearch {
+        let spec = shared(alloc, asked.spec)?;
+        let rest = PendingRefresh::new(alloc, parts, cookie)?;
+        Ok(OpenSearch {
             alloc,
             id: asked.id,
-            spec: asked.spec,
+            spec,
             start: asked.start,
             accepted,
             persists: asked.persists,
-            rest: Some(PendingRefresh::new(parts, cookie)),
+            rest: Some(rest),
             queue: SearchQueue::new(alloc, 0),
             staged: None,
             over: false,
-        }
+        })
     }
 
     /// A search that goes on as this one does.
@@ -135,7 +139,7 @@ impl OpenSearch {
     {
         let rest = copy_of_rest(&self.rest)?;
         let queue = copy_of_queue(self.alloc, &self.queue)?;
-        let spec = copy_of(&self.spec)?;
+        let spec = self.spec.clone()?;
         Ok(OpenSearch {
             alloc: self.alloc,
             id: self.id,
@@ -278,16 +282,6 @@ fn copy_of_rest(rest: &Option<PendingRefresh>) -> Result<Option<PendingRefresh>,
         None => Ok(None),
         Some(rest) => Ok(Some(rest.copy()?)),
     }
-}
-
-fn copy_of(spec: &Spec) -> Result<Spec, NoMemory>
-    ensures { IfOk result (λ copy. search_of copy ≡ search_of spec.now) }
-{
-    Ok(Spec {
-        base: spec.base.copy()?,
-        scope: spec.scope,
-        filter: spec.filter.copy()?,
-    })
 }
 
 /// Lets the value go.

@@ -10,18 +10,18 @@ ghost use Rattle.sync_provider.specs.Search.{message_of, first_of};
 use crate::NoMemory;
 use crate::refresh_item::RefreshItem;
 use csn_cookie::Cookie;
-use entry_tree::Entry;
 use ldap_messages::Message;
-use std::alloc::Global;
+use std::alloc::{AllocError, Global};
 use std::marker::Model;
-use sync_messages::IdList;
+use std::sync::Arc;
 use sync_wire::{end_message, entry_message, id_set_message};
 
 /// The messages of a refresh that were not handed out yet (RFC 4533, section 3.3): its parts, and
 /// its end.
 #[derive(Drop)]
 pub(crate) struct PendingRefresh {
-    parts: Vec<RefreshItem>,
+    /// Shared with the copies of the refresh.
+    parts: Arc<Vec<RefreshItem>>,
     /// How many parts were handed out.
     handed: usize,
     /// The cookie of the end.
@@ -36,30 +36,38 @@ impl Model for PendingRefresh {
     ghost Value = { Remaining };
 
     ghost view = { λ r.
-        record { parts = drop r.handed r.parts.items; cookie = cookie_text r.cookie } };
+        record { parts = drop r.handed r.parts.value.items; cookie = cookie_text r.cookie } };
 
-    ghost invariant = { λ r. IsOpen r.parts.items r.handed r.cookie };
+    ghost invariant = { λ r. IsOpen r.parts.value.items r.handed r.cookie };
 }
 
 impl PendingRefresh {
     /// All of a refresh, whose end has this cookie.
-    pub(crate) fn new(parts: Vec<RefreshItem>, cookie: Cookie) -> PendingRefresh
+    pub(crate) fn new(
+        alloc: Global,
+        parts: Vec<RefreshItem>,
+        cookie: Cookie,
+    ) -> Result<PendingRefresh, NoMemory>
         requires rid { cookie.rid < 1000 }
         requires sid { cookie.sid < 4096 }
-        ensures { result ≡ record { parts = parts.items; cookie = cookie_text cookie } }
+        ensures { IfOk result (λ rest.
+            rest ≡ record { parts = parts.items; cookie = cookie_text cookie }) }
     {
-        PendingRefresh {
+        let parts = shared(alloc, parts)?;
+        Ok(PendingRefresh {
             parts,
             handed: 0,
             cookie,
-        }
+        })
     }
 
+    /// The same refresh once more. Its parts are shared. It is `NoMemory` where no more copies can
+    /// be counted.
     pub(crate) fn copy(&self) -> Result<PendingRefresh, NoMemory>
         ensures { IfOk result (λ copy. copy ≡ self.now) }
     {
         Ok(PendingRefresh {
-            parts: copy_of_parts(*self.parts.allocator(), self.parts.as_slice())?,
+            parts: self.parts.clone()?,
             handed: self.handed,
             cookie: self.cookie,
         })
@@ -117,31 +125,12 @@ fn part_message(
     }
 }
 
-fn copy_of_parts(alloc: Global, parts: &[RefreshItem]) -> Result<Vec<RefreshItem>, NoMemory>
-    ensures { IfOk result (λ copy. copy.items ≡ parts.now) }
+/// A value that copies can share.
+pub(crate) fn shared<T: Drop>(alloc: Global, value: T) -> Result<Arc<T>, NoMemory>
+    ensures { IfOk result (λ shared. shared.value ≡ value) }
 {
-    let mut copy = Vec::new(alloc);
-    for part in parts {
-        copy.push(copy_of_part(alloc, part)?)?;
+    match Arc::new(alloc, value) {
+        Ok(shared) => Ok(shared),
+        Err(_) => Err(AllocError),
     }
-    Ok(copy)
-}
-
-fn copy_of_part(alloc: Global, part: &RefreshItem) -> Result<RefreshItem, NoMemory>
-    ensures { IfOk result (λ copy. copy ≡ part.now) }
-{
-    match part {
-        RefreshItem::Whole(entry) => Ok(RefreshItem::Whole(entry.copy()?)),
-        RefreshItem::Names(uuids) => Ok(RefreshItem::Names(copy_of_names(alloc, uuids)?)),
-    }
-}
-
-fn copy_of_names(alloc: Global, uuids: &IdList) -> Result<IdList, NoMemory>
-    ensures { IfOk result (λ copy. copy ≡ uuids.now) }
-{
-    let mut copy = IdList::new(alloc);
-    for uuid in uuids.list() {
-        copy.push(*uuid)?;
-    }
-    Ok(copy)
 }

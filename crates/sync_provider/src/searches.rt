@@ -155,7 +155,7 @@ impl Provider {
             Ok(parts) => {
                 let accepted = self.writes();
                 let cookie = self.directory.cookie();
-                let search = OpenSearch::new(self.alloc, asked, accepted, parts, cookie);
+                let search = OpenSearch::new(self.alloc, asked, accepted, parts, cookie)?;
                 discard(self.searches.insert(number, search)?);
                 Ok(accepted)
             }

@@ -15,7 +15,7 @@ use crate::NoMemory;
 use crate::open_search::discard;
 use crate::provider::{Kind, Provider};
 use crate::staging::{push_each, stage_write};
-use directory_writes::Preview;
+use directory_writes::{DirectoryFault, Preview};
 use entry_tree::{EntryList, Op, OpFault};
 use ldap_constants::{OTHER, SUCCESS, UNWILLING_TO_PERFORM};
 use std::alloc::AllocError;
@@ -43,16 +43,14 @@ pub enum CommitFault {
     NotAReplica,
 }
 
-impl From<directory_writes::CommitFault> for CommitFault {
+impl From<DirectoryFault> for CommitFault {
     ghost from_gives = { λ cause fault. fault ≡ fault_of cause };
 
-    fn from(cause: directory_writes::CommitFault) -> CommitFault {
+    fn from(cause: DirectoryFault) -> CommitFault {
         match cause {
-            directory_writes::CommitFault::DuplicateName(one, other) => {
-                CommitFault::DuplicateName(one, other)
-            }
-            directory_writes::CommitFault::LimitReached(limit) => CommitFault::LimitReached(limit),
-            directory_writes::CommitFault::NoMemory => CommitFault::NoMemory,
+            DirectoryFault::DuplicateName(one, other) => CommitFault::DuplicateName(one, other),
+            DirectoryFault::LimitReached(limit) => CommitFault::LimitReached(limit),
+            DirectoryFault::NoMemory => CommitFault::NoMemory,
         }
     }
 }
@@ -116,7 +114,7 @@ impl Provider {
         puts: EntryList,
         drops: IdList,
         now: u64,
-    ) -> Result<u64, directory_writes::CommitFault>
+    ) -> Result<u64, DirectoryFault>
         requires sound { list_all is_sound_put puts ≡ true }
         requires light { list_all is_light puts ≡ true }
         ensures accepted { OnOk result

@@ -33,9 +33,9 @@ pub fn done_message(alloc: Global, id: u32, code: u32) -> Result<Message, NoMemo
     })
 }
 
-/// The end of a refresh that succeeded, with the cookie of its content. It reported what is deleted,
-/// or else what is present. A search that persists goes on after a Sync Info message; any other is
-/// over with its SearchResultDone (RFC 4533, sections 3.3.2 and 3.4.1).
+/// The end of a refresh that succeeded, with the cookie of its content. It reported what is
+/// deleted, or else what is present. A search that persists goes on after a Sync Info message; any
+/// other is over with its SearchResultDone (RFC 4533, sections 3.3.2 and 3.4.1).
 pub fn end_message(
     alloc: Global,
     id: u32,

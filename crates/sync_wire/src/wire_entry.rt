@@ -67,7 +67,7 @@ fn attributes_of(alloc: Global, raws: &[RawAttribute]) -> Result<Attrs, NoMemory
     let mut items = Vec::new(alloc);
     for raw in raws {
         if let Some(attribute) = kept(alloc, raw)? {
-            add_values(&mut items, attribute.kind, attribute.values.list())?;
+            add_values(&mut items, attribute.kind, attribute.values)?;
         }
     }
     Attrs::of(items)

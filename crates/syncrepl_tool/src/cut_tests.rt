@@ -1,5 +1,6 @@
-//! A refresh of 300 entries is cut after each of its messages, and a settling after it changes nothing. The report of
-//! each would be long, so these are steps of a world, over objects in memory.
+//! A refresh of 300 entries is cut after each of its messages, and a settling after it changes
+//! nothing. The report of each would be long, so these are steps of a world, over objects in
+//! memory.
 use crate::tests::started;
 use cascade_world::{Script, World, read_event};
 use ldap_ber::{NoMemory, Octets};
@@ -71,7 +72,8 @@ fn is_settled(alloc: Global, world: &mut World, count: u32) -> Result<bool, Fail
     Ok(lines.as_slice().ends_with(LARGE_CONTENT.as_bytes()))
 }
 
-/// The number of messages, from the first and up to before the last, after which a cut changes nothing.
+/// The number of messages, from the first and up to before the last, after which a cut changes
+/// nothing.
 fn settled(alloc: Global, first: u32, last: u32) -> Result<u32, Fail> {
     let mut world = large_world(alloc)?;
     let count = count_settled(alloc, &mut world, first, last);

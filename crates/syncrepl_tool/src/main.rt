@@ -44,8 +44,8 @@ fn out_of_memory<E: Sink>(errors: &mut E) -> ExitCode {
     ExitCode::from(NO_MEMORY)
 }
 
-/// The words after the program's name, or none of them where one is no text; an `Err` where there is no
-/// memory for them.
+/// The words after the program's name, or none of them where one is no text; an `Err` where there
+/// is no memory for them.
 fn words_of(rt: &HostRuntime) -> Result<Vec<String>, AllocError> {
     let mut words = Vec::new(rt.alloc());
     match env::args(rt) {

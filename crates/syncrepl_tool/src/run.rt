@@ -20,8 +20,8 @@ const MOST_BYTES: usize = 67_108_864;
 /// How a run ended.
 #[derive(Clone, Copy, Debug, PartialEq, Eq)]
 pub struct Status {
-    /// 0 done, 2 other words, 3 a refused script, 4 a read fault, 5 a write fault, 8 a script that passes
-    /// a limit.
+    /// 0 done, 2 other words, 3 a refused script, 4 a read fault, 5 a write fault, 8 a script that
+    /// passes a limit.
     pub code: u8,
 }
 
@@ -39,11 +39,11 @@ pub fn run<R: Threads + Wait + Sync, I: Source, O: Sink, E: Sink>(
     requires prompt { I.waits input.old ≡ false }
 
     // The prefix of accepted writes that a `stored` line names reaches at least as far as they did
-    // when the search was opened, and what the line reports is all that the specification selects from
-    // it, and no more. It is what the consumer holds, and a `show` prints, up to its next line. A
-    // search is refused with e-syncRefreshRequired exactly where the consumer's cookie is in its way.
-    // Each consumer is what the lines of its messages make of it. Each event gives the lines that
-    // belong to it, and no others.
+    // when the search was opened, and what the line reports is all that the specification selects
+    // from it, and no more. It is what the consumer holds, and a `show` prints, up to its next
+    // line. A search is refused with e-syncRefreshRequired exactly where the consumer's cookie is
+    // in its way. Each consumer is what the lines of its messages make of it. Each event gives the
+    // lines that belong to it, and no others.
     ensures headline { IfSome (I.bytes_left input.old) (λ text.
         WritesPrefix (reader_of text) (O.bytes_held output.old) (O.bytes_held output.new)) }
 
@@ -70,7 +70,8 @@ pub fn run<R: Threads + Wait + Sync, I: Source, O: Sink, E: Sink>(
     ensures usage_reported { IfOk result (OnCode 2 (Says usage_text
         (E.bytes_held errors.old) (E.bytes_held errors.new)
         (E.write_fault_count errors.old) (E.write_fault_count errors.new))) }
-    // Other words are answered whether there is memory or not, and nothing is read, done or reported.
+    // Other words are answered whether there is memory or not, and nothing is read, done or
+    // reported.
     ensures other { (IsCascade words.now → ⊥) → IsOk result
         × (world.new ≡ world.old) × (input.new ≡ input.old) × (output.new ≡ output.old) }
 
@@ -132,11 +133,11 @@ pub fn run_cascade<I: Source, O: Sink, E: Sink>(
     requires prompt { I.waits input.old ≡ false }
 
     // The prefix of accepted writes that a `stored` line names reaches at least as far as they did
-    // when the search was opened, and what the line reports is all that the specification selects from
-    // it, and no more. It is what the consumer holds, and a `show` prints, up to its next line. A
-    // search is refused with e-syncRefreshRequired exactly where the consumer's cookie is in its way.
-    // Each consumer is what the lines of its messages make of it. Each event gives the lines that
-    // belong to it, and no others.
+    // when the search was opened, and what the line reports is all that the specification selects
+    // from it, and no more. It is what the consumer holds, and a `show` prints, up to its next
+    // line. A search is refused with e-syncRefreshRequired exactly where the consumer's cookie is
+    // in its way. Each consumer is what the lines of its messages make of it. Each event gives the
+    // lines that belong to it, and no others.
     ensures headline { IfSome (I.bytes_left input.old) (λ text.
         WritesPrefix (reader_of text) (O.bytes_held output.old) (O.bytes_held output.new)) }
 

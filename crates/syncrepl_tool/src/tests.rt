@@ -1,6 +1,6 @@
-//! What no script shows of `run` and `run_cascade`: other words, an input and an output that fail, and the longest
-//! texts, over objects in memory. Scripts and what they report stand in `examples` and `rows`, and `checks/rows`
-//! compares them.
+//! What no script shows of `run` and `run_cascade`: other words, an input and an output that fail,
+//! and the longest texts, over objects in memory. Scripts and what they report stand in `examples`
+//! and `rows`, and `checks/rows` compares them.
 ghost use Rattle.std.specs.Prelude.{◌≡◌, false};
 
 use crate::run::{run, run_cascade};
@@ -67,8 +67,8 @@ pub(crate) fn started(alloc: Global, more: &[u8]) -> Result<Vec<u8>, NoMemory> {
     Ok(text)
 }
 
-/// What is reported of the start and a settling. The messages were spelled by another encoder, after RFC 4511,
-/// RFC 4533 and ITU-T X.690.
+/// What is reported of the start and a settling. The messages were spelled by another encoder,
+/// after RFC 4511, RFC 4533 and ITU-T X.690.
 const SETTLED: &[u8] = b"wrote p 0 1
 opened c 1
 sent c 3081f10201016481b4040464633d783081ab3027040b6f626a656374436c6173733118040c6f7267616e697a6174696f6e040864634f626a656374300804016f3103040158300904026463310304017830330409656e747279555549443126042430303030303030302d303030312d383030302d383030302d30303030303030303030303130360408656e74727943534e312a042831393730303130313030303030302e3030303030305a233030303030312330303123303030303030a03530330418312e332e362e312e342e312e343230332e312e392e312e32041730150a0101041000000000000180008000000000000001
@@ -78,8 +78,8 @@ stored c 1 entries 1 sha256 8f8bbfc32f02a834239e30b6652655f8b425d92fe020ac9bd789
 settled c 1
 ";
 
-/// Asserts that `cascade` on a script of which the start and a settling are done ends with this status, and says the
-/// refusal.
+/// Asserts that `cascade` on a script of which the start and a settling are done ends with this
+/// status, and says the refusal.
 fn assert_settled<R: Threads + Wait + Sync + Abort>(
     rt: &R,
     alloc: Global,

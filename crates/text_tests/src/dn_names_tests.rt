@@ -81,7 +81,8 @@ const LONG: [Row; 5] = [
     ("dc=x,ou=\\+|a|1021|", "TooLong(5)"),
 ];
 
-/// A name and another: whether they are equal, the first is at or below, or a child, and both have one key.
+/// A name and another: whether they are equal, the first is at or below, or a child, and both have
+/// one key.
 const COMPARED: [Row; 12] = [
     ("|", "true true false true"),
     ("dc=x|", "false true true false"),
@@ -97,11 +98,12 @@ const COMPARED: [Row; 12] = [
     ("ou=a,ou=b|ou=a+ou=b", "false false false false"),
 ];
 
-/// The first RDN of a name: how it is written, how many pairs its copy has, and the key of the first.
+/// The first RDN of a name: how it is written, how many pairs its copy has, and the key of the
+/// first.
 const RDNS: [Row; 1] = [("CN=e + l=b", "cn=e+l=b 2 e")];
 
-/// A name, an RDN that goes below it, a name that it is at or below, and one in the place of that: how the
-/// superior, the name below and the name that is moved are written.
+/// A name, an RDN that goes below it, a name that it is at or below, and one in the place of that:
+/// how the superior, the name below and the name that is moved are written.
 const BUILT: [Row; 2] = [
     (
         "ou=s,OU=A,dc=x|CN=e + l=b|ou=a,dc=x|ou=b",
@@ -246,7 +248,8 @@ fn superior(alloc: Global, name: &Dn) -> Result<String, NameFault> {
     Ok(utf8(superior.as_slice()).to_string(alloc)?)
 }
 
-/// The name with the second in place of the first at its end, or itself where the first is not there.
+/// The name with the second in place of the first at its end, or itself where the first is not
+/// there.
 fn moved(alloc: Global, name: &Dn, from: &str, to: &str) -> Result<Dn, NameFault> {
     let from = Dn::parse(alloc, from.as_bytes())?;
     let to = Dn::parse(alloc, to.as_bytes())?;

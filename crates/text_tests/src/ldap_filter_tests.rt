@@ -7,8 +7,9 @@ use std::alloc::Global;
 use std::process::Abort;
 use std::test::Fail;
 
-/// Texts, and of each whether its copy is the same and its text is read as the same, and how that is written. The
-/// first of them are the examples of RFC 4515, section 4, but for the extensible ones.
+/// Texts, and of each whether its copy is the same and its text is read as the same, and how that
+/// is written. The first of them are the examples of RFC 4515, section 4, but for the extensible
+/// ones.
 const WRITTEN: [Row; 24] = [
     ("(cn=Babs Jensen)", "true (cn=Babs Jensen)"),
     ("(!(cn=Tim Howes))", "true (!(cn=Tim Howes))"),
@@ -45,8 +46,8 @@ const WRITTEN: [Row; 24] = [
     ("(cn=\\c3\\a9\\e2\\82\\e2\\82\\ac)", "true (cn=é\\e2\\82€)"),
 ];
 
-/// Texts that are no filters, and why: the place of the first byte that cannot stand there. The first of them are
-/// the extensible examples of RFC 4515, section 4.
+/// Texts that are no filters, and why: the place of the first byte that cannot stand there. The
+/// first of them are the extensible examples of RFC 4515, section 4.
 const REFUSED: [Row; 32] = [
     ("(cn:caseExactMatch:=Fred Flintstone)", "BadFilter(3)"),
     ("(cn:=Betty Rubble)", "BadFilter(3)"),

@@ -483,7 +483,8 @@ fn records(rt: HostRuntime) -> Result<(), Fail> {
     check_million(&rt, rt.alloc())
 }
 
-/// A refusal changes nothing: what is reported of a text that is read on after it, which begins at line 7.
+/// A refusal changes nothing: what is reported of a text that is read on after it, which begins at
+/// line 7.
 const REFUSED_TWICE: &str = "add a cn|x @8\nBadLine(11)BadLine(11)";
 
 fn check_refusals(rt: &impl Abort, alloc: Global) -> Result<(), Fail> {

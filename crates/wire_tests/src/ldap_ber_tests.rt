@@ -9,7 +9,8 @@ use std::alloc::Global;
 use std::process::Abort;
 use std::test::Fail;
 
-// What these calls answer is compared when the tests run: the proofs of the tests know nothing of it.
+// What these calls answer is compared when the tests run: the proofs of the tests know nothing of
+// it.
 
 fn reader_of(bytes: &[u8]) -> Reader<'_> {
     Reader::new(bytes)
@@ -236,6 +237,38 @@ fn elements_in_elements_are_read(rt: HostRuntime) -> Result<(), Fail> {
     let whole = reader_of(NESTED).expect(0x30)?;
     assert_same(&rt, "whole", &(whole.at, whole.stop), &(0, 30));
     Ok(check_inside(&rt, &mut Reader::inside(&whole))?)
+}
+
+/// Bytes, and how many elements they are, whatever their tags: none, one with elements in it,
+/// two before one of an indefinite length, and three.
+const COUNTED: [(&[u8], Result<usize, BerFault>); 4] = [
+    (b"", Ok(0)),
+    (NESTED, Ok(1)),
+    (
+        b"\x04\0\x02\x01\x05\x31\x80",
+        Err(BerFault {
+            kind: BerKind::Indefinite,
+            at: 5,
+        }),
+    ),
+    (b"\x04\0\x02\x01\x05\x31\x02\x04\0", Ok(3)),
+];
+
+#[test]
+fn elements_are_counted(rt: HostRuntime) -> Result<(), Fail> {
+    for (bytes, count) in &COUNTED {
+        assert_same_of(&rt, bytes, &reader_of(bytes).count(), count);
+    }
+    Ok(())
+}
+
+#[test]
+fn a_list_with_room_is_empty(rt: HostRuntime) -> Result<(), Fail> {
+    let mut list = OctetsList::with_room(rt.alloc(), STRINGS.len())?;
+    assert_same(&rt, "before", &list.list().len(), &0);
+    list.push(Octets::from_slice(rt.alloc(), b"a")?)?;
+    assert_same(&rt, "after", &list.list().len(), &1);
+    Ok(())
 }
 
 /// What a caller asks of the element after the first one in a sequence.

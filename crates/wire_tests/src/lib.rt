@@ -1,6 +1,6 @@
-//! Tests of the layers that handle bytes: elements of BER, the constants of LDAP, sources and sinks,
-//! and the values of content synchronization. Each file tests the crate that it is named for, by its
-//! public calls.
+//! Tests of the layers that handle bytes: elements of BER, the constants of LDAP, sources and
+//! sinks, and the values of content synchronization. Each file tests the crate that it is named
+//! for, by its public calls.
 #![tactic(auto)]
 
 #[cfg(test)]

@@ -8,7 +8,8 @@ use std::process::Abort;
 use std::test::Fail;
 use sync_messages::{IdList, Mode, State, SyncDone, SyncFault, SyncInfo, SyncRequest, SyncState};
 
-// What these calls answer is compared when the tests run: the proofs of the tests know nothing of it.
+// What these calls answer is compared when the tests run: the proofs of the tests know nothing of
+// it.
 
 fn request_of(alloc: Global, bytes: &[u8]) -> Result<SyncRequest, SyncFault> {
     SyncRequest::read(alloc, bytes)

@@ -1,5 +1,5 @@
 -- The values go after those of the type at its place, or last.
-use Rattle.std.proofs.Common.{◌≡◌, Some, None, nat_eq, ◌++◌, ◌∷◌, [], set, ap, sym, ◌∙◌}
+use Rattle.std.proofs.Common.{◌≡◌, Some, None, nat_eq, ◌++◌, set, ap, sym, ◌∙◌}
 use Rattle.std.specs.List.{position}
 use Rattle.std.proofs.lemmas.Result.{IfOk-weaker}
 use Rattle.schema_rules.specs.declared.attributes.Attribute.{Attribute}
@@ -12,11 +12,10 @@ returns-in-Some-clause-ok c =
     let held = c.index_mut.result.now in
     let of_kind = λ (a : Attribute). nat_eq a.kind c.args.kind in
     let found : position of_kind items ≡ Some c.in-Some.place = sym (c.in-Some.ensures ∙ ap (position of_kind) c.deref.ensures.value) in
-    let joined = with_values-found items c.args.kind c.args.values.now c.in-Some.place held found in
+    let joined = with_values-found items c.args.kind c.args.values c.in-Some.place held found in
     IfOk-weaker c.append.result _ _ (λ _ grown.
     ap (λ values. set items c.in-Some.place (record { kind = held.kind; values = values })) grown
-    ∙ ap (λ copies. set items c.in-Some.place (record { kind = held.kind; values = held.values ++ copies })) c.in_ok-copies.ensures
-    ∙ ap (λ (a : Attribute). set items c.in-Some.place (record { kind = a.kind; values = a.values ++ c.args.values.now })) c.index_mut.ensures.value
+    ∙ ap (λ (a : Attribute). set items c.in-Some.place (record { kind = a.kind; values = a.values ++ c.args.values })) c.index_mut.ensures.value
     ∙ sym joined) c.append.ensures.ok
 
 pub returns-clause-ok : goal.returns-clause-ok
@@ -24,6 +23,4 @@ returns-clause-ok c =
     let items = c.args.attributes.now.items in
     let of_kind = λ (a : Attribute). nat_eq a.kind c.args.kind in
     let absent : position of_kind items ≡ None = sym (sym c.in_default.is ∙ c.place_of.ensures ∙ ap (position of_kind) c.deref.ensures.value) in
-    c.in_ok-push.ensures.items
-    ∙ ap (λ values. items ++ record { kind = c.args.kind; values = values } ∷ []) c.in_ok-copies.ensures
-    ∙ sym (with_values-absent items c.args.kind c.args.values.now absent)
+    c.in_ok-push.ensures.items ∙ sym (with_values-absent items c.args.kind c.args.values absent)

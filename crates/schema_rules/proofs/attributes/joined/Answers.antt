@@ -20,7 +20,7 @@ loop-raw-preserved c =
     let kind = c.in_ok-kind.kind in
     let values = c.raw-item.result.values in
     let none : typed_code (Some kind) values ≡ None = ap (λ o. typed_code o values) (sym c.in_ok-kind.ensures.kind) ∙ c.in_ok-kind.ensures.ok in
-    let grown : c.add_values.new.attributes.items ≡ with_values items kind values = c.in_ok-add_values.ensures.ok ∙ ap (with_values items kind) c.list.ensures in
+    let grown : c.add_values.new.attributes.items ≡ with_values items kind values = c.in_ok-add_values.ensures.ok ∙ ap (with_values items kind) c.in_ok-values.ensures in
     record {
       joined = grown ∙ ap (λ xs. with_values xs kind values) c.loop-raw.invariant.joined
           ∙ sym (joined_more raws _ c.raw-item.result kind c.loop-raw-test.true c.raw-item.is c.in_ok-kind.ensures.kind);

@@ -16,7 +16,7 @@ loop-raw-preserved c =
           let a = w.in-Some.attribute in
           let some : kept raw ≡ Some a = sym c.in_ok-attribute.ensures ∙ w.in-Some.is in
           let grown : c.match-branch-2.items.items ≡ with_values items a.kind a.values =
-          ap (λ v. v.items) w.items-is ∙ w.in_ok-add_values.ensures.ok ∙ ap (with_values items a.kind) w.list.ensures in
+          ap (λ v. v.items) w.items-is ∙ w.in_ok-add_values.ensures.ok in
           record {
             joined = grown ∙ ap (λ xs. with_values xs a.kind a.values) c.loop-raw.invariant.joined
                 ∙ sym (attributes_of-more raws _ raw a c.loop-raw-test.true c.raw-item.is some);

@@ -1,1 +1,0 @@
--- One more item of a text that is appended.

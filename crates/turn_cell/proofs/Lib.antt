@@ -1,0 +1,13 @@
+pub mod Sums
+pub mod Each
+pub mod Numbers
+pub mod Placing
+pub mod Tickets
+pub mod Draw
+pub mod Serve
+pub mod Counting
+pub mod Raise
+pub mod Dealt
+pub mod Merged
+pub mod Ends
+pub mod Passing

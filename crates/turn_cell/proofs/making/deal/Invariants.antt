@@ -1,0 +1,15 @@
+use Rattle.std.proofs.Common.{◌≡◌, ◌+◌, ◌-◌, ◌≤◌, [], length, vec_len, vec_capacity}
+use Rattle.turn_cell.specs.Rule.{first_pass, idle, new_passes}
+use Rattle.turn_cell.specs.Passes.{AreNew}
+use Rattle.turn_cell.proofs.making.deal.Given as goal
+
+-- the dealer has the passes that are not dealt yet
+abbrev pub invariant-loop-place : goal.invariant-loop-place
+invariant-loop-place g l = record {
+  table : l.dealer.table_id ≡ l.fn.dealer.table_id;
+  dealer : l.dealer.me ≡ (idle (new_passes (first_pass l.fn.dealer.me.0.passes).seen (l.place + 1) (l.seats - l.place)), []);
+  dealt : AreNew l.fn.dealer.table_id (first_pass l.fn.dealer.me.0.passes).seen 1 l.passes.items;
+  count : length l.passes.items ≡ l.place;
+  len : vec_len l.passes ≡ l.place;
+  room : l.seats ≤ vec_capacity l.passes;
+}

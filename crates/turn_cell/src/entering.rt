@@ -1,0 +1,106 @@
+ghost use Rattle.std.specs.Prelude.{◌≡◌, ◌%◌, ◌^◌, ◌≤◌, [], ◌∷◌, IfSome, IfNone};
+ghost use Rattle.turn_cell.specs.Rule.{waiting, ticket_of};
+ghost use Rattle.turn_cell.specs.Steps.{HasTaken};
+ghost use Rattle.turn_cell.specs.Passes.{cell_id, cell_of, view_of, Continues};
+ghost use Rattle.turn_cell.specs.Turns.{IsTurn, value_of, found_of, number_of};
+
+use crate::cell::TurnCell;
+use crate::journalled::Journalled;
+use crate::moves::{Draw, Serve};
+use crate::pass::Pass;
+use crate::table::{CellSeat, CellWords, DRAWN, SERVED, VALUE};
+use crate::turn::{Turn, TurnAt};
+use std::snapshot::Snapshot;
+use std::sync::Wait;
+use std::{hint, thread};
+
+/// How often a waiting pass looks for its turn before it gives its processor up.
+const SPINS: u32 = 128;
+
+impl<D: Journalled> TurnCell<D> {
+    /// Waits for the pass's turn. It has the value as the turn before it left it.
+    ///
+    /// No promise is made that the turn comes: it does not where another turn is never left.
+    pub fn enter<R: Wait>(&self, rt: &R, pass: Pass<D>) -> Turn<'_, D>
+        requires { cell_of pass ≡ cell_id self.now }
+        ensures cell { result.cell.now ≡ self.now }
+        ensures turn { IsTurn D.journal (cell_id self.now) result }
+        ensures number { number_of result ≡ (view_of pass).number }
+        ensures found { value_of result ≡ found_of result }
+        ensures continues { Continues (D.journal (value_of result))
+            (D.share (value_of result) (view_of pass).number) (view_of pass) }
+    {
+        let (mut seat, number) = pass.into_parts();
+        let words = &self.table.shared;
+        let ticket = words.fetch_add::<Draw>(&mut seat, DRAWN, 1);
+        let value = await_turn(rt, words, &mut seat, ticket);
+        let found = Snapshot::of(&value);
+        let before = value.count();
+        TurnAt {
+            cell: self,
+            seat,
+            value,
+            found,
+            before,
+            number,
+        }
+    }
+}
+
+/// Waits until the seat's ticket is served, and takes the value.
+fn await_turn<D: Journalled, R: Wait>(
+    rt: &R,
+    words: &CellWords<D>,
+    seat: &mut CellSeat<D>,
+    ticket: u64,
+) -> D
+    requires table { (seat.old.table_id ≡ words.now.table_id) × (words.now.table_id.words ≡ 3) }
+    requires seat { seat.old.me
+        ≡ (waiting seat.old.me.0.passes (ticket_of seat.old.me.0.ticket), []) }
+    requires ticket { ticket ≡ ticket_of seat.old.me.0.ticket % 2 ^ 64 }
+    ensures table { seat.new.table_id ≡ seat.old.table_id }
+    ensures taken { HasTaken D.journal D.share seat.old.me.0 result seat.new.me }
+{
+    let mut spins = 0;
+    for _ in rt.forever() {
+        if let Some(value) = try_take(words, seat, ticket) {
+            return value;
+        }
+        spins = wait_a_little(spins);
+    }
+    unreachable!()
+}
+
+/// Takes the value where the seat's ticket is served.
+fn try_take<D: Journalled>(words: &CellWords<D>, seat: &mut CellSeat<D>, ticket: u64) -> Option<D>
+    requires table { (seat.old.table_id ≡ words.now.table_id) × (words.now.table_id.words ≡ 3) }
+    requires seat { seat.old.me
+        ≡ (waiting seat.old.me.0.passes (ticket_of seat.old.me.0.ticket), []) }
+    requires ticket { ticket ≡ ticket_of seat.old.me.0.ticket % 2 ^ 64 }
+    ensures table { seat.new.table_id ≡ seat.old.table_id }
+    ensures taken { IfSome result (λ value.
+        HasTaken D.journal D.share seat.old.me.0 value seat.new.me) }
+    ensures none { IfNone result (seat.new.me ≡ seat.old.me) }
+{
+    if words.load::<Serve>(seat, SERVED) != ticket {
+        return None;
+    }
+    let Some(value) = words.exchange(seat, VALUE, None) else {
+        unreachable!()
+    };
+    Some(value)
+}
+
+/// Waits for a moment: on this processor, or, after SPINS moments of that, by giving it up.
+///
+/// What is given and what is answered count the moments since it was given up last.
+fn wait_a_little(spins: u32) -> u32
+    ensures { result ≤ SPINS }
+{
+    if spins < SPINS {
+        hint::spin_loop();
+        return spins + 1;
+    }
+    thread::yield_now();
+    0
+}
