@@ -109,6 +109,21 @@ closed_kind : (p : ProviderState) (search : Option ℕ) → (closed p search).ki
 closed_kind p None = refl
 closed_kind p (Some number) = refl
 
+-- a search that is given up leaves a closed pair, whose line reports what became of the copy
+given_up_keeps : (pair : Agreement) (copy : Copy) (line : ReportLine) → name_in line ≡ pair.consumer_node.name → seen_of (given_up pair copy).consumer_node ≡ after_own (seen_of pair.consumer_node) line
+    → Keeps pair (given_up pair copy) (line ∷ [])
+given_up_keeps pair copy line named traced = record {
+  name = refl;
+  source = refl;
+  spec = refl;
+  reload = refl;
+  directory = closed_directory pair.provider pair.consumer_node.search;
+  kind = closed_kind pair.provider pair.consumer_node.search;
+  lineage = refl;
+  own = (named, tt);
+  traced = traced;
+}
+
 took_is : (before : Copy) (link : List (List ℕ)) (message : List ℕ) (rest : List (List ℕ)) → link ≡ message ∷ rest → took before link ≡ record { link = rest; copy = (received before message).0 }
 took_is before link message rest e = ap (took before) e
 
@@ -118,30 +133,12 @@ taken_as_keeps pair message rest came.Staged e = record { name = refl; source = 
 taken_as_keeps pair message rest came.Copied e = record { name = refl; source = refl; spec = refl; reload = refl; directory = refl; kind = refl; lineage = refl; own = (refl, tt); traced = sym (took_is (copy_of pair.consumer_node) pair.consumer_node.link message rest e) }
 taken_as_keeps pair message rest (came.Stored commit) e = record { name = refl; source = refl; spec = refl; reload = refl; directory = refl; kind = refl; lineage = refl; own = (refl, tt); traced = sym (took_is (copy_of pair.consumer_node) pair.consumer_node.link message rest e) }
 taken_as_keeps pair message rest (came.Over code) e = record { name = refl; source = refl; spec = refl; reload = refl; directory = refl; kind = refl; lineage = refl; own = (refl, tt); traced = sym (took_is (copy_of pair.consumer_node) pair.consumer_node.link message rest e) }
-taken_as_keeps pair message rest (came.Refused fault) e = record {
-  name = refl;
-  source = refl;
-  spec = refl;
-  reload = refl;
-  directory = closed_directory pair.provider pair.consumer_node.search;
-  kind = closed_kind pair.provider pair.consumer_node.search;
-  lineage = refl;
-  own = (refl, tt);
-  traced = ap dropped (sym (took_is (copy_of pair.consumer_node) pair.consumer_node.link message rest e));
-}
+taken_as_keeps pair message rest (came.Refused fault) e =
+    let copy = (received (copy_of pair.consumer_node) message).0 in
+    given_up_keeps pair copy (reported.Faulted (name_of pair) fault) refl (ap dropped (sym (took_is (copy_of pair.consumer_node) pair.consumer_node.link message rest e)))
 
 cuts_keep : (pair : Agreement) → Keeps pair (given_up pair (copy_of pair.consumer_node)) (reported.Cut (name_of pair) ∷ [])
-cuts_keep pair = record {
-  name = refl;
-  source = refl;
-  spec = refl;
-  reload = refl;
-  directory = closed_directory pair.provider pair.consumer_node.search;
-  kind = closed_kind pair.provider pair.consumer_node.search;
-  lineage = refl;
-  own = (refl, tt);
-  traced = refl;
-}
+cuts_keep pair = given_up_keeps pair (copy_of pair.consumer_node) (reported.Cut (name_of pair)) refl refl
 
 opened_by_keeps : (mode : Mode) (pair : Agreement) (answer : Accepted) → KeepsIn pair (opened_by mode pair answer)
 opened_by_keeps mode pair (accepted.Opened number writes) = record { name = refl; source = refl; spec = refl; reload = refl; directory = refl; kind = refl; lineage = refl; own = (refl, tt); traced = refl }

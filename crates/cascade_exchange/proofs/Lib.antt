@@ -9,9 +9,13 @@ pub mod Giving
 pub mod Reception
 pub mod Loops
 pub mod Openings
+pub mod Others
 pub mod Owns
+pub mod Passing
 pub mod Pending
 pub mod Performing
 pub mod Sendings
 pub mod Settled
 pub mod Silence
+pub mod Takings
+pub mod Unstaged

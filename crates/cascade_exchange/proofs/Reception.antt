@@ -1,5 +1,5 @@
 -- Messages that are taken from the link.
-use Rattle.std.proofs.Common.{◌≡◌, ℕ, true, false, cond, Option, Some, None, List, [], ◌∷◌, refl, ap, sym, subst, ◌∙◌}
+use Rattle.std.proofs.Common.{◌≡◌, ℕ, Bool, true, false, cond, Option, Some, None, List, [], ◌∷◌, refl, ap, sym, subst, ◌∙◌}
 use Rattle.std.specs.Prelude.{Result, Ok, codes}
 use Rattle.ldap_messages.specs.declared.message.Message.{Message}
 use Rattle.ldap_messages.specs.Whole.{Whole, whole_of}
@@ -17,7 +17,7 @@ use Rattle.cascade_exchange.specs.Reception.{Came as came}
 use Rattle.cascade_exchange.specs.Naming.{peer_name}
 use Rattle.cascade_report.specs.Origins.{Lineage}
 use Rattle.cascade_report.specs.Report.{Report, said}
-use Rattle.cascade_exchange.specs.Parts.{TakesOne, Received}
+use Rattle.cascade_exchange.specs.Parts.{TakesOne, Received, ReceivedSoFar}
 use Rattle.cascade_report.specs.ReportLines.{commit_reported, ReportLine as reported}
 use Rattle.cascade_exchange.proofs.Decoding.{came_reported, received_reported}
 
@@ -60,10 +60,10 @@ bare lin p p1 f f1 m old new is after line =
     subst (λ b. Received (agreement_of p f lin) (cond b (refused_for f.consumer.copy (codes "OutOfPlace")) (received_of f.consumer.copy (Some (whole_of m)))) old (agreement_of p1 f1 lin) new (Ok tt)) (sym is) received'
 
 -- and any other message
-pub not_bare : (lin : Lineage) → (p p1 : ProviderState) (f f1 : ConsumerNode) (m : Message) (old new : Report) (result : Result (Unit {0}) Cause) → says_bare (whole_said false (whole_of m)) ≡ false
-    → Received (agreement_of p f lin) (received_of f.consumer.copy (Some (whole_of m))) old (agreement_of p1 f1 lin) new result → Received (agreement_of p f lin) (received_next f.consumer.copy (Some (whole_of m))) old (agreement_of p1 f1 lin) new result
+pub not_bare : (lin : Lineage) → (p p1 : ProviderState) (f f1 : ConsumerNode) (m : Message) (old new : Report) (result : Result Bool Cause) → says_bare (whole_said false (whole_of m)) ≡ false
+    → ReceivedSoFar (agreement_of p f lin) (received_of f.consumer.copy (Some (whole_of m))) old (agreement_of p1 f1 lin) new result → ReceivedSoFar (agreement_of p f lin) (received_next f.consumer.copy (Some (whole_of m))) old (agreement_of p1 f1 lin) new result
 not_bare lin p p1 f f1 m old new result is h =
-    subst (λ b. Received (agreement_of p f lin) (cond b (refused_for f.consumer.copy (codes "OutOfPlace")) (received_of f.consumer.copy (Some (whole_of m)))) old (agreement_of p1 f1 lin) new result) (sym is) h
+    subst (λ b. ReceivedSoFar (agreement_of p f lin) (cond b (refused_for f.consumer.copy (codes "OutOfPlace")) (received_of f.consumer.copy (Some (whole_of m)))) old (agreement_of p1 f1 lin) new result) (sym is) h
 
 -- no message is taken from an empty link
 pub nothing_there : (lin : Lineage) → (p : ProviderState) (f : ConsumerNode) (text : Report) → f.link ≡ [] → TakesOne (agreement_of p f lin) (taking (agreement_of p f lin)) text (agreement_of p f lin) text (Ok false)

@@ -26,7 +26,8 @@ fitting : (pair : Agreement) (search : Option ℕ) (message : List ℕ) → fits
     → sends pair search message ≡ Sends (record pair { provider = handed pair.provider pair.consumer_node.search; consumer_node = linked pair.consumer_node search message }) message
 fitting pair search message fit = rw fit refl
 
-full : (pair : Agreement) (search : Option ℕ) (message : List ℕ) → fits pair.consumer_node message ≡ false → sends pair search message ≡ Overflows
+-- a message for which the link has no room overflows it
+pub full : (pair : Agreement) (search : Option ℕ) (message : List ℕ) → fits pair.consumer_node message ≡ false → sends pair search message ≡ Overflows
 full pair search message over = rw over refl
 
 -- a message is sent where it is handed out and goes into the link
@@ -42,7 +43,8 @@ sent_as lin p p1 f f1 f2 search message old new out link' =
       link'.2 ∙ ap (λ (g : ConsumerNode). said old (Sent g.name message ∷ [])) consumer_node,
     )
 
-sends_one : (lin : Lineage) → (p p1 : ProviderState) (f f1 f2 : ConsumerNode) (turn : Turn) (whole : Whole) (old new : Report) → agreement_of p1 f1 lin ≡ After lin p f turn → whole_in turn ≡ Some whole
+-- a message that is handed out and put into the link is sent
+pub sends_one : (lin : Lineage) → (p p1 : ProviderState) (f f1 f2 : ConsumerNode) (turn : Turn) (whole : Whole) (old new : Report) → agreement_of p1 f1 lin ≡ After lin p f turn → whole_in turn ≡ Some whole
     → Links f1 (message_octets whole) old f2 new (Ok tt) → SendsOne (agreement_of p f lin) (sending_by (agreement_of p f lin) turn) old (agreement_of p1 f2 lin) new (Ok true)
 sends_one lin p p1 f f1 f2 (Hands w) whole old new out is link' =
     let same : w ≡ whole = cc in

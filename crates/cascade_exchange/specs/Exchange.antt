@@ -1,6 +1,6 @@
 -- What goes on between a consumer and its provider: the state of the two after each part of an
 -- event, and the lines that it reports.
-use Rattle.std.specs.Prelude.{ℕ, zero, suc, ◌+◌, Bool, false, ◌&&◌, ◌||◌, not, ◌==◌, is_some, nat_le, pos, Option, Some, None, Result, Ok, Err, List, [], ◌∷◌, ◌++◌, length, if◌then◌else◌}
+use Rattle.std.specs.Prelude.{ℕ, zero, suc, ◌+◌, Bool, true, false, ◌&&◌, ◌||◌, not, ◌==◌, is_some, nat_le, pos, Option, Some, None, Result, Ok, Err, List, [], ◌∷◌, ◌++◌, length, if◌then◌else◌}
 use Rattle.ldap_constants.specs.declared.result_codes.TheConstants.{E_SYNC_REFRESH_REQUIRED}
 use Rattle.csn_cookie.specs.Cookie.{cookie_of_text}
 use Rattle.csn_cookie.specs.Csn.{CsnValue, upto}
@@ -411,3 +411,16 @@ part_of goes.Lose = lost
 part_of (goes.Give text) = given text
 part_of goes.Idle = idle
 part_of (goes.Want spec) = respecs (search_of spec)
+
+-- it is done in steps, of which a later one can be refused
+abbrev pub is_stepwise : Exchange → Bool
+is_stepwise (goes.Open mode) = true
+is_stepwise (goes.Take count) = true
+is_stepwise goes.Settle = true
+is_stepwise _ = false
+
+-- a step of it can change the provider's searches before a later one is refused
+abbrev pub moves_searches : Exchange → Bool
+moves_searches (goes.Open mode) = true
+moves_searches goes.Settle = true
+moves_searches _ = false

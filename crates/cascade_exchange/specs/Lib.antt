@@ -5,4 +5,5 @@ pub mod Going
 pub mod Reception
 pub mod Naming
 pub mod Parts
+pub mod Passing
 pub mod Trace

@@ -1,5 +1,5 @@
 -- What the parts of an event answer, and the lines that they put after those before them.
-use Rattle.std.specs.Prelude.{◌≡◌, ◌==◌, ℕ, Bool, true, false, Option, Some, None, Result, Ok, Err, List, [], ◌∷◌}
+use Rattle.std.specs.Prelude.{◌≡◌, ◌==◌, ℕ, Bool, true, false, Option, Some, None, IfSome, Result, Ok, Err, List, [], ◌∷◌}
 use Rattle.ldap_constants.specs.declared.result_codes.TheConstants.{E_SYNC_REFRESH_REQUIRED}
 use Rattle.sync_messages.specs.declared.request.Mode.{Mode}
 use Rattle.cascade_script.specs.declared.fault.Cause.{Cause}
@@ -13,10 +13,11 @@ use Rattle.ldap_parts.specs.declared.control.Control.{Control}
 use Rattle.cascade_nodes.specs.declared.node.ConsumerNode.{ConsumerNode}
 use Rattle.cascade_exchange.specs.declared.exchange.Snapshot.{Snapshot}
 use Rattle.cascade_exchange.specs.declared.exchange.Performed.{Performed}
-use Rattle.cascade_nodes.specs.Ours.{AreOurs}
+use Rattle.cascade_nodes.specs.Ours.{IsOurs}
 use Rattle.sync_provider.specs.Machine.{ProviderState}
-use Rattle.sync_provider.specs.Returning.{snapshot_of}
-use Rattle.cascade_exchange.specs.Exchange.{Agreement, ExchangeOutcome, answer_of, opened_idle, is_required, Sending, handed, fits, linked, with_copy, with_text, refused_copy, taken_as}
+use Rattle.sync_provider.specs.Placing.{ComesBack, put_back}
+use Rattle.sync_provider.specs.Returning.{KeptSearch, HasNoWriteSince, snapshot_of}
+use Rattle.cascade_exchange.specs.Exchange.{Agreement, ExchangeOutcome, answer_of, opened_idle, is_required, Sending, handed, fits, linked, with_copy, with_text, refused_copy, taken_as, closed, copy_of, given_up, taking, takes}
 use Rattle.cascade_exchange.specs.Cookies.{is_later}
 use Rattle.cascade_exchange.specs.Reception.{Came}
 use Rattle.cascade_exchange.specs.Exchange.Sending.{Sends, Rests, Overflows}
@@ -48,15 +49,62 @@ pub record KeepsAllButSearches (old new : ProviderState) : Type 0 where
   pub queue_limit : new.queue_limit ≡ old.queue_limit
   pub kind : new.kind ≡ old.kind
 
--- the moment is that of this provider and this consumer node, and of the provider only the searches
--- are others now
-pub record IsBefore
+-- without the consumer's own search the provider is as before
+abbrev pub KeepsOthers : ProviderState → ConsumerNode → ProviderState → ConsumerNode → Type 0
+KeepsOthers before consumer_node after consumer_after =
+    closed after consumer_after.search ≡ closed before consumer_node.search
+
+-- ---- a moment that is kept
+
+-- how a search of a provider stood: what is closed and put back leaves the provider as it was
+pub record IsKept (p : ProviderState) (search : Option ℕ) (kept : KeptSearch) : Type 0 where
+  pub value : kept ≡ snapshot_of p kept.number
+  pub own : search ≡ Some kept.number
+  pub ours : IfSome kept.search IsOurs
+  pub back : ComesBack p.searches kept.number
+
+-- where that is kept
+abbrev pub AreKept : ProviderState → Option ℕ → Option KeptSearch → Type 0
+AreKept p search kept = IfSome kept (IsKept p search)
+
+-- the search that a consumer opened since, where it had none
+abbrev pub opened_since : (before now : Option ℕ) → Option ℕ
+opened_since None now = now
+opened_since (Some number) now = None
+
+-- a provider with a search as it is kept
+abbrev pub with_kept : ProviderState → KeptSearch → ProviderState
+with_kept p kept = record p { searches = put_back p.searches kept.number kept.search }
+
+-- the provider with the searches of the moment: with the one that is kept in place of the one that
+-- is open now, or without the one that was opened since
+abbrev pub search_back :
+    Option KeptSearch → (before now : Option ℕ) → ProviderState → ProviderState
+search_back None before now p = closed p (opened_since before now)
+search_back (Some kept) before now p = with_kept (closed p now) kept
+
+abbrev pub provider_back : Snapshot → ProviderState → ConsumerNode → ProviderState
+provider_back before now consumer_node =
+    search_back before.own before.search consumer_node.search now
+
+-- the consumer of the moment, where it is kept
+abbrev pub consumer_back : Option ConsumerNode → ConsumerNode → ConsumerNode
+consumer_back None now = now
+consumer_back (Some before) now = before
+
+-- the moment brings both back to what they were: no write came since
+pub record BringsBack
     (provider : ProviderState) (consumer_node : ConsumerNode)
-    (now : ProviderState) (before : Snapshot) : Type 0 where
-  pub same_searches : before.searches ≡ snapshot_of provider
-  pub ours : AreOurs before.searches.searches
-  pub same_consumer_node : before.consumer_node ≡ consumer_node
-  pub same_provider : KeepsAllButSearches provider now
+    (now : ProviderState) (consumer_now : ConsumerNode) (before : Snapshot) : Type 0 where
+  pub no_write : IfSome before.own (HasNoWriteSince now.directory)
+  pub ours : IfSome before.own (λ own. IfSome own.search IsOurs)
+  pub same_provider : provider_back before now consumer_now ≡ provider
+  pub same_consumer_node : consumer_back before.consumer_node consumer_now ≡ consumer_node
+
+-- where the search of a consumer is not kept, and it had one, the provider is as before
+abbrev pub IsUntouched :
+    Option KeptSearch → Option ℕ → (before after : ProviderState) → Type 0
+IsUntouched kept search before after = kept ≡ None → IfSome search (λ number. after ≡ before)
 
 -- the same of the sending of one message, which answers whether one was pending
 abbrev pub SendsOne : Agreement → Sending → Report → Agreement → Report → Result Bool Cause → Type 0
@@ -121,6 +169,44 @@ Received before received old after new (Ok done) =
     × (new ≡ said old (line ∷ []))
 Received before received old after new (Err NoMemory) = Unit {0}
 Received before received old after new (Err cause) = ⊥
+
+-- ---- a search that is to be given up yet
+
+-- the pair once a search is given up that is not to go on
+abbrev pub left_by : (goes_on : Bool) → Agreement → Agreement
+left_by true pair = pair
+left_by false pair = given_up pair (copy_of pair.consumer_node)
+
+-- the same, which answers whether the search goes on
+abbrev pub ReceivedSoFar :
+    Agreement → Copy × Came → Report → Agreement → Report → Result Bool Cause → Type 0
+ReceivedSoFar before received old after new (Ok goes_on) =
+    Received before received old (left_by goes_on after) new (Ok tt)
+ReceivedSoFar before received old after new (Err cause) = cause ≡ NoMemory
+
+-- the same of the taking of one message, where the link held one
+abbrev pub TakesNext :
+    Agreement → Option (Agreement × ReportLine) → Report → Agreement → Report
+    → Result (Option Bool) Cause → Type 0
+TakesNext before found old after new (Ok None) = TakesOne before found old after new (Ok false)
+TakesNext before found old after new (Ok (Some goes_on)) =
+    TakesOne before found old (left_by goes_on after) new (Ok true)
+TakesNext before found old after new (Err cause) = cause ≡ NoMemory
+
+-- the same of the first of n messages that are to be taken, which answers none where others follow
+abbrev pub TakesStep :
+    ℕ → Agreement → Report → Agreement → Report → Result (Option Bool) Cause → Type 0
+TakesStep count before old after new (Ok None) =
+    TakesOne before (taking before) old after new (Ok true)
+TakesStep count before old after new (Ok (Some goes_on)) =
+    Does (takes count before) old (left_by goes_on after) new (Ok tt)
+TakesStep count before old after new (Err cause) = cause ≡ NoMemory
+
+-- the same of all of them
+abbrev pub TakesSoFar : ℕ → Agreement → Report → Agreement → Report → Result Bool Cause → Type 0
+TakesSoFar count before old after new (Ok goes_on) =
+    Does (takes count before) old (left_by goes_on after) new (Ok tt)
+TakesSoFar count before old after new (Err cause) = cause ≡ NoMemory
 
 -- the same of a consumer that asks for a search in this mode, which answers whether its
 -- cookie does not serve

@@ -1,9 +1,9 @@
 //! The end of what goes on between a consumer and its provider.
-ghost use Rattle.std.specs.Prelude.{◌≡◌, Some, OnErr};
+ghost use Rattle.std.specs.Prelude.{◌≡◌, Some, None, OnOk, OnErr};
 ghost use Rattle.cascade_exchange.specs.Exchange as spec;
 ghost use Rattle.cascade_exchange.specs.Exchange.{agreement_of};
 ghost use Rattle.cascade_report.specs.Origins.{Lineage};
-ghost use Rattle.cascade_exchange.specs.Parts.{Does, KeepsAllButSearches};
+ghost use Rattle.cascade_exchange.specs.Parts.{Does, KeepsOthers};
 
 use cascade_nodes::{ConsumerNode, ScriptProvider};
 use cascade_report::Report;
@@ -18,16 +18,24 @@ pub fn is_busy(consumer_node: &ConsumerNode) -> bool
         || !consumer_node.link.is_empty()
 }
 
+/// Closes this search of a provider, where there is one.
+pub fn close(provider: &mut ScriptProvider, search: Option<u64>)
+    ensures { provider.new ≡ spec.closed provider.old search }
+{
+    if let Some(number) = search {
+        provider.drop_search(number);
+    }
+}
+
 /// Drops the search, and what the link and the stage hold.
 pub fn drop_all(provider: &mut ScriptProvider, consumer_node: &mut ConsumerNode)
     ensures does { (lineage : Lineage) → agreement_of provider.new consumer_node.new lineage
         ≡ spec.given_up (agreement_of provider.old consumer_node.old lineage)
         consumer_node.old.consumer.copy }
-    ensures provider { KeepsAllButSearches provider.old provider.new }
+    ensures idle { consumer_node.new.search ≡ None }
+    ensures provider { KeepsOthers provider.old consumer_node.old provider.new consumer_node.new }
 {
-    if let Some(number) = consumer_node.search {
-        provider.drop_search(number);
-    }
+    close(provider, consumer_node.search);
     consumer_node.search = None;
     consumer_node.link.clear();
     consumer_node.consumer.cut();
@@ -41,7 +49,8 @@ pub fn cut(
 ) -> Result<(), Cause>
     ensures does { Does (spec.cut (agreement_of provider.old consumer_node.old out.old.lineage))
         out.old (agreement_of provider.new consumer_node.new out.old.lineage) out.new result }
-    ensures provider { KeepsAllButSearches provider.old provider.new }
+    ensures provider { KeepsOthers provider.old consumer_node.old provider.new consumer_node.new }
+    ensures idle { OnOk result (consumer_node.new.search ≡ None) }
     ensures provider_err { OnErr result (provider.new ≡ provider.old) }
     ensures consumer_node_err { OnErr result (consumer_node.new ≡ consumer_node.old) }
 {

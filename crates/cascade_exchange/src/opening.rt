@@ -1,5 +1,5 @@
 //! Searches that a consumer opens at its provider.
-ghost use Rattle.std.specs.Prelude.{◌≡◌, Some, Ok, IfOk, OnOk, OnErr};
+ghost use Rattle.std.specs.Prelude.{◌≡◌, true, Some, None, Ok, IfOk, OnOk, OnErr};
 ghost use Rattle.ldap_messages.specs.Whole.{whole_of};
 ghost use Rattle.sync_consumer.specs.Taking.{asked_of};
 ghost use Rattle.sync_messages.specs.Request.{request_of};
@@ -7,7 +7,7 @@ ghost use Rattle.sync_wire.specs.Requesting.{persists};
 ghost use Rattle.cascade_exchange.specs.Exchange as spec;
 ghost use Rattle.cascade_exchange.specs.Reception as decoding;
 ghost use Rattle.cascade_exchange.specs.Exchange.{agreement_of};
-ghost use Rattle.cascade_exchange.specs.Parts.{Does, KeepsAllButSearches, Opens, Refuses};
+ghost use Rattle.cascade_exchange.specs.Parts.{Does, KeepsOthers, Opens, Refuses};
 ghost use Rattle.cascade_exchange.specs.Parts.{first_value};
 
 use crate::cutting::{cut, is_busy};
@@ -34,7 +34,7 @@ pub fn open_search(
     ensures does { Does
         (spec.opens mode (agreement_of provider.old consumer_node.old out.old.lineage))
         out.old (agreement_of provider.new consumer_node.new out.old.lineage) out.new result }
-    ensures provider { KeepsAllButSearches provider.old provider.new }
+    ensures provider { KeepsOthers provider.old consumer_node.old provider.new consumer_node.new }
 {
     cut_if_busy(provider, consumer_node, out)?;
     ask_once(alloc, provider, consumer_node, mode, out)
@@ -52,7 +52,7 @@ pub fn open_anew(
     ensures does { Does
         (spec.opens_anew (agreement_of provider.old consumer_node.old out.old.lineage))
         out.old (agreement_of provider.new consumer_node.new out.old.lineage) out.new result }
-    ensures provider { KeepsAllButSearches provider.old provider.new }
+    ensures provider { KeepsOthers provider.old consumer_node.old provider.new consumer_node.new }
 {
     cut_if_busy(provider, consumer_node, out)?;
     ask_again(alloc, provider, consumer_node, out)
@@ -67,10 +67,11 @@ fn ask_once(
     mode: Mode,
     out: &mut Report,
 ) -> Result<(), Cause>
+    requires idle { consumer_node.old.search ≡ None }
     ensures does { Does
         (spec.opened_idle mode (agreement_of provider.old consumer_node.old out.old.lineage))
         out.old (agreement_of provider.new consumer_node.new out.old.lineage) out.new result }
-    ensures provider { KeepsAllButSearches provider.old provider.new }
+    ensures provider { KeepsOthers provider.old consumer_node.old provider.new consumer_node.new }
 {
     open_idle(alloc, provider, consumer_node, mode, out)?;
     Ok(())
@@ -84,10 +85,11 @@ fn ask_again(
     consumer_node: &mut ConsumerNode,
     out: &mut Report,
 ) -> Result<(), Cause>
+    requires idle { consumer_node.old.search ≡ None }
     ensures does { Does
         (spec.asked_again (agreement_of provider.old consumer_node.old out.old.lineage))
         out.old (agreement_of provider.new consumer_node.new out.old.lineage) out.new result }
-    ensures provider { KeepsAllButSearches provider.old provider.new }
+    ensures provider { KeepsOthers provider.old consumer_node.old provider.new consumer_node.new }
 {
     if open_idle(alloc, provider, consumer_node, Mode::RefreshOnly, out)? {
         return ask_once(alloc, provider, consumer_node, Mode::RefreshOnly, out);
@@ -104,7 +106,8 @@ pub fn cut_if_busy(
 ) -> Result<(), Cause>
     ensures does { Does (spec.idle (agreement_of provider.old consumer_node.old out.old.lineage))
         out.old (agreement_of provider.new consumer_node.new out.old.lineage) out.new result }
-    ensures provider { KeepsAllButSearches provider.old provider.new }
+    ensures provider { KeepsOthers provider.old consumer_node.old provider.new consumer_node.new }
+    ensures idle { OnOk result (consumer_node.new.search ≡ None) }
     ensures provider_err { OnErr result (provider.new ≡ provider.old) }
     ensures consumer_node_err { OnErr result (consumer_node.new ≡ consumer_node.old) }
 {
@@ -115,7 +118,7 @@ pub fn cut_if_busy(
 }
 
 /// Opens the search of a consumer that is not busy, with the cookie that it holds. True where that
-/// does not serve.
+/// does not serve, and then none is open.
 fn open_idle(
     alloc: Global,
     provider: &mut ScriptProvider,
@@ -123,9 +126,11 @@ fn open_idle(
     mode: Mode,
     out: &mut Report,
 ) -> Result<bool, Cause>
+    requires idle { consumer_node.old.search ≡ None }
     ensures does { Opens mode (agreement_of provider.old consumer_node.old out.old.lineage)
         out.old (agreement_of provider.new consumer_node.new out.old.lineage) out.new result }
-    ensures provider { KeepsAllButSearches provider.old provider.new }
+    ensures idle { IfOk result (λ again. again ≡ true → consumer_node.new.search ≡ None) }
+    ensures provider { KeepsOthers provider.old consumer_node.old provider.new consumer_node.new }
 {
     let control = asked(alloc, consumer_node, mode)?;
     let wanted = copy_wanted(consumer_node.consumer.inner().spec())?;
@@ -149,6 +154,7 @@ fn asked(alloc: Global, consumer_node: &mut ConsumerNode, mode: Mode) -> Result<
         (consumer_node.new
         ≡ spec.with_copy consumer_node.old
         (spec.asking (persists mode) consumer_node.old.consumer.copy)) }
+    ensures search { consumer_node.new.search ≡ consumer_node.old.search }
 {
     let request = consumer_node.consumer.request(MESSAGE_ID, mode)?;
     let control = control_of(alloc, &request);
@@ -164,7 +170,8 @@ fn refuse(
     code: u32,
     out: &mut Report,
 ) -> Result<bool, Cause>
-    ensures { Refuses consumer_node.old code out.old consumer_node.new out.new result }
+    ensures refuses { Refuses consumer_node.old code out.old consumer_node.new out.new result }
+    ensures search { consumer_node.new.search ≡ consumer_node.old.search }
 {
     let done = done_message(alloc, MESSAGE_ID, code)?;
     let taken = take_whatever(&mut consumer_node.consumer, &done);

@@ -1,16 +1,18 @@
 //! Messages that a consumer takes from its link, as what their bytes spell.
-ghost use Rattle.std.specs.Prelude.{◌≡◌, ◌∷◌, [], Some, option_map, IfOk, OnOk};
+ghost use Rattle.std.specs.Prelude.{◌≡◌, ◌<◌, ◌≤◌, ◌∷◌, [], Some, None, option_map, IfOk, OnOk};
 ghost use Rattle.ldap_messages.specs.Whole.{whole_of};
 ghost use Rattle.cascade_exchange.specs.Exchange as spec;
 ghost use Rattle.cascade_exchange.specs.Reception as decoding;
 ghost use Rattle.cascade_exchange.specs.Exchange.{agreement_of};
 ghost use Rattle.sync_consumer.specs.Taking.{AreFit};
-ghost use Rattle.cascade_exchange.specs.Parts.{Does, TakesOne, Received, KeepsAllButSearches};
+ghost use Rattle.cascade_exchange.specs.Parts.{AreKept, Does, IsUntouched, KeepsOthers, TakesOne};
+ghost use Rattle.cascade_exchange.specs.Parts.{ReceivedSoFar, TakesNext, TakesSoFar, TakesStep};
 ghost use Rattle.cascade_report.specs.Report.{said};
 ghost use Rattle.cascade_report.specs.ReportLines.{commit_reported, ReportLine as reported};
 
 use crate::cutting::drop_all;
 use crate::ending::ends_bare;
+use crate::exchange::kept_search;
 use crate::taking::{BAD_MESSAGE, OUT_OF_PLACE, fault_name, stored_number};
 use cascade_nodes::{ConsumerNode, ScriptProvider, discard};
 use cascade_report::Report;
@@ -18,35 +20,100 @@ use cascade_script::Cause;
 use ldap_ber::NoMemory;
 use ldap_messages::{Message, MessageFault};
 use std::alloc::{AllocError, Global};
+use std::mem;
 use sync_consumer::{Commit, Taken};
+use sync_provider::SearchSnapshot;
 
-/// Takes n messages from the link, up to where it is empty.
-#[tactic(auto, using(crate::proofs::Loops::begins, crate::proofs::Loops::took_one, crate::proofs::Loops::took_none, crate::proofs::Loops::took_all, crate::proofs::Pending::taking_starves))]
+/// Takes n messages from the link, up to where it is empty. Where a fault gives the search up, how
+/// it stood is kept first; else it stays as it is.
 pub fn take(
     alloc: Global,
     provider: &mut ScriptProvider,
     consumer_node: &mut ConsumerNode,
     count: u64,
+    kept: &mut Option<SearchSnapshot>,
     out: &mut Report,
 ) -> Result<(), Cause>
     ensures does { Does
         (spec.takes count (agreement_of provider.old consumer_node.old out.old.lineage))
         out.old (agreement_of provider.new consumer_node.new out.old.lineage) out.new result }
-    ensures provider { KeepsAllButSearches provider.old provider.new }
+    ensures provider { KeepsOthers provider.old consumer_node.old provider.new consumer_node.new }
+    ensures kept { AreKept provider.old consumer_node.old.search kept.old
+        → AreKept provider.old consumer_node.old.search kept.new }
+    ensures untouched { IsUntouched kept.new consumer_node.old.search provider.old provider.new }
+{
+    if take_some(alloc, provider, consumer_node, count, out)? {
+        return Ok(());
+    }
+    let own = kept_search(provider, consumer_node.search)?;
+    discard(mem::replace(kept, own));
+    drop_all(provider, consumer_node);
+    Ok(())
+}
+
+/// Takes n messages from the link, up to where it is empty. False where a fault ends that, for
+/// which the search is to be given up.
+#[tactic(auto, using(crate::proofs::Loops::begins))]
+fn take_some(
+    alloc: Global,
+    provider: &ScriptProvider,
+    consumer_node: &mut ConsumerNode,
+    count: u64,
+    out: &mut Report,
+) -> Result<bool, Cause>
+    ensures does { TakesSoFar count (agreement_of provider.now consumer_node.old out.old.lineage)
+        out.old (agreement_of provider.now consumer_node.new out.old.lineage) out.new result }
+    ensures search { consumer_node.new.search ≡ consumer_node.old.search }
 {
     let mut left = count;
     while left > 0 {
-        if !take_one(alloc, provider, consumer_node, out)? {
-            out.nothing(consumer_node.name.as_slice())?;
-            return Ok(());
+        if let Some(goes_on) = take_step(alloc, provider, consumer_node, left, out)? {
+            return Ok(goes_on);
         }
         left -= 1;
+    }
+    Ok(true)
+}
+
+/// Takes the first message of the link, of n that are to be taken. The answer is none where others
+/// are to be taken then, and false where the search is to be given up.
+fn take_step(
+    alloc: Global,
+    provider: &ScriptProvider,
+    consumer_node: &mut ConsumerNode,
+    left: u64,
+    out: &mut Report,
+) -> Result<Option<bool>, Cause>
+    requires { 0 < left }
+    ensures does { TakesStep left (agreement_of provider.now consumer_node.old out.old.lineage)
+        out.old (agreement_of provider.now consumer_node.new out.old.lineage) out.new result }
+    ensures search { consumer_node.new.search ≡ consumer_node.old.search }
+{
+    let Some(goes_on) = take_next(alloc, provider, consumer_node, out)? else {
+        out.nothing(consumer_node.name.as_slice())?;
+        return Ok(Some(true));
+    };
+    if goes_on {
+        return Ok(None);
+    }
+    report_rest(consumer_node, left, out)?;
+    Ok(Some(false))
+}
+
+/// Reports that nothing is left after a fault, where other messages were to be taken.
+fn report_rest(consumer_node: &ConsumerNode, left: u64, out: &mut Report) -> Result<(), NoMemory>
+    ensures more { 1 < left
+        → OnOk result (out.new ≡ said out.old (reported.Nothing consumer_node.now.name ∷ [])) }
+    ensures last { left ≤ 1 → OnOk result (out.new ≡ out.old) }
+{
+    if left > 1 {
+        return out.nothing(consumer_node.name.as_slice());
     }
     Ok(())
 }
 
-/// Takes the first message of the link. False where there is none.
-#[tactic(auto, using(crate::proofs::Reception::takes_one, crate::proofs::Reception::nothing_there))]
+/// Takes the first message of the link, and gives the search up for a fault. False where there is
+/// none.
 pub fn take_one(
     alloc: Global,
     provider: &mut ScriptProvider,
@@ -56,14 +123,40 @@ pub fn take_one(
     ensures does { TakesOne (agreement_of provider.old consumer_node.old out.old.lineage)
         (spec.taking (agreement_of provider.old consumer_node.old out.old.lineage))
         out.old (agreement_of provider.new consumer_node.new out.old.lineage) out.new result }
-    ensures provider { KeepsAllButSearches provider.old provider.new }
+    ensures provider { KeepsOthers provider.old consumer_node.old provider.new consumer_node.new }
 {
-    let Some(bytes) = consumer_node.link.pop() else {
+    let Some(goes_on) = take_next(alloc, provider, consumer_node, out)? else {
         return Ok(false);
     };
-    let found = decoded(alloc, bytes.as_slice())?;
-    take_found(alloc, provider, consumer_node, found, out)?;
+    if goes_on {
+        return Ok(true);
+    }
+    drop_all(provider, consumer_node);
     Ok(true)
+}
+
+/// Takes the first message of the link. The answer is none where there is none, and false for a
+/// fault, for which the search is to be given up.
+#[tactic(auto, using(crate::proofs::Reception::nothing_there))]
+fn take_next(
+    alloc: Global,
+    provider: &ScriptProvider,
+    consumer_node: &mut ConsumerNode,
+    out: &mut Report,
+) -> Result<Option<bool>, Cause>
+    ensures does { TakesNext (agreement_of provider.now consumer_node.old out.old.lineage)
+        (spec.taking (agreement_of provider.now consumer_node.old out.old.lineage))
+        out.old (agreement_of provider.now consumer_node.new out.old.lineage) out.new result }
+    ensures search { consumer_node.new.search ≡ consumer_node.old.search }
+{
+    let Some(bytes) = consumer_node.link.pop()? else {
+        return Ok(None);
+    };
+    let found = decoded(alloc, bytes.as_slice())?;
+    match take_found(alloc, provider, consumer_node, found, out) {
+        Ok(goes_on) => Ok(Some(goes_on)),
+        Err(cause) => Err(cause),
+    }
 }
 
 /// The message that the bytes begin with, if they begin with one.
@@ -78,19 +171,19 @@ fn decoded(alloc: Global, bytes: &[u8]) -> Result<Option<Message>, NoMemory>
     }
 }
 
-/// Takes a message that was decoded, or gives the search up where there is none.
-#[tactic(auto, using(crate::proofs::Reception::garbled))]
+/// Takes a message that was decoded. False where there is none, or for another fault: then the
+/// search is to be given up.
 fn take_found(
     alloc: Global,
-    provider: &mut ScriptProvider,
+    provider: &ScriptProvider,
     consumer_node: &mut ConsumerNode,
     found: Option<Message>,
     out: &mut Report,
-) -> Result<(), Cause>
-    ensures does { Received (agreement_of provider.old consumer_node.old out.old.lineage)
+) -> Result<bool, Cause>
+    ensures does { ReceivedSoFar (agreement_of provider.now consumer_node.old out.old.lineage)
         (decoding.received_next consumer_node.old.consumer.copy (option_map whole_of found))
-        out.old (agreement_of provider.new consumer_node.new out.old.lineage) out.new result }
-    ensures provider { KeepsAllButSearches provider.old provider.new }
+        out.old (agreement_of provider.now consumer_node.new out.old.lineage) out.new result }
+    ensures search { consumer_node.new.search ≡ consumer_node.old.search }
 {
     match found {
         Some(message) => {
@@ -99,67 +192,67 @@ fn take_found(
             taken
         }
         None => {
-            give_up(provider, consumer_node, BAD_MESSAGE, out)?;
-            Ok(())
+            out.faulted(consumer_node.name.as_slice(), BAD_MESSAGE)?;
+            Ok(false)
         }
     }
 }
 
 /// Takes a message, and reports what came of it. One that ends a refresh without a cookie is
 /// refused.
-#[tactic(auto, using(crate::proofs::Reception::bare, crate::proofs::Reception::not_bare))]
+#[tactic(auto, using(crate::proofs::Reception::not_bare))]
 fn take_message(
     alloc: Global,
-    provider: &mut ScriptProvider,
+    provider: &ScriptProvider,
     consumer_node: &mut ConsumerNode,
     message: &Message,
     out: &mut Report,
-) -> Result<(), Cause>
-    ensures does { Received (agreement_of provider.old consumer_node.old out.old.lineage)
+) -> Result<bool, Cause>
+    ensures does { ReceivedSoFar (agreement_of provider.now consumer_node.old out.old.lineage)
         (decoding.received_next consumer_node.old.consumer.copy (Some (whole_of message.now)))
-        out.old (agreement_of provider.new consumer_node.new out.old.lineage) out.new result }
-    ensures provider { KeepsAllButSearches provider.old provider.new }
+        out.old (agreement_of provider.now consumer_node.new out.old.lineage) out.new result }
+    ensures search { consumer_node.new.search ≡ consumer_node.old.search }
 {
     if ends_bare(alloc, message)? {
-        give_up(provider, consumer_node, OUT_OF_PLACE, out)?;
-        return Ok(());
+        out.faulted(consumer_node.name.as_slice(), OUT_OF_PLACE)?;
+        return Ok(false);
     }
     hand_to_consumer(provider, consumer_node, message, out)
 }
 
-/// Has the consumer take a message, and reports what came of it.
+/// Has the consumer take a message, and reports what came of it. False for a fault.
 #[tactic(auto, using(crate::proofs::Reception::receives_staged))]
 fn hand_to_consumer(
-    provider: &mut ScriptProvider,
+    provider: &ScriptProvider,
     consumer_node: &mut ConsumerNode,
     message: &Message,
     out: &mut Report,
-) -> Result<(), Cause>
-    ensures does { Received (agreement_of provider.old consumer_node.old out.old.lineage)
+) -> Result<bool, Cause>
+    ensures does { ReceivedSoFar (agreement_of provider.now consumer_node.old out.old.lineage)
         (decoding.received_of consumer_node.old.consumer.copy (Some (whole_of message.now)))
-        out.old (agreement_of provider.new consumer_node.new out.old.lineage) out.new result }
-    ensures provider { KeepsAllButSearches provider.old provider.new }
+        out.old (agreement_of provider.now consumer_node.new out.old.lineage) out.new result }
+    ensures search { consumer_node.new.search ≡ consumer_node.old.search }
 {
     match consumer_node.consumer.take(message) {
         Taken::Staged => {
             out.taken(consumer_node.name.as_slice())?;
-            Ok(())
+            Ok(true)
         }
         Taken::Copied(_) => {
             out.taken(consumer_node.name.as_slice())?;
-            Ok(())
+            Ok(true)
         }
         Taken::Stored(commit) => {
             report_stored(provider, consumer_node, commit, out)?;
-            Ok(())
+            Ok(true)
         }
         Taken::Over(code) => {
             out.ended(consumer_node.name.as_slice(), code)?;
-            Ok(())
+            Ok(true)
         }
         Taken::Fault(fault) => {
-            give_up(provider, consumer_node, fault_name(fault), out)?;
-            Ok(())
+            out.faulted(consumer_node.name.as_slice(), fault_name(fault))?;
+            Ok(false)
         }
         Taken::NoMemory => Err(Cause::NoMemory),
     }
@@ -184,22 +277,4 @@ fn report_stored(
     let origin = out.origin(provider.kind(), consumer.spec(), number)?;
     let name = consumer_node.name.as_slice();
     out.stored(name, &mut consumer_node.consumer, number, origin, commit)
-}
-
-/// Gives a search up for a fault: the search is dropped, and the link is emptied.
-fn give_up(
-    provider: &mut ScriptProvider,
-    consumer_node: &mut ConsumerNode,
-    fault: &[u8],
-    out: &mut Report,
-) -> Result<(), NoMemory>
-    ensures pair { agreement_of provider.new consumer_node.new out.old.lineage
-        ≡ spec.given_up (agreement_of provider.old consumer_node.old out.old.lineage)
-        consumer_node.old.consumer.copy }
-    ensures line { OnOk result
-        (out.new ≡ said out.old (reported.Faulted consumer_node.old.name fault.now ∷ [])) }
-    ensures provider { KeepsAllButSearches provider.old provider.new }
-{
-    drop_all(provider, consumer_node);
-    out.faulted(consumer_node.name.as_slice(), fault)
 }

@@ -4,7 +4,7 @@ ghost use Rattle.sync_provider.specs.Machine.{ProviderState};
 ghost use Rattle.cascade_exchange.specs.Exchange as spec;
 ghost use Rattle.cascade_exchange.specs.Exchange.{agreement_of};
 ghost use Rattle.cascade_report.specs.Origins.{Lineage};
-ghost use Rattle.cascade_exchange.specs.Parts.{Does, KeepsAllButSearches};
+ghost use Rattle.cascade_exchange.specs.Parts.{Does, KeepsOthers};
 
 use crate::opening::open_anew;
 use crate::receiving::take_one;
@@ -26,7 +26,7 @@ pub fn settle(
 ) -> Result<(), Cause>
     ensures does { Does (spec.settles (agreement_of provider.old consumer_node.old out.old.lineage))
         out.old (agreement_of provider.new consumer_node.new out.old.lineage) out.new result }
-    ensures provider { KeepsAllButSearches provider.old provider.new }
+    ensures provider { KeepsOthers provider.old consumer_node.old provider.new consumer_node.new }
 {
     take_all(alloc, provider, consumer_node, out)?;
     run_search(alloc, provider, consumer_node, out)?;
@@ -46,7 +46,7 @@ fn catch_up(
     ensures does { Does
         (spec.catches_up (agreement_of provider.old consumer_node.old out.old.lineage))
         out.old (agreement_of provider.new consumer_node.new out.old.lineage) out.new result }
-    ensures provider { KeepsAllButSearches provider.old provider.new }
+    ensures provider { KeepsOthers provider.old consumer_node.old provider.new consumer_node.new }
 {
     if follows_on(consumer_node) {
         return Ok(());
@@ -65,7 +65,7 @@ fn refresh(
     ensures does { Does
         (spec.refreshes (agreement_of provider.old consumer_node.old out.old.lineage))
         out.old (agreement_of provider.new consumer_node.new out.old.lineage) out.new result }
-    ensures provider { KeepsAllButSearches provider.old provider.new }
+    ensures provider { KeepsOthers provider.old consumer_node.old provider.new consumer_node.new }
 {
     open_anew(alloc, provider, consumer_node, out)?;
     run_search(alloc, provider, consumer_node, out)
@@ -89,7 +89,7 @@ fn take_all(
 ) -> Result<(), Cause>
     ensures does { Does (spec.drains (agreement_of provider.old consumer_node.old out.old.lineage))
         out.old (agreement_of provider.new consumer_node.new out.old.lineage) out.new result }
-    ensures provider { KeepsAllButSearches provider.old provider.new }
+    ensures provider { KeepsOthers provider.old consumer_node.old provider.new consumer_node.new }
 {
     while take_one(alloc, provider, consumer_node, out)? {}
     Ok(())
@@ -105,7 +105,7 @@ fn run_search(
 ) -> Result<(), Cause>
     ensures does { Does (spec.runs (agreement_of provider.old consumer_node.old out.old.lineage))
         out.old (agreement_of provider.new consumer_node.new out.old.lineage) out.new result }
-    ensures provider { KeepsAllButSearches provider.old provider.new }
+    ensures provider { KeepsOthers provider.old consumer_node.old provider.new consumer_node.new }
 {
     while send_one(alloc, provider, consumer_node, out)? {
         take_one(alloc, provider, consumer_node, out)?;

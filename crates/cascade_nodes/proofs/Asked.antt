@@ -1,5 +1,5 @@
 -- A provider of a script: its answers, and the message ID of its searches.
-use Rattle.std.proofs.Common.{◌≡◌, ◌≢◌, ◌≤◌, ℕ, Bool, true, false, cond, Option, Some, None, List, [], ◌∷◌, ◌++◌, refl, ap, sym, subst, ◌∙◌, arith, eq-eqb, eqb-true}
+use Rattle.std.proofs.Common.{◌≡◌, ◌≢◌, ◌≤◌, ℕ, Bool, true, false, cond, Option, Some, None, List, [], ◌∷◌, ◌++◌, drop, refl, ap, sym, subst, ◌∙◌, arith, eq-eqb, eqb-true}
 use Rattle.std.specs.BTreeMap.{insert_entry}
 use Rattle.std.specs.Ordering.{nat_cmp}
 use Rattle.std.specs.Prelude.{◌==◌, Ok, Err, Result, IfSome}
@@ -19,11 +19,12 @@ use Rattle.sync_messages.specs.declared.request.SyncRequest.{SyncRequest}
 use Rattle.sync_model.specs.Message.{SyncMessage}
 use Rattle.sync_model.specs.Message.SyncMessage.{AddOrModify, Delete, Present, IdSet, NewCookie, RefreshDelete, RefreshPresent, Done, Ignored}
 use Rattle.sync_provider.specs.Accepting as accepting
-use Rattle.sync_provider.specs.HandingOut.{Turn, turn_of_message, turn_of_pending, turn_of_found, turn_at, turn_of, search_at, without_first, closed, handed_on, after_turn, after_answer}
+use Rattle.sync_provider.specs.HandingOut.{Turn, turn_of_message, turn_of_pending, turn_of_found, turn_of_place, turn_at, turn_at_place, turn_of, search_at, without_first, closed, handed_on, after_turn, after_answer}
 use Rattle.sync_provider.specs.HandingOut.Turn.{Hands, Closes, Waits, Unknown}
 use Rattle.sync_provider.specs.Machine.{ProviderState, each_informed, searches_after, judged_by, wrote, after_commit, committed, committed_each}
 use Rattle.sync_provider.specs.Queueing.{overflowed, queued, pushed, informed, is_full, group_of, is_queueing}
-use Rattle.sync_provider.specs.Returning.{SearchesSnapshot, snapshot_of}
+use Rattle.sync_provider.specs.Placing.{put_back}
+use Rattle.sync_provider.specs.Returning.{KeptSearch, snapshot_of}
 use Rattle.sync_provider.specs.Search.{SearchState, pending, opening, advanced}
 use Rattle.sync_provider.specs.declared.committing.StagedCommit.{StagedCommit}
 use Rattle.sync_provider.specs.declared.handed.Handed.{Handed}
@@ -111,9 +112,18 @@ each_committed_ours p [] now ours = ours
 each_committed_ours p (commit ∷ commits) now ours =
     each_committed_ours (committed p commit.puts commit.drops now) commits now (committed_ours p commit.puts commit.drops now ours)
 
--- the searches of a moment
-pub ours_then : (p : ProviderState) (snapshot : SearchesSnapshot) → snapshot ≡ snapshot_of p → AreOurs p.searches → AreOurs snapshot.searches
-ours_then p snapshot is ours = subst (λ (m : SearchesSnapshot). AreOurs m.searches) (sym is) ours
+-- the search of a moment
+found_ours : (es : List (ℕ × SearchState)) (number : ℕ) (found : Option SearchState) → search_at es number ≡ found → AreOurs es → IfSome found IsOurs
+found_ours es number None at ours = tt
+found_ours es number (Some s) at ours = each-at IsOurs es number s ours at
+
+pub ours_then : (p : ProviderState) (snapshot : KeptSearch) (number : ℕ) → snapshot ≡ snapshot_of p number → AreOurs p.searches → IfSome snapshot.search IsOurs
+ours_then p snapshot number is ours = subst (λ (m : KeptSearch). IfSome m.search IsOurs) (sym is) (found_ours p.searches number (search_at p.searches number) refl ours)
+
+-- the searches once it is back
+pub put_back_ours : (es : List (ℕ × SearchState)) (number : ℕ) (found : Option SearchState) → AreOurs es → IfSome found IsOurs → AreOurs (put_back es number found)
+put_back_ours es number None ours one = each-closed IsOurs es number ours
+put_back_ours es number (Some s) ours one = each-opened IsOurs es number s ours one
 
 -- ---- turns
 
@@ -126,7 +136,8 @@ on_ours : (es : List (ℕ × SearchState)) (number : ℕ) (found : Option Search
 on_ours es number None at ours = ours
 on_ours es number (Some s) at ours = each-put_on IsOurs es number (without_first s) ours (first_ours s s.rest s.due (each-at IsOurs es number s ours at))
 
-after_ours : (es : List (ℕ × SearchState)) (number : ℕ) (turn : Turn) → AreOurs es → AreOurs (after_turn es number turn)
+-- the searches after a turn
+pub after_ours : (es : List (ℕ × SearchState)) (number : ℕ) (turn : Turn) → AreOurs es → AreOurs (after_turn es number turn)
 after_ours es number (Hands message) ours = on_ours es number (search_at es number) refl ours
 after_ours es number (Closes code message) ours = each-closed IsOurs es number ours
 after_ours es number Waits ours = ours
@@ -171,9 +182,22 @@ of_found es number (Some s) at ours =
 turn_spelled : (es : List (ℕ × SearchState)) (number : ℕ) → AreOurs es → IsSpelledTurn (turn_at es number)
 turn_spelled es number ours = of_found es number (search_at es number) refl ours
 
+spelled_as : (turn : Turn) (found : Handed) → IsSpelledTurn turn → IfSome (turn_of found) (λ there. there ≡ turn) → IsSpelled found
+spelled_as turn (handed.Message message) has is = subst IsSpelledTurn (sym is) has
+spelled_as turn (handed.Ended code message) has is = subst IsSpelledTurn (sym is) has
+spelled_as turn handed.Nothing has is = tt
+spelled_as turn handed.NoSuchSearch has is = tt
+spelled_as turn handed.NoMemory has is = tt
+
 pub spelled : (es : List (ℕ × SearchState)) (number : ℕ) (found : Handed) → AreOurs es → IfSome (turn_of found) (λ turn. turn ≡ turn_at es number) → IsSpelled found
-spelled es number (handed.Message message) ours is = subst IsSpelledTurn (sym is) (turn_spelled es number ours)
-spelled es number (handed.Ended code message) ours is = subst IsSpelledTurn (sym is) (turn_spelled es number ours)
-spelled es number handed.Nothing ours is = tt
-spelled es number handed.NoSuchSearch ours is = tt
-spelled es number handed.NoMemory ours is = tt
+spelled es number found ours is = spelled_as (turn_at es number) found (turn_spelled es number ours) is
+
+at_place_spelled : (es : List (ℕ × SearchState)) (number place : ℕ) (found : Option SearchState) → search_at es number ≡ found → AreOurs es → IsSpelledTurn (turn_of_place place found)
+at_place_spelled es number place None at ours = tt
+at_place_spelled es number place (Some s) at ours =
+    let id : s.id ≡ message_id = each-at IsOurs es number s ours at in
+    of_pending s.id (drop place (pending s)) (omega (arith, id))
+
+-- the same of a message with others before it
+pub place_spelled : (es : List (ℕ × SearchState)) (number place : ℕ) (found : Handed) → AreOurs es → IfSome (turn_of found) (λ turn. turn ≡ turn_at_place es number place) → IsSpelled found
+place_spelled es number place found ours is = spelled_as (turn_at_place es number place) found (at_place_spelled es number place (search_at es number) refl ours) is

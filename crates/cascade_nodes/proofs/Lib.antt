@@ -1,3 +1,4 @@
 pub mod Asked
 pub mod Commits
 pub mod Fed
+pub mod Links

@@ -1,5 +1,5 @@
 -- What a link may hold.
-use Rattle.std.specs.Prelude.{◌≡◌, ℕ, ◌<◌, List, length, sum_by}
+use Rattle.std.specs.Prelude.{◌≡◌, ⊤, ℕ, ◌<◌, List, [], ◌∷◌, length, sum_by}
 use Rattle.cascade_script.specs.declared.fault.Cause.{Cause}
 use Rattle.cascade_script.specs.declared.fault.Cause.TheVariants.{LimitReached, NoMemory}
 
@@ -16,3 +16,8 @@ link_size link = sum_by length link
 abbrev pub RefusesLink : ℕ → Cause → Type 0
 RefusesLink size NoMemory = Unit {0}
 RefusesLink size cause = (cause ≡ LimitReached most_link) × (most_link < size)
+
+-- each number is below this one
+abbrev pub AreBelow : ℕ → List (ℕ × List ℕ) → Type 0
+AreBelow next [] = ⊤
+AreBelow next (message ∷ messages) = (message.0 < next) × AreBelow next messages

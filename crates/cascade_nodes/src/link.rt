@@ -4,8 +4,8 @@ ghost use Rattle.cascade_nodes.specs.Link.{link_size, most_link, RefusesLink};
 
 use cascade_script::Cause;
 use ldap_ber::{NoMemory, Octets};
+use shared_map::SharedMap;
 use std::alloc::Global;
-use std::collections::VecDeque;
 use std::marker::Model;
 
 /// The most bytes of a link.
@@ -14,20 +14,26 @@ const MOST_LINK: usize = 67_108_864;
 /// Whole encoded messages that were sent and not taken, in order.
 #[derive(Drop)]
 pub struct Link {
-    messages: VecDeque<Octets>,
+    alloc: Global,
+    /// By numbers, which ascend from one message to the next.
+    messages: SharedMap<u64, Octets>,
+    /// The number of the next message, above those of all that the link holds.
+    next: u64,
     /// How many bytes they have together.
     bytes: usize,
 }
 
 impl Model for Link {
     ghost use Rattle.std.specs.Prelude.{◌≡◌, ◌≤◌, List, ℕ};
-    ghost use Rattle.cascade_nodes.specs.Link.{link_size, most_link};
+    ghost use Rattle.std.specs.Map.{values_of};
+    ghost use Rattle.cascade_nodes.specs.Link.{link_size, most_link, AreBelow};
 
     ghost Value = { List (List ℕ) };
 
-    ghost view = { λ l. l.messages.items };
+    ghost view = { λ l. values_of l.messages };
 
-    ghost invariant = { λ l. (l.bytes ≡ link_size l.messages.items) × (l.bytes ≤ most_link) };
+    ghost invariant = { λ l. AreBelow l.next l.messages
+        × ((l.bytes ≡ link_size (values_of l.messages)) × (l.bytes ≤ most_link)) };
 }
 
 impl Link {
@@ -36,21 +42,22 @@ impl Link {
         ensures { result ≡ [] }
     {
         Link {
-            messages: VecDeque::new(alloc),
+            alloc,
+            messages: SharedMap::new(alloc),
+            next: 0,
             bytes: 0,
         }
     }
 
-    /// Makes a link with the same messages. It is `NoMemory` where memory runs out.
+    /// Makes a link with the same messages, which the two share. It is `NoMemory` where memory runs
+    /// out.
     pub fn copy(&self) -> Result<Link, NoMemory>
         ensures { IfOk result (λ link. link ≡ self.now) }
     {
-        let mut messages = VecDeque::new(*self.messages.allocator());
-        for message in &self.messages {
-            messages.push_back(message.copy()?)?;
-        }
         Ok(Link {
-            messages,
+            alloc: self.alloc,
+            messages: self.messages.copy()?,
+            next: self.next,
             bytes: self.bytes,
         })
     }
@@ -59,11 +66,12 @@ impl Link {
     pub fn is_empty(&self) -> bool
         ensures { result ≡ (length self.now == 0) }
     {
-        self.messages.is_empty()
+        self.messages.len() == 0
     }
 
     /// Puts a message at the end. It is `LimitReached` where the link would hold more than
     /// 67,108,864 bytes, or `NoMemory`, and then the link is as before.
+    #[tactic(auto, using(crate::proofs::Links::with_last, crate::proofs::Links::last_below))]
     pub fn push(&mut self, message: Octets) -> Result<(), Cause>
         ensures ok { OnOk result (self.new ≡ self.old ++ message ∷ []) }
         ensures fits { OnOk result (link_size self.old + length message ≤ most_link) }
@@ -74,27 +82,40 @@ impl Link {
         if length > MOST_LINK - self.bytes {
             return Err(Cause::LimitReached(MOST_LINK as u64));
         }
-        self.messages.push_back(message)?;
+        if self.next == u64::MAX {
+            return Err(Cause::NoMemory);
+        }
+        self.messages.insert(self.next, message)?;
+        self.next += 1;
         self.bytes += length;
         Ok(())
     }
 
-    /// Takes the first message.
-    pub fn pop(&mut self) -> Option<Octets>
-        ensures first { IfSome result (λ message. self.old ≡ message ∷ self.new) }
-        ensures none { IfNone result (self.old ≡ []) }
-        ensures empty { IfNone result (self.new ≡ []) }
+    /// Takes the first message. It is `NoMemory` where memory runs out, and then the link is as
+    /// before.
+    #[tactic(auto, using(crate::proofs::Links::first_popped, crate::proofs::Links::none_there, crate::proofs::Links::first_size, crate::proofs::Links::rest_below))]
+    pub fn pop(&mut self) -> Result<Option<Octets>, NoMemory>
+        ensures first { IfOk result (λ found.
+            IfSome found (λ message. self.old ≡ message ∷ self.new)) }
+        ensures none { IfOk result (λ found. IfNone found (self.old ≡ [])) }
+        ensures empty { IfOk result (λ found. IfNone found (self.new ≡ [])) }
+        ensures err { OnErr result (self.new ≡ self.old) }
     {
-        let message = self.messages.pop_front()?;
+        let Some((number, message)) = self.messages.first() else {
+            return Ok(None);
+        };
+        let number = *number;
+        let message = message.copy()?;
+        self.messages.remove(&number)?;
         self.bytes -= message.as_slice().len();
-        Some(message)
+        Ok(Some(message))
     }
 
     /// Drops all messages.
     pub fn clear(&mut self)
         ensures { self.new ≡ [] }
     {
-        self.messages.clear();
+        self.messages = SharedMap::new(self.alloc);
         self.bytes = 0;
     }
 }

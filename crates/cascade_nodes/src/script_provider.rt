@@ -1,5 +1,5 @@
 //! A provider of a script.
-ghost use Rattle.std.specs.Prelude.{◌≡◌, ◌<◌, ◌^◌, true, false, length, IfOk};
+ghost use Rattle.std.specs.Prelude.{◌≡◌, ◌<◌, ◌^◌, true, false, length, map, IfOk, IfSome};
 ghost use Rattle.csn_cookie.specs.Csn as csn_specs;
 ghost use Rattle.entry_tree.specs.Selection.{search_of};
 ghost use Rattle.entry_tree.specs.Fitting.{is_light};
@@ -8,10 +8,12 @@ ghost use Rattle.std.specs.List.{list_all};
 ghost use Rattle.sync_provider.specs.Accepting as accepting;
 ghost use Rattle.directory_writes.specs.Directory as directory;
 ghost use Rattle.sync_provider.specs.Answering.{WriteLeaves, CommitsLeave, HandOutLeaves, DropLeaves};
+ghost use Rattle.sync_provider.specs.HandingOut.{turn_at_place, turn_of};
 ghost use Rattle.sync_provider.specs.Machine as machine;
+ghost use Rattle.sync_provider.specs.Placing.{ComesBack, put_back};
 ghost use Rattle.sync_provider.specs.Returning.{snapshot_of, HasNoWriteSince};
 ghost use Rattle.cascade_nodes.specs.Opening.{answer_to, after_accepted};
-ghost use Rattle.cascade_nodes.specs.Ours.{AreOurs, IsSpelled};
+ghost use Rattle.cascade_nodes.specs.Ours.{IsOurs, IsSpelled};
 
 use csn_cookie::Csn;
 use dn_names::Dn;
@@ -20,7 +22,8 @@ use ldap_ber::{NoMemory, Octets};
 use std::alloc::Global;
 use std::marker::Model;
 use sync_provider::{
-    Accepted, CommitFault, Handed, Kind, OpenSearches, Provider, Reply, StagedCommit, SyncSearch,
+    Accepted, CommitFault, Handed, Kind, Reply, SearchSnapshot, StagedCommit, SyncDirectory,
+    SyncSearch,
 };
 
 /// The message ID of each message of a script.
@@ -29,7 +32,7 @@ pub const MESSAGE_ID: u32 = 1;
 /// A provider whose searches have the message ID of a script's messages.
 #[derive(Drop)]
 pub struct ScriptProvider {
-    provider: Provider,
+    provider: SyncDirectory,
 }
 
 impl Model for ScriptProvider {
@@ -60,7 +63,7 @@ impl ScriptProvider {
         ensures { IfOk result (λ source. source ≡ machine.fresh suffix number number kind) }
     {
         let history = u128::from(number);
-        let provider = Provider::new(alloc, suffix, number, history, kind)?;
+        let provider = SyncDirectory::new(alloc, suffix, number, history, kind)?;
         Ok(ScriptProvider { provider })
     }
 
@@ -88,8 +91,9 @@ impl ScriptProvider {
     }
 
     /// The entries after all writes, in ascending order of identity.
-    pub fn entries(&self) -> &[Entry]
-        ensures { result.now ≡ directory.entries_of self.now.directory }
+    pub fn entries(&self) -> Result<Vec<&Entry>, NoMemory>
+        ensures { IfOk result (λ list.
+            map (λ e. e.now) list.items ≡ directory.entries_of self.now.directory) }
     {
         self.provider.tree().entries()
     }
@@ -165,23 +169,45 @@ impl ScriptProvider {
         self.provider.hand_out(number)
     }
 
-    /// The searches that are open now, for a later return to this moment. It is `NoMemory` where
-    /// memory runs out.
-    #[tactic(auto, using(crate::proofs::Asked::ours_then))]
-    pub fn open_searches(&self) -> Result<OpenSearches, NoMemory>
-        ensures value { IfOk result (λ snapshot. snapshot ≡ snapshot_of self.now) }
-        ensures ours { IfOk result (λ snapshot. AreOurs snapshot.searches) }
+    /// The message with n before it of those that the search with this number has pending, which
+    /// has a spelling. None is handed out.
+    pub fn pending_at(&self, number: u64, place: usize) -> Handed
+        ensures turn { IfSome (turn_of result)
+            (λ turn. turn ≡ turn_at_place self.now.searches number place) }
+        ensures spelled { IsSpelled result }
     {
-        self.provider.open_searches()
+        self.provider.pending_at(number, place)
     }
 
-    /// Returns to the searches of an earlier moment, since which no write came.
-    pub fn return_to(&mut self, snapshot: OpenSearches)
-        requires snapshot { HasNoWriteSince self.old.directory snapshot }
-        requires ours { AreOurs snapshot.searches }
-        ensures { self.new ≡ record self.old { searches = snapshot.searches } }
+    /// The next message of the search with this number counts as handed out. It takes no memory.
+    #[tactic(auto, using(crate::proofs::Asked::after_ours))]
+    pub fn skip(&mut self, number: u64)
+        ensures { self.new ≡ machine.handed_out self.old number }
     {
-        self.provider.return_to(snapshot);
+        self.provider.skip(number);
+    }
+
+    /// The search with this number as it stands now, for a later return to this moment. It is
+    /// `NoMemory` where memory runs out.
+    #[tactic(auto, using(crate::proofs::Asked::ours_then))]
+    pub fn open_search(&self, number: u64) -> Result<SearchSnapshot, NoMemory>
+        ensures value { IfOk result (λ snapshot. snapshot ≡ snapshot_of self.now number) }
+        ensures back { ComesBack self.now.searches number }
+        ensures ours { IfOk result (λ snapshot. IfSome snapshot.search IsOurs) }
+    {
+        self.provider.open_search(number)
+    }
+
+    /// Returns a search to an earlier moment, since which no write came. It takes no memory.
+    #[tactic(auto, using(crate::proofs::Asked::put_back_ours))]
+    pub fn return_to_search(&mut self, snapshot: SearchSnapshot)
+        requires snapshot { HasNoWriteSince self.old.directory snapshot }
+        requires ours { IfSome snapshot.search IsOurs }
+        ensures { self.new ≡ record self.old {
+          searches = put_back self.old.searches snapshot.number snapshot.search;
+        } }
+    {
+        self.provider.return_to_search(snapshot);
     }
 
     /// Closes the search with this number. False where none is open.

@@ -10,6 +10,6 @@ mod reporting;
 
 pub use digested::Digested;
 pub use ldap_ber::NoMemory;
-pub use lines::{each_of, push_wrote, text_of};
+pub use lines::{push_wrote, text_of};
 pub use notes::{CommitOrigin, CommitOrigins, Origin};
 pub use report::{Report, StoredStage};

@@ -19,17 +19,6 @@ fn push_number(out: &mut Vec<u8>, number: u64) -> Result<(), NoMemory>
     out.extend_from_slice(text.as_bytes())
 }
 
-/// Borrows of the entries, in their order. It is `NoMemory` where memory runs out.
-pub fn each_of(alloc: Global, entries: &[Entry]) -> Result<Vec<&Entry>, NoMemory>
-    ensures { IfOk result (λ each. map (λ e. e.now) each.items ≡ entries.now) }
-{
-    let mut each = Vec::new(alloc);
-    for entry in entries {
-        each.push(entry)?;
-    }
-    Ok(each)
-}
-
 /// The entries as LDIF (RFC 2849), each with its entryUUID and its entryCSN. It is `NoMemory` where
 /// memory runs out.
 #[tactic(auto, unfolding(crate::specs::ReportLines::text_of))]

@@ -1,13 +1,12 @@
 -- What is done between a provider and a consumer at their places, and taken back.
-use Rattle.std.proofs.Common.{◌≡◌, ◌==◌, ◌<◌, ℕ, true, zero, suc, Some, List, [], ◌∷◌, length, set, get_or, refl, ap, sym, subst, ◌∙◌, arith}
-use Rattle.std.specs.Prelude.{Result, Ok, Err, IfOk, IfSome, slice_get}
+use Rattle.std.proofs.Common.{◌≡◌, ◌==◌, ◌<◌, ℕ, Bool, true, false, inl, inr, zero, suc, Some, List, [], ◌∷◌, length, set, get_or, refl, ap, sym, subst, ◌∙◌, arith}
+use Rattle.std.specs.Prelude.{◌⊎◌, Result, Ok, Err, IfOk, IfSome, slice_get}
 use Rattle.std.proofs.lemmas.Bool.Decides.{nat_tests}
 use Rattle.std.proofs.lemmas.List.{set-get_or, set-set, get_or-set_same}
 use Rattle.std.proofs.Math.ListN.{length-set}
 use Rattle.std.proofs.lemmas.Option.{slice_get-get_or}
 use Rattle.sync_provider.specs.Machine.{ProviderState}
 use Rattle.sync_provider.specs.Returning.{HasNoWriteSince}
-use Rattle.sync_provider.proofs.Returns.{no_write_came}
 use Rattle.cascade_exchange.specs.declared.exchange.Performed.{Performed}
 use Rattle.cascade_script.specs.declared.fault.Cause.{Cause}
 use Rattle.cascade_script.specs.declared.fault.Cause.TheVariants.{NoMemory}
@@ -15,11 +14,11 @@ use Rattle.cascade_nodes.specs.declared.node.ProviderNode.{ProviderNode}
 use Rattle.cascade_nodes.specs.declared.node.ConsumerNode.{ConsumerNode}
 use Rattle.cascade_nodes.specs.Commits.{Leaves}
 use Rattle.cascade_exchange.specs.Exchange.{Agreement, ExchangeOutcome, agreement_of}
-use Rattle.cascade_exchange.specs.Parts.{Performs, IsBefore}
+use Rattle.cascade_nodes.specs.Ours.{IsOurs}
+use Rattle.cascade_exchange.specs.Parts.{Performs, BringsBack, provider_back, consumer_back}
 use Rattle.cascade_world.specs.Places.{ArePlaces, placed, PerformsAt}
 use Rattle.cascade_report.specs.ReportLines.{StoredStage}
 use Rattle.cascade_world.specs.World.{WorldState, is_provider_node, is_consumer_node, top_of, commits_of}
-use Rattle.cascade_exchange.proofs.Performing.{back}
 use Rattle.cascade_world.proofs.Places.{position_is}
 
 -- what stands at a place
@@ -50,7 +49,7 @@ served top r p f = agreement_of p f (record { top = top; notes = r.notes })
 -- the parts of the code see the state
 pub performed_at : (state view : WorldState) (j i : ℕ) (part : Agreement → ExchangeOutcome) (seen r r' : ProviderNode) (f f' : ConsumerNode) (top : List ℕ) (result : Result Performed Cause) → view ≡ state → j < length state.provider_nodes → i < length state.consumer_nodes
     → seen ≡ get_or view.provider_nodes j seen → r ≡ get_or view.provider_nodes j r → f ≡ get_or view.consumer_nodes i f → top ≡ top_of state seen.name
-    → Performs (part (served top r r.provider f)) (served top r r'.provider f') result → IfOk result (λ done. IsBefore r.provider f r'.provider done.before) → r' ≡ record r { provider = r'.provider }
+    → Performs (part (served top r r.provider f)) (served top r r'.provider f') result → IfOk result (λ done. (done.stages.items ≡ []) ⊎ BringsBack r.provider f r'.provider f' done.before) → r' ≡ record r { provider = r'.provider }
     → PerformsAt state j i part (record view { provider_nodes = set view.provider_nodes j r'; consumer_nodes = set view.consumer_nodes i f' }) result
 performed_at state view j i part seen r r' f f' top result same low low' seen_is r_is f_is above does before kept =
     let r_at : slice_get state.provider_nodes j ≡ Some r = read_at state.provider_nodes j r low (subst (λ (s : WorldState). r ≡ get_or s.provider_nodes j r) same r_is) in
@@ -70,6 +69,13 @@ performed_at state view j i part seen r r' f f' top result same low low' seen_is
       before = before;
       after = ap (λ (s : WorldState). record s { provider_nodes = set s.provider_nodes j r'; consumer_nodes = set s.consumer_nodes i f' }) same ∙ ap (λ s. record state { provider_nodes = set state.provider_nodes j s; consumer_nodes = set state.consumer_nodes i f' }) kept;
     }
+
+-- where a stage took effect both can be brought back, by whether the exchange is done in steps
+pub either : (p p1 : ProviderState) (f f1 : ConsumerNode) (result : Result Performed Cause) (stepwise : Bool) → (stepwise ≡ true → IfOk result (λ done. BringsBack p f p1 f1 done.before)) → (stepwise ≡ false → IfOk result (λ done. done.stages.items ≡ []))
+    → IfOk result (λ done. (done.stages.items ≡ []) ⊎ BringsBack p f p1 f1 done.before)
+either p p1 f f1 (Ok done) true back none = inr (back refl)
+either p p1 f f1 (Ok done) false back none = inl (none refl)
+either p p1 f f1 (Err cause) stepwise back none = tt
 
 -- out of memory, before anything is done
 pub unperformed : (state : WorldState) (j i : ℕ) (part : Agreement → ExchangeOutcome) → j < length state.provider_nodes → i < length state.consumer_nodes → PerformsAt state j i part state (Err NoMemory)
@@ -94,6 +100,11 @@ unperformed state j i part low low' =
 pub no_stages : (stages : List StoredStage) (count : ℕ) → count ≡ length stages → (count == 0) ≡ true → stages ≡ []
 no_stages [] count long empty = refl
 no_stages (stage ∷ stages) count long empty = let none : count ≡ 0 = grind (arith, nat_tests) in absurd (omega arith)
+
+-- some stage is
+pub some_stages : (stages : List StoredStage) (count : ℕ) → count ≡ length stages → (count == 0) ≡ false → stages ≡ [] → ⊥
+some_stages [] count long some none = let empty : (count == 0) ≡ true = ap (λ (n : ℕ). n == 0) long in cc
+some_stages (stage ∷ stages) count long some none = cc
 
 -- ---- the two after it
 
@@ -122,25 +133,38 @@ set_back xs i x y z at low same =
     let is : x ≡ get_or xs i x = cc in
     set-set xs i y z ∙ set_same xs i x z is same
 
+-- where a stage took effect both can be brought back
+pub stands : (state mid : WorldState) (j i : ℕ) (part : Agreement → ExchangeOutcome) (done : Performed) (at : PerformsAt state j i part mid (Ok done)) → (done.stages.items ≡ [] → ⊥) → BringsBack at.provider_node.provider at.consumer_node at.provider at.consumer done.before
+stands state mid j i part done at some = by at.before
+  where
+    by : (done.stages.items ≡ []) ⊎ BringsBack at.provider_node.provider at.consumer_node at.provider at.consumer done.before → BringsBack at.provider_node.provider at.consumer_node at.provider at.consumer done.before
+    by (inl none) = absurd (some none)
+    by (inr back) = back
+
 -- the provider got no write
-pub no_write : (state mid view : WorldState) (j i : ℕ) (part : Agreement → ExchangeOutcome) (done : Performed) (r : ProviderNode) → j < length state.provider_nodes → PerformsAt state j i part mid (Ok done) → view ≡ mid → r ≡ get_or view.provider_nodes j r
-    → HasNoWriteSince r.provider.directory done.before.searches
-no_write state mid view j i part done r low at same is =
+pub no_write : (state mid view : WorldState) (j i : ℕ) (part : Agreement → ExchangeOutcome) (done : Performed) (r : ProviderNode) → j < length state.provider_nodes → PerformsAt state j i part mid (Ok done) → (done.stages.items ≡ [] → ⊥) → view ≡ mid
+    → r ≡ get_or view.provider_nodes j r → IfSome done.before.own (HasNoWriteSince r.provider.directory)
+no_write state mid view j i part done r low at some same is =
     let r_is : r ≡ record at.provider_node { provider = at.provider } = provider_node_after state mid j i part (Ok done) at r low (subst (λ (s : WorldState). r ≡ get_or s.provider_nodes j r) same is) in
-    subst (λ (s : ProviderNode). HasNoWriteSince s.provider.directory done.before.searches) (sym r_is)
-    (no_write_came at.provider_node.provider at.provider.directory done.before.searches at.before.same_searches at.before.same_provider.directory)
+    subst (λ (s : ProviderNode). IfSome done.before.own (HasNoWriteSince s.provider.directory)) (sym r_is) (stands state mid j i part done at some).no_write
+
+-- and the search that is kept was one of a script
+pub kept_ours : (state mid : WorldState) (j i : ℕ) (part : Agreement → ExchangeOutcome) (done : Performed) → PerformsAt state j i part mid (Ok done) → (done.stages.items ≡ [] → ⊥) → IfSome done.before.own (λ own. IfSome own.search IsOurs)
+kept_ours state mid j i part done at some = (stands state mid j i part done at some).ours
 
 -- an exchange that is taken back leaves the nodes as they were
-pub taken_back : (state mid view : WorldState) (j i : ℕ) (part : Agreement → ExchangeOutcome) (done : Performed) (r : ProviderNode) (p' : ProviderState) (f' : ConsumerNode) → j < length state.provider_nodes → i < length state.consumer_nodes
-    → PerformsAt state j i part mid (Ok done) → view ≡ mid → r ≡ get_or view.provider_nodes j r → p' ≡ record r.provider { searches = done.before.searches.searches } → f' ≡ done.before.consumer_node
+pub taken_back : (state mid view : WorldState) (j i : ℕ) (part : Agreement → ExchangeOutcome) (done : Performed) (r : ProviderNode) (f : ConsumerNode) (p' : ProviderState) (f' : ConsumerNode) → j < length state.provider_nodes → i < length state.consumer_nodes
+    → PerformsAt state j i part mid (Ok done) → (done.stages.items ≡ [] → ⊥) → view ≡ mid → r ≡ get_or view.provider_nodes j r → f ≡ get_or view.consumer_nodes i f → p' ≡ provider_back done.before r.provider f → f' ≡ consumer_back done.before.consumer_node f
     → record view { provider_nodes = set view.provider_nodes j (record r { provider = p' }); consumer_nodes = set view.consumer_nodes i f' } ≡ state
-taken_back state mid view j i part done r p' f' low low' at same is p_is f_is =
+taken_back state mid view j i part done r f p' f' low low' at some same is f_is p'_is f'_is =
+    let back = stands state mid j i part done at some in
     let r_is : r ≡ record at.provider_node { provider = at.provider } = provider_node_after state mid j i part (Ok done) at r low (subst (λ (s : WorldState). r ≡ get_or s.provider_nodes j r) same is) in
-    let restored : p' ≡ record at.provider { searches = done.before.searches.searches } = p_is ∙ ap (λ (s : ProviderNode). record s.provider { searches = done.before.searches.searches }) r_is in
+    let was : f ≡ at.consumer =
+    subst (λ (s : WorldState). f ≡ get_or s.consumer_nodes i f) (same ∙ at.after) f_is ∙ get_or-set_same state.consumer_nodes i at.consumer f low' in
     let provider : p' ≡ at.provider_node.provider =
-    back at.provider_node.provider at.provider p' done.before.searches at.before.same_provider at.before.same_searches restored in
+    p'_is ∙ ap (λ (s : ProviderNode). provider_back done.before s.provider f) r_is ∙ ap (provider_back done.before at.provider) was ∙ back.same_provider in
     let provider_node : record r { provider = p' } ≡ at.provider_node = ap (λ (s : ProviderNode). record s { provider = p' }) r_is ∙ ap (λ p. record at.provider_node { provider = p }) provider in
-    let consumer_node : f' ≡ at.consumer_node = f_is ∙ at.before.same_consumer_node in
+    let consumer_node : f' ≡ at.consumer_node = f'_is ∙ ap (consumer_back done.before.consumer_node) was ∙ back.same_consumer_node in
     let before : placed state j i at.provider_node at.provider at.consumer ≡ view = sym (same ∙ at.after) in
     let provider_nodes : set (set state.provider_nodes j (record at.provider_node { provider = at.provider })) j (record r { provider = p' }) ≡ state.provider_nodes =
     set_back state.provider_nodes j at.provider_node (record at.provider_node { provider = at.provider }) (record r { provider = p' }) at.at_provider_node low provider_node in

@@ -1,5 +1,5 @@
 -- Where the nodes of a script stand, and what a write to a provider answers.
-use Rattle.std.specs.Prelude.{◌≡◌, ℕ, Some, position, List, [], ◌∷◌, length, Result, Ok, Err, IfOk, set, slice_get}
+use Rattle.std.specs.Prelude.{◌≡◌, ◌⊎◌, ℕ, Some, position, List, [], ◌∷◌, length, Result, Ok, Err, IfOk, set, slice_get}
 use Rattle.schema_rules.specs.declared.raw.Change.{Change}
 use Rattle.sync_provider.specs.Machine.{ProviderState}
 use Rattle.cascade_script.specs.declared.fault.Cause.{Cause}
@@ -9,7 +9,7 @@ use Rattle.cascade_nodes.specs.declared.node.ConsumerNode.{ConsumerNode}
 use Rattle.cascade_exchange.specs.declared.exchange.Performed.{Performed}
 use Rattle.cascade_world.specs.Directory.{change_code, wrote_change}
 use Rattle.cascade_exchange.specs.Exchange.{Agreement, ExchangeOutcome, agreement_of}
-use Rattle.cascade_exchange.specs.Parts.{Performs, IsBefore}
+use Rattle.cascade_exchange.specs.Parts.{Performs, BringsBack}
 use Rattle.cascade_report.specs.ReportLines.{lines_text}
 use Rattle.cascade_report.specs.ReportLines.ReportLine.{Wrote}
 use Rattle.cascade_world.specs.World.{WorldState, is_provider_node, is_consumer_node, lineage_of}
@@ -29,8 +29,8 @@ placed state j i provider_node provider consumer_node = record state {
   consumer_nodes = set state.consumer_nodes i consumer_node;
 }
 
--- what goes on between the provider at the first place and the consumer at the second, and how the
--- two stood before
+-- what goes on between the provider at the first place and the consumer at the second, and what
+-- brings the two back where a stage took effect
 pub record PerformsAt
     (old : WorldState) (j i : ℕ) (part : Agreement → ExchangeOutcome) (new : WorldState)
     (result : Result Performed Cause) : Type 0 where
@@ -45,7 +45,9 @@ pub record PerformsAt
       (part (agreement_of provider_node.provider consumer_node (lineage_of old provider_node)))
       (agreement_of provider consumer (lineage_of old provider_node)) result
   pub before :
-      IfOk result (λ done. IsBefore provider_node.provider consumer_node provider done.before)
+      IfOk result (λ done.
+      (done.stages.items ≡ [])
+      ⊎ BringsBack provider_node.provider consumer_node provider consumer done.before)
   pub after : new ≡ placed old j i provider_node provider consumer
 
 -- a write to a provider and the line of it; out of memory leaves the provider

@@ -63,9 +63,9 @@ impl Nodes {
                 Ok(Octets::from(done.text))
             }
             Err(cause) => {
-                let provider = &mut self.provider_nodes[provider_node].provider;
-                done.before
-                    .restore(provider, &mut self.consumer_nodes[consumer_node]);
+                let from = &mut self.provider_nodes[provider_node];
+                let to = &mut self.consumer_nodes[consumer_node];
+                done.before.restore(&mut from.provider, to);
                 Err(cause)
             }
         }

@@ -15,7 +15,7 @@ ghost use Rattle.cascade_world.specs.Places.{ArePlaces, Writes};
 use crate::world::Lines;
 use cascade_exchange::Exchange;
 use cascade_nodes::{ConsumerNode, ProviderNode, ScriptProvider, discard};
-use cascade_report::{each_of, push_wrote, text_of};
+use cascade_report::{push_wrote, text_of};
 use cascade_script::{Cause, Command};
 use entry_tree::{OpFault, read_op};
 use ldap_ber::{NoMemory, Octets};
@@ -218,10 +218,7 @@ impl Nodes {
         ensures { Does (spec.step self.now (order.Show name.now)) self.now result }
     {
         if let Some(provider_node) = self.provider_node_place(name) {
-            let entries = each_of(
-                self.alloc,
-                self.provider_nodes[provider_node].provider.entries(),
-            )?;
+            let entries = self.provider_nodes[provider_node].provider.entries()?;
             return Ok(Octets::from(text_of(self.alloc, &entries)?));
         }
         let Some(consumer_node) = self.consumer_node_place(name) else {

@@ -172,14 +172,9 @@ pub(crate) fn utf8(bytes: &[u8]) -> &str {
     str::from_utf8(bytes).unwrap_or("?")
 }
 
-/// The identities by their places, and the cookie.
+/// The identities in their order, and the cookie.
 fn shown(alloc: Global, consumer: &Consumer) -> Result<String, Fail> {
-    let mut text = String::new(alloc);
-    for place in 0..consumer.entries().len() {
-        if let Some(entry) = consumer.entries().at(place) {
-            text.push_str(&format!(in alloc; "{} ", entry.uuid)?)?;
-        }
-    }
+    let mut text = identities(alloc, &consumer.entries().list()?)?;
     text.push_str(utf8(consumer.cookie().unwrap_or(b"-")))?;
     Ok(text)
 }

@@ -1,6 +1,6 @@
 -- An accepted write keeps the entries of a directory within their number and weight.
-use Rattle.std.proofs.Common.{◌≡◌, ◌≤◌, ◌+◌, ◌-◌, ◌∙◌, ℕ, Bool, not, List, set, get_or, Option, Some, None, sym, refl, subst}
-use Rattle.std.specs.List.{filter, position}
+use Rattle.std.proofs.Common.{◌≡◌, ◌≤◌, ◌+◌, ◌-◌, ℕ, Bool, not, List, set, Option, Some, None, sym, refl, subst}
+use Rattle.std.specs.List.{filter}
 use Rattle.schema_rules.specs.Attributes.{entry_code, weight_of}
 use Rattle.csn_cookie.specs.Csn.{CsnValue}
 use Rattle.dn_names.specs.Names.{TypeAndValue}
@@ -15,10 +15,10 @@ use Rattle.entry_tree.specs.Effects.{edited, modified, new_name, new_attributes,
 use Rattle.entry_tree.specs.State.{put, is_identified, is_named, entry_named, total_weight, weight_with, most_weight, IsDirectory}
 use Rattle.entry_tree.proofs.Directory.{without_passing}
 use Rattle.entry_tree.proofs.Limits.{light_where_none, add_where_none}
-use Rattle.entry_tree.proofs.Modifying.{IsPlaced, within, effect_placed}
+use Rattle.entry_tree.proofs.Modifying.{placed, effect_placed}
 use Rattle.entry_tree.proofs.Moving.{held_where_found, others_weight, total_moved, moved_directory}
 use Rattle.entry_tree.proofs.Putting.{put_directory, total_put}
-use Rattle.entry_tree.proofs.Replacing.{find_at_place, find_no_place, IsDirectory-replaced}
+use Rattle.entry_tree.proofs.Replacing.{IsDirectory-replaced}
 use Rattle.directory_laws.proofs.Results.{none_first, none_second}
 
 -- entries within their number and weight
@@ -43,27 +43,22 @@ weighed-edited entries e edits none =
     let kept = none_second (entry_code attrs) _ checked in
     light_where_none (weight_of attrs) (weight_with entries e (weight_of attrs)) (none_second (kept_code e.dn attrs) _ kept)
 
-small-edited : (entries : List Entry) (name : List (List TypeAndValue)) (e : Entry) (edits : List Edit) (csn : CsnValue) (place : ℕ) → IsSmall entries → entry_named entries name ≡ Some e
-    → position (is_named name) entries ≡ Some place → modify_code entries (Some e) edits ≡ None → IsSmall (modified entries (entry_named entries name) edits csn)
-small-edited entries name e edits csn place small found at none =
+small-edited : (entries : List Entry) (name : List (List TypeAndValue)) (e : Entry) (edits : List Edit) (csn : CsnValue) → IsSmall entries → entry_named entries name ≡ Some e
+    → modify_code entries (Some e) edits ≡ None → IsSmall (modified entries (entry_named entries name) edits csn)
+small-edited entries name e edits csn small found none =
     let new = edited e edits csn in
     let others = total_weight (filter (λ x. not (is_identified e.uuid x)) entries) in
-    let here : Some e ≡ Some (get_or entries place e) = sym found ∙ find_at_place (is_named name) entries place e at in
-    let is : e ≡ get_or entries place e = cc in
-    let placed : IsPlaced entries name place e = record { ascends = small.ascends; found = at; at = is } in
+    let there = placed entries name e small.ascends found in
+    let place = there.0 in
     let rest = others_weight entries e small.ascends (held_where_found (is_named name) entries e small.ascends found) in
-    subst IsSmall (effect_placed entries name place e edits csn placed)
+    subst IsSmall (effect_placed entries name place e edits csn there.1)
     (at_total (set entries place new) (others + weight_of new.attrs)
-    (IsDirectory-replaced entries (total_weight entries) others (weight_of new.attrs) place e new small (within entries name place e placed) is refl rest refl (weighed-edited entries e edits none)))
+    (IsDirectory-replaced entries (total_weight entries) others (weight_of new.attrs) place e new small there.1.within there.1.at refl rest refl (weighed-edited entries e edits none)))
 
 small-modified : (entries : List Entry) (name : List (List TypeAndValue)) (found : Option Entry) (edits : List Edit) (csn : CsnValue) → IsSmall entries → entry_named entries name ≡ found
     → modify_code entries found edits ≡ None → IsSmall (modified entries (entry_named entries name) edits csn)
 small-modified entries name None edits csn small is none = subst (λ found. IsSmall (modified entries found edits csn)) (sym is) small
-small-modified entries name (Some e) edits csn small is none = by (position (is_named name) entries) refl
-  where
-    by : (place : Option ℕ) → position (is_named name) entries ≡ place → IsSmall (modified entries (entry_named entries name) edits csn)
-    by None nowhere = let unnamed : entry_named entries name ≡ None = find_no_place (is_named name) entries nowhere in absurd (cc)
-    by (Some place) at = small-edited entries name e edits csn place small is at none
+small-modified entries name (Some e) edits csn small is none = small-edited entries name e edits csn small is none
 
 -- ---- Rename
 

@@ -162,7 +162,7 @@ fn applied(
 }
 
 /// What comes of a write to the directory `o=x`.
-fn outcome(
+pub(crate) fn outcome(
     alloc: Global,
     tree: &mut Tree,
     line: &str,
@@ -215,7 +215,7 @@ fn code_of(outcome: &Result<Touched, OpFault>) -> Result<u32, Fail> {
 }
 
 /// The code of a write, and 0 where it is accepted.
-fn code(alloc: Global, tree: &mut Tree, line: &str) -> Result<u32, Fail> {
+pub(crate) fn code(alloc: Global, tree: &mut Tree, line: &str) -> Result<u32, Fail> {
     let outcome = outcome(alloc, tree, line, NEXT)?;
     let code = code_of(&outcome);
     discard(outcome);
@@ -223,7 +223,7 @@ fn code(alloc: Global, tree: &mut Tree, line: &str) -> Result<u32, Fail> {
 }
 
 /// A write that is accepted.
-fn write(alloc: Global, tree: &mut Tree, line: &str, number: u32) -> Result<(), Fail> {
+pub(crate) fn write(alloc: Global, tree: &mut Tree, line: &str, number: u32) -> Result<(), Fail> {
     discard(outcome(alloc, tree, line, number)??);
     Ok(())
 }
@@ -721,7 +721,7 @@ fn apply_answer(alloc: Global, tree: &mut Tree, line: &str, number: u32) -> Resu
 /// The entries, each on a line.
 pub(crate) fn entries_of(alloc: Global, tree: &Tree) -> Result<Vec<u8>, NoMemory> {
     let mut lines = Vec::new(alloc);
-    for entry in tree.entries() {
+    for entry in &tree.entries()? {
         push_entry(&mut lines, "=", entry)?;
     }
     Ok(lines)
@@ -776,7 +776,7 @@ fn previews(rt: HostRuntime) -> Result<(), Fail> {
     Ok(())
 }
 
-fn uuid_of(entry: Option<&Entry>) -> Option<u128> {
+pub(crate) fn uuid_of(entry: Option<&Entry>) -> Option<u128> {
     match entry {
         Some(entry) => Some(entry.uuid),
         None => None,
@@ -881,7 +881,7 @@ const SELECTED: [Selected; 6] = [
 ];
 
 /// The entries at the base and in the scope that have the type.
-fn spec_of(alloc: Global, base: &str, scope: Scope, kind: &str) -> Result<Spec, Fail> {
+pub(crate) fn spec_of(alloc: Global, base: &str, scope: Scope, kind: &str) -> Result<Spec, Fail> {
     Ok(Spec {
         base: Dn::parse(alloc, base.as_bytes())?,
         scope,
@@ -897,7 +897,7 @@ fn selected_by(alloc: Global, tree: &Tree, spec: &Spec) -> Result<Vec<u128>, NoM
     identities
 }
 
-fn assert_selected(
+pub(crate) fn assert_selected(
     rt: &impl Abort,
     alloc: Global,
     tree: &Tree,

@@ -5,3 +5,5 @@
 mod commit_tests;
 #[cfg(test)]
 mod entry_tree_tests;
+#[cfg(test)]
+mod names_tests;

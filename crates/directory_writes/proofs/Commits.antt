@@ -9,22 +9,26 @@ use Rattle.ldap_constants.specs.declared.result_codes.TheConstants.{SUCCESS}
 use Rattle.csn_cookie.specs.Csn.{CsnValue}
 use Rattle.csn_cookie.specs.CsnMaker.{greatest_count}
 use Rattle.entry_tree.specs.Effects.{committed}
+use Rattle.entry_tree.specs.History.{identity}
+use Rattle.entry_tree.specs.Touched.{IsPlan}
+use Rattle.entry_tree.proofs.Changing.{plan_leads, plan_fits}
 use Rattle.entry_tree.specs.Fitting as fitting
 use Rattle.entry_tree.specs.Fitting.{is_light, may_be_held, fits}
 use Rattle.entry_tree.specs.declared.commit.CommitRefusal.{CommitRefusal}
 use Rattle.entry_tree.specs.declared.commit.CommitRefusal.TheVariants as refusals
-use Rattle.entry_tree.specs.Sound.{is_commit}
+use Rattle.entry_tree.specs.Sound.{is_commit, is_sound_put}
 use Rattle.entry_tree.specs.State.{most_entries, most_weight, total_weight, same_named}
 use Rattle.entry_tree.specs.declared.entry.Entry.{Entry}
 use Rattle.entry_tree.specs.declared.op.Op.{Op}
 use Rattle.entry_tree.specs.declared.op.Op.TheVariants.{Add, Delete, Modify, Rename, Commit}
 use Rattle.entry_tree.specs.declared.op.Write.{Write}
 use Rattle.directory_writes.specs.Commits.{held_refusal, log_refusal, commit_refusal, Opposes}
-use Rattle.directory_writes.specs.Directory.{DirectoryState, entries_of, csn_of_next_write, most_writes, most_writes_weight, judged, write_code, code_of_judged}
+use Rattle.directory_writes.specs.Directory.{DirectoryState, entries_of, csn_of_next_write, has_room, most_writes, most_writes_weight, judged, write_code, code_of_judged, IsPlanned}
 use Rattle.directory_writes.specs.Weights.{op_weight, kept_weight}
 use Rattle.directory_writes.specs.declared.commit.DirectoryFault.{DirectoryFault}
 use Rattle.directory_writes.specs.declared.commit.DirectoryFault.TheVariants.{LimitReached, DuplicateName, NoMemory}
-use Rattle.directory_writes.proofs.Writes.{judged_good}
+use Rattle.directory_writes.specs.declared.preview.Preview.{Preview}
+use Rattle.directory_writes.proofs.Writes.{judged_good, planned_is}
 
 -- an operation that is no commit fits
 pub plain_fits : (entries : List Entry) (op : Op) → is_commit op ≡ false → fits entries op ≡ true
@@ -38,6 +42,7 @@ plain_fits entries (Commit puts drops) plain = absurd (false≢true (sym plain))
 pub record IsOpen (d : DirectoryState) (puts : List Entry) (drops : List ℕ) (now : ℕ) : Type 0 where
   -- a commit of light entries fits the entries of a directory
   pub fitting : list_all is_light puts ≡ true → fits (entries_of d) (Commit puts drops) ≡ true
+  pub room : has_room d.writes (Commit puts drops) ≡ true
   pub write : Write
   pub judged : judged d (Commit puts drops) now ≡ Ok write
   pub code : write_code d (Commit puts drops) now ≡ SUCCESS
@@ -75,9 +80,11 @@ commit_open d puts drops now =
     by false few true light next is h = let never : ⊥ = cc in absurd never
     by false few false light None is h = let never : ⊥ = cc in absurd never
     by false few false light (Some csn) is h =
-        let good = judged_good d (Commit puts drops) now csn None (room_left (length d.writes) (kept_weight d.writes + op_weight (Commit puts drops)) few light) is refl in
+        let room = room_left (length d.writes) (kept_weight d.writes + op_weight (Commit puts drops)) few light in
+        let good = judged_good d (Commit puts drops) now csn None room is refl in
         record {
           fitting = λ small. (λ i. small i && held_open after h i);
+          room = room;
           write = record { csn = csn; op = Commit puts drops };
           judged = good;
           code = ap code_of_judged good;
@@ -156,3 +163,40 @@ second_of first second (Err fault) none is = second_opposed first second fault n
 -- where neither gives a refusal there is none
 pub none_opposed : (first second : Option DirectoryFault) → first ≡ None → second ≡ None → option_or first second ≡ None
 none_opposed first second none other = ap (λ o. option_or o second) none ∙ other
+
+-- ---- a commit that is previewed
+
+-- nothing rejects a commit where nothing rejects one more write of its weight, and its entries may be held
+pub commit_free : (d : DirectoryState) (puts : List Entry) (drops : List ℕ) (now weight : ℕ) → weight ≡ min (op_weight (Commit puts drops)) (2 ^ 64 - 1)
+    → log_refusal d weight now ≡ None → held_refusal (committed (entries_of d) puts drops) ≡ None → commit_refusal d puts drops now ≡ None
+commit_free d puts drops now weight capped none held =
+    none_opposed (log_refusal d (op_weight (Commit puts drops)) now) (held_refusal (committed (entries_of d) puts drops))
+    (sym (log_capped d (op_weight (Commit puts drops)) weight now capped) ∙ none) held
+
+-- a commit that is not refused becomes the write with the next CSN
+pub commit_judged : (d : DirectoryState) (puts : List Entry) (drops : List ℕ) (now : ℕ) (csn : CsnValue) → commit_refusal d puts drops now ≡ None → csn_of_next_write d now ≡ Some csn
+    → judged d (Commit puts drops) now ≡ Ok (record { csn = csn; op = Commit puts drops })
+commit_judged d puts drops now csn none next = judged_good d (Commit puts drops) now csn None (commit_open d puts drops now none).room next refl
+
+light_log : (d : DirectoryState) (weight now : ℕ) → log_refusal d weight now ≡ None → nat_lt most_writes_weight (kept_weight d.writes + weight) ≡ false
+light_log d weight now = by (nat_le most_writes (length d.writes)) (nat_lt most_writes_weight (kept_weight d.writes + weight)) (is_none (csn_of_next_write d now))
+  where
+    by : (full heavy spent : Bool) → cond full (Some (LimitReached most_writes)) (cond heavy (Some (LimitReached most_writes_weight)) (cond spent (Some (LimitReached greatest_count)) None)) ≡ None
+        → heavy ≡ false
+    by true heavy spent h = let never : ⊥ = cc in absurd never
+    by false true spent h = let never : ⊥ = cc in absurd never
+    by false false spent h = refl
+
+-- a commit of sound and light entries that nothing rejects is previewed so
+pub commit_planned : (d : DirectoryState) (puts : List Entry) (drops : List ℕ) (now : ℕ) (preview : Preview) (entries : List Entry) (weight : ℕ) → entries ≡ entries_of d
+    → commit_refusal d puts drops now ≡ None → csn_of_next_write d now ≡ Some preview.csn → preview.csn_maker ≡ preview.csn
+    → weight ≡ min (op_weight (Commit puts drops)) (2 ^ 64 - 1) → log_refusal d weight now ≡ None → preview.weight ≡ kept_weight d.writes + weight
+    → IsPlan entries (committed entries puts drops) preview.touched → list_all is_sound_put puts ≡ true → list_all is_light puts ≡ true
+    → IsPlanned d (Commit puts drops) preview
+commit_planned d puts drops now preview entries weight made none next drawn capped free weighs plan sound light =
+    let open_to = commit_open d puts drops now none in
+    let fits_in : kept_weight d.writes + weight ≤ most_writes_weight = ltb-false most_writes_weight (kept_weight d.writes + weight) (light_log d weight now free) in
+    planned_is d (Commit puts drops) now preview entries (identity d.history (length d.writes + 1)) made refl
+    (record { sound = sound; unopposed = refl; fitting = open_to.fitting light })
+    open_to.room next drawn (omega (arith, weighs, capped, fits_in))
+    (plan_leads entries (committed entries puts drops) preview.touched plan) (plan_fits entries (committed entries puts drops) preview.touched plan)

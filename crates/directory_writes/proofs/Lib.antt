@@ -1,10 +1,10 @@
 -- Lemmas of the crate.
+pub mod Apart
 pub mod Commits
 pub mod Distinct
 pub mod Judged
 pub mod Keyed
 pub mod LastCsns
-pub mod Places
 pub mod Promised
 pub mod Pushed
 pub mod Served

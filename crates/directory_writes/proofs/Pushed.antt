@@ -1,26 +1,27 @@
 -- The log and the numbers of the last touches after one more write.
-use Rattle.std.proofs.Common.{◌≡◌, ◌≢◌, ◌⊎◌, ℕ, suc, ◌+◌, ◌-◌, ◌<◌, Bool, true, false, cond, List, [], ◌∷◌, ◌++◌, length, take, refl, sym, ap, ◌∙◌, arith, subst, Some, None, Option, inl, inr, length-append}
-use Rattle.std.specs.Prelude.{not, ◌||◌, is_some, filter, map}
+use Rattle.std.proofs.Common.{◌≡◌, ◌≢◌, ◌⊎◌, ℕ, suc, ◌+◌, Bool, true, false, cond, List, [], ◌∷◌, ◌++◌, length, take, refl, sym, ap, ◌∙◌, arith, subst, Some, None, Option, inl, inr, length-append}
+use Rattle.std.specs.Prelude.{not, ◌||◌, filter, map}
+use Rattle.std.specs.BTreeMap.{insert_entry}
+use Rattle.std.specs.Ordering.{nat_cmp}
 use Rattle.std.proofs.Math.Seq.{take-append_seam}
-use Rattle.std.proofs.lemmas.Bool.{cases_Bool, cases_eq, eq-eqb, ne_eqb, ltb-true, false≢true}
+use Rattle.std.proofs.lemmas.Bool.{cases_eq, eq-eqb, ne_eqb, false≢true}
 use Rattle.std.proofs.lemmas.List.{append-nil}
 use Rattle.entry_tree.specs.declared.entry.Entry.{Entry}
 use Rattle.entry_tree.specs.declared.op.Write.{Write}
 use Rattle.entry_tree.specs.declared.touched.EntryChange.{EntryChange}
 use Rattle.entry_tree.specs.Bytes.{is_one_found}
-use Rattle.entry_tree.specs.History.{state_from, state_of, differing_over}
+use Rattle.entry_tree.specs.History.{state_of}
 use Rattle.entry_tree.specs.State.{entry_at}
 use Rattle.entry_tree.specs.Touched.{identities, joined, change_at, is_change, touched}
 use Rattle.session_log.specs.Calls.{IsLogOf}
 use Rattle.session_log.specs.Log.{Log}
 use Rattle.sync_model.specs.Stream.{among}
 use Rattle.sync_model.proofs.Gather.{Each}
-use Rattle.sync_model.proofs.Steps.{among-differing, same_outside, steady_within}
+use Rattle.sync_model.proofs.Steps.{among-differing}
 use Rattle.directory_writes.specs.Directory.{entries_after}
-use Rattle.directory_writes.specs.Touches.{Numbers, uuids_of, last_touch, logged, notes_of, all_notes, IsLogged, number_at, renewed_at, renewed, KeepsNumbers, IsRenewed, AreNumbered}
-use Rattle.directory_writes.proofs.Keyed.{closed-other, put_on, put_on-same, put_on-other}
-use Rattle.directory_writes.proofs.Places.{place_among}
-use Rattle.directory_writes.proofs.Notified.{Agree, agree-longer, notes-agree, last-agree, last-shows, noted_each-is}
+use Rattle.directory_writes.specs.Touches.{Numbers, uuids_of, last_touch, logged, notes_of, all_notes, IsLogged, number_at, renewed_at, renewed, AreNumbered}
+use Rattle.directory_writes.proofs.Keyed.{closed-other, opened-other, opened-same}
+use Rattle.directory_writes.proofs.Notified.{Agree, agree-longer, notes-agree, last-agree, noted_each-is}
 
 -- ---- the states around the last write
 
@@ -60,39 +61,11 @@ module _ (history : ℕ) (writes : List Write) (w : Write) where
       us : List ℕ
       us = uuids_of (touched (entries_after history writes) (entries_after history (writes ++ w ∷ [])))
 
--- the state after all writes
-pub whole : (history : ℕ) (writes : List Write) → state_of history writes (length writes) ≡ entries_after history writes
-whole history writes =
-    ap (λ ws. entries_after history (take (length writes) ws)) (sym (append-nil writes)) ∙ ap (entries_after history) (take-append_seam writes [])
-
--- ---- the number of an entry is that of a write
-
-no_state : (history : ℕ) (writes : List Write) → state_of history writes 0 ≡ []
-unfolding state_from
-no_state history writes = refl
-
-pub last-some : (history : ℕ) (writes : List Write) (u : ℕ) (e : Entry) → entry_at (state_of history writes (length writes)) u ≡ Some e
-    → 0 < last_touch (state_of history writes) (length writes) u
-last-some history writes u e found = elim (cases_Bool (among u (differing_over (state_of history writes) 0 (length writes - 0)))) [
-  | inl here ↦ ltb-true 0 (last_touch (state_of history writes) (length writes) u) (last-shows (length writes) (state_of history writes) 0 u (omega arith) ∙ here)
-  | inr off ↦ absurd (never (sym found ∙ steady_within (state_of history writes) 0 (length writes) (length writes) u (omega arith) (omega arith) off ∙ ap (λ es. entry_at es u) (no_state history writes)))
-]
-  where
-    never : Some e ≡ None → ⊥
-    never q = cc
-
 -- ---- what is kept for an identity after a renewal
-
-set-same : (numbers : Numbers) (u number : ℕ) → is_some (number_at numbers u) ≡ true → number_at (put_on numbers u number) u ≡ Some number
-set-same numbers u number here = by (number_at numbers u) refl here
-  where
-    by : (was : Option ℕ) → number_at numbers u ≡ was → is_some was ≡ true → number_at (put_on numbers u number) u ≡ Some number
-    by None found h = absurd (false≢true h)
-    by (Some was) found h = put_on-same numbers u number was found
 
 renewed-other : (number : ℕ) (numbers : Numbers) (v u : ℕ) (now : Option Entry) → u ≢ v → number_at (renewed_at number numbers v now) u ≡ number_at numbers u
 renewed-other number numbers v u None far = closed-other numbers v u far
-renewed-other number numbers v u (Some e) far = put_on-other numbers v u number far
+renewed-other number numbers v u (Some e) far = opened-other numbers v u number far
 
 -- a change that reports what the identity has in these entries
 abbrev IsNow : List Entry → EntryChange → Type 0
@@ -100,10 +73,10 @@ IsNow new entry_change = entry_change.after ≡ entry_at new entry_change.uuid
 
 -- what is kept for an identity that has an entry: the number of the write, where it touched it
 at_renewed : (touches : List EntryChange) (number : ℕ) (numbers : Numbers) (new : List Entry) (u : ℕ) (e : Entry) → Each (IsNow new) touches → entry_at new u ≡ Some e
-    → is_some (number_at numbers u) ≡ true → number_at (renewed number numbers touches) u ≡ cond (among u (uuids_of touches)) (Some number) (number_at numbers u)
-at_renewed [] number numbers new u e each found place = refl
-at_renewed (t ∷ ts) number numbers new u e each found place =
-    at_renewed ts number next new u e each.1 found (step (cases_eq u t.uuid)) ∙ both (cases_eq u t.uuid)
+    → number_at (renewed number numbers touches) u ≡ cond (among u (uuids_of touches)) (Some number) (number_at numbers u)
+at_renewed [] number numbers new u e each found = refl
+at_renewed (t ∷ ts) number numbers new u e each found =
+    at_renewed ts number next new u e each.1 found ∙ both (cases_eq u t.uuid)
   where
     next : Numbers
     next = renewed_at number numbers t.uuid t.after
@@ -112,12 +85,8 @@ at_renewed (t ∷ ts) number numbers new u e each found place =
     set here =
         let now : t.after ≡ Some e = each.0 ∙ ap (entry_at new) (sym here) ∙ found in
         ap (λ found_now. number_at (renewed_at number numbers t.uuid found_now) u) now
-        ∙ ap (λ v. number_at (put_on numbers v number) u) (sym here)
-        ∙ set-same numbers u number place
-
-    step : (u ≡ t.uuid) ⊎ (u ≢ t.uuid) → is_some (number_at next u) ≡ true
-    step (inl here) = ap is_some (set here)
-    step (inr far) = ap is_some (renewed-other number numbers t.uuid u t.after far) ∙ place
+        ∙ ap (λ v. number_at (insert_entry nat_cmp numbers v number) u) (sym here)
+        ∙ opened-same numbers u number
 
     choose : (b : Bool) → cond b (Some number) (Some number) ≡ Some number
     choose true = refl
@@ -141,38 +110,21 @@ each-now old new (u ∷ us) = step (is_change (change_at old new u)) (each-now o
 
 -- ---- each entry has its number after one more write
 
--- each entry has its number where the numbers are kept
-pub numbered-kept : (history : ℕ) (writes : List Write) (entries : List Entry) (old new : Numbers) → entries ≡ entries_after history writes
-    → KeepsNumbers old new → AreNumbered history writes entries old → AreNumbered history writes entries new
-numbered-kept history writes entries old new made keeps each u e found =
-    keeps.number u (last_touch (state_of history writes) (length writes) u)
-    (last-some history writes u e (ap (λ es. entry_at es u) (whole history writes ∙ sym made) ∙ found)) (each u e found)
-
 -- each entry has its number after one more write
 pub numbered-push : (history : ℕ) (writes : List Write) (w : Write) (old new : List Entry) (numbers later : Numbers)
     → old ≡ entries_after history writes → new ≡ entries_after history (writes ++ w ∷ [])
-    → IsRenewed (length writes + 1) (touched old new) numbers later → AreNumbered history writes old numbers → AreNumbered history (writes ++ w ∷ []) new later
+    → later ≡ renewed (length writes + 1) numbers (touched old new) → AreNumbered history writes old numbers → AreNumbered history (writes ++ w ∷ []) new later
 numbered-push history writes w old new numbers later is_old is_new renews each u e found =
-    ap (λ ns. number_at ns u) renews.done
-    ∙ at_renewed (touched old new) (length writes + 1) renews.made new u e (each-now old new (joined (identities old) (identities new))) found (place (among u (uuids_of (touched old new))) refl)
+    ap (λ ns. number_at ns u) renews
+    ∙ at_renewed (touched old new) (length writes + 1) numbers new u e (each-now old new (joined (identities old) (identities new))) found
     ∙ chosen
   where
-    -- what was kept before the write for an entry that there was
-    was : (before : Entry) → entry_at old u ≡ Some before → number_at renews.made u ≡ Some (last_touch (state_of history writes) (length writes) u)
-    was before at =
-        renews.kept.number u (last_touch (state_of history writes) (length writes) u)
-        (last-some history writes u before (ap (λ es. entry_at es u) (whole history writes ∙ sym is_old) ∙ at)) (each u before at)
-
-    place : (b : Bool) → among u (uuids_of (touched old new)) ≡ b → is_some (number_at renews.made u) ≡ true
-    place true here = place_among renews.made (uuids_of (touched old new)) u renews.places here
-    place false off = ap is_some (was e (same_outside old new u off ∙ found))
-
     -- it is unchanged only where it was there
     step : (o : Option Entry) → entry_at old u ≡ o → (b : Bool) → is_one_found o (Some e) ≡ b
-        → cond (not b) (Some (length writes + 1)) (number_at renews.made u) ≡ Some (cond b (last_touch (state_of history writes) (length writes) u) (length writes + 1))
+        → cond (not b) (Some (length writes + 1)) (number_at numbers u) ≡ Some (cond b (last_touch (state_of history writes) (length writes) u) (length writes + 1))
     step o at false same = refl
     step None at true same = absurd (false≢true same)
-    step (Some before) at true same = was before at
+    step (Some before) at true same = each u before at
 
     number : cond (is_one_found (entry_at old u) (entry_at new u)) (last_touch (state_of history writes) (length writes) u) (length writes + 1)
         ≡ last_touch (state_of history (writes ++ w ∷ [])) (length (writes ++ w ∷ [])) u
@@ -181,11 +133,11 @@ numbered-push history writes w old new numbers later is_old is_new renews each u
         (sym (last-agree (length writes) (state_of history (writes ++ w ∷ [])) (state_of history writes) u (agree-longer history writes (w ∷ []))) i) (length writes + 1))
         ∙ ap (λ k. last_touch (state_of history (writes ++ w ∷ [])) k u) (sym (long history writes w))
 
-    chosen : cond (among u (uuids_of (touched old new))) (Some (length writes + 1)) (number_at renews.made u)
+    chosen : cond (among u (uuids_of (touched old new))) (Some (length writes + 1)) (number_at numbers u)
         ≡ Some (last_touch (state_of history (writes ++ w ∷ [])) (length (writes ++ w ∷ [])) u)
     chosen =
-        ap (λ b. cond b (Some (length writes + 1)) (number_at renews.made u)) (among-differing old new u)
-        ∙ ap (λ o. cond (not (is_one_found (entry_at old u) o)) (Some (length writes + 1)) (number_at renews.made u)) found
+        ap (λ b. cond b (Some (length writes + 1)) (number_at numbers u)) (among-differing old new u)
+        ∙ ap (λ o. cond (not (is_one_found (entry_at old u) o)) (Some (length writes + 1)) (number_at numbers u)) found
         ∙ step (entry_at old u) refl (is_one_found (entry_at old u) (Some e)) refl
         ∙ ap (λ o. Some (cond (is_one_found (entry_at old u) o) (last_touch (state_of history writes) (length writes) u) (length writes + 1))) (sym found)
         ∙ ap Some number

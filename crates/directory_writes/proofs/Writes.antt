@@ -18,13 +18,13 @@ use Rattle.entry_tree.specs.declared.op.Op.{Op}
 use Rattle.entry_tree.specs.declared.op.Write.{Write}
 use Rattle.entry_tree.specs.declared.touched.EntryChange.{EntryChange}
 use Rattle.directory_writes.specs.Directory.{DirectoryState, entries_after, entries_of, last_csn, last_csn_of, csn_of_next_write, most_writes, most_writes_weight, has_room, judged_code, judged_at, judged, with_write, with_judged, written, code_of_judged, write_code, IsAccepted, IsPlanned, IsKept}
-use Rattle.directory_writes.specs.Touches.{Numbers, uuids_of, noted_each, logged, all_notes, IsLogged, KeepsNumbers, IsRenewed, AreNumbered}
+use Rattle.directory_writes.specs.Touches.{Numbers, uuids_of, noted_each, logged, all_notes, IsLogged, renewed, AreNumbered}
 use Rattle.directory_writes.specs.declared.preview.Preview.{Preview}
 use Rattle.directory_writes.specs.Weights.{op_weight, kept_weight}
 use Rattle.session_log.specs.Log.{Log, fresh, trimmed}
 use Rattle.session_log.proofs.Covering.{IsLogOf-fresh, IsLogOf-trimmed}
 use Rattle.directory_writes.proofs.Judged.{accepted-push}
-use Rattle.directory_writes.proofs.Pushed.{logged-push, numbered-kept, numbered-push}
+use Rattle.directory_writes.proofs.Pushed.{logged-push, numbered-push}
 use Rattle.directory_writes.proofs.Csns.{rises-none, rises-push, next_rises}
 
 state_from-push : (history : ℕ) (entries : List Entry) (before : ℕ) (writes : List Write) (write : Write)
@@ -177,14 +177,14 @@ pub record IsPushed (d : DirectoryState) (entries after : List Entry) (numbers l
   pub leads : after ≡ entries_after d.history (d.writes ++ w ∷ [])
   pub good : IsAccepted d.suffix (entries_of d) w.op
   pub notes : log ≡ logged (length d.writes + 1) entries after d.log
-  pub renews : IsRenewed (length d.writes + 1) (touched entries after) numbers later
+  pub renews : later ≡ renewed (length d.writes + 1) numbers (touched entries after)
 
 -- what putting a write that was previewed leaves: it is the last of the writes, and its changes are made, noted and numbered
 pub record IsPut (d : DirectoryState) (op : Op) (preview : Preview) (entries after : List Entry) (numbers later : Numbers) (log : Log) (writes : List Write) : Type 0 where
   pub last : writes ≡ d.writes ++ (record { csn = preview.csn; op = op }) ∷ []
   pub made : after ≡ with_changes entries preview.touched
   pub notes : log ≡ noted_each (length d.writes + 1) (uuids_of preview.touched) d.log
-  pub renews : IsRenewed (length d.writes + 1) preview.touched numbers later
+  pub renews : later ≡ renewed (length d.writes + 1) numbers preview.touched
 
 -- what making the changes that were previewed makes of them
 planned_push : (d : DirectoryState) (op : Op) (preview : Preview) (entries after : List Entry) (numbers later : Numbers) (log : Log) (writes : List Write) → entries ≡ entries_of d → IsPlanned d op preview
@@ -193,7 +193,7 @@ planned_push d op preview entries after numbers later log writes was plan put = 
   leads = leads;
   good = plan.accepted;
   notes = put.notes ∙ ap (λ ts. noted_each (length d.writes + 1) (uuids_of ts) d.log) touches;
-  renews = subst (λ ts. IsRenewed (length d.writes + 1) ts numbers later) touches put.renews;
+  renews = put.renews ∙ ap (renewed (length d.writes + 1) numbers) touches;
 }
   where
     leads : after ≡ entries_after d.history (d.writes ++ (record { csn = preview.csn; op = op }) ∷ [])
@@ -250,13 +250,13 @@ kept_with d entries last kept numbers later log was logged touched = record {
   touched = touched;
 }
 
--- a write that is refused leaves what is kept, but for places that are made and taken back
+-- a write that is refused leaves what is kept
 pub kept_refused : (d : DirectoryState) (entries after : List Entry) (last : CsnValue) (kept : ℕ) (numbers later : Numbers) (log : Log) (writes : List Write) → IsKept d entries last kept numbers
-    → after ≡ entries → log ≡ d.log → KeepsNumbers numbers later → writes ≡ d.writes → IsKept (record d { writes = writes; log = log }) after last kept later
+    → after ≡ entries → log ≡ d.log → later ≡ numbers → writes ≡ d.writes → IsKept (record d { writes = writes; log = log }) after last kept later
 kept_refused d entries after last kept numbers later log writes was same is keeps all =
     subst (λ ws. IsKept (record d { writes = ws; log = log }) after last kept later) (sym all)
     (subst (λ es. IsKept (record d { log = log }) es last kept later) (sym same)
-    (kept_with d entries last kept numbers later log was (subst (IsLogged d.history d.writes) (sym is) was.logged) (numbered-kept d.history d.writes entries numbers later was.made keeps was.touched)))
+    (kept_with d entries last kept numbers later log was (subst (IsLogged d.history d.writes) (sym is) was.logged) (subst (AreNumbered d.history d.writes entries) (sym keeps) was.touched)))
 
 -- a log that is trimmed keeps what it is the rest of
 pub kept_trimmed : (d : DirectoryState) (entries after : List Entry) (last : CsnValue) (kept : ℕ) (numbers later : Numbers) (log : Log) (limit : ℕ) → IsKept d entries last kept numbers

@@ -1,10 +1,10 @@
 -- Which writes touch an entry: those after which what its identity has differs
 -- from what it had before.
-use Rattle.std.specs.Prelude.{◌≡◌, ℕ, ◌<◌, zero, suc, ◌+◌, true, cond, is_some, List, [], ◌++◌, length, map, Option, Some, None}
-use Rattle.std.specs.List.{fold, list_all}
+use Rattle.std.specs.Prelude.{◌≡◌, ℕ, zero, suc, ◌+◌, cond, List, [], ◌++◌, length, map, Option, Some, None}
+use Rattle.std.specs.List.{fold}
 use Rattle.std.specs.Ordering.{nat_cmp}
-use Rattle.std.specs.Map.{lookup, remove_entry, set_value}
-use Rattle.std.specs.BTreeMap.{is_at}
+use Rattle.std.specs.Map.{lookup, remove_entry}
+use Rattle.std.specs.BTreeMap.{insert_entry, is_at}
 use Rattle.entry_tree.specs.declared.entry.Entry.{Entry}
 use Rattle.entry_tree.specs.declared.op.Write.{Write}
 use Rattle.entry_tree.specs.declared.touched.EntryChange.{EntryChange}
@@ -62,10 +62,10 @@ abbrev pub number_at : Numbers → ℕ → Option ℕ
 number_at numbers uuid = lookup (is_at (nat_cmp uuid)) numbers
 
 -- the number of a write that changed what an identity has: where it has an entry now, that number
--- is kept for it, if it has a place
+-- is kept for it
 abbrev pub renewed_at : ℕ → Numbers → ℕ → Option Entry → Numbers
 renewed_at number numbers uuid None = remove_entry (is_at (nat_cmp uuid)) numbers
-renewed_at number numbers uuid (Some entry) = set_value (is_at (nat_cmp uuid)) numbers number
+renewed_at number numbers uuid (Some entry) = insert_entry nat_cmp numbers uuid number
 
 abbrev pub renewed_by : ℕ → Numbers → EntryChange → Numbers
 renewed_by number numbers entry_change =
@@ -73,27 +73,6 @@ renewed_by number numbers entry_change =
 
 abbrev pub renewed : ℕ → Numbers → List EntryChange → Numbers
 renewed number numbers touches = fold (renewed_by number) numbers touches
-
--- what is kept for an identity stays
-pub record KeepsNumbers (old new : Numbers) : Type 0 where
-  pub number :
-      (uuid number : ℕ) → 0 < number → number_at old uuid ≡ Some number
-      → number_at new uuid ≡ Some number
-
--- each of these identities has a place
-abbrev pub HavePlaces : Numbers → List ℕ → Type 0
-HavePlaces numbers uuids = list_all (λ uuid. is_some (number_at numbers uuid)) uuids ≡ true
-
--- a place that there is stays
-pub record KeepsPlaces (old new : Numbers) : Type 0 where
-  pub place : (uuid : ℕ) → is_some (number_at old uuid) ≡ true → is_some (number_at new uuid) ≡ true
-
--- each identity that a write touched got a place, then their numbers were renewed
-pub record IsRenewed (number : ℕ) (touches : List EntryChange) (old new : Numbers) : Type 0 where
-  pub made : Numbers
-  pub places : HavePlaces made (uuids_of touches)
-  pub kept : KeepsNumbers old made
-  pub done : new ≡ renewed number made touches
 
 -- each entry has its number
 abbrev pub AreNumbered : ℕ → List Write → List Entry → Numbers → Type 0

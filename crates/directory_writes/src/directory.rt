@@ -1,13 +1,14 @@
 //! A directory by its accepted writes.
 
-ghost use Rattle.std.specs.Prelude.{◌≡◌, ◌+◌, ◌<◌, ◌≤◌, ◌&&◌, nat_lt, nat_le, true, [], ◌∷◌, ◌++◌, length, is_some, None, Some, Ok, IfOk, IfErr, OnOk, OnErr, IfSome};
+ghost use Rattle.std.specs.Prelude.{◌≡◌, ◌+◌, ◌<◌, ◌≤◌, ◌&&◌, nat_lt, nat_le, true, [], ◌∷◌, ◌++◌, length, is_some, None, Some, Ok, IfOk, IfErr, OnOk, OnErr, IfSome, IsTrue};
+ghost use Rattle.std.specs.List.{list_all};
 ghost use Rattle.std.specs.List.Sorted.{IsStrictlySortedBy};
 ghost use Rattle.std.specs.Ordering.{nat_cmp};
 ghost use Rattle.csn_cookie.specs.Csn as csn_specs;
 ghost use Rattle.entry_tree.specs.History.{identity as identity_of, state_of, touched_over};
-ghost use Rattle.entry_tree.specs.Fitting.{fits};
-ghost use Rattle.entry_tree.specs.State.{entry_at};
-ghost use Rattle.entry_tree.specs.Sound.{is_sound_op};
+ghost use Rattle.entry_tree.specs.Fitting.{fits, is_light};
+ghost use Rattle.entry_tree.specs.State.{entry_at, same_named};
+ghost use Rattle.entry_tree.specs.Sound.{is_commit, is_sound_op, is_sound_put};
 ghost use Rattle.entry_tree.specs.Touched.{touched};
 ghost use Rattle.directory_writes.specs.Commits.{commit_refusal, log_refusal, Opposes};
 ghost use Rattle.directory_writes.specs.Starting as starting;
@@ -308,7 +309,6 @@ impl Directory {
 
     /// Whether a commit that puts these entries and drops these identities may be kept where the
     /// clock shows `now`, or the first cause against it.
-    #[tactic(auto, using(crate::proofs::Commits::log_capped, crate::proofs::Commits::first_opposed, crate::proofs::Commits::none_opposed))]
     pub fn check_commit(
         &self,
         puts: &[Entry],
@@ -318,14 +318,81 @@ impl Directory {
         ensures ok { OnOk result (commit_refusal self.now puts.now drops.now now ≡ None) }
         ensures refused { IfErr result (Opposes (commit_refusal self.now puts.now drops.now now)) }
     {
-        let weight = commit_weight(puts, drops)?;
-        self.check_log(weight, now)?;
-        self.held.check_commit(puts, drops)
+        let _ = self.judge_commit(puts, drops, now)?;
+        Ok(())
     }
 
-    /// Whether one more write of this weight may be kept, or the first cause against it.
-    fn check_log(&self, weight: u64, now: u64) -> Result<(), DirectoryFault>
+    /// What a commit that puts these entries and drops these identities would do where the clock
+    /// shows `now`, or the first cause against it, as `check_commit` reports it. The directory is
+    /// left as it is.
+    pub fn preview_commit(
+        &self,
+        puts: &[Entry],
+        drops: &[u128],
+        now: u64,
+    ) -> Result<Preview, DirectoryFault>
+        requires sound { list_all is_sound_put puts.now ≡ true }
+        requires light { list_all is_light puts.now ≡ true }
+        ensures ok { OnOk result (commit_refusal self.now puts.now drops.now now ≡ None) }
+        ensures accepted { IfOk result (λ preview.
+            directory.judged self.now (Op.Commit puts.now drops.now) now
+            ≡ Ok (record { csn = preview.csn; op = Op.Commit puts.now drops.now })) }
+        ensures planned { IfOk result
+            (directory.IsPlanned self.now (Op.Commit puts.now drops.now)) }
+        ensures refused { IfErr result (Opposes (commit_refusal self.now puts.now drops.now now)) }
+    {
+        self.judge_commit(puts, drops, now)
+    }
+
+    /// The same of any entries. The commit is judged by what it puts and drops where the write
+    /// before it is a commit, or it is the first write.
+    #[tactic(auto, using(crate::proofs::Commits::log_capped, crate::proofs::Commits::first_opposed))]
+    fn judge_commit(
+        &self,
+        puts: &[Entry],
+        drops: &[u128],
+        now: u64,
+    ) -> Result<Preview, DirectoryFault>
+        ensures ok { OnOk result (commit_refusal self.now puts.now drops.now now ≡ None) }
+        ensures accepted { IfOk result (λ preview.
+            directory.judged self.now (Op.Commit puts.now drops.now) now
+            ≡ Ok (record { csn = preview.csn; op = Op.Commit puts.now drops.now })) }
+        ensures planned { IfOk result (λ preview.
+            list_all is_sound_put puts.now ≡ true → list_all is_light puts.now ≡ true
+            → directory.IsPlanned self.now (Op.Commit puts.now drops.now) preview) }
+        ensures refused { IfErr result (Opposes (commit_refusal self.now puts.now drops.now now)) }
+    {
+        let weight = commit_weight(puts, drops);
+        let drawn = self.draw_within(weight, now)?;
+        let touched = self.held.plan_commit(puts, drops, self.is_apart())?;
+        Ok(Preview {
+            csn: drawn.csn,
+            csn_maker: drawn.csn_maker,
+            weight: drawn.weight,
+            touched,
+        })
+    }
+
+    /// Whether no two entries have one name, as far as the last write shows: a commit leaves none,
+    /// and without writes there are no entries.
+    fn is_apart(&self) -> bool
+        ensures { IsTrue result → same_named (directory.entries_of self.now) ≡ None }
+    {
+        match self.accepted.as_slice().split_last() {
+            None => true,
+            Some((write, _)) => is_commit(&write.op),
+        }
+    }
+
+    /// The change number that one more write of this weight would get, or the first cause against
+    /// it.
+    fn draw_within(&self, weight: u64, now: u64) -> Result<Drawn, DirectoryFault>
         ensures ok { OnOk result (log_refusal self.now weight now ≡ None) }
+        ensures value { IfOk result (λ drawn.
+            directory.csn_of_next_write self.now now ≡ Some drawn.csn) }
+        ensures maker { IfOk result (λ drawn. drawn.csn_maker ≡ drawn.csn) }
+        ensures weight { IfOk result (λ drawn.
+            drawn.weight ≡ kept_weight self.now.writes + weight) }
         ensures refused { IfErr result (Opposes (log_refusal self.now weight now)) }
     {
         if self.accepted.len() >= MOST_WRITES {
@@ -336,7 +403,11 @@ impl Directory {
         }
         let mut csn_maker = self.csn_maker.copy();
         match csn_maker.next(now) {
-            Ok(_) => Ok(()),
+            Ok(csn) => Ok(Drawn {
+                csn,
+                csn_maker,
+                weight: self.weight + weight,
+            }),
             Err(_) => Err(DirectoryFault::LimitReached(GREATEST_COUNT)),
         }
     }
@@ -353,7 +424,7 @@ impl Directory {
             drawn.weight ≡ kept_weight self.now.writes + weights.op_weight op.now) }
         ensures refused { IfErr result (directory.Refuses (directory.judged self.now op.now now)) }
     {
-        let weight = op_weight(op)?;
+        let weight = op_weight(op);
         if !self.has_room(weight) {
             return Err(OpFault::Code(ADMIN_LIMIT_EXCEEDED));
         }
@@ -374,6 +445,16 @@ impl Directory {
             && nat_le (kept_weight self.now.writes + weight) directory.most_writes_weight) }
     {
         self.accepted.len() < MOST_WRITES && weight <= MOST_WRITES_WEIGHT - self.weight
+    }
+}
+
+/// Whether it is a commit.
+fn is_commit(op: &Op) -> bool
+    ensures { result ≡ is_commit op.now }
+{
+    match op {
+        Op::Add(_, _) | Op::Delete(_) | Op::Modify(_, _) | Op::Rename(_, _, _, _) => false,
+        Op::Commit(_, _) => true,
     }
 }
 

@@ -1,11 +1,12 @@
 //! The entries of a directory, with what is known of which write touched which.
 
-ghost use Rattle.std.specs.Prelude.{◌≡◌, [], None, OnOk, OnErr, IfErr};
+ghost use Rattle.std.specs.Prelude.{◌≡◌, [], None, IfOk, OnOk, OnErr, IfErr, IsTrue};
 ghost use Rattle.entry_tree.specs.Effects.{committed};
-ghost use Rattle.entry_tree.specs.Touched.{with_changes, CanBeMade};
+ghost use Rattle.entry_tree.specs.State.{same_named};
+ghost use Rattle.entry_tree.specs.Touched.{with_changes, CanBeMade, IsPlan};
 ghost use Rattle.session_log.specs.Log.{fresh, trimmed};
 ghost use Rattle.directory_writes.specs.Commits.{held_refusal, Opposes};
-ghost use Rattle.directory_writes.specs.Touches.{noted_each, uuids_of, KeepsNumbers, IsRenewed};
+ghost use Rattle.directory_writes.specs.Touches.{noted_each, renewed, uuids_of};
 
 use crate::NoMemory;
 use crate::commit::DirectoryFault;
@@ -42,64 +43,48 @@ impl Held {
     }
 
     /// Makes the changes of a write with this number, and notes them. They are made whole or not at
-    /// all.
-    #[tactic(auto, using(crate::proofs::Served::keeps_both))]
+    /// all: what takes memory is made before the entries change.
     pub(crate) fn put(&mut self, number: u64, touched: &Touched) -> Result<(), NoMemory>
         requires { CanBeMade self.old.entries touched.now }
         ensures entries { OnOk result
             (self.new.entries ≡ with_changes self.old.entries touched.now) }
         ensures log { OnOk result (self.new.touches.log
             ≡ noted_each number (uuids_of touched.now) self.old.touches.log) }
-        ensures numbers { OnOk result (IsRenewed number touched.now
-            self.old.touches.numbers self.new.touches.numbers) }
+        ensures numbers { OnOk result (self.new.touches.numbers
+            ≡ renewed number self.old.touches.numbers touched.now) }
         ensures same_entries { OnErr result (self.new.entries ≡ self.old.entries) }
         ensures same_log { OnErr result (self.new.touches.log ≡ self.old.touches.log) }
         ensures same_numbers { OnErr result
-            (KeepsNumbers self.old.touches.numbers self.new.touches.numbers) }
-    {
-        match self.put_with_places(number, touched) {
-            Ok(()) => Ok(()),
-            Err(full) => {
-                self.touches.leave_places(touched.list());
-                Err(full)
-            }
-        }
-    }
-
-    /// The same, where places that were made may stay where memory runs out. All room is made
-    /// before the entries change.
-    #[tactic(auto, using(crate::proofs::Served::keeps_itself, crate::proofs::Places::renews))]
-    fn put_with_places(&mut self, number: u64, touched: &Touched) -> Result<(), NoMemory>
-        requires { CanBeMade self.old.entries touched.now }
-        ensures entries { OnOk result
-            (self.new.entries ≡ with_changes self.old.entries touched.now) }
-        ensures log { OnOk result (self.new.touches.log
-            ≡ noted_each number (uuids_of touched.now) self.old.touches.log) }
-        ensures numbers { OnOk result (IsRenewed number touched.now
-            self.old.touches.numbers self.new.touches.numbers) }
-        ensures same_entries { OnErr result (self.new.entries ≡ self.old.entries) }
-        ensures same_log { OnErr result (self.new.touches.log ≡ self.old.touches.log) }
-        ensures same_numbers { OnErr result
-            (KeepsNumbers self.old.touches.numbers self.new.touches.numbers) }
+            (self.new.touches.numbers ≡ self.old.touches.numbers) }
     {
         let entry_changes = touched.list();
         self.touches.make_room(entry_changes.len())?;
-        self.touches.make_places(entry_changes)?;
+        let numbers = self.touches.renewed(number, entry_changes)?;
         self.tree.put(touched)?;
-        self.touches.note(number, entry_changes);
+        self.touches.note(number, entry_changes, numbers);
         Ok(())
     }
 
-    /// Whether the entries after a commit may be held, or the first cause against them.
+    /// What a commit changes, where the entries after it may be held, or the first cause against
+    /// them. Where no two entries have one name, as `apart` states, it is judged by what it puts
+    /// and drops.
     #[tactic(auto, using(crate::proofs::Commits::open_held))]
-    pub(crate) fn check_commit(&self, puts: &[Entry], drops: &[u128]) -> Result<(), DirectoryFault>
+    pub(crate) fn plan_commit(
+        &self,
+        puts: &[Entry],
+        drops: &[u128],
+        apart: bool,
+    ) -> Result<Touched, DirectoryFault>
+        requires { IsTrue apart → same_named self.now.entries ≡ None }
         ensures ok { OnOk result
             (held_refusal (committed self.now.entries puts.now drops.now) ≡ None) }
+        ensures plan { IfOk result
+            (IsPlan self.now.entries (committed self.now.entries puts.now drops.now)) }
         ensures refused { IfErr result
             (Opposes (held_refusal (committed self.now.entries puts.now drops.now))) }
     {
-        match self.tree.check_commit(puts, drops) {
-            Ok(()) => Ok(()),
+        match self.tree.plan_commit(puts, drops, apart) {
+            Ok(entry_changes) => Ok(entry_changes),
             Err(refusal) => Err(DirectoryFault::from(refusal)),
         }
     }

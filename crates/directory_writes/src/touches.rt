@@ -1,6 +1,6 @@
 //! What is known of which write touched which entry.
 
-ghost use Rattle.std.specs.Prelude.{◌≡◌, ◌≤◌, [], length, is_some, true, OnOk, IfOk};
+ghost use Rattle.std.specs.Prelude.{◌≡◌, ◌≤◌, [], length, OnOk, IfOk};
 ghost use Rattle.std.specs.List.Sorted.{IsStrictlySortedBy};
 ghost use Rattle.std.specs.Ordering.{nat_cmp};
 ghost use Rattle.session_log.specs.Log as log;
@@ -10,16 +10,16 @@ ghost use Rattle.directory_writes.specs.Touches.{number_at};
 use crate::NoMemory;
 use entry_tree::EntryChange;
 use session_log::SessionLog;
+use shared_map::SharedMap;
 use std::alloc::Global;
-use std::collections::BTreeMap;
 use std::marker::Model;
 
 /// The session log, and for each entry the number of the write that touched it last.
 #[derive(Drop)]
 pub(crate) struct Touches {
     log: SessionLog,
-    /// By identity. A place that is made for an entry to come has the number 0.
-    numbers: BTreeMap<u128, u64>,
+    /// By identity. Copies share what they have in common.
+    numbers: SharedMap<u128, u64>,
 }
 
 impl Model for Touches {
@@ -30,7 +30,7 @@ impl Model for Touches {
     ghost view = { λ t. record {
       log = t.log.log;
       spare = t.log.spare;
-      numbers = t.numbers.entries;
+      numbers = t.numbers;
     } };
 }
 
@@ -42,7 +42,7 @@ impl Touches {
     {
         Touches {
             log: SessionLog::new(alloc, limit),
-            numbers: BTreeMap::new(alloc),
+            numbers: SharedMap::new(alloc),
         }
     }
 
@@ -53,7 +53,7 @@ impl Touches {
     {
         Ok(Touches {
             log: self.log.copy()?,
-            numbers: self.numbers.clone()?,
+            numbers: self.numbers.copy()?,
         })
     }
 
@@ -66,34 +66,36 @@ impl Touches {
         self.log.reserve(notes)
     }
 
-    /// Makes a place for each identity that these changes touch.
-    pub(crate) fn make_places(&mut self, touched: &[EntryChange]) -> Result<(), NoMemory>
-        ensures log { self.new.log ≡ self.old.log }
-        ensures room { self.new.spare ≡ self.old.spare }
-        ensures places { OnOk result
-            (spec.HavePlaces self.new.numbers (spec.uuids_of touched.now)) }
-        ensures numbers { spec.KeepsNumbers self.old.numbers self.new.numbers }
+    /// The numbers after a write with this number made these changes.
+    pub(crate) fn renewed(
+        &self,
+        number: u64,
+        touched: &[EntryChange],
+    ) -> Result<SharedMap<u128, u64>, NoMemory>
+        ensures { IfOk result (λ numbers.
+            numbers ≡ spec.renewed number self.now.numbers touched.now) }
     {
-        make_each(&mut self.numbers, touched)
+        let mut numbers = self.numbers.copy()?;
+        for entry_change in touched {
+            renew(&mut numbers, number, entry_change)?;
+        }
+        Ok(numbers)
     }
 
-    /// Takes back the places of these identities that have no number yet.
-    pub(crate) fn leave_places(&mut self, touched: &[EntryChange])
-        ensures log { self.new.log ≡ self.old.log }
-        ensures numbers { spec.KeepsNumbers self.old.numbers self.new.numbers }
-    {
-        leave_each(&mut self.numbers, touched);
-    }
-
-    /// Notes what a write changed. It takes no memory.
-    pub(crate) fn note(&mut self, number: u64, touched: &[EntryChange])
+    /// Notes what a write changed, and takes the numbers after it. It takes no memory.
+    pub(crate) fn note(
+        &mut self,
+        number: u64,
+        touched: &[EntryChange],
+        numbers: SharedMap<u128, u64>,
+    )
         requires { length touched.now ≤ self.old.spare }
         ensures log { self.new.log
             ≡ spec.noted_each number (spec.uuids_of touched.now) self.old.log }
-        ensures numbers { self.new.numbers ≡ spec.renewed number self.old.numbers touched.now }
+        ensures numbers { self.new.numbers ≡ numbers }
     {
         note_each(&mut self.log, number, touched);
-        renew_each(&mut self.numbers, number, touched);
+        self.numbers = numbers;
     }
 
     /// The number of the write that touched the entry of this identity last.
@@ -128,48 +130,6 @@ impl Touches {
     }
 }
 
-#[tactic(auto, using(crate::proofs::Places::place_made, crate::proofs::Places::places_kept, crate::proofs::Places::place_is, crate::proofs::Places::places_itself, crate::proofs::Served::keeps_itself))]
-fn make_place(numbers: &mut BTreeMap<u128, u64>, uuid: u128) -> Result<(), NoMemory>
-    ensures place { OnOk result (is_some (number_at numbers.new.entries uuid) ≡ true) }
-    ensures places { spec.KeepsPlaces numbers.old.entries numbers.new.entries }
-    ensures numbers { spec.KeepsNumbers numbers.old.entries numbers.new.entries }
-{
-    if !numbers.contains_key(&uuid) {
-        numbers.insert(uuid, 0)?;
-    }
-    Ok(())
-}
-
-#[tactic(auto, using(crate::proofs::Served::keeps_itself, crate::proofs::Served::keeps_both, crate::proofs::Places::next_place))]
-fn make_each(numbers: &mut BTreeMap<u128, u64>, touched: &[EntryChange]) -> Result<(), NoMemory>
-    ensures places { OnOk result
-        (spec.HavePlaces numbers.new.entries (spec.uuids_of touched.now)) }
-    ensures numbers { spec.KeepsNumbers numbers.old.entries numbers.new.entries }
-{
-    for entry_change in touched {
-        make_place(numbers, entry_change.uuid)?;
-    }
-    Ok(())
-}
-
-#[tactic(auto, using(crate::proofs::Places::place_left, crate::proofs::Served::keeps_itself))]
-fn leave_place(numbers: &mut BTreeMap<u128, u64>, uuid: u128)
-    ensures { spec.KeepsNumbers numbers.old.entries numbers.new.entries }
-{
-    if matches!(numbers.get(&uuid), Some(0)) {
-        numbers.remove(&uuid);
-    }
-}
-
-#[tactic(auto, using(crate::proofs::Served::keeps_itself, crate::proofs::Served::keeps_both))]
-fn leave_each(numbers: &mut BTreeMap<u128, u64>, touched: &[EntryChange])
-    ensures { spec.KeepsNumbers numbers.old.entries numbers.new.entries }
-{
-    for entry_change in touched {
-        leave_place(numbers, entry_change.uuid);
-    }
-}
-
 /// One note for each identity.
 fn note_each(log: &mut SessionLog, number: u64, touched: &[EntryChange])
     requires { length touched.now ≤ log.old.spare }
@@ -180,27 +140,17 @@ fn note_each(log: &mut SessionLog, number: u64, touched: &[EntryChange])
     }
 }
 
-/// The entries that are there now get the number, where they have a place; the others lose theirs.
-fn renew_each(numbers: &mut BTreeMap<u128, u64>, number: u64, touched: &[EntryChange])
-    ensures { numbers.new.entries ≡ spec.renewed number numbers.old.entries touched.now }
-{
-    for entry_change in touched {
-        renew(numbers, number, entry_change);
-    }
-}
-
-fn renew(numbers: &mut BTreeMap<u128, u64>, number: u64, entry_change: &EntryChange)
-    ensures { numbers.new.entries
-        ≡ spec.renewed_by number numbers.old.entries entry_change.entry.now }
+/// An entry that is there now gets the number; one that is not loses its own.
+fn renew(
+    numbers: &mut SharedMap<u128, u64>,
+    number: u64,
+    entry_change: &EntryChange,
+) -> Result<(), NoMemory>
+    ensures { OnOk result
+        (numbers.new ≡ spec.renewed_by number numbers.old entry_change.entry.now) }
 {
     match &entry_change.after {
-        None => {
-            numbers.remove(&entry_change.uuid);
-        }
-        Some(_) => {
-            if let Some(kept) = numbers.get_mut(&entry_change.uuid) {
-                *kept = number;
-            }
-        }
+        None => numbers.remove(&entry_change.uuid),
+        Some(_) => numbers.insert(entry_change.uuid, number),
     }
 }

@@ -1,7 +1,8 @@
 -- How long the text of a name is.
-use Rattle.std.proofs.Common.{◌≡◌, ◌≢◌, ℕ, ◌*◌, ◌≤◌, not, ◌==◌, true, List, [], ◌∷◌, length, length-append, refl, arith}
+use Rattle.std.proofs.Common.{◌≡◌, ◌≢◌, ℕ, ◌+◌, ◌*◌, ◌<◌, ◌≤◌, not, ◌==◌, true, List, [], ◌∷◌, drop, get_or, length, length-append, refl, sym, ap, ◌∙◌, arith}
 use Rattle.std.specs.List.{list_all, AllPass}
 use Rattle.std.proofs.lemmas.Bool.{and_parts, leb-true}
+use Rattle.std.proofs.lemmas.List.{at_drop_more}
 use Rattle.std.proofs.lemmas.List.Elements.{All-head, All-tail}
 use Rattle.schema_rules.specs.Attributes.{is_given, is_of_syntax}
 use Rattle.schema_rules.specs.Schema.{type_name, is_operational}
@@ -24,7 +25,8 @@ type_has_name a filled given = by a.values filled (and_parts (not (is_operationa
 
 -- ---- names
 
-rdn_size : (rdn : List TypeAndValue) → is_rdn rdn ≡ true → length (rdn_text rdn) ≤ 1024
+-- an RDN is written in few enough bytes
+pub rdn_size : (rdn : List TypeAndValue) → is_rdn rdn ≡ true → length (rdn_text rdn) ≤ 1024
 rdn_size rdn is =
     let some = and_parts (not (length rdn == 0)) _ is in
     let keyed = and_parts (list_all has_key rdn) _ some.1 in
@@ -37,6 +39,15 @@ more_rdns_size (rdn ∷ rdns) are =
     let first = All-head (λ (x : List TypeAndValue). is_rdn x ≡ true) rdn rdns are in
     let rest = All-tail (λ (x : List TypeAndValue). is_rdn x ≡ true) rdn rdns are in
     omega (arith, length-append (rdn_text rdn) (more_rdns_text rdns), rdn_size rdn first, more_rdns_size rdns rest)
+
+-- the bytes of the RDNs from one on are a comma, its own, and those of the RDNs after it
+pub more_rdns_from : (rdns : List (List TypeAndValue)) (i : ℕ) (rdn : List TypeAndValue) → i < length rdns → rdn ≡ get_or rdns i rdn
+    → length (more_rdns_text (drop i rdns)) ≡ 1 + length (rdn_text rdn) + length (more_rdns_text (drop (i + 1) rdns))
+more_rdns_from rdns i rdn low at =
+    let opened : length (more_rdns_text (drop i rdns)) ≡ length (more_rdns_text (rdn ∷ drop (i + 1) rdns)) =
+    at_drop_more (λ (xs : List (List TypeAndValue)). length (more_rdns_text xs)) rdns i rdn low
+    ∙ ap (λ (r : List TypeAndValue). length (more_rdns_text (r ∷ drop (i + 1) rdns))) (sym at) in
+    omega (arith, opened, length-append (rdn_text rdn) (more_rdns_text (drop (i + 1) rdns)))
 
 names_size : (name : List (List TypeAndValue)) → AllPass is_rdn name → length (name_text name) ≤ 1025 * length name
 names_size [] are = omega arith

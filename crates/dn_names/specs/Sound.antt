@@ -1,5 +1,5 @@
 -- What holds of every name.
-use Rattle.std.specs.Prelude.{ℕ, ◌≤◌, Bool, not, ◌&&◌, ◌==◌, nat_le, List, length, is_some}
+use Rattle.std.specs.Prelude.{◌≡◌, ℕ, ◌≤◌, Bool, true, not, ◌&&◌, ◌==◌, nat_le, List, length, is_some}
 use Rattle.std.specs.List.{list_all, AllPass}
 use Rattle.schema_rules.specs.Keys.{key_of}
 use Rattle.dn_names.specs.Names.{TypeAndValue}
@@ -23,6 +23,11 @@ is_rdn pairs =
     not (length pairs == 0)
     && (list_all has_key pairs
     && (not (has_double pairs) && nat_le (length (rdn_text pairs)) most_bytes))
+
+-- an RDN, which is written in n bytes
+pub record IsRdnOf (pairs : List TypeAndValue) (bytes : ℕ) : Type 0 where
+  pub rdn : is_rdn pairs ≡ true
+  pub written : bytes ≡ length (rdn_text pairs)
 
 pub record IsName (name : List (List TypeAndValue)) : Type 0 where
   pub rdns : AllPass is_rdn name

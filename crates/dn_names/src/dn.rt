@@ -12,7 +12,7 @@ use crate::keys::append_rdn_key;
 use crate::name::Name;
 use crate::rdn::Rdn;
 use crate::signs::{Sign, cut, signs_of, width_of, without_leading_spaces};
-use crate::writing::append_rdns;
+use crate::writing::{append_rdns, rdns_len};
 use ldap_ber::{NoMemory, Octets};
 use std::alloc::Global;
 use std::marker::Model;
@@ -107,9 +107,16 @@ impl Dn {
         ensures text { IfOk result (λ octets. octets ≡ name_text self.now) }
         ensures again { IfOk result (λ octets. name_of_text octets ≡ Ok self.now) }
     {
-        let mut text = Vec::new(self.alloc);
+        let mut text = Vec::with_capacity(self.alloc, self.written_len())?;
         append_rdns(&mut text, self.rdns())?;
         Ok(Octets::from(text))
+    }
+
+    /// How many bytes the name is written in, which needs no writing.
+    pub fn written_len(&self) -> usize
+        ensures { result ≡ length (name_text self.now) }
+    {
+        rdns_len(self.rdns())
     }
 
     /// A text that is another name's exactly where the names are equal.

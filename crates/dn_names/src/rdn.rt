@@ -1,8 +1,8 @@
 //! Relative distinguished names (RFC 4514, section 2.2).
-ghost use Rattle.std.specs.Prelude.{◌≡◌, true, nat_lt, Ok, IfOk, IfErr};
+ghost use Rattle.std.specs.Prelude.{◌≡◌, ◌≤◌, true, nat_lt, length, Ok, IfOk, IfErr};
 ghost use Rattle.std.specs.List.{prefix_len};
 ghost use Rattle.dn_names.specs.Reading.{rdn_of, rdn_of_text, is_plain, IsFaultOf};
-ghost use Rattle.dn_names.specs.Sound.{is_rdn};
+ghost use Rattle.dn_names.specs.Sound.{is_rdn, most_bytes};
 ghost use Rattle.dn_names.specs.Writing.{rdn_text};
 
 use crate::fault::NameFault;
@@ -23,18 +23,20 @@ const MOST_BYTES: usize = 1024;
 #[derive(Drop)]
 pub struct Rdn {
     pairs: Vec<Pair>,
+    /// How many bytes it is written in.
+    length: usize,
 }
 
 impl Model for Rdn {
-    ghost use Rattle.std.specs.Prelude.{◌≡◌, true, List};
+    ghost use Rattle.std.specs.Prelude.{List};
     ghost use Rattle.dn_names.specs.Names.{TypeAndValue};
-    ghost use Rattle.dn_names.specs.Sound.{is_rdn};
+    ghost use Rattle.dn_names.specs.Sound.{IsRdnOf};
 
     ghost Value = { List TypeAndValue };
 
     ghost view = { λ r. r.pairs.items };
 
-    ghost invariant = { λ r. is_rdn r.pairs.items ≡ true };
+    ghost invariant = { λ r. IsRdnOf r.pairs.items r.length };
 }
 
 impl Rdn {
@@ -67,10 +69,11 @@ impl Rdn {
         }
         let mut text = Vec::new(alloc);
         append_pairs(&mut text, pairs.as_slice())?;
-        if text.len() > MOST_BYTES {
+        let length = text.len();
+        if length > MOST_BYTES {
             return Err(NameFault::TooLong(place));
         }
-        Ok(Rdn { pairs })
+        Ok(Rdn { pairs, length })
     }
 
     /// Lends the pairs of a type and a value, in the order in which they were written. No two of
@@ -90,7 +93,19 @@ impl Rdn {
         for pair in self.list() {
             pairs.push(pair.copy()?)?;
         }
-        Ok(Rdn { pairs })
+        Ok(Rdn {
+            pairs,
+            length: self.length,
+        })
+    }
+
+    /// How many bytes the RDN is written in, which needs no writing.
+    #[tactic(auto, using(crate::proofs::Sizes::rdn_size))]
+    pub fn written_len(&self) -> usize
+        ensures value { result ≡ length (rdn_text self.now) }
+        ensures bound { result ≤ most_bytes }
+    {
+        self.length
     }
 
     /// The RDN as text, which is read again as the same RDN.
@@ -98,7 +113,7 @@ impl Rdn {
         ensures text { IfOk result (λ octets. octets ≡ rdn_text self.now) }
         ensures again { IfOk result (λ octets. rdn_of_text octets ≡ Ok self.now) }
     {
-        let mut text = Vec::new(*self.pairs.allocator());
+        let mut text = Vec::with_capacity(*self.pairs.allocator(), self.length)?;
         append_pairs(&mut text, self.list())?;
         Ok(Octets::from(text))
     }

@@ -1,5 +1,6 @@
 //! Names as text (RFC 4514, section 2).
-ghost use Rattle.std.specs.Prelude.{◌≡◌, ◌++◌, OnOk};
+ghost use Rattle.std.specs.Prelude.{◌≡◌, ◌≤◌, ◌*◌, ◌++◌, length, OnOk};
+ghost use Rattle.dn_names.specs.Sound.{most_rdns};
 ghost use Rattle.dn_names.specs.Writing as spec;
 
 use crate::pair::Pair;
@@ -28,6 +29,30 @@ fn append_more_rdns(text: &mut Vec<u8>, rdns: &[Rdn]) -> Result<(), NoMemory>
         append_pairs(text, rdn.list())?;
     }
     Ok(())
+}
+
+/// How many bytes RDNs are written in, with commas between them.
+pub(crate) fn rdns_len(rdns: &[Rdn]) -> usize
+    requires { length rdns.now ≤ most_rdns }
+    ensures { result ≡ length (spec.name_text rdns.now) }
+{
+    match rdns {
+        [] => 0,
+        [first, more @ ..] => first.written_len() + more_rdns_len(more),
+    }
+}
+
+/// How many bytes RDNs are written in, each after a comma.
+fn more_rdns_len(rdns: &[Rdn]) -> usize
+    requires { length rdns.now ≤ most_rdns }
+    ensures value { result ≡ length (spec.more_rdns_text rdns.now) }
+    ensures bound { result ≤ 1025 * length rdns.now }
+{
+    let mut bytes = 0;
+    for rdn in rdns {
+        bytes += 1 + rdn.written_len();
+    }
+    bytes
 }
 
 /// Appends pairs with plus signs between them.

@@ -18,7 +18,8 @@ use Rattle.entry_tree.proofs.Rising.{among, among-filter, among-joined}
 
 -- ---- what an identity has after the changes at some identities
 
-own_uuid : (es : List Entry) (u : ℕ) (e : Entry) → entry_at es u ≡ Some e → e.uuid ≡ u
+-- what is found at an identity has it
+pub own_uuid : (es : List Entry) (u : ℕ) (e : Entry) → entry_at es u ≡ Some e → e.uuid ≡ u
 own_uuid [] u e found = absurd (cc)
 own_uuid (x ∷ es) u e found = by (nat_eq x.uuid u) refl (own_uuid es u e) found
   where
@@ -108,11 +109,11 @@ module _ (old new : List Entry) where
 
   -- ---- what differs
 
-  abbrev differs : ℕ → Bool
+  abbrev pub differs : ℕ → Bool
   differs u = is_change (change_at old new u)
 
   -- the identities of both lists
-  abbrev both : List ℕ
+  abbrev pub both : List ℕ
   both = joined (identities old) (identities new)
 
   -- an identity that does not differ has the same in both

@@ -17,13 +17,12 @@ use Rattle.dn_names.specs.Reading.{limited}
 use Rattle.dn_names.specs.Sound.{most_rdns}
 use Rattle.entry_writes.specs.declared.entry.Entry.{Entry}
 use Rattle.entry_writes.specs.declared.touched.EntryChange.{EntryChange}
-use Rattle.entry_writes.specs.Codes.{target_code, weight_code, length_code}
+use Rattle.entry_writes.specs.Codes.{weight_code, length_code}
 use Rattle.entry_writes.specs.Edits.{with_rdn}
 use Rattle.entry_writes.specs.Effects.{moved, new_name, new_attributes}
 use Rattle.entry_writes.specs.State.{ascends, entry_at, is_identified, own_pairs, total_weight, weight_with, most_weight, IsDirectory}
 use Rattle.entry_writes.specs.Touched.{is_change, IsPlan}
 use Rattle.entry_writes.proofs.Identities.{above, none_at, stepped, touched_mapped}
-use Rattle.entry_writes.proofs.Same.{bytes_same}
 use Rattle.entry_tree.proofs.Limits.{weight_code-shown}
 use Rattle.entry_tree.proofs.Replacing.{ascends_mapped}
 
@@ -195,14 +194,20 @@ long_where_none name none = by (nat_lt most_rdns (length name)) refl none
     by true more h = ltb-true most_rdns (length name) more
     by false few h = absurd (cc)
 
+-- a name that has its place in the limit is that name
+pub limited_is : (name short : List (List TypeAndValue)) → Some short ≡ result_ok (limited name) → short ≡ name
+limited_is name short is = by (nat_lt most_rdns (length name)) is
+  where
+    by : (b : Bool) → Some short ≡ result_ok (let r : Result (List (List TypeAndValue)) NameFault = cond b (Err (TooLong 0)) (Ok name) in r) → short ≡ name
+    by true h = absurd (cc)
+    by false h = cc
+
 -- ---- what the entry gets
 
--- a new name that no code rejects, by the steps of the code
-pub target_none : (suffix : List (List TypeAndValue)) (es held : List Entry) (top : Entry) (rdn : List TypeAndValue) (above : List (List TypeAndValue)) (superior : Option (List (List TypeAndValue)))
-    → held ≡ es → above ≡ unwrap_or superior (parent_of top.dn) → target_code suffix held top (rdn ∷ above) superior ≡ None
-    → target_code suffix es top (new_name top rdn superior) superior ≡ None
-target_none suffix es held top rdn above superior same is none =
-    ap (λ xs. target_code suffix xs top (new_name top rdn superior) superior) (sym same) ∙ ap (λ a. target_code suffix held top (rdn ∷ a) superior) (sym is) ∙ none
+-- the new name, by the steps of the code
+pub name_is : (top : Entry) (rdn : List TypeAndValue) (above : List (List TypeAndValue)) (superior : Option (List (List TypeAndValue))) (name : Option (List (List TypeAndValue)))
+    → above ≡ unwrap_or superior (parent_of top.dn) → name ≡ result_ok (limited (rdn ∷ above)) → name ≡ result_ok (limited (new_name top rdn superior))
+name_is top rdn above superior name is limits = limits ∙ ap (λ a. result_ok (limited (rdn ∷ a))) is
 
 -- the attributes of a Rename, by the steps of the code
 pub attributes_are : (top : Entry) (rdn old : List TypeAndValue) (deletes : Bool) (attrs : List Attribute) → attrs ≡ with_rdn top.attrs old rdn deletes → old ≡ own_pairs top.dn

@@ -42,12 +42,12 @@ all_higher u (x ∷ es) h =
 
 -- ---- after the first entry, in its place, or before it
 
-put_after : (e x : Entry) (es : List Entry) → x.uuid < e.uuid → put e (x ∷ es) ≡ x ∷ put e es
+pub put_after : (e x : Entry) (es : List Entry) → x.uuid < e.uuid → put e (x ∷ es) ≡ x ∷ put e es
 put_after e x es less =
     ap (λ b. cond b (x ∷ lower e.uuid es) (lower e.uuid es) ++ e ∷ higher e.uuid (x ∷ es)) (lt-ltb x.uuid e.uuid less)
     ∙ ap (λ b. (x ∷ lower e.uuid es) ++ e ∷ cond b (x ∷ higher e.uuid es) (higher e.uuid es)) (le-ltb e.uuid x.uuid (omega arith))
 
-put_there : (e x : Entry) (es : List Entry) → x.uuid ≡ e.uuid → above x.uuid es ≡ true → put e (x ∷ es) ≡ e ∷ es
+pub put_there : (e x : Entry) (es : List Entry) → x.uuid ≡ e.uuid → above x.uuid es ≡ true → put e (x ∷ es) ≡ e ∷ es
 put_there e x es same later =
     let far : above e.uuid es ≡ true = ap (λ n. above n es) (sym same) ∙ later in
     ap (λ b. cond b (x ∷ lower e.uuid es) (lower e.uuid es) ++ e ∷ higher e.uuid (x ∷ es)) (le-ltb x.uuid e.uuid (omega arith))
@@ -55,7 +55,7 @@ put_there e x es same later =
     ∙ ap (λ xs. xs ++ e ∷ higher e.uuid es) (none_lower e.uuid es far)
     ∙ ap (λ xs. e ∷ xs) (all_higher e.uuid es far)
 
-put_before : (e x : Entry) (es : List Entry) → e.uuid < x.uuid → above x.uuid es ≡ true → put e (x ∷ es) ≡ e ∷ x ∷ es
+pub put_before : (e x : Entry) (es : List Entry) → e.uuid < x.uuid → above x.uuid es ≡ true → put e (x ∷ es) ≡ e ∷ x ∷ es
 put_before e x es less later =
     let far = above_all e.uuid x es less later in
     ap (λ xs. xs ++ e ∷ higher e.uuid (x ∷ es)) (none_lower e.uuid (x ∷ es) far) ∙ ap (λ xs. e ∷ xs) (all_higher e.uuid (x ∷ es) far)

@@ -1,5 +1,5 @@
 -- Places in a list of references to entries, as a binary search finds them.
-use Rattle.std.proofs.Common.{◌≡◌, ◌<◌, ◌≤◌, ℕ, zero, suc, true, List, [], ◌∷◌, length, map, get_or, set, Some, None, ap, ◌∙◌, sym, refl, subst, arith}
+use Rattle.std.proofs.Common.{◌≡◌, ◌<◌, ◌≤◌, ℕ, zero, suc, true, List, [], ◌∷◌, length, map, get_or, set, ap, ◌∙◌, refl, subst, arith}
 use Rattle.std.specs.List.{HoldsAt, insert}
 use Rattle.std.specs.List.Sorted.{IsNonDecreasingBy, IsPartitionPoint}
 use Rattle.std.specs.Ordering.{nat_cmp, ordering_index}
@@ -7,8 +7,8 @@ use Rattle.std.specs.declared.cmp.Ordering.TheVariants.{Less, Equal, Greater}
 use Rattle.std.proofs.lemmas.List.{length-map, map-set}
 use Rattle.std.proofs.Math.ListN.{get_or-map}
 use Rattle.entry_writes.specs.declared.entry.Entry.{Entry}
-use Rattle.entry_writes.specs.State.{ascends, entry_at, put}
-use Rattle.entry_tree.proofs.Searching.{set_found, insert_found, held_at, held_nowhere}
+use Rattle.entry_writes.specs.State.{ascends, put}
+use Rattle.entry_tree.proofs.Searching.{set_found, insert_found}
 
 -- what is so of the key of an element is so of the element of the keys
 pub at_map : {X Y : Type 0} (P : Y → Type 0) (key : X → Y) (xs : List X) (k : ℕ) (d : Y) → k < length xs → ((e : X) → P (key (get_or xs k e))) → P (get_or (map key xs) k d)
@@ -57,13 +57,3 @@ module _ {T : Type 0} (of : T → Entry) where
   insert_found_of y ys place asc low found =
       map-insert of ys place y
       ∙ insert_found (of y) (map of ys) place asc (let long = length-map ys of in omega (arith, long, low)) (absent_of ys (of y).uuid place low found)
-
-  -- the entry at the place that is found is that of the identity
-  pub held_at_of : (ys : List T) (u place : ℕ) (y : T) → ascends (map of ys) ≡ true → place < length ys → Found ys u place → y ≡ get_or ys place y → Some (of y) ≡ entry_at (map of ys) u
-  held_at_of ys u place y asc low found is =
-      held_at (map of ys) u place (of y) asc (let long = length-map ys of in omega (arith, long, low)) (λ d. at_map (λ (e : Entry). nat_cmp e.uuid u ≡ Equal) of ys place d low found)
-      (ap of is ∙ sym (get_or-map of ys place y))
-
-  -- where an identity is absent it has no entry
-  pub held_nowhere_of : (ys : List T) (u place : ℕ) → ascends (map of ys) ≡ true → place ≤ length ys → Absent ys u place → None ≡ entry_at (map of ys) u
-  held_nowhere_of ys u place asc low found = held_nowhere (map of ys) u place asc (absent_of ys u place low found)

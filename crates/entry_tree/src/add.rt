@@ -1,7 +1,7 @@
 //! The addition of an entry (RFC 4511, section 4.7).
 ghost use Rattle.std.specs.Prelude.{◌≡◌, None, Some, [], ◌∷◌, filter, IfOk, IfErr, OnOk};
 ghost use Rattle.std.specs.Option.{option_copied};
-ghost use Rattle.entry_writes.specs.Codes.{add_code};
+ghost use Rattle.entry_writes.specs.Codes.{add_code, room_code};
 ghost use Rattle.entry_writes.specs.Fault.{HasCode};
 ghost use Rattle.entry_writes.specs.State as state;
 ghost use Rattle.entry_writes.specs.Touched.{is_change, IsPlan};
@@ -9,9 +9,10 @@ ghost use Rattle.entry_writes.specs.Touched.{is_change, IsPlan};
 use crate::tree::Tree;
 use csn_cookie::Csn;
 use dn_names::Dn;
-use entry_writes::{Entry, OpFault, Touched, check_add};
+use entry_writes::{Entry, MOST_ENTRIES, OpFault, Touched, check_naming, check_weight};
 use ldap_ber::NoMemory;
-use schema_rules::Attrs;
+use ldap_constants::ADMIN_LIMIT_EXCEEDED;
+use schema_rules::{Attrs, check_entry};
 use std::alloc::Global;
 
 impl Tree {
@@ -34,7 +35,7 @@ impl Tree {
     {
         let entry = self.new_entry(suffix, dn, attrs, uuid, csn)?;
         let was = self.get(uuid);
-        Ok(change(*self.entries.allocator(), was, &entry)?)
+        Ok(change(self.alloc, was, &entry)?)
     }
 
     /// The entry that is to be added, or the first code that rejects it.
@@ -51,20 +52,37 @@ impl Tree {
             entry ≡ record { uuid = uuid; csn = csn; dn = dn.now; attrs = attrs.now }) }
         ensures refused { IfErr result (HasCode (add_code suffix.now self.now dn.now attrs.now)) }
     {
-        check_add(
-            *self.entries.allocator(),
-            &self.entries,
-            self.weight,
-            suffix,
-            dn,
-            attrs,
-        )?;
+        self.check_add(suffix, dn, attrs)?;
         Ok(Entry {
             uuid,
             csn,
             dn: dn.copy()?,
             attrs: attrs.copy()?,
         })
+    }
+
+    /// Refuses an Add with the first code against it: noSuchObject (32), entryAlreadyExists (68),
+    /// constraintViolation (19), objectClassViolation (65), namingViolation (64) or
+    /// adminLimitExceeded (11); or it is `NoMemory`.
+    fn check_add(&self, suffix: &Dn, dn: &Dn, attrs: &Attrs) -> Result<(), OpFault>
+        ensures ok { OnOk result (add_code suffix.now self.now dn.now attrs.now ≡ None) }
+        ensures fault { IfErr result (HasCode (add_code suffix.now self.now dn.now attrs.now)) }
+    {
+        self.check_place(suffix, dn)?;
+        check_entry(self.alloc, attrs)?;
+        check_naming(self.alloc, dn, attrs)?;
+        self.check_room(attrs.weight())
+    }
+
+    /// Refuses one more entry of this weight.
+    fn check_room(&self, weight: u64) -> Result<(), OpFault>
+        ensures ok { OnOk result (room_code self.now weight ≡ None) }
+        ensures fault { IfErr result (HasCode (room_code self.now weight)) }
+    {
+        if self.len() >= MOST_ENTRIES {
+            return Err(OpFault::Code(ADMIN_LIMIT_EXCEEDED));
+        }
+        check_weight(weight, self.weight())
     }
 }
 

@@ -1,8 +1,7 @@
 //! The entries after a commit, where they are.
 ghost use Rattle.std.specs.Prelude.{◌≡◌, true, not, [], map, filter, fold, IfOk, OnOk};
-ghost use Rattle.std.specs.Option.{option_copied};
 ghost use Rattle.entry_writes.specs.Effects.{committed, is_one_of};
-ghost use Rattle.entry_writes.specs.State.{ascends, entry_at, put};
+ghost use Rattle.entry_writes.specs.State.{ascends, put};
 ghost use Rattle.entry_writes.specs.Touched.{identities, joined};
 
 use entry_writes::Entry;
@@ -13,13 +12,14 @@ use std::collections::BTreeSet;
 /// The entries that there would be after a commit, in ascending order of identity.
 pub(crate) fn entries_after<'a>(
     alloc: Global,
-    entries: &'a [Entry],
+    entries: &[&'a Entry],
     puts: &'a [Entry],
     drops: &[u128],
 ) -> Result<Vec<&'a Entry>, NoMemory>
-    requires { ascends entries.now ≡ true }
+    requires { ascends (map (λ e. e.now) entries.now) ≡ true }
     ensures { IfOk result (λ after.
-        map (λ e. e.now) after.items ≡ committed entries.now puts.now drops.now) }
+        map (λ e. e.now) after.items
+        ≡ committed (map (λ e. e.now) entries.now) puts.now drops.now) }
 {
     let dropped = id_set(alloc, drops)?;
     let mut after = kept(alloc, entries, &dropped)?;
@@ -32,10 +32,18 @@ pub(crate) fn id_set(alloc: Global, uuids: &[u128]) -> Result<BTreeSet<u128>, No
     ensures { IfOk result (λ set. set.keys ≡ joined [] uuids.now) }
 {
     let mut set = BTreeSet::new(alloc);
+    add_each(&mut set, uuids)?;
+    Ok(set)
+}
+
+/// Puts the identities into the set.
+pub(crate) fn add_each(set: &mut BTreeSet<u128>, uuids: &[u128]) -> Result<(), NoMemory>
+    ensures { OnOk result (set.new.keys ≡ joined set.old.keys uuids.now) }
+{
     for uuid in uuids {
         let _ = set.insert(*uuid)?;
     }
-    Ok(set)
+    Ok(())
 }
 
 /// Whether the set has the identity of the entry.
@@ -48,17 +56,17 @@ pub(crate) fn has(uuids: &BTreeSet<u128>, entry: &Entry) -> bool
 /// The entries without those of these identities.
 fn kept<'a>(
     alloc: Global,
-    entries: &'a [Entry],
+    entries: &[&'a Entry],
     dropped: &BTreeSet<u128>,
 ) -> Result<Vec<&'a Entry>, NoMemory>
     ensures { IfOk result (λ kept.
         map (λ e. e.now) kept.items
-        ≡ filter (λ e. not (is_one_of dropped.now.keys e)) entries.now) }
+        ≡ filter (λ e. not (is_one_of dropped.now.keys e)) (map (λ e. e.now) entries.now)) }
 {
     let mut kept = Vec::new(alloc);
     for entry in entries {
         if !has(dropped, entry) {
-            kept.push(entry)?;
+            kept.push(*entry)?;
         }
     }
     Ok(kept)
@@ -88,17 +96,6 @@ fn put_one<'a>(entries: &mut Vec<&'a Entry>, entry: &'a Entry) -> Result<(), NoM
         Err(place) => entries.insert(place, entry)?,
     }
     Ok(())
-}
-
-/// The entry of that identity among entries in ascending order.
-pub(crate) fn entry_of<'a>(entries: &[&'a Entry], uuid: u128) -> Option<&'a Entry>
-    requires { ascends (map (λ e. e.now) entries.now) ≡ true }
-    ensures { option_copied result ≡ entry_at (map (λ e. e.now) entries.now) uuid }
-{
-    match entries.binary_search_by_key(&uuid, |held| held.uuid) {
-        Ok(place) => Some(entries[place]),
-        Err(_) => None,
-    }
 }
 
 /// The identities that a commit puts or drops, in ascending order.

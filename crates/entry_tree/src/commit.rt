@@ -1,17 +1,23 @@
 //! Commits: what a replica takes from its provider at one time (RFC 4533, section 3.3).
-ghost use Rattle.std.specs.Prelude.{◌≡◌, true, map, filter, IfOk, IfErr, OnOk};
+ghost use Rattle.std.specs.Prelude.{◌≡◌, true, None, map, filter, IfOk, IfErr, OnOk, IsTrue};
+ghost use Rattle.std.specs.BTreeMap as btree;
+ghost use Rattle.std.specs.Option.{option_copied};
+ghost use Rattle.std.specs.Ordering.{nat_cmp};
 ghost use Rattle.entry_tree.specs.declared.commit.CommitRefusal.TheVariants.{NoMemory};
 ghost use Rattle.entry_writes.specs.Effects.{committed};
 ghost use Rattle.entry_tree.specs.Fitting.{may_be_held, Opposes};
+ghost use Rattle.entry_tree.specs.Judging.{change_by};
 ghost use Rattle.entry_writes.specs.State as state;
-ghost use Rattle.entry_writes.specs.Touched.{is_change, change_at, IsPlan};
+ghost use Rattle.entry_writes.specs.Touched.{is_change, touched, IsPlan};
 
-use crate::after::{entries_after, entry_of, ids_of};
+use crate::after::{entries_after, ids_of};
 use crate::held::check_held;
+use crate::judging::latest_of;
 use crate::tree::Tree;
-use entry_writes::{Entry, Touched};
+use entry_writes::{Entry, EntryChange, Touched};
 use ldap_ber::NoMemory;
 use std::alloc::AllocError;
+use std::collections::BTreeMap;
 
 /// Why the entries after a commit may not be held.
 #[derive(Clone, Copy, Debug, PartialEq, Eq)]
@@ -41,9 +47,48 @@ impl Tree {
         ensures ok { OnOk result (may_be_held (committed self.now puts.now drops.now) ≡ true) }
         ensures refused { IfErr result (Opposes (committed self.now puts.now drops.now)) }
     {
-        let alloc = *self.entries.allocator();
-        let after = entries_after(alloc, &self.entries, puts, drops)?;
-        check_held(alloc, &after)
+        let entries = self.entries()?;
+        let after = entries_after(self.alloc, &entries, puts, drops)?;
+        check_held(self.alloc, &after)
+    }
+
+    /// What differs after a commit, where the entries after it may be held, or else what
+    /// `check_commit` reports of it. Where no two entries have one name, as `apart` states, it is
+    /// judged by what it puts and drops, and all entries are looked at only where something may be
+    /// against that.
+    pub fn plan_commit(
+        &self,
+        puts: &[Entry],
+        drops: &[u128],
+        apart: bool,
+    ) -> Result<Touched, CommitRefusal>
+        requires { IsTrue apart → state.same_named self.now ≡ None }
+        ensures held { OnOk result (may_be_held (committed self.now puts.now drops.now) ≡ true) }
+        ensures plan { IfOk result (IsPlan self.now (committed self.now puts.now drops.now)) }
+        ensures refused { IfErr result (Opposes (committed self.now puts.now drops.now)) }
+    {
+        let entry_changes = self.changes(puts, drops)?;
+        self.check_changes(puts, drops, entry_changes.list(), apart)?;
+        Ok(entry_changes)
+    }
+
+    /// What `check_commit` reports of a commit that makes these changes.
+    fn check_changes(
+        &self,
+        puts: &[Entry],
+        drops: &[u128],
+        changes: &[EntryChange],
+        apart: bool,
+    ) -> Result<(), CommitRefusal>
+        requires apart { IsTrue apart → state.same_named self.now ≡ None }
+        requires exact { changes.now ≡ touched self.now (committed self.now puts.now drops.now) }
+        ensures ok { OnOk result (may_be_held (committed self.now puts.now drops.now) ≡ true) }
+        ensures refused { IfErr result (Opposes (committed self.now puts.now drops.now)) }
+    {
+        if apart && self.is_clear(changes)? {
+            return Ok(());
+        }
+        self.check_commit(puts, drops)
     }
 
     /// What differs after identities are dropped and then entries are put, each in the place of one
@@ -52,22 +97,35 @@ impl Tree {
         requires { may_be_held (committed self.now puts.now drops.now) ≡ true }
         ensures { IfOk result (IsPlan self.now (committed self.now puts.now drops.now)) }
     {
-        let alloc = *self.entries.allocator();
-        let after = entries_after(alloc, &self.entries, puts, drops)?;
-        let uuids = ids_of(alloc, puts, drops)?;
-        self.differences(&after, &uuids)
+        self.changes(puts, drops)
     }
 
-    /// Which of these identities have another entry after a write than now.
-    fn differences(&self, after: &[&Entry], uuids: &[u128]) -> Result<Touched, NoMemory>
-        requires { state.ascends (map (λ e. e.now) after.now) ≡ true }
+    /// What differs after a commit. Only the identities are looked at that it puts or drops.
+    fn changes(&self, puts: &[Entry], drops: &[u128]) -> Result<Touched, NoMemory>
+        ensures exact { IfOk result (λ entry_changes.
+            entry_changes ≡ touched self.now (committed self.now puts.now drops.now)) }
+        ensures ascends { state.ascends self.now ≡ true }
+    {
+        let uuids = ids_of(self.alloc, puts, drops)?;
+        let latest = latest_of(self.alloc, puts)?;
+        self.differences(&latest, &uuids)
+    }
+
+    /// Which of these identities have another entry in the map than here.
+    fn differences(
+        &self,
+        others: &BTreeMap<u128, &Entry>,
+        uuids: &[u128],
+    ) -> Result<Touched, NoMemory>
         ensures { IfOk result (λ entry_changes.
             entry_changes
-            ≡ filter is_change (map (change_at self.now (map (λ e. e.now) after.now)) uuids.now)) }
+            ≡ filter is_change
+            (map (change_by self.now (λ uuid. option_copied (btree.get nat_cmp others.now uuid)))
+            uuids.now)) }
     {
-        let mut entry_changes = Touched::new(*self.entries.allocator());
+        let mut entry_changes = Touched::new(self.alloc);
         for uuid in uuids {
-            entry_changes.push_difference(*uuid, self.get(*uuid), entry_of(after, *uuid))?;
+            entry_changes.push_difference(*uuid, self.get(*uuid), others.get(uuid).copied())?;
         }
         Ok(entry_changes)
     }

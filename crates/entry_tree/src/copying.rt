@@ -2,28 +2,18 @@
 ghost use Rattle.std.specs.Prelude.{◌≡◌, IfOk};
 
 use crate::tree::Tree;
-use entry_writes::Entry;
 use ldap_ber::NoMemory;
-use std::alloc::Global;
 
 impl Tree {
-    /// The same entries a second time.
+    /// The same entries a second time, which share what they are made of with these.
     pub fn copy(&self) -> Result<Tree, NoMemory>
         ensures { IfOk result (λ copy. copy ≡ self.now) }
     {
         Ok(Tree {
-            entries: copies(*self.entries.allocator(), &self.entries)?,
+            alloc: self.alloc,
+            entries: self.entries.copy()?,
+            names: self.names.copy()?,
             weight: self.weight,
         })
     }
-}
-
-fn copies(alloc: Global, entries: &[Entry]) -> Result<Vec<Entry>, NoMemory>
-    ensures { IfOk result (λ copied. copied.items ≡ entries.now) }
-{
-    let mut copied = Vec::new(alloc);
-    for entry in entries {
-        copied.push(entry.copy()?)?;
-    }
-    Ok(copied)
 }

@@ -7,7 +7,7 @@ ghost use Rattle.entry_writes.specs.Touched.{IsPlan};
 
 use crate::tree::Tree;
 use dn_names::Dn;
-use entry_writes::{Entry, EntryChange, OpFault, Touched, check_delete};
+use entry_writes::{Entry, EntryChange, OpFault, Touched};
 use ldap_ber::NoMemory;
 use std::alloc::Global;
 
@@ -19,27 +19,26 @@ impl Tree {
             (IsPlan self.now (filter (λ e. not (state.is_named dn.now e)) self.now)) }
         ensures refused { IfErr result (HasCode (delete_code self.now dn.now)) }
     {
-        check_delete(&self.entries, dn)?;
-        Ok(removals(*self.entries.allocator(), &self.entries, dn)?)
+        self.check_delete(dn)?;
+        let entries = self.at_name(dn)?;
+        Ok(removals(self.alloc, &entries)?)
     }
 }
 
-/// What differs without the entries of that name.
-fn removals(alloc: Global, entries: &[Entry], dn: &Dn) -> Result<Touched, NoMemory>
+/// What differs without these entries.
+fn removals(alloc: Global, entries: &[&Entry]) -> Result<Touched, NoMemory>
     ensures { IfOk result (λ entry_changes.
         entry_changes
         ≡ map (λ e. record { uuid = e.uuid; before = Some e; after = None })
-        (filter (state.is_named dn.now) entries.now)) }
+        (map (λ e. e.now) entries.now)) }
 {
     let mut entry_changes = Touched::new(alloc);
     for entry in entries {
-        if entry.dn.same(dn) {
-            entry_changes.push(EntryChange {
-                uuid: entry.uuid,
-                before: Some(entry.copy()?),
-                after: None,
-            })?;
-        }
+        entry_changes.push(EntryChange {
+            uuid: entry.uuid,
+            before: Some(entry.copy()?),
+            after: None,
+        })?;
     }
     Ok(entry_changes)
 }

@@ -32,7 +32,7 @@ pub fn check_held(alloc: Global, entries: &[&Entry]) -> Result<(), CommitRefusal
 }
 
 /// What the entries weigh, as far as the numbers go.
-fn total_weight(entries: &[&Entry]) -> u64
+pub(crate) fn total_weight(entries: &[&Entry]) -> u64
     ensures { result ≡ min (state.total_weight (map (λ e. e.now) entries.now)) (2 ^ 64 - 1) }
 {
     let mut total: u64 = 0;
@@ -43,7 +43,10 @@ fn total_weight(entries: &[&Entry]) -> u64
 }
 
 /// The first entry whose name a later one has, and the first such.
-fn same_named(alloc: Global, entries: &[&Entry]) -> Result<Option<(u128, u128)>, NoMemory>
+pub(crate) fn same_named(
+    alloc: Global,
+    entries: &[&Entry],
+) -> Result<Option<(u128, u128)>, NoMemory>
     ensures { IfOk result (λ pair. pair ≡ state.same_named (map (λ e. e.now) entries.now)) }
 {
     let mut names = BTreeMap::new(alloc);

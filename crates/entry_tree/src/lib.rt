@@ -8,10 +8,16 @@ mod commit;
 mod copying;
 mod delete;
 mod held;
+mod judging;
+mod listing;
 mod modify;
+mod names;
+mod places;
 mod put;
+mod reindex;
 mod rename;
 mod spec;
+mod target;
 mod tree;
 
 /// Edits of an entry's attributes, as `entry_writes` has them.

@@ -1,5 +1,5 @@
 //! The edit of an entry in its place (RFC 4511, section 4.6).
-ghost use Rattle.std.specs.Prelude.{◌≡◌, ◌+◌, ◌≤◌, true, None, Some, [], ◌∷◌, filter, position, IfOk, IfErr, OnOk};
+ghost use Rattle.std.specs.Prelude.{◌≡◌, ◌+◌, ◌≤◌, true, None, Some, [], ◌∷◌, filter, IfOk, IfErr, OnOk};
 ghost use Rattle.std.specs.List.{list_all};
 ghost use Rattle.schema_rules.specs.Attributes.{weight_of};
 ghost use Rattle.entry_writes.specs.Codes as codes;
@@ -31,23 +31,14 @@ impl Tree {
         ensures refused { IfErr result
             (HasCode (codes.modify_code self.now (state.entry_named self.now dn.now) edits.now)) }
     {
-        let Some(place) = place_of(&self.entries, dn) else {
+        let Some(was) = self.find(dn) else {
             return Err(OpFault::Code(NO_SUCH_OBJECT));
         };
-        let alloc = *self.entries.allocator();
-        let was = &self.entries[place];
         let others = weight_without(self.weight, &was.attrs);
-        let entry = edited_entry(alloc, was, others, edits, csn)?;
-        let entry_changes = difference(alloc, was, &entry)?;
+        let entry = edited_entry(self.alloc, was, others, edits, csn)?;
+        let entry_changes = difference(self.alloc, was, &entry)?;
         Ok(entry_changes)
     }
-}
-
-/// The place of the first entry of that name.
-fn place_of(entries: &[Entry], dn: &Dn) -> Option<usize>
-    ensures { result ≡ position (state.is_named dn.now) entries.now }
-{
-    entries.iter().position(|entry| entry.dn.same(dn))
 }
 
 /// What is left of a weight without that of these attributes, which are part of it.

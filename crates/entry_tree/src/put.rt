@@ -1,16 +1,16 @@
 //! Changes that are put in place.
-ghost use Rattle.std.specs.Prelude.{◌≡◌, ◌≤◌, ◌+◌, ◌<◌, true, not, [], filter, fold, length, IfOk, OnOk, OnErr};
-ghost use Rattle.std.specs.Vec.{vec_capacity, vec_len};
-ghost use Rattle.entry_writes.specs.Effects.{is_one_of};
+ghost use Rattle.std.specs.Prelude.{◌≡◌, ◌≤◌, ◌+◌, true, [], ◌∷◌, fold, IfOk, OnOk, OnErr};
+ghost use Rattle.std.specs.BTreeMap.{is_at, insert_entry};
+ghost use Rattle.std.specs.Map.{remove_entry, values_of};
+ghost use Rattle.std.specs.Ordering.{nat_cmp};
+ghost use Rattle.entry_tree.specs.NameIndex.{by_identity};
 ghost use Rattle.entry_writes.specs.State as state;
 ghost use Rattle.entry_writes.specs.Touched as changing;
 
-use crate::after::has;
-use crate::tree::Tree;
-use entry_writes::{Entry, EntryChange, Touched};
+use crate::reindex::reindexed;
+use crate::tree::{Entries, Tree};
+use entry_writes::{EntryChange, Touched};
 use ldap_ber::NoMemory;
-use std::alloc::Global;
-use std::collections::{BTreeSet, VecDeque};
 
 impl Tree {
     /// Puts changes in place that are exactly what differs after them and leave a directory, as
@@ -22,83 +22,73 @@ impl Tree {
     {
         let changes = entry_changes.list();
         let weight = weight_with(self.weight, changes);
-        let alloc = *self.entries.allocator();
-        let dropped = drops_of(alloc, changes)?;
-        let puts = puts_of(alloc, changes)?;
-        self.entries.reserve(puts.len())?;
-        remove_each(&mut self.entries, &dropped);
-        put_each(&mut self.entries, puts);
+        let names = reindexed(self.alloc, &self.names, changes)?;
+        let entries = changed(&self.entries, changes)?;
+        self.entries = entries;
+        self.names = names;
         self.weight = weight;
         Ok(())
     }
 }
 
-/// The identities that the changes leave without an entry.
-fn drops_of(alloc: Global, changes: &[EntryChange]) -> Result<BTreeSet<u128>, NoMemory>
-    ensures { IfOk result (λ set. set.keys ≡ changing.joined [] (changing.drops_of changes.now)) }
+/// The entries after the changes.
+fn changed(entries: &Entries, changes: &[EntryChange]) -> Result<Entries, NoMemory>
+    requires keyed { entries.now ≡ by_identity (values_of entries.now) }
+    requires ascends { state.ascends (values_of entries.now) ≡ true }
+    ensures { IfOk result (λ after.
+        after ≡ by_identity (changing.with_changes (values_of entries.now) changes.now)) }
 {
-    let mut set = BTreeSet::new(alloc);
+    let mut after = entries.copy()?;
+    remove_each(&mut after, changes)?;
+    put_each(&mut after, changes)?;
+    Ok(after)
+}
+
+/// Removes the entries of the identities that the changes leave without one.
+fn remove_each(entries: &mut Entries, changes: &[EntryChange]) -> Result<(), NoMemory>
+    ensures { OnOk result (entries.new
+        ≡ fold (λ held uuid. remove_entry (is_at (nat_cmp uuid)) held) entries.old
+        (changing.drops_of changes.now)) }
+{
     for change in changes {
-        if change.after.is_none() {
-            let _ = set.insert(change.uuid)?;
-        }
+        remove_one(entries, change)?;
     }
-    Ok(set)
+    Ok(())
 }
 
-/// Copies of the entries that the changes leave or make.
-fn puts_of(alloc: Global, changes: &[EntryChange]) -> Result<VecDeque<Entry>, NoMemory>
-    ensures { IfOk result (λ puts. puts.items ≡ changing.puts_of changes.now) }
+/// Removes the entry of the identity, where the change leaves it without one.
+fn remove_one(entries: &mut Entries, change: &EntryChange) -> Result<(), NoMemory>
+    ensures { OnOk result (entries.new
+        ≡ fold (λ held uuid. remove_entry (is_at (nat_cmp uuid)) held) entries.old
+        (changing.drops_of (change.now ∷ []))) }
 {
-    let mut puts = Vec::new(alloc);
+    match &change.after {
+        Some(_) => Ok(()),
+        None => entries.remove(&change.uuid),
+    }
+}
+
+/// Puts each of the entries that the changes leave or make in its place.
+fn put_each(entries: &mut Entries, changes: &[EntryChange]) -> Result<(), NoMemory>
+    ensures { OnOk result (entries.new
+        ≡ fold (λ held entry. insert_entry nat_cmp held entry.uuid entry) entries.old
+        (changing.puts_of changes.now)) }
+{
     for change in changes {
-        if let Some(entry) = &change.after {
-            puts.push(entry.copy()?)?;
-        }
+        put_one(entries, change)?;
     }
-    Ok(VecDeque::from_vec(puts))
+    Ok(())
 }
 
-/// Removes the entries of these identities.
-fn remove_each(entries: &mut Vec<Entry>, dropped: &BTreeSet<u128>)
-    ensures items { entries.new.items
-        ≡ filter (λ e. not (is_one_of dropped.now.keys e)) entries.old.items }
-    ensures len { vec_len entries.new ≤ vec_len entries.old }
-    ensures capacity { vec_capacity entries.new ≡ vec_capacity entries.old }
+/// Puts the entry that the change leaves or makes in its place.
+fn put_one(entries: &mut Entries, change: &EntryChange) -> Result<(), NoMemory>
+    ensures { OnOk result (entries.new
+        ≡ fold (λ held entry. insert_entry nat_cmp held entry.uuid entry) entries.old
+        (changing.puts_of (change.now ∷ []))) }
 {
-    if dropped.is_empty() {
-        return;
-    }
-    entries.retain(|entry| !has(dropped, entry));
-}
-
-/// Puts each of these entries, for which there is room, in its place.
-#[tactic(auto, using(crate::proofs::Putting::ascends_put))]
-fn put_each(entries: &mut Vec<Entry>, puts: VecDeque<Entry>)
-    requires ascends { state.ascends entries.old.items ≡ true }
-    requires room { vec_len entries.old + length puts.items ≤ vec_capacity entries.old }
-    ensures { entries.new.items
-        ≡ fold (λ held entry. state.put entry held) entries.old.items puts.items }
-{
-    let mut rest = puts;
-    while let Some(entry) = rest.pop_front() {
-        put_reserved(entries, entry);
-    }
-}
-
-/// Puts the entry, for which there is room, in its place among entries in ascending order.
-fn put_reserved(entries: &mut Vec<Entry>, entry: Entry)
-    requires ascends { state.ascends entries.old.items ≡ true }
-    requires room { vec_len entries.old < vec_capacity entries.old }
-    ensures items { entries.new.items ≡ state.put entry entries.old.items }
-    ensures len { vec_len entries.new ≤ vec_len entries.old + 1 }
-    ensures capacity { vec_capacity entries.old ≤ vec_capacity entries.new }
-{
-    match entries.binary_search_by_key(&entry.uuid, |held| held.uuid) {
-        Ok(place) => entries[place] = entry,
-        Err(place) => {
-            let _ = entries.insert(place, entry);
-        }
+    match &change.after {
+        Some(entry) => entries.insert(entry.uuid, entry.copy()?),
+        None => Ok(()),
     }
 }
 

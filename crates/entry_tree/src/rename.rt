@@ -1,23 +1,24 @@
 //! The move of an entry with all below it (RFC 4511, section 4.9).
-ghost use Rattle.std.specs.Prelude.{◌≡◌, ◌≤◌, None, Some, IfOk, IfErr, OnOk};
+ghost use Rattle.std.specs.Prelude.{◌≡◌, ◌≤◌, None, Some, filter, map, IfOk, IfErr, OnOk};
 ghost use Rattle.std.specs.Option.{option_or};
 ghost use Rattle.schema_rules.specs.Attributes.{entry_code, weight_of};
 ghost use Rattle.entry_writes.specs.Codes as codes;
 ghost use Rattle.entry_writes.specs.Effects as effects;
 ghost use Rattle.entry_writes.specs.Fault.{HasCode};
 ghost use Rattle.entry_writes.specs.State as state;
-ghost use Rattle.entry_writes.specs.Touched.{IsPlan};
+ghost use Rattle.entry_writes.specs.Touched.{is_change, IsPlan};
 
 use crate::modify::weight_without;
 use crate::tree::Tree;
 use csn_cookie::Csn;
 use dn_names::{Dn, Rdn};
 use entry_writes::{
-    Entry, OpFault, Renamed, Touched, check_target, check_weight, moved_entries, name_above,
-    name_below, own_pairs, with_new_rdn,
+    Entry, OpFault, Renamed, Touched, check_weight, moved_entries, name_above, name_below,
+    own_pairs, with_new_rdn,
 };
 use ldap_constants::{ADMIN_LIMIT_EXCEEDED, NO_SUCH_OBJECT};
 use schema_rules::check_entry;
+use std::alloc::Global;
 
 impl Tree {
     /// What differs after the entry of that name gets another RDN, and another superior where one
@@ -44,12 +45,12 @@ impl Tree {
             (HasCode (codes.rename_code suffix.now self.now (state.entry_named self.now dn.now)
             rdn.now deletes superior.now)) }
     {
-        let entries = &self.entries;
+        let alloc = self.alloc;
         let Some(top) = self.find(dn) else {
             return Err(OpFault::Code(NO_SUCH_OBJECT));
         };
         let renamed = self.renamed(suffix, top, rdn, deletes, superior)?;
-        let moved = moved_entries(*entries.allocator(), entries, top, &renamed, csn)?;
+        let moved = moved(alloc, self, top, &renamed, csn)?;
         Ok(moved)
     }
 
@@ -82,16 +83,41 @@ impl Tree {
             (effects.new_name top.now rdn.now superior.now)
             (effects.new_attributes top.now rdn.now deletes) superior.now)) }
     {
-        let alloc = *self.entries.allocator();
-        let above = name_above(alloc, &top.dn, superior)?;
+        let above = name_above(self.alloc, &top.dn, superior)?;
         let name = name_below(&above, rdn)?;
-        check_target(&self.entries, suffix, top, rdn, &above, &name, superior)?;
-        let attrs = with_new_rdn(alloc, &top.attrs, own_pairs(&top.dn), rdn, deletes)?;
-        check_entry(alloc, &attrs)?;
+        self.check_target(suffix, top, &name, superior)?;
+        let attrs = with_new_rdn(self.alloc, &top.attrs, own_pairs(&top.dn), rdn, deletes)?;
+        check_entry(self.alloc, &attrs)?;
         check_weight(attrs.weight(), weight_without(self.weight, &top.attrs))?;
         match name {
             None => Err(OpFault::Code(ADMIN_LIMIT_EXCEEDED)),
             Some(name) => Ok(Renamed { name, attrs }),
         }
     }
+}
+
+/// What differs of the tree after the entry is renamed with all below it, or the code of a name
+/// that would be too long.
+fn moved(
+    alloc: Global,
+    tree: &Tree,
+    top: &Entry,
+    renamed: &Renamed,
+    csn: Csn,
+) -> Result<Touched, OpFault>
+    ensures entry_changes { IfOk result (λ entry_changes. entry_changes ≡ filter is_change
+        (map
+        (λ e.
+        record {
+          uuid = e.uuid;
+          before = Some e;
+          after = Some (effects.moved top.now renamed.now.name renamed.now.attrs csn e);
+        }) tree.now)) }
+    ensures accepted { OnOk result
+        (codes.length_code tree.now top.now renamed.now.name ≡ None) }
+    ensures refused { IfErr result
+        (HasCode (codes.length_code tree.now top.now renamed.now.name)) }
+{
+    let entries = tree.at_or_below(&top.dn)?;
+    moved_entries(alloc, &entries, top, renamed, csn)
 }

@@ -1,5 +1,5 @@
 //! The entries of a directory.
-ghost use Rattle.std.specs.Prelude.{◌≡◌, ◌≤◌, true, None, [], length, find, IfOk, OnOk, OnErr, IfErr};
+ghost use Rattle.std.specs.Prelude.{◌≡◌, ◌≤◌, true, None, [], length, map, IfOk, OnOk, OnErr, IfErr};
 ghost use Rattle.std.specs.Option.{option_copied};
 ghost use Rattle.entry_writes.specs.Codes.{code_of};
 ghost use Rattle.entry_writes.specs.Effects.{effect};
@@ -10,18 +10,26 @@ ghost use Rattle.entry_writes.specs.Sound.{is_sound_op};
 ghost use Rattle.entry_writes.specs.State as state;
 ghost use Rattle.entry_writes.specs.Touched.{touched, with_changes, CanBeMade, IsPlan};
 
+use crate::names::{Names, first_at};
 use crate::spec::Spec;
 use csn_cookie::Csn;
 use dn_names::Dn;
 use entry_writes::{Entry, EntryList, Op, OpFault, Touched};
 use ldap_ber::NoMemory;
+use shared_map::SharedMap;
 use std::alloc::Global;
 use std::marker::Model;
+
+/// Entries at their identities.
+pub(crate) type Entries = SharedMap<u128, Entry>;
 
 /// The entries of a directory, with their weight.
 #[derive(Drop)]
 pub struct Tree {
-    pub(crate) entries: Vec<Entry>,
+    pub(crate) alloc: Global,
+    pub(crate) entries: Entries,
+    /// The index of the entries by their names.
+    pub(crate) names: Names,
     pub(crate) weight: u64,
 }
 
@@ -29,13 +37,14 @@ pub struct Tree {
 impl Model for Tree {
     ghost use Rattle.std.specs.Prelude.{List};
     ghost use Rattle.entry_writes.specs.declared.entry.Entry.{Entry};
-    ghost use Rattle.entry_writes.specs.State.{IsDirectory};
+    ghost use Rattle.std.specs.Map.{values_of};
+    ghost use Rattle.entry_tree.specs.NameIndex.{IsTree};
 
     ghost Value = { List Entry };
 
-    ghost view = { λ t. t.entries.items };
+    ghost view = { λ t. values_of t.entries };
 
-    ghost invariant = { λ t. IsDirectory t.entries.items t.weight };
+    ghost invariant = { λ t. IsTree t.entries t.names t.weight };
 }
 
 impl Tree {
@@ -44,7 +53,9 @@ impl Tree {
         ensures { result ≡ [] }
     {
         Tree {
-            entries: Vec::new(alloc),
+            alloc,
+            entries: SharedMap::new(alloc),
+            names: SharedMap::new(alloc),
             weight: 0,
         }
     }
@@ -66,10 +77,10 @@ impl Tree {
     }
 
     /// The entries, in ascending order of identity.
-    pub fn entries(&self) -> &[Entry]
-        ensures { result.now ≡ self.now }
+    pub fn entries(&self) -> Result<Vec<&Entry>, NoMemory>
+        ensures { IfOk result (λ list. map (λ e. e.now) list.items ≡ self.now) }
     {
-        self.entries.as_slice()
+        self.entries.values()
     }
 
     /// The entry of that identity.
@@ -77,17 +88,17 @@ impl Tree {
         ensures value { option_copied result ≡ state.entry_at self.now uuid }
         ensures ascends { state.ascends self.now ≡ true }
     {
-        match self.entries.binary_search_by_key(&uuid, |entry| entry.uuid) {
-            Ok(place) => Some(&self.entries[place]),
-            Err(_) => None,
-        }
+        self.entries.get(&uuid)
     }
 
     /// The entry of that name; where there are several, the first by identity.
     pub fn find(&self, dn: &Dn) -> Option<&Entry>
         ensures { option_copied result ≡ state.entry_named self.now dn.now }
     {
-        self.entries.iter().find(|entry| entry.dn.same(dn))
+        match first_at(&self.names, dn.path()) {
+            Some(uuid) => self.get(uuid),
+            None => None,
+        }
     }
 
     /// Applies a write to the directory with this suffix, or reports the first code that rejects
@@ -146,13 +157,21 @@ impl Tree {
     pub fn select(&self, spec: &Spec) -> Result<EntryList, NoMemory>
         ensures { IfOk result (λ found. found ≡ select (search_of spec.now) self.now) }
     {
-        let alloc = *self.entries.allocator();
-        let mut found = EntryList::new(alloc);
-        for entry in &self.entries {
-            if spec.takes(alloc, entry)? {
-                found.push(entry.copy()?)?;
-            }
-        }
-        Ok(found)
+        let entries = self.reached(spec)?;
+        taken(self.alloc, &entries, spec)
     }
+}
+
+/// Those of the entries that are wanted.
+fn taken(alloc: Global, entries: &[&Entry], spec: &Spec) -> Result<EntryList, NoMemory>
+    ensures { IfOk result (λ found.
+        found ≡ select (search_of spec.now) (map (λ e. e.now) entries.now)) }
+{
+    let mut found = EntryList::new(alloc);
+    for entry in entries {
+        if spec.takes(alloc, entry)? {
+            found.push(entry.copy()?)?;
+        }
+    }
+    Ok(found)
 }

@@ -16,7 +16,7 @@ mod touched;
 
 pub use bytes::is_one_entry;
 pub use changing::{own_pairs, with_new_rdn};
-pub use checks::{MOST_ENTRIES, MOST_WEIGHT, check_add, check_delete, check_weight};
+pub use checks::{MOST_ENTRIES, MOST_WEIGHT, check_naming, check_weight};
 pub use edit::{Edit, Edits};
 pub use entry::{Entry, EntryList};
 pub use fault::OpFault;
@@ -25,5 +25,5 @@ pub use modify::edited_entry;
 pub use op::{Op, Write};
 pub use reading::read_op;
 pub use rename::{Renamed, moved_entries};
-pub use target::{check_target, name_above, name_below};
+pub use target::{name_above, name_below};
 pub use touched::{EntryChange, Touched};

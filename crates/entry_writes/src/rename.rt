@@ -23,11 +23,11 @@ pub struct Renamed {
     pub attrs: Attrs,
 }
 
-/// What differs after the one of these entries is renamed, or the code of a name that would be too
+/// What differs of these entries after the one is renamed, or the code of a name that would be too
 /// long.
 pub fn moved_entries(
     alloc: Global,
-    entries: &[Entry],
+    entries: &[&Entry],
     top: &Entry,
     renamed: &Renamed,
     csn: Csn,
@@ -39,15 +39,16 @@ pub fn moved_entries(
           uuid = e.uuid;
           before = Some e;
           after = Some (effects.moved top.now renamed.now.name renamed.now.attrs csn e);
-        }) entries.now)) }
-    ensures accepted { OnOk result (codes.length_code entries.now top.now renamed.now.name ≡ None) }
+        }) (map (λ e. e.now) entries.now))) }
+    ensures accepted { OnOk result
+        (codes.length_code (map (λ e. e.now) entries.now) top.now renamed.now.name ≡ None) }
     ensures refused { IfErr result
-        (HasCode (codes.length_code entries.now top.now renamed.now.name)) }
+        (HasCode (codes.length_code (map (λ e. e.now) entries.now) top.now renamed.now.name)) }
 {
     let mut entry_changes = Touched::new(alloc);
     for entry in entries {
         let now = moved_entry(entry, top, renamed, csn)?;
-        entry_changes.push_difference(entry.uuid, Some(entry), Some(&now))?;
+        entry_changes.push_difference(entry.uuid, Some(*entry), Some(&now))?;
     }
     Ok(entry_changes)
 }

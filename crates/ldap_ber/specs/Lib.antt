@@ -1,4 +1,6 @@
 pub mod Octets
+pub mod Kept
+pub mod Listed
 pub mod Element
 pub mod Reader
 pub mod Tlv

@@ -1,6 +1,6 @@
 //! Reading elements one at a time.
 
-ghost use Rattle.std.specs.Prelude.{◌≡◌, ◌-◌, ◌==◌, ◌≤◌, ◌<◌, [], length, IfOk, OnErr, OnOk};
+ghost use Rattle.std.specs.Prelude.{◌≡◌, ◌-◌, ◌==◌, ◌≤◌, ◌<◌, [], ◌∷◌, length, IfOk, OnErr, OnOk};
 ghost use Rattle.ldap_ber.specs.Element.{number_after, filler, extended};
 ghost use Rattle.ldap_ber.specs.Gives.{Answers};
 ghost use Rattle.ldap_ber.specs.Reader.{length_at, parts_at, element_at, expect_at, tag_at, has_tag, end_at, integer_in, boolean_in};
@@ -328,20 +328,31 @@ fn length_of(bytes: &[u8]) -> Result<(usize, &[u8]), BerKind>
             if *first < 128 {
                 return Ok((*first as usize, more));
             }
-            if *first == 128 {
-                return Err(BerKind::Indefinite);
-            }
-            if 132 < *first {
-                return Err(BerKind::LongLength);
-            }
-            let count = *first as usize - 128;
-            if more.len() < count {
-                return Err(BerKind::Short);
-            }
-            let (octets, rest) = more.split_at(count);
-            Ok((number_of(octets), rest))
+            long_length_of(*first, more)
         }
     }
+}
+
+/// The length after an octet of 128 or more, and what follows it.
+#[inline(never)]
+fn long_length_of(first: u8, more: &[u8]) -> Result<(usize, &[u8]), BerKind>
+    requires { 128 ≤ first }
+    ensures exact { Answers (λ counted. (counted.0, counted.1.now)) result
+        (length_at (first ∷ more.now)) }
+    ensures shorter { IfOk result (λ counted. length counted.1.now ≤ length more.now) }
+{
+    if first == 128 {
+        return Err(BerKind::Indefinite);
+    }
+    if 132 < first {
+        return Err(BerKind::LongLength);
+    }
+    let count = first as usize - 128;
+    if more.len() < count {
+        return Err(BerKind::Short);
+    }
+    let (octets, rest) = more.split_at(count);
+    Ok((number_of(octets), rest))
 }
 
 /// The number of up to four octets, the highest first.

@@ -2,7 +2,7 @@
 
 ghost use Rattle.std.specs.Prelude.{◌≡◌, ◌≢◌, ◌<◌, ◌≤◌, ◌+◌, ◌-◌, ◌^◌, [], ◌∷◌, ◌++◌, drop, length, reverse, set, take, IfNone, IfOk, IfSome, IsOk, OnOk, OnErr};
 ghost use Rattle.ldap_ber.specs.Canonical.{element, length_octets, is_needless, shortest, integer_octets, boolean_octets, flag_octets};
-ghost use Rattle.ldap_ber.specs.Unfinished.{assembled, body_of, ended, header_octets, AreBetween, IsBegun, Extends};
+ghost use Rattle.ldap_ber.specs.Unfinished.{assembled, body_of, ended, header_octets, AreBetween, Extends, HasBody};
 ghost use Rattle.ldap_ber.specs.Writer.{after_bytes, after_begin, after_end, before_begin, IsSmall, EndsSmall};
 
 use crate::octets::{NoMemory, Octets};
@@ -15,8 +15,18 @@ const LONGEST_BODY: usize = 4_294_967_289;
 /// The most octets of a tag and a length.
 const LONGEST_HEADER: usize = 6;
 
-/// The header of an element that holds others, and where its body starts in the content. Until the
-/// element is ended the length says nothing.
+/// The octets of a tag and a length below 128.
+const SHORT_HEADER: usize = 2;
+
+/// How many elements in one another a writer has room for at first.
+const FIRST_LEVELS: usize = 8;
+
+/// How many octets of content a writer has room for at first.
+const FIRST_CONTENT: usize = 512;
+
+/// The header of an element that holds others, and where the element starts in the content: with
+/// two octets that a short header takes, before its body. Until the element is ended the length says
+/// nothing.
 #[derive(Clone, Copy)]
 struct Header {
     tag: u8,
@@ -24,8 +34,8 @@ struct Header {
     length: usize,
 }
 
-/// An element that is not ended: its tag, where its body starts in the content, the place of its
-/// header, and how many octets the headers had that were ended before it.
+/// An element that is not ended: its tag, where it starts in the content, the place of its header,
+/// and how many octets the headers that were ended before it have beyond two each.
 #[derive(Clone, Copy)]
 struct Begun {
     tag: u8,
@@ -37,19 +47,20 @@ struct Begun {
 /// A writer of elements. After an `Err` it is as before; a body that is too long for four length
 /// octets is one too.
 ///
-/// How long an element is shows at its end alone. So the headers of elements that hold others are
-/// kept beside their content, and both are put together once, when the outermost element ends.
+/// How long an element is shows at its end alone. So each element that holds others starts with two
+/// octets that are written at its end where its length is below 128. A longer header is kept beside
+/// the content, and both are put together once, when the outermost element ends.
 #[derive(Drop)]
 pub struct Writer {
     /// What is written outside of the elements that are not ended.
     done: Vec<u8>,
     /// The elements that are not ended, the outermost first.
     begun: Vec<Begun>,
-    /// The headers of the outermost of these and of all in it that hold others, in their order.
+    /// The headers of these and of the longer ones in the outermost of them, in their order.
     headers: Vec<Header>,
-    /// What is written in the outermost of these, without those headers.
+    /// The outermost of these as far as it is written, with two octets for each of those headers.
     content: Vec<u8>,
-    /// How many octets those headers have whose elements are ended.
+    /// How many octets those headers whose elements are ended have beyond two each.
     octets: usize,
 }
 
@@ -83,6 +94,7 @@ impl Writer {
 
     /// Writes an element with this tag and body. It is `NoMemory` where memory runs out or a length
     /// has no place in four octets, and the writer is as before.
+    #[inline(always)]
     pub fn octets(&mut self, tag: u8, bytes: &[u8]) -> Result<(), NoMemory>
         ensures ok { OnOk result (self.new ≡ after_bytes self.old (element tag bytes.now)) }
         ensures small { OnOk result (IsSmall (element tag bytes.now)) }
@@ -131,6 +143,7 @@ impl Writer {
 
     /// Opens an element with this tag. What is written up to its `end` is its body. It is
     /// `NoMemory` where memory runs out, and the writer is as before.
+    #[inline(always)]
     pub fn begin(&mut self, tag: u8) -> Result<(), NoMemory>
         ensures ok { OnOk result (self.new ≡ after_begin self.old tag) }
         ensures err { OnErr result (self.new ≡ self.old) }
@@ -138,12 +151,20 @@ impl Writer {
         let start = self.content.len();
         let place = self.headers.len();
         let octets = self.octets;
-        self.begun.reserve(1)?;
-        self.headers.push(Header {
+        let (levels, room) = if self.begun.is_empty() {
+            (FIRST_LEVELS, FIRST_CONTENT)
+        } else {
+            (1, SHORT_HEADER)
+        };
+        self.begun.reserve(levels)?;
+        self.headers.reserve(levels)?;
+        self.content.reserve(room)?;
+        self.content.extend_from_slice(&[tag, 0])?;
+        self.headers.push_reserved(Header {
             tag,
             start,
             length: 0,
-        })?;
+        });
         self.begun.push_reserved(Begun {
             tag,
             start,
@@ -155,6 +176,7 @@ impl Writer {
 
     /// Ends the innermost open element. It is `NoMemory` where memory runs out or a length has no
     /// place in four octets, and the writer is as before.
+    #[inline(always)]
     pub fn end(&mut self) -> Result<(), NoMemory>
         requires { self.old.opened ≢ [] }
         ensures ok { OnOk result (self.new ≡ after_end self.old) }
@@ -170,6 +192,13 @@ impl Writer {
                     self.drop_innermost();
                     return Ok(());
                 }
+                if count < 128 && self.headers.len() == last.place + 1 {
+                    put_short_header(&mut self.content, &last, count);
+                    self.headers.truncate(last.place);
+                    self.octets = last.octets;
+                    self.begun.pop();
+                    return Ok(());
+                }
                 end_header(&mut self.headers, &mut self.octets, &last, count)?;
                 self.begun.pop();
                 Ok(())
@@ -179,6 +208,7 @@ impl Writer {
 
     /// Ends the innermost open element where its body was written. After an `Err`, of the body's or
     /// of the end's, the writer is as before the element's `begin`.
+    #[inline(always)]
     pub fn end_after(&mut self, body: Result<(), NoMemory>) -> Result<(), NoMemory>
         requires { self.old.opened ≢ [] }
         ensures ok { OnOk result (self.new ≡ after_end self.old) }
@@ -232,21 +262,35 @@ fn innermost(begun: &[Begun]) -> Option<Begun>
 /// How long the body of the innermost element is, from the octets of the content and of the headers
 /// that are ended. It is `NoMemory` where its whole element would have 2^32 octets or more.
 fn body_length(last: &Begun, octets: usize, content: usize) -> Result<usize, NoMemory>
-    requires { last.now.start + last.now.octets ≤ content + octets }
+    requires { last.now.start + 2 + last.now.octets ≤ content + octets }
     ensures counted { IfOk result (λ count.
-        count + (last.now.start + last.now.octets) ≡ content + octets) }
+        count + (last.now.start + 2 + last.now.octets) ≡ content + octets) }
     ensures small { IfOk result (λ count. count ≤ 4294967289) }
 {
     let all = content.checked_add(octets).ok_or(AllocError)?;
-    let count = all - last.start - last.octets;
+    let count = all - last.start - SHORT_HEADER - last.octets;
     if LONGEST_BODY < count {
         return Err(AllocError);
     }
     Ok(count)
 }
 
+/// Writes the tag and the length of the innermost element, where that is below 128, into the two
+/// octets that the element starts with.
+#[tactic(auto, using(crate::proofs::UnfinishedLemmas::two_set))]
+fn put_short_header(content: &mut Vec<u8>, last: &Begun, count: usize)
+    requires within { last.now.start + 2 ≤ length content.old.items }
+    requires short { count < 128 }
+    ensures { content.new.items ≡ take last.now.start content.old.items
+        ++ (last.now.tag ∷ count ∷ drop (last.now.start + 2) content.old.items) }
+{
+    content[last.start] = last.tag;
+    content[last.start + 1] = count as u8;
+}
+
 /// Gives the header of the innermost element its length. It is `NoMemory` where the octets of the
 /// headers cannot be counted, and nothing changes.
+#[inline(never)]
 fn end_header(
     headers: &mut Vec<Header>,
     octets: &mut usize,
@@ -257,11 +301,12 @@ fn end_header(
     ensures headers { OnOk result
         (headers.new.items ≡ set headers.old.items last.now.place (ended last.now count)) }
     ensures octets { OnOk result
-        (octets.new ≡ octets.old + length (header_octets (ended last.now count))) }
+        (octets.new + 2 ≡ octets.old + length (header_octets (ended last.now count))) }
     ensures err { OnErr result ((headers.new.items ≡ headers.old.items)
         × (octets.new ≡ octets.old)) }
 {
-    let more = octets.checked_add(header_length(count)).ok_or(AllocError)?;
+    let beyond = header_length(count) - SHORT_HEADER;
+    let more = octets.checked_add(beyond).ok_or(AllocError)?;
     headers[last.place] = Header {
         tag: last.tag,
         start: last.start,
@@ -272,6 +317,7 @@ fn end_header(
 }
 
 /// Puts the innermost element at the end, whole. After an `Err` the bytes are as before.
+#[inline(never)]
 fn put_whole(
     out: &mut Vec<u8>,
     last: &Begun,
@@ -279,11 +325,7 @@ fn put_whole(
     headers: &[Header],
     content: &[u8],
 ) -> Result<(), NoMemory>
-    requires listed { last.now.place < length headers.now }
-    requires between { AreBetween last.now.start (length content.now)
-        (drop (last.now.place + 1) headers.now) }
-    requires counted { count ≡ length (body_of last.now headers.now content.now) }
-    requires small { count ≤ 4294967289 }
+    requires { HasBody last.now count headers.now content.now }
     ensures ok { OnOk result (out.new.items
         ≡ out.old.items ++ element last.now.tag (body_of last.now headers.now content.now)) }
     ensures err { OnErr result (out.new.items ≡ out.old.items) }
@@ -304,19 +346,18 @@ fn put_parts_of_whole(
     headers: &[Header],
     content: &[u8],
 ) -> Result<(), NoMemory>
-    requires listed { last.now.place < length headers.now }
-    requires between { AreBetween last.now.start (length content.now)
-        (drop (last.now.place + 1) headers.now) }
-    requires counted { count ≡ length (body_of last.now headers.now content.now) }
-    requires small { count ≤ 4294967289 }
+    requires { HasBody last.now count headers.now content.now }
     ensures ok { OnOk result (out.new.items
         ≡ out.old.items ++ element last.now.tag (body_of last.now headers.now content.now)) }
     ensures more { Extends out.old.items out.new.items }
 {
     out.reserve(count + LONGEST_HEADER)?;
     put_header(out, last.tag, count)?;
+    let end = content.len();
+    prove!(last.start < end);
+    prove!(last.start + 1 < end);
     let (_, inner) = headers.split_at(last.place + 1);
-    put_assembled(out, last.start, inner, content)?;
+    put_assembled(out, last.start + SHORT_HEADER, inner, content)?;
     Ok(())
 }
 
@@ -333,11 +374,14 @@ fn put_assembled(
         (out.new.items ≡ out.old.items ++ assembled start headers.now content.now) }
     ensures more { Extends out.old.items out.new.items }
 {
+    let end = content.len();
     let mut from = start;
     for header in headers {
         out.extend_from_slice(&content[from..header.start])?;
         put_header(out, header.tag, header.length)?;
-        from = header.start;
+        prove!(header.start < end);
+        prove!(header.start + 1 < end);
+        from = header.start + SHORT_HEADER;
     }
     let (_, rest) = content.split_at(from);
     out.extend_from_slice(rest)?;
@@ -345,18 +389,42 @@ fn put_assembled(
 }
 
 /// Puts an element at the end. After an `Err` the bytes are as before.
+#[inline(always)]
 #[tactic(auto, using(crate::proofs::ElementLemmas::element_size))]
 fn put(out: &mut Vec<u8>, tag: u8, body: &[u8]) -> Result<(), NoMemory>
     ensures ok { OnOk result (out.new.items ≡ out.old.items ++ element tag body.now) }
     ensures small { OnOk result (IsSmall (element tag body.now)) }
     ensures err { OnErr result (out.new.items ≡ out.old.items) }
 {
+    if body.len() < 128 {
+        return put_short(out, tag, body);
+    }
     if LONGEST_BODY < body.len() {
         return Err(AllocError);
     }
     put_parts(out, tag, body)
 }
 
+/// Puts an element of fewer than 128 octets, whose header has two octets, at the end.
+#[inline(always)]
+#[tactic(auto, unfolding(crate::specs::Canonical::element))]
+fn put_short(out: &mut Vec<u8>, tag: u8, body: &[u8]) -> Result<(), NoMemory>
+    requires { length body.now < 128 }
+    ensures ok { OnOk result (out.new.items ≡ out.old.items ++ element tag body.now) }
+    ensures err { OnErr result (out.new.items ≡ out.old.items) }
+{
+    let start = out.len();
+    out.reserve(body.len() + SHORT_HEADER)?;
+    out.push_reserved(tag);
+    out.push_reserved(body.len() as u8);
+    if let Err(error) = out.extend_from_slice(body) {
+        out.truncate(start);
+        return Err(error);
+    }
+    Ok(())
+}
+
+#[inline(never)]
 #[tactic(auto, unfolding(crate::specs::Canonical::element))]
 fn put_parts(out: &mut Vec<u8>, tag: u8, body: &[u8]) -> Result<(), NoMemory>
     requires { length body.now < 2 ^ 32 }
@@ -374,6 +442,7 @@ fn put_parts(out: &mut Vec<u8>, tag: u8, body: &[u8]) -> Result<(), NoMemory>
 }
 
 /// Puts the tag and the shortest length of an element at the end.
+#[inline(never)]
 fn put_header(out: &mut Vec<u8>, tag: u8, count: usize) -> Result<(), NoMemory>
     requires { count < 2 ^ 32 }
     ensures ok { OnOk result (out.new.items ≡ out.old.items ++ tag ∷ length_octets count) }
@@ -407,7 +476,8 @@ fn put_header(out: &mut Vec<u8>, tag: u8, count: usize) -> Result<(), NoMemory>
 
 /// How many octets the tag and the shortest length of an element have.
 fn header_length(count: usize) -> usize
-    ensures { result ≡ length (length_octets count) + 1 }
+    ensures value { result ≡ length (length_octets count) + 1 }
+    ensures two { 2 ≤ result }
 {
     if count < 128 {
         2

@@ -6,6 +6,12 @@ pub const SUCCESS: u32 = 0;
 /// protocolError (RFC 4511, appendix A.2).
 pub const PROTOCOL_ERROR: u32 = 2;
 
+/// compareFalse (RFC 4511, appendix A.2).
+pub const COMPARE_FALSE: u32 = 5;
+
+/// compareTrue (RFC 4511, appendix A.2).
+pub const COMPARE_TRUE: u32 = 6;
+
 /// adminLimitExceeded (RFC 4511, appendix A.2).
 pub const ADMIN_LIMIT_EXCEEDED: u32 = 11;
 

@@ -8,4 +8,5 @@ pub mod MessageLemmas
 pub mod MessageSpellings
 pub mod FrameLemmas
 pub mod PrefixLemmas
+pub mod StableLemmas
 pub mod GrammarLemmas

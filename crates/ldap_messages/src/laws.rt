@@ -12,3 +12,9 @@ pub fn no_message_begins_another()
     ensures cut { (prefix more : List ℕ) (whole : Whole)
         → Spells (prefix ++ more) whole → more ≢ [] → read_of prefix ≡ partial }
 {}
+
+/// What the first bytes were read as, or refused as, stays so, whatever bytes follow them.
+pub fn later_bytes_change_nothing()
+    ensures { (prefix after : List ℕ)
+        → read_of prefix ≢ partial → read_of (prefix ++ after) ≡ read_of prefix }
+{}

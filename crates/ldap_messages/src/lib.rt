@@ -25,7 +25,7 @@ mod uris;
 
 pub use bind::Authentication;
 pub use fault::MessageFault;
-pub use laws::no_message_begins_another;
+pub use laws::{later_bytes_change_nothing, no_message_begins_another};
 pub use ldap_parts::{Control, ControlList};
 pub use message::Message;
 pub use outcome::LdapResult;

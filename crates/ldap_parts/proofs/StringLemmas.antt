@@ -1,14 +1,14 @@
 -- Lists of octet strings: their reading is exact, and their canonical spelling is a spelling.
-use Rattle.std.proofs.Common.{◌≡◌, ◌≢◌, ℕ, ◌<◌, ◌%◌, List, [], ◌∷◌, ◌++◌, length, Ok, Err, arith}
+use Rattle.std.proofs.Common.{◌≡◌, ◌≢◌, ℕ, ◌<◌, ◌%◌, List, [], ◌∷◌, ◌++◌, length, Ok, Err, refl, ◌∙◌, arith}
 use Rattle.std.specs.List.{AllByRecursion}
 use Rattle.ldap_ber.specs.Form.{OctetString}
 use Rattle.ldap_ber.specs.Reading.{many_at}
 use Rattle.ldap_ber.specs.Canonical.{element}
-use Rattle.ldap_ber.proofs.ManyLemmas.{Advances, with_prefix, many_goes_on, many_fails, many_ended}
+use Rattle.ldap_ber.proofs.ManyLemmas.{Advances, with_prefix, many_next, many_none, many_goes_on, many_fails, many_ended}
 use Rattle.ldap_ber.proofs.ExactLemmas.{Exact, list_exact, advances}
 use Rattle.ldap_ber.proofs.CanonicalLemmas.{Spelled, Anything, Always, octets_spelled, list_spelled}
 use Rattle.ldap_parts.specs.Faults.{place_of}
-use Rattle.ldap_parts.specs.Components.{StringsForm, string_at, strings_at, strings_octets}
+use Rattle.ldap_parts.specs.Components.{StringsForm, string_at, strings_at, strings_from_first, strings_octets}
 use Rattle.ldap_parts.proofs.ComponentLemmas.{string_exact, string_shortens}
 
 pub strings_exact : (tag : ℕ) → Exact (StringsForm tag) (strings_at tag)
@@ -23,6 +23,25 @@ strings_go_on prefix stop bytes x rest some h = many_goes_on (string_at 4) strin
 
 pub strings_fail : (prefix : List (List ℕ)) (stop : ℕ) (bytes : List ℕ) (e : ℕ) → 0 < length bytes → string_at 4 stop bytes ≡ Err e → with_prefix prefix (many_at (string_at 4) stop bytes) ≡ Err e
 strings_fail prefix stop bytes e some h = many_fails (string_at 4) string_advances prefix stop bytes e some h
+
+-- the first string and the others
+pub strings_first : (stop : ℕ) (bytes : List ℕ) (x : List ℕ) (rest : List ℕ) → 0 < length bytes → string_at 4 stop bytes ≡ Ok (x, rest)
+    → many_at (string_at 4) stop bytes ≡ strings_from_first x stop rest
+strings_first stop [] x rest some h = absurd (omega arith)
+strings_first stop (b ∷ bytes) x rest some h = rw (many_next (string_at 4) string_advances stop b bytes, h) refl
+
+pub strings_refused : (stop : ℕ) (bytes : List ℕ) (e : ℕ) → 0 < length bytes → string_at 4 stop bytes ≡ Err e → many_at (string_at 4) stop bytes ≡ Err e
+strings_refused stop [] e some h = absurd (omega arith)
+strings_refused stop (b ∷ bytes) e some h = rw (many_next (string_at 4) string_advances stop b bytes, h) refl
+
+pub strings_none : (stop : ℕ) (bytes : List ℕ) → length bytes ≡ 0 → many_at (string_at 4) stop bytes ≡ Ok []
+strings_none stop [] none = many_none (string_at 4) stop
+strings_none stop (b ∷ bytes) none = absurd (omega arith)
+
+-- the first string where no byte is left after it
+pub strings_only : (stop : ℕ) (bytes : List ℕ) (x : List ℕ) (rest : List ℕ) → 0 < length bytes → string_at 4 stop bytes ≡ Ok (x, rest) → length rest ≡ 0
+    → many_at (string_at 4) stop bytes ≡ Ok (x ∷ [])
+strings_only stop bytes x rest some h none = strings_first stop bytes x rest some h ∙ rw (strings_none stop rest none) refl
 
 pub strings_end : (prefix : List (List ℕ)) (stop : ℕ) (bytes : List ℕ) → length bytes ≡ 0 → with_prefix prefix (many_at (string_at 4) stop bytes) ≡ Ok prefix
 strings_end prefix stop bytes none = many_ended (string_at 4) prefix stop bytes none

@@ -1,8 +1,9 @@
 -- Components of several messages: their forms, how they are read, and their canonical spelling.
-use Rattle.std.specs.Prelude.{◌≡◌, ℕ, ◌≤◌, ◌&&◌, nat_le, if◌then◌else◌, List, Bool, false, Option, Result, Ok, Err, ℤ, pos, negsuc}
+use Rattle.std.specs.Prelude.{◌≡◌, ℕ, ◌≤◌, ◌&&◌, nat_le, if◌then◌else◌, List, ◌∷◌, Bool, false, Option, Result, Ok, Err, ℤ, pos, negsuc}
 use Rattle.std.specs.List.{flat_map}
 use Rattle.ldap_ber.specs.Form.{Form, OctetString, Integer, Boolean, Optional, Default, Meaning, ListOf}
-use Rattle.ldap_ber.specs.Reading.{Reading, reworded, octets_at, integer_at, boolean_at, optional_at, default_at, meaning_at, list_at}
+use Rattle.ldap_ber.specs.Reader.{◌>>=◌}
+use Rattle.ldap_ber.specs.Reading.{Reading, reworded, octets_at, integer_at, boolean_at, optional_at, default_at, meaning_at, list_at, many_at}
 use Rattle.ldap_ber.specs.Canonical.{element, integer_octets, option_octets}
 use Rattle.ldap_parts.specs.Faults.{place_of}
 
@@ -55,6 +56,11 @@ option_at tag = optional_at tag (string_at tag)
 
 abbrev pub strings_at : ℕ → Reading ℕ (List (List ℕ))
 strings_at tag = list_at place_of tag (string_at 4)
+
+-- a first string and any number of strings after it
+abbrev pub strings_from_first : List ℕ → ℕ → List ℕ → Result (List (List ℕ)) ℕ
+strings_from_first first stop bytes =
+    many_at (string_at 4) stop bytes >>= λ strings. Ok (first ∷ strings)
 
 -- ---- how they are written
 

@@ -28,6 +28,7 @@ use std::alloc::Global;
 
 /// The attribute that comes next. Else it is `Refused` with the place of the first element that is
 /// not so, or `NoMemory`, and the reader is as before.
+#[inline(always)]
 #[tactic(auto, unfolding(crate::specs::Attributes::attribute_at))]
 pub fn attribute_of(alloc: Global, reader: &mut Reader) -> Result<RawAttribute, PartFault>
     ensures exact { Gives Fails (λ attribute. Ok (attribute, reader.new.left)) result

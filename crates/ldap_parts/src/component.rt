@@ -27,6 +27,7 @@ use std::alloc::Global;
 
 /// The octet string with this tag that comes next. Else it is `Refused` with the place of the first
 /// element that is not so, or `NoMemory`, and the reader is as before.
+#[inline(always)]
 pub fn string_of(alloc: Global, reader: &mut Reader, tag: u8) -> Result<Octets, PartFault>
     ensures exact { Gives Fails (λ string. Ok (string, reader.new.left)) result
         (string_at tag reader.old.stop reader.old.left) }

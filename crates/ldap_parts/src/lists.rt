@@ -7,7 +7,7 @@ ghost use Rattle.ldap_ber.specs.Canonical.{element};
 ghost use Rattle.ldap_ber.specs.Writer.{after_bytes};
 ghost use Rattle.ldap_ber.specs.Gives.{Gives};
 ghost use Rattle.ldap_parts.specs.Faults.{Fails};
-ghost use Rattle.ldap_parts.specs.Components.{string_at, strings_at, strings_octets};
+ghost use Rattle.ldap_parts.specs.Components.{string_at, strings_at, strings_from_first, strings_octets};
 
 use crate::component::string_of;
 use crate::fault::PartFault;
@@ -16,6 +16,7 @@ use std::alloc::Global;
 
 /// The element with this tag that comes next: octet strings alone. Else it is `Refused` with the
 /// place of the first element that is not so, or `NoMemory`, and the reader is as before.
+#[inline(always)]
 pub fn strings_of(alloc: Global, reader: &mut Reader, tag: u8) -> Result<OctetsList, PartFault>
     ensures exact { Gives Fails (λ strings. Ok (strings, reader.new.left)) result
         (strings_at tag reader.old.stop reader.old.left) }
@@ -30,14 +31,38 @@ pub fn strings_of(alloc: Global, reader: &mut Reader, tag: u8) -> Result<OctetsL
     Ok(strings)
 }
 
-/// The octet strings that are left.
-#[tactic(auto, using(crate::proofs::StringLemmas::strings_go_on, crate::proofs::StringLemmas::strings_fail, crate::proofs::StringLemmas::strings_end))]
+/// The octet strings that are left. The only one takes no memory for a list.
+#[inline(always)]
+#[tactic(auto, using(crate::proofs::StringLemmas::strings_first, crate::proofs::StringLemmas::strings_only, crate::proofs::StringLemmas::strings_refused, crate::proofs::StringLemmas::strings_none))]
 fn strings_in(alloc: Global, reader: &mut Reader) -> Result<OctetsList, PartFault>
     ensures { Gives Fails (λ strings. Ok strings) result
         (many_at (string_at 4) reader.old.stop reader.old.left) }
 {
+    if reader.is_empty() {
+        return Ok(OctetsList::new(alloc));
+    }
+    let first = string_of(alloc, reader, 0x04)?;
+    if reader.is_empty() {
+        return Ok(OctetsList::of_one(alloc, first));
+    }
+    let strings = strings_after(alloc, first, reader)?;
+    Ok(OctetsList::from(strings))
+}
+
+/// The first octet string and those that are left.
+#[inline(never)]
+#[tactic(auto, using(crate::proofs::StringLemmas::strings_go_on, crate::proofs::StringLemmas::strings_fail, crate::proofs::StringLemmas::strings_end))]
+fn strings_after(
+    alloc: Global,
+    first: Octets,
+    reader: &mut Reader,
+) -> Result<Vec<Octets>, PartFault>
+    ensures { Gives Fails (λ strings. Ok strings.items) result
+        (strings_from_first first reader.old.stop reader.old.left) }
+{
     let room = reader.count().unwrap_or(0);
-    let mut strings = OctetsList::with_room(alloc, room)?;
+    let mut strings = Vec::with_capacity(alloc, room.saturating_add(1))?;
+    strings.push(first)?;
     while !reader.is_empty() {
         let string = string_of(alloc, reader, 0x04)?;
         strings.push(string)?;
@@ -47,6 +72,7 @@ fn strings_in(alloc: Global, reader: &mut Reader) -> Result<OctetsList, PartFaul
 
 /// Writes an element with this tag of octet strings alone. It is `NoMemory` where memory runs out,
 /// and the writer is as before.
+#[inline(always)]
 pub fn put_strings(writer: &mut Writer, tag: u8, strings: &[Octets]) -> Result<(), NoMemory>
     ensures ok { OnOk result
         (writer.new ≡ after_bytes writer.old (strings_octets tag strings.now)) }
@@ -59,6 +85,7 @@ pub fn put_strings(writer: &mut Writer, tag: u8, strings: &[Octets]) -> Result<(
 
 /// Writes octet strings one after the other. After an `Err` only what was written in the innermost
 /// open element is changed.
+#[inline(always)]
 pub(crate) fn put_each(writer: &mut Writer, tag: u8, strings: &[Octets]) -> Result<(), NoMemory>
     ensures ok { OnOk result
         (writer.new ≡ after_bytes writer.old (flat_map (element tag) strings.now)) }

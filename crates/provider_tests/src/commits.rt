@@ -17,7 +17,7 @@ use schema_rules::Attrs;
 use std::alloc::Global;
 use std::test::Fail;
 use sync_messages::IdList;
-use sync_provider::{CommitFault, Provider, StagedCommit};
+use sync_provider::{CommitFault, StagedCommit, SyncDirectory};
 
 /// The CSN of each entry, which is of the provider with the number 2.
 const STAMP: &[u8] = b"20260101000000.000000Z#000007#002#000000";
@@ -28,7 +28,7 @@ const MOST_WEIGHT: u64 = 65_536;
 /// Reports `w` and the number of writes, or what rejects the commit.
 pub(crate) fn commit(
     alloc: Global,
-    provider: &mut Provider,
+    provider: &mut SyncDirectory,
     of: &str,
     text: &mut String,
 ) -> Result<(), Fail> {
@@ -43,7 +43,7 @@ pub(crate) fn commit(
 /// Two commits, with ` & ` between them, all or none.
 pub(crate) fn commit_both(
     alloc: Global,
-    provider: &mut Provider,
+    provider: &mut SyncDirectory,
     of: &str,
     text: &mut String,
 ) -> Result<(), Fail> {

@@ -19,9 +19,12 @@ use std::test::Fail;
 /// Steps of a directory, each with what the clock shows, and what is reported of it. Of a write
 /// that is not yet done: its CSN and a letter for each entry that it adds, changes or deletes, or
 /// its code; the numbers of writes and entries then; and when it is done its code, these numbers,
-/// and the last CSN. Of a commit that something rejects: that alone.
+/// and the last CSN. Of a commit that something rejects: that alone. A plan is a commit that is not
+/// done.
 const ROWS: &str = "\
 0 first => 19700101000000.000000Z#000001#001#000000 a n0 e0 c0 n1 e1 19700101000000.000000Z#000001#001#000000
+0 plan 9:ou=a,dc=x 7:ou=b,dc=x => 19700101000000.000000Z#000002#001#000000 aa n1 e1
+0 plan 9:ou=a,dc=x 7:ou=a,dc=x => same7,9
 5 add ou=a,dc=x => 19700101000000.000005Z#000000#001#000000 a n1 e1 c0 n2 e2 19700101000000.000005Z#000000#001#000000
 6 add ou=a,dc=x => c68 n2 e2 c68 n2 e2 19700101000000.000005Z#000000#001#000000
 6 delete dc=x => c66 n2 e2 c66 n2 e2 19700101000000.000005Z#000000#001#000000
@@ -30,6 +33,12 @@ const ROWS: &str = "\
 1000001 delete ou=b,ou=c,dc=x => 19700101000001.000001Z#000000#001#000000 d n4 e3 c0 n5 e2 19700101000001.000001Z#000000#001#000000
 1000002 delete ou=b,ou=c,dc=x => c32 n5 e2 c32 n5 e2 19700101000001.000001Z#000000#001#000000
 0 commit 9:ou=b,dc=x 7:ou=a,dc=x => 19700101000001.000001Z#000001#001#000000 aa n5 e2 c0 n6 e4 19700101000001.000001Z#000001#001#000000
+0 plan 9:ou=a,dc=x 7:ou=b,dc=x => 19700101000001.000001Z#000002#001#000000 cc n6 e4
+0 plan 8:ou=b,dc=x 9:ou=d,dc=x => 19700101000001.000001Z#000002#001#000000 ac n6 e4
+0 plan 8:ou=A,dc=x -7 => 19700101000001.000001Z#000002#001#000000 da n6 e4
+0 plan 9:ou=b,dc=x => 19700101000001.000001Z#000002#001#000000  n6 e4
+0 plan 8:ou=e,dc=x 9:ou=E,dc=x => same8,9
+0 plan 7:ou=b,dc=x => same7,9
 0 commit 9:OU=A,dc=x => same7,9
 0 commit 9:OU=A,dc=x -7 => 19700101000001.000001Z#000002#001#000000 dc n6 e4 c0 n7 e3 19700101000001.000001Z#000002#001#000000
 0 commit 8:ou=d,dc=x 7:ou=d,dc=x => same7,8
@@ -69,6 +78,7 @@ fn take_step(
     let (word, of) = parted(step);
     match word {
         "commit" => commit(alloc, directory, of, text),
+        "plan" => plan(alloc, directory, of, text),
         "moment" => {
             let snapshot = directory.snapshot()?;
             directory.return_to_snapshot(snapshot);
@@ -115,10 +125,32 @@ fn commit(
     let drops = drops_of(alloc, of)?;
     match directory.check_commit(puts.list(), drops.list(), 0) {
         Ok(()) => done(alloc, directory, Op::Commit(puts, drops), 0, text),
-        Err(DirectoryFault::DuplicateName(one, other)) => {
+        Err(fault) => push_fault(alloc, fault, text),
+    }
+}
+
+/// Reports of a commit that is not done.
+fn plan(alloc: Global, directory: &Directory, of: &str, text: &mut String) -> Result<(), Fail> {
+    let puts = puts_of(alloc, of)?;
+    let drops = drops_of(alloc, of)?;
+    match directory.preview_commit(puts.list(), drops.list(), 0) {
+        Ok(preview) => {
+            push_planned(&preview, text)?;
+            push_numbers(alloc, directory, text)
+        }
+        Err(fault) => push_fault(alloc, fault, text),
+    }
+}
+
+/// Two entries of one name, which alone may be against a commit here.
+fn push_fault(alloc: Global, fault: DirectoryFault, text: &mut String) -> Result<(), Fail> {
+    match fault {
+        DirectoryFault::DuplicateName(one, other) => {
             Ok(push_word(text, &format!(in alloc; "same{one},{other}")?)?)
         }
-        Err(_) => Err(Fail::from("a limit, or out of memory")),
+        DirectoryFault::LimitReached(_) | DirectoryFault::NoMemory => Err(Fail::from(
+            "a limit, or out of memory",
+        )),
     }
 }
 
@@ -149,14 +181,22 @@ fn push_preview(
     text: &mut String,
 ) -> Result<(), Fail> {
     match preview {
-        Ok(preview) => {
-            push_csn(text, preview.csn)?;
-            push_word(text, "")?;
-            push_letters(text, preview.touched.list())?;
-        }
+        Ok(preview) => push_planned(preview, text)?,
         Err(OpFault::Code(code)) => push_counted(alloc, text, "c", u64::from(*code))?,
         Err(OpFault::NoMemory) => return Err(Fail::from("out of memory")),
     }
+    push_numbers(alloc, directory, text)
+}
+
+/// Its CSN, and a letter for each entry that it adds, changes or deletes.
+fn push_planned(preview: &Preview, text: &mut String) -> Result<(), NoMemory> {
+    push_csn(text, preview.csn)?;
+    push_word(text, "")?;
+    push_letters(text, preview.touched.list())
+}
+
+/// How many writes and entries there are.
+fn push_numbers(alloc: Global, directory: &Directory, text: &mut String) -> Result<(), Fail> {
     push_counted(alloc, text, "n", directory.accepted().len() as u64)?;
     Ok(push_counted(alloc, text, "e", directory.tree().len() as u64)?)
 }
@@ -173,8 +213,7 @@ fn push_letters(text: &mut String, entry_changes: &[EntryChange]) -> Result<(), 
 }
 
 fn push_state(alloc: Global, directory: &Directory, text: &mut String) -> Result<(), Fail> {
-    push_counted(alloc, text, "n", directory.accepted().len() as u64)?;
-    push_counted(alloc, text, "e", directory.tree().len() as u64)?;
+    push_numbers(alloc, directory, text)?;
     match directory.accepted().last() {
         Some(write) => Ok(push_csn(text, write.csn)?),
         None => Ok(push_word(text, "none")?),

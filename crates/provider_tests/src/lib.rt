@@ -9,6 +9,10 @@ mod directory_writes_tests;
 #[cfg(test)]
 mod messages;
 #[cfg(test)]
+mod port_tests;
+#[cfg(test)]
+mod questions;
+#[cfg(test)]
 mod rows;
 #[cfg(test)]
 mod searches;

@@ -12,12 +12,12 @@ use ldap_messages::{Message, Protocol};
 use std::alloc::Global;
 use std::test::Fail;
 use sync_messages::{State, SyncDone, SyncInfo, SyncState};
-use sync_provider::{Handed, Provider};
+use sync_provider::{Handed, SyncDirectory};
 
 /// Reports n messages of a search, or fewer where it has not n.
 pub(crate) fn hand_out(
     alloc: Global,
-    provider: &mut Provider,
+    provider: &mut SyncDirectory,
     of: &str,
     text: &mut String,
 ) -> Result<(), Fail> {
@@ -33,7 +33,7 @@ pub(crate) fn hand_out(
 /// Reports the next message. False where nothing more can come.
 fn hand_out_next(
     alloc: Global,
-    provider: &mut Provider,
+    provider: &mut SyncDirectory,
     search: u64,
     text: &mut String,
 ) -> Result<bool, Fail> {
@@ -45,7 +45,7 @@ fn hand_out_next(
 
 fn push_handed(
     alloc: Global,
-    provider: &Provider,
+    provider: &SyncDirectory,
     handed: &Handed,
     text: &mut String,
 ) -> Result<bool, Fail> {
@@ -64,7 +64,7 @@ fn push_handed(
 
 fn push_message(
     alloc: Global,
-    provider: &Provider,
+    provider: &SyncDirectory,
     message: &Message,
     text: &mut String,
 ) -> Result<(), Fail> {
@@ -98,7 +98,7 @@ fn mark_of(state: State) -> &'static str {
 
 fn push_info(
     alloc: Global,
-    provider: &Provider,
+    provider: &SyncDirectory,
     info: &SyncInfo,
     text: &mut String,
 ) -> Result<(), Fail> {
@@ -139,7 +139,7 @@ fn push_names(
 /// The end of a search, which has the code that is reported with it.
 fn push_end(
     alloc: Global,
-    provider: &Provider,
+    provider: &SyncDirectory,
     code: u32,
     message: &Message,
     text: &mut String,
@@ -162,7 +162,7 @@ fn push_end(
 /// `@` and the number of writes that a cookie names, or nothing where there is none.
 fn push_cookie(
     alloc: Global,
-    provider: &Provider,
+    provider: &SyncDirectory,
     cookie: &Option<Octets>,
     text: &mut String,
 ) -> Result<(), Fail> {

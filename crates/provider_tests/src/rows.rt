@@ -10,6 +10,7 @@ ghost use Rattle.std.specs.Prelude.{◌≡◌};
 
 use crate::commits::{commit, commit_both};
 use crate::messages::hand_out;
+use crate::questions::{compare, find};
 use crate::searches::open;
 use crate::spellings::{spell, spell_busy};
 use crate::writes::{add_up_to, swing, write};
@@ -19,7 +20,7 @@ use ldap_ber::NoMemory;
 use std::alloc::Global;
 use std::process::Abort;
 use std::test::Fail;
-use sync_provider::{Kind, Provider};
+use sync_provider::{Kind, SyncDirectory};
 
 /// Asserts that each row is reported as it has it.
 pub(crate) fn check_rows(rt: &impl Abort, alloc: Global, rows: &str) -> Result<(), Fail> {
@@ -54,7 +55,7 @@ fn notified(alloc: Global, begun: &str, steps: &str) -> Result<String, Fail> {
         Kind::Root
     };
     let suffix = Dn::parse(alloc, b"dc=x")?;
-    let mut provider = Provider::new(alloc, suffix, 1, 1, kind)?;
+    let mut provider = SyncDirectory::new(alloc, suffix, 1, 1, kind)?;
     let mut text = String::new(alloc);
     let done = take_row(alloc, &mut provider, begun, steps, &mut text);
     discard(provider);
@@ -64,7 +65,7 @@ fn notified(alloc: Global, begun: &str, steps: &str) -> Result<String, Fail> {
 
 fn take_row(
     alloc: Global,
-    provider: &mut Provider,
+    provider: &mut SyncDirectory,
     begun: &str,
     steps: &str,
     text: &mut String,
@@ -75,7 +76,7 @@ fn take_row(
 
 fn take_steps(
     alloc: Global,
-    provider: &mut Provider,
+    provider: &mut SyncDirectory,
     steps: &str,
     text: &mut String,
 ) -> Result<(), Fail> {
@@ -88,7 +89,7 @@ fn take_steps(
 /// A step, or `times`, a number and a step.
 fn take_often(
     alloc: Global,
-    provider: &mut Provider,
+    provider: &mut SyncDirectory,
     step: &str,
     text: &mut String,
 ) -> Result<(), Fail> {
@@ -104,7 +105,7 @@ fn take_often(
 
 fn take_step(
     alloc: Global,
-    provider: &mut Provider,
+    provider: &mut SyncDirectory,
     step: &str,
     text: &mut String,
 ) -> Result<(), Fail> {
@@ -122,6 +123,8 @@ fn take_step(
         "swing" => swing(alloc, provider, of, text),
         "log" | "queue" | "drop" => change(alloc, provider, word, of, text),
         "size" | "csn" | "upto" | "of" => look(alloc, provider, word, of, text),
+        "find" => find(alloc, provider, of, text),
+        "compare" => compare(alloc, provider, of, text),
         _ => write(alloc, provider, word, of, text),
     }
 }
@@ -129,7 +132,7 @@ fn take_step(
 /// Limits, and the drop of a search.
 fn change(
     alloc: Global,
-    provider: &mut Provider,
+    provider: &mut SyncDirectory,
     word: &str,
     of: &str,
     text: &mut String,
@@ -142,7 +145,7 @@ fn change(
     Ok(())
 }
 
-fn drop_search(provider: &mut Provider, search: u64, text: &mut String) -> Result<(), Fail>
+fn drop_search(provider: &mut SyncDirectory, search: u64, text: &mut String) -> Result<(), Fail>
     ensures { provider.new.directory ≡ provider.old.directory }
 {
     let was_open = provider.drop_search(search);
@@ -152,14 +155,18 @@ fn drop_search(provider: &mut Provider, search: u64, text: &mut String) -> Resul
 /// Reports what the first two of three searches hand out up to their ends, and drops the third.
 /// Then the searches are again those before.
 #[tactic(auto, using(sync_provider::proofs::Returns::no_write_came))]
-fn take_aside(alloc: Global, provider: &mut Provider, text: &mut String) -> Result<(), Fail> {
-    let searches = provider.open_searches()?;
+fn take_aside(alloc: Global, provider: &mut SyncDirectory, text: &mut String) -> Result<(), Fail> {
+    let first = provider.open_search(1)?;
+    let second = provider.open_search(2)?;
+    let third = provider.open_search(3)?;
     let done = end_searches(alloc, provider, text);
-    provider.return_to(searches);
+    provider.return_to_search(first);
+    provider.return_to_search(second);
+    provider.return_to_search(third);
     done
 }
 
-fn end_searches(alloc: Global, provider: &mut Provider, text: &mut String) -> Result<(), Fail>
+fn end_searches(alloc: Global, provider: &mut SyncDirectory, text: &mut String) -> Result<(), Fail>
     ensures { provider.new.directory ≡ provider.old.directory }
 {
     spell(alloc, provider, "1", text)?;
@@ -172,7 +179,7 @@ fn end_searches(alloc: Global, provider: &mut Provider, text: &mut String) -> Re
 /// number of writes up to a CSN.
 fn look(
     alloc: Global,
-    provider: &Provider,
+    provider: &SyncDirectory,
     word: &str,
     of: &str,
     text: &mut String,
@@ -189,7 +196,7 @@ fn look(
     Ok(())
 }
 
-fn csn_of(provider: &Provider, word: &str, number: u64) -> Result<Csn, Fail> {
+fn csn_of(provider: &SyncDirectory, word: &str, number: u64) -> Result<Csn, Fail> {
     if word == "of" {
         let entry = provider.tree().get(u128::from(number)).ok_or("no entry")?;
         return Ok(entry.csn);

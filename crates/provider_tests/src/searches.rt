@@ -12,11 +12,11 @@ use ldap_ber::{NoMemory, Octets};
 use ldap_filter::Filter;
 use std::alloc::Global;
 use std::test::Fail;
-use sync_provider::{Accepted, Provider, SyncSearch};
+use sync_provider::{Accepted, SyncDirectory, SyncSearch};
 
 pub(crate) fn open(
     alloc: Global,
-    provider: &mut Provider,
+    provider: &mut SyncDirectory,
     word: &str,
     of: &str,
     text: &mut String,
@@ -32,7 +32,7 @@ pub(crate) fn open(
     }
 }
 
-fn asked(alloc: Global, word: &str, of: &str) -> Result<SyncSearch, Fail> {
+pub(crate) fn asked(alloc: Global, word: &str, of: &str) -> Result<SyncSearch, Fail> {
     let (base, rest) = parted(of);
     let (filter, cookie) = parted(rest);
     let control = control(alloc, word, cookie)?;
@@ -43,7 +43,7 @@ fn asked(alloc: Global, word: &str, of: &str) -> Result<SyncSearch, Fail> {
     })
 }
 
-fn spec(alloc: Global, base: &str, filter: &str) -> Result<Spec, Fail> {
+pub(crate) fn spec(alloc: Global, base: &str, filter: &str) -> Result<Spec, Fail> {
     let (scope, base) = match base.split_once(':') {
         Some((word, base)) if word == "one" => (Scope::One, base),
         Some((_, base)) => (Scope::Base, base),

@@ -9,7 +9,7 @@ use ldap_constants::BUSY;
 use ldap_messages::{LdapResult, Message, Protocol};
 use std::alloc::Global;
 use std::test::Fail;
-use sync_provider::{Handed, Provider, done_message};
+use sync_provider::{Handed, SyncDirectory, done_message};
 
 /// Spellings by their names. The message ID of each is 7.
 const SPELLINGS: [(&str, &[u8]); 4] = [
@@ -43,7 +43,7 @@ const SPELLINGS: [(&str, &[u8]); 4] = [
 /// Reports the name of the spelling of the next message.
 pub(crate) fn spell(
     alloc: Global,
-    provider: &mut Provider,
+    provider: &mut SyncDirectory,
     search: &str,
     text: &mut String,
 ) -> Result<(), Fail>

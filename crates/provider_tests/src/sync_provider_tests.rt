@@ -202,6 +202,29 @@ queue 1; stay dc=x * ''; commit 1:ou=a,dc=x; hand 1 1; commit 2:ou=b,dc=x; hand 
 commit 1:ou=a,dc=x; of 1; csn 1 => w1 20260101000000.000000Z#000007#002#000000 19700101000000.000000Z#000001#001#000000
 ";
 
+/// Plain searches and comparisons.
+const QUESTIONS: &str = "\
+^root; first; add ou=a,dc=x; add ou=b,dc=x; add ou=c,ou=a,dc=x
+# The base, the entries directly below it, and all of them, in the order of their identities
+find 0 base:dc=x *; find 0 one:dc=x *; find 0 dc=x * => w1 w2 w3 w4 f1 dc=x f2 ou=a,dc=x ou=b,dc=x f4 dc=x ou=a,dc=x ou=b,dc=x ou=c,ou=a,dc=x
+find 0 ou=a,dc=x (ou=*); find 0 OU=A,dc=x (ou=C); find 0 base:ou=a,dc=x (ou=b) => w1 w2 w3 w4 f2 ou=a,dc=x ou=c,ou=a,dc=x f1 ou=c,ou=a,dc=x f0
+# A limit
+find 4 dc=x *; find 3 dc=x *; find 1 one:dc=x *; find 1 base:dc=x * => w1 w2 w3 w4 f4 dc=x ou=a,dc=x ou=b,dc=x ou=c,ou=a,dc=x o3 dc=x ou=a,dc=x ou=b,dc=x o1 ou=a,dc=x f1 dc=x
+# No entry has the name of the base.
+find 0 ou=z,dc=x *; find 1 one:dc=y *; delete ou=b,dc=x; find 0 base:ou=b,dc=x * => w1 w2 w3 w4 c32 c32 w5 c32
+# Nothing of it is a write.
+find 0 dc=x *; compare dc=x o x; size => w1 w2 w3 w4 f4 dc=x ou=a,dc=x ou=b,dc=x ou=c,ou=a,dc=x c6 4/4/1
+^root; first
+# A value that the entry has, one that it has not, a type that it has not, one that there is not, and
+# a name that no entry has
+compare dc=x o x; compare dc=x o y; compare dc=x l x; compare dc=x foo x; compare dc=y o x => w1 c6 c5 c16 c17 c32
+compare DC=X O x; compare dc=x objectClass DCOBJECT; compare dc=x objectClass person => w1 c6 c6 c5
+# Types that no client gives, and values that are not of their type's syntax
+compare dc=x entryUUID 00000000-0001-8000-8000-000000000001; compare dc=x entryCSN x; compare dc=x uidNumber x; compare dc=x objectClass x; compare dc=x l => w1 c17 c17 c21 c21 c21
+# Codes in their order
+compare dc=y foo x; compare dc=y uidNumber x; compare dc=x uidNumber 7 => w1 c32 c32 c16
+";
+
 #[test]
 fn spellings_codes_and_snapshots(rt: HostRuntime) -> Result<(), Fail> {
     check_rows(&rt, rt.alloc(), OWN)
@@ -220,6 +243,11 @@ fn searches_that_stay(rt: HostRuntime) -> Result<(), Fail> {
 #[test]
 fn writes_between_hand_outs(rt: HostRuntime) -> Result<(), Fail> {
     check_rows(&rt, rt.alloc(), SEQUENCES)
+}
+
+#[test]
+fn plain_searches_and_comparisons(rt: HostRuntime) -> Result<(), Fail> {
+    check_rows(&rt, rt.alloc(), QUESTIONS)
 }
 
 #[test]

@@ -6,12 +6,12 @@ use ldap_constants::SUCCESS;
 use schema_rules::{Change, EditList, How, RawAttribute, RawEdit, RawList};
 use std::alloc::Global;
 use std::test::Fail;
-use sync_provider::{Provider, Reply};
+use sync_provider::{Reply, SyncDirectory};
 
 /// Reports what comes of the write.
 pub(crate) fn write(
     alloc: Global,
-    provider: &mut Provider,
+    provider: &mut SyncDirectory,
     word: &str,
     of: &str,
     text: &mut String,
@@ -25,7 +25,7 @@ pub(crate) fn write(
 }
 
 /// The reply to a write.
-fn replied(alloc: Global, provider: &mut Provider, change: Change) -> Result<Reply, Fail> {
+fn replied(alloc: Global, provider: &mut SyncDirectory, change: Change) -> Result<Reply, Fail> {
     let op = read_op(alloc, &change);
     discard(change);
     match op {
@@ -35,7 +35,7 @@ fn replied(alloc: Global, provider: &mut Provider, change: Change) -> Result<Rep
     }
 }
 
-fn accept(alloc: Global, provider: &mut Provider, word: &str, of: &str) -> Result<(), Fail> {
+fn accept(alloc: Global, provider: &mut SyncDirectory, word: &str, of: &str) -> Result<(), Fail> {
     match replied(alloc, provider, change(alloc, word, of)?)?.code {
         SUCCESS => Ok(()),
         _ => Err(Fail::from("a write is refused")),
@@ -45,7 +45,7 @@ fn accept(alloc: Global, provider: &mut Provider, word: &str, of: &str) -> Resul
 /// Adds units with the names of their writes, up to n writes.
 pub(crate) fn add_up_to(
     alloc: Global,
-    provider: &mut Provider,
+    provider: &mut SyncDirectory,
     last: &str,
     text: &mut String,
 ) -> Result<(), Fail> {
@@ -59,7 +59,7 @@ pub(crate) fn add_up_to(
 /// One first part becomes the other, and the other the one, n times in all.
 pub(crate) fn swing(
     alloc: Global,
-    provider: &mut Provider,
+    provider: &mut SyncDirectory,
     of: &str,
     text: &mut String,
 ) -> Result<(), Fail> {

@@ -1,5 +1,5 @@
 //! Tests of the layers of replication: change numbers and cookies, the session log, the phases of a
-//! refresh, queues and rings. Each file tests the crates that it is named for, by their public
+//! refresh, queues, rings and shared maps. Each file tests the crates that it is named for, by their public
 //! calls.
 #![tactic(auto)]
 
@@ -15,3 +15,5 @@ mod refresh_tests;
 mod rows;
 #[cfg(test)]
 mod session_log_tests;
+#[cfg(test)]
+mod shared_map_tests;

@@ -2,6 +2,7 @@
 //! reported. A line that begins with `#` says something of the rows below it.
 use crate::{
     csn_cookie_tests, link_rings_tests, persist_queues_tests, refresh_tests, session_log_tests,
+    shared_map_tests,
 };
 use std::alloc::{AllocError, Global};
 use std::process::Abort;
@@ -26,6 +27,7 @@ fn reported(alloc: Global, asked: &str) -> Result<String, AllocError> {
         "queue" => persist_queues_tests::reported(alloc, of),
         "log" => session_log_tests::reported(alloc, of),
         "ring" => link_rings_tests::reported(alloc),
+        "map" => shared_map_tests::reported(alloc, of),
         _ => csn_cookie_tests::reported(alloc, word, of),
     }
 }

@@ -155,7 +155,7 @@ fn joined(alloc: Global, raws: &[RawAttribute]) -> Result<Vec<Attribute>, Schema
     ensures given { IfOk result (λ items. list_all spec.is_given items.items ≡ true) }
     ensures fault { IfErr result (HasCode (spec.first_code raws.now)) }
 {
-    let mut items = Vec::new(alloc);
+    let mut items = Vec::with_capacity(alloc, raws.len())?;
     for raw in raws {
         let kind = checked_type(alloc, raw)?;
         let values = raw.values.copy()?;

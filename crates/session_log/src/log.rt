@@ -53,12 +53,12 @@ impl SessionLog {
     pub fn copy(&self) -> Result<SessionLog, NoMemory>
         ensures { IfOk result (λ copy. copy.log ≡ self.now.log) }
     {
-        let mut notes = VecDeque::new(*self.notes.allocator());
-        for note in &self.notes {
-            notes.push_back(*note)?;
-        }
+        let (prefix, back) = self.notes.as_slices();
+        let mut notes = Vec::with_capacity(*self.notes.allocator(), self.notes.len())?;
+        notes.extend_from_slice(prefix)?;
+        notes.extend_from_slice(back)?;
         Ok(SessionLog {
-            notes,
+            notes: VecDeque::from(notes),
             limit: self.limit,
             floor: self.floor,
         })

@@ -42,7 +42,8 @@ with_first e (x ∷ es) all off rest =
     (All-cons (Differs x) e all (apart_to e x (All-head (λ (y : Entry). is_named e.dn y ≡ false) x es off)) (All-head (λ (one : Entry). All (Differs one) all) x es rest))
     (with_first e es all (All-tail (λ (y : Entry). is_named e.dn y ≡ false) x es off) (All-tail (λ (one : Entry). All (Differs one) all) x es rest))
 
-all_apart : (es : List Entry) → same_named es ≡ None → AreNamedApart es
+-- entries of which no two have one name are named apart
+pub all_apart : (es : List Entry) → same_named es ≡ None → AreNamedApart es
 all_apart [] none = All-nil (λ (one : Entry). All (Differs one) [])
 all_apart (e ∷ es) none =
     let p = option_or-none (option_map (λ (other : Entry). (e.uuid, other.uuid)) (entry_named es e.dn)) (same_named es) none in

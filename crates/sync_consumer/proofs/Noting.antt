@@ -1,80 +1,297 @@
--- Names that are noted, one after another.
-use Rattle.std.proofs.Common.{◌≡◌, ℕ, Bool, true, false, cond, Bor, List, [], ◌∷◌, ◌++◌, Option, Some, None, refl, sym, ap, ◌∙◌, Ordering, Less, Equal, Greater, nat_cmp}
-use Rattle.std.specs.Prelude.{is_some}
+-- What stands at the path keys of names, as names are taken away and noted.
+use Rattle.std.proofs.Common.{◌≡◌, ℕ, Bool, true, false, not, ◌&&◌, cond, nat_eq, List, [], ◌∷◌, length, Option, Some, None, Vec, Global, Bor, refl, sym, ap, subst, ◌∙◌, ◌⊎◌, inl, inr, arith}
+use Rattle.std.specs.Prelude.{bytes_eq, is_some, is_none, option_copied}
 use Rattle.std.specs.BTreeMap.{insert_entry, is_at}
-use Rattle.std.specs.Cmp.Lexicographic.{slice_cmp, bytes_decides, texts_ties}
-use Rattle.std.specs.Map.{lookup}
-use Rattle.std.specs.Ordering.{is_eq, match_ordering}
-use Rattle.std.proofs.lemmas.Bool.{and_parts, and_from}
-use Rattle.std.proofs.lemmas.List.Folds.{list_all-append}
-use Rattle.dn_names.specs.Keys.{name_key}
+use Rattle.std.specs.Cmp.{nat_eq_equiv}
+use Rattle.std.specs.BTreeMap.Comparable.{le_lt_trans}
+use Rattle.std.specs.Cmp.Lexicographic.{slice_cmp, bytes_decides, nat_list_cmp_total, nat_list_eq_equiv, on_texts}
+use Rattle.std.specs.List.{AllByRecursion}
+use Rattle.std.specs.List.Sorted.{IsStrictlySortedBy}
+use Rattle.std.specs.Map.{keys_of, lookup, remove_entry}
+use Rattle.std.specs.Option.{unwrap_or}
+use Rattle.std.specs.Ordering.{nat_cmp, is_eq}
+use Rattle.std.specs.declared.cmp.Ordering.{Ordering}
+use Rattle.std.specs.declared.cmp.Ordering.TheVariants.{Less}
+use Rattle.std.proofs.lemmas.Bool.{and_parts, eqb-true, eq-eqb, false≢true}
+use Rattle.std.proofs.lemmas.Map.Keys.{sorted_head, sorted_tail}
+use Rattle.std.proofs.lemmas.Map.Text.{is_eq-slice_cmp}
+use Rattle.shared_map.specs.Queries.{IsQuery}
+use Rattle.shared_map.proofs.Changes.{lookup-insert_entry}
+use Rattle.dn_names.specs.Paths.{path_key}
 use Rattle.entry_tree.specs.declared.entry.Entry.{Entry}
-use Rattle.sync_consumer.specs.Names.{Names, noted_at, are_noted, Keeps}
+use Rattle.entry_tree.specs.State.{entry_at}
+use Rattle.sync_model.specs.Copy.{Stage, slot}
+use Rattle.sync_consumer.specs.Holding.{Names, id_at, is_id, has_path, stays, after_stage, Forgets, Notes, NotesAll, SetsId, ArePathsApart, IsFreeOf}
 
-abbrev pub Key : Type 0
-Key = Bor (List ℕ)
+abbrev pub key_cmp : Vec ℕ Global → Vec ℕ Global → Ordering
+key_cmp one other = slice_cmp nat_cmp one.items other.items
 
-abbrev pub by_text : Key → Key → Ordering
-by_text one other = slice_cmp nat_cmp one.now other.now
+abbrev stands : List ℕ → Vec ℕ Global → Bool
+stands path = is_at (λ (key : Vec ℕ Global). slice_cmp nat_cmp path key.items)
 
--- the identity that is noted for a name
-abbrev pub found : List ℕ → List (Key × ℕ) → Option ℕ
-found text es = lookup (is_at (λ (other : Key). slice_cmp nat_cmp text other.now)) es
+same_bytes : (one other : List ℕ) → bytes_eq one other ≡ true → one ≡ other
+same_bytes one other same = (bytes_decides one other).0 same
 
--- a text is equal to itself
-same_text : (text : List ℕ) → is_eq (slice_cmp nat_cmp text text) ≡ true
-same_text text = sym (texts_ties text text) ∙ (bytes_decides text text).1 refl
+-- a path key stands at itself
+stands_is : (path : List ℕ) (key : Vec ℕ Global) → stands path key ≡ true → path ≡ key.items
+stands_is path key here = same_bytes path key.items (sym (is_eq-slice_cmp path key.items) ∙ here)
 
--- ---- one more key
+tests_bytes : (path : List ℕ) (key : Vec ℕ Global) → stands path key ≡ bytes_eq key.items path
+tests_bytes path key = is_eq-slice_cmp path key.items ∙ nat_list_eq_equiv.symm path key.items
 
-added : (es : List (Key × ℕ)) (key : Key) (uuid : ℕ) → is_some (found key.now (insert_entry by_text es key uuid)) ≡ true
-added [] key uuid = ap (λ b. is_some (cond b (Some uuid) None)) (same_text key.now)
-added (e ∷ es) key uuid = by (by_text key e.0) refl (added es key uuid) where
-  by : (o : Ordering) → by_text key e.0 ≡ o → is_some (found key.now (insert_entry by_text es key uuid)) ≡ true
-      → is_some (found key.now (match_ordering o ((key, uuid) ∷ e ∷ es) ((e.0, uuid) ∷ es) (e ∷ insert_entry by_text es key uuid))) ≡ true
-  by Less is rest = ap (λ b. is_some (cond b (Some uuid) (found key.now (e ∷ es)))) (same_text key.now)
-  by Equal is rest = ap (λ o. is_some (cond (is_eq o) (Some uuid) (found key.now es))) is
-  by Greater is rest = ap (λ o. is_some (cond (is_eq o) (Some e.1) (found key.now (insert_entry by_text es key uuid)))) is ∙ rest
+-- of two tests that do not both hold either may come first
+swapped : (b t : Bool) (a : ℕ) (found rest : Option ℕ) → (b ≡ true → t ≡ true → ⊥) → cond t (Some a) (cond b found rest) ≡ cond b found (cond t (Some a) rest)
+swapped true true a found rest never = absurd (never refl refl)
+swapped true false a found rest never = refl
+swapped false true a found rest never = refl
+swapped false false a found rest never = refl
 
-either : (b : Bool) (uuid : ℕ) (other : Option ℕ) → is_some other ≡ true → is_some (cond b (Some uuid) other) ≡ true
-either true uuid other some = refl
-either false uuid other some = some
+-- ---- one path key
 
--- a name that is noted stays so with one more
-pub kept : (es : List (Key × ℕ)) (key : Key) (uuid : ℕ) (text : List ℕ) → is_some (found text es) ≡ true → is_some (found text (insert_entry by_text es key uuid)) ≡ true
-kept [] key uuid text some = absurd (cc)
-kept (e ∷ es) key uuid text some = by (by_text key e.0) (is_eq (slice_cmp nat_cmp text e.0.now)) refl some (kept es key uuid text) where
-  by : (o : Ordering) (there : Bool) → is_eq (slice_cmp nat_cmp text e.0.now) ≡ there → is_some (cond there (Some e.1) (found text es)) ≡ true
-      → (is_some (found text es) ≡ true → is_some (found text (insert_entry by_text es key uuid)) ≡ true)
-      → is_some (found text (match_ordering o ((key, uuid) ∷ e ∷ es) ((e.0, uuid) ∷ es) (e ∷ insert_entry by_text es key uuid))) ≡ true
-  by Less there is h ih =
-      either (is_eq (slice_cmp nat_cmp text key.now)) uuid (cond (is_eq (slice_cmp nat_cmp text e.0.now)) (Some e.1) (found text es))
-      (ap (λ b. is_some (cond b (Some e.1) (found text es))) is ∙ h)
-  by Equal true is h ih = ap (λ b. is_some (cond b (Some uuid) (found text es))) is
-  by Equal false is h ih = ap (λ b. is_some (cond b (Some uuid) (found text es))) is ∙ h
-  by Greater true is h ih = ap (λ b. is_some (cond b (Some e.1) (found text (insert_entry by_text es key uuid)))) is
-  by Greater false is h ih = ap (λ b. is_some (cond b (Some e.1) (found text (insert_entry by_text es key uuid)))) is ∙ ih h
+-- what stands at the path keys after one is noted
+pub id_inserted : (names : Names) (key : Vec ℕ Global) (uuid : ℕ) (path : List ℕ)
+    → id_at (insert_entry key_cmp names key uuid) path ≡ cond (bytes_eq key.items path) (Some uuid) (id_at names path)
+id_inserted names key uuid path =
+    lookup-insert_entry (on_texts (λ (k : Vec ℕ Global). k.items)) key uuid query names ∙ ap (λ b. cond b (Some uuid) (id_at names path)) (tests_bytes path key)
+  where
+    query : IsQuery key_cmp (λ (k : Vec ℕ Global). slice_cmp nat_cmp path k.items)
+    query = record {
+      respects = λ x y. nat_list_cmp_total.congr path x.items y.items;
+      below_greater = λ x y. le_lt_trans nat_list_cmp_total path x.items y.items;
+    }
 
--- ---- the names of entries
+-- nothing stands at a path key below all
+none_beyond : (names : Names) (key : Vec ℕ Global) → AllByRecursion (λ (other : Vec ℕ Global). key_cmp key other ≡ Less) (keys_of names) → id_at names key.items ≡ None
+none_beyond [] key below = refl
+none_beyond (e ∷ names) key below = ap (λ o. cond (is_eq o) (Some e.1) (id_at names key.items)) below.0 ∙ none_beyond names key below.1
 
-stay_noted : (old new : Names) (es : List Entry) → Keeps old new → are_noted old es ≡ true → are_noted new es ≡ true
-stay_noted old new [] keeps all = refl
-stay_noted old new (e ∷ es) keeps all =
-    let p = and_parts (is_some (noted_at old (name_key e.dn))) (are_noted old es) all in
-    and_from (is_some (noted_at new (name_key e.dn))) (are_noted new es) (keeps (name_key e.dn) p.0) (stay_noted old new es keeps p.1)
+-- what stands at the path keys after one is taken away
+pub id_removed : (names : Names) (path other : List ℕ) → IsStrictlySortedBy key_cmp (keys_of names)
+    → id_at (remove_entry (stands path) names) other ≡ cond (bytes_eq path other) None (id_at names other)
+id_removed [] path other up = by (bytes_eq path other) where
+  by : (b : Bool) → ◌≡◌ {A = Option ℕ} None (cond b None None)
+  by true = refl
+  by false = refl
+id_removed (e ∷ names) path other up =
+    by (stands path e.0) refl (sorted_head key_cmp e.0 (keys_of names) up) (id_removed names path other (sorted_tail key_cmp e.0 (keys_of names) up))
+  where
+    here : path ≡ e.0.items → AllByRecursion (λ (key : Vec ℕ Global). key_cmp e.0 key ≡ Less) (keys_of names) → (b : Bool) → bytes_eq path other ≡ b
+        → id_at names other ≡ cond b None (cond (stands other e.0) (Some e.1) (id_at names other))
+    here is below true same = ap (id_at names) (sym (same_bytes path other same) ∙ is) ∙ none_beyond names e.0 below
+    here is below false differ =
+        sym (ap (λ b. cond b (Some e.1) (id_at names other)) (tests_bytes other e.0 ∙ ap (λ text. bytes_eq text other) (sym is) ∙ differ))
 
--- names of entries stay noted where more are noted
-pub noted_more : (old new : Names) (es more : List Entry) → Keeps old new → are_noted new more ≡ true → are_noted old es ≡ true → are_noted new (es ++ more) ≡ true
-noted_more old new es more keeps own all =
-    list_all-append (λ (e : Entry). is_some (noted_at new (name_key e.dn))) es more
-    ∙ and_from (are_noted new es) (are_noted new more) (stay_noted old new es keeps all) own
+    by : (b : Bool) → stands path e.0 ≡ b → AllByRecursion (λ (key : Vec ℕ Global). key_cmp e.0 key ≡ Less) (keys_of names)
+        → id_at (remove_entry (stands path) names) other ≡ cond (bytes_eq path other) None (id_at names other)
+        → id_at (cond b names (e ∷ remove_entry (stands path) names)) other ≡ cond (bytes_eq path other) None (cond (stands other e.0) (Some e.1) (id_at names other))
+    by true is below rest = here (stands_is path e.0 is) below (bytes_eq path other) refl
+    by false off below rest =
+        ap (λ found. cond (stands other e.0) (Some e.1) found) rest
+        ∙ swapped (bytes_eq path other) (stands other e.0) e.1 None (id_at names other)
+        (λ same there. false≢true (sym off ∙ ap (λ text. stands text e.0) (same_bytes path other same) ∙ there))
 
--- the name that was noted last is noted
-pub noted_one : (old new : Names) (key : Key) (entry : Entry) (uuid : ℕ) → key.now ≡ name_key entry.dn → new.entries ≡ insert_entry by_text old.entries key uuid
-    → are_noted new (entry ∷ []) ≡ true
-noted_one old new key entry uuid is entries =
-    and_from (is_some (noted_at new (name_key entry.dn))) true
-    (ap (λ es. is_some (found (name_key entry.dn) es)) entries
-    ∙ ap (λ text. is_some (found text (insert_entry by_text old.entries key uuid))) (sym is)
-    ∙ added old.entries key uuid)
-    refl
+-- the path key of a name that was noted, or taken away
+pub sets_inserted : (old new : Names) (key : Vec ℕ Global) (path : List ℕ) (uuid : ℕ) → key.items ≡ path → new ≡ insert_entry key_cmp old key uuid → SetsId old new path (Some uuid)
+sets_inserted old new key path uuid is inserted other =
+    ap (λ (names : Names). id_at names other) inserted
+    ∙ id_inserted old key uuid other
+    ∙ ap (λ text. cond (bytes_eq text other) (Some uuid) (id_at old other)) is
+
+pub sets_removed : (old new : Names) (text path : List ℕ) → text ≡ path → IsStrictlySortedBy key_cmp (keys_of old) → new ≡ remove_entry (stands text) old → SetsId old new path None
+sets_removed old new text path is up removed other =
+    ap (λ (names : Names). id_at names other) removed
+    ∙ id_removed old text other up
+    ∙ ap (λ t. cond (bytes_eq t other) None (id_at old other)) is
+
+-- without names none stands anywhere
+pub sets_empty : (names : Names) (path : List ℕ) → length names ≡ 0 → SetsId names names path None
+sets_empty [] path none other = by (bytes_eq path other) where
+  by : (b : Bool) → ◌≡◌ {A = Option ℕ} None (cond b None None)
+  by true = refl
+  by false = refl
+sets_empty (e ∷ names) path none other = absurd (omega (arith, none))
+
+-- a path key is free where no identity is found at it
+pub free_is : (found : Option (Bor ℕ)) (is_free : Bool) (names : Names) (text path : List ℕ) → is_some found ≡ not is_free → option_copied found ≡ id_at names text → text ≡ path
+    → is_free ≡ is_none (id_at names path)
+free_is found is_free names text path reports is same = by found is_free reports ∙ ap is_none (is ∙ ap (id_at names) same)
+  where
+    by : (found : Option (Bor ℕ)) (b : Bool) → is_some found ≡ not b → b ≡ is_none (option_copied found)
+    by None true h = refl
+    by None false h = absurd (cc)
+    by (Some x) true h = absurd (cc)
+    by (Some x) false h = refl
+
+-- ---- one identity
+
+other_id : (found : Option ℕ) (k u : ℕ) → is_id found k ≡ true → nat_eq u k ≡ false → is_id found u ≡ false
+other_id None k u is off = refl
+other_id (Some v) k u is off =
+    ap (λ n. nat_eq n u) (eqb-true v k is) ∙ nat_eq_equiv.symm k u ∙ off
+
+-- the name of an identity is taken away
+pub forgets : (old new : Names) (entry_of after : ℕ → Option Entry) (e : Entry) (k : ℕ) → Notes old entry_of → entry_of k ≡ Some e → SetsId old new (path_key e.dn) None
+    → ((u : ℕ) → after u ≡ cond (nat_eq u k) None (entry_of u)) → Notes new after
+forgets old new entry_of after e k notes has sets is path u =
+    ap (λ found. is_id found u) (sets path)
+    ∙ by (bytes_eq (path_key e.dn) path) refl (nat_eq u k) refl
+    ∙ sym (ap (has_path path) (is u))
+  where
+    own : is_id (id_at old path) k ≡ bytes_eq (path_key e.dn) path
+    own = notes path k ∙ ap (has_path path) has
+
+    by : (b : Bool) → bytes_eq (path_key e.dn) path ≡ b → (c : Bool) → nat_eq u k ≡ c
+        → is_id (cond b None (id_at old path)) u ≡ has_path path (cond c None (entry_of u))
+    by true here true same = refl
+    by true here false other = sym (sym (notes path u) ∙ other_id (id_at old path) k u (own ∙ here) other)
+    by false off true same = ap (λ n. is_id (id_at old path) n) (eqb-true u k same) ∙ own ∙ off
+    by false off false other = notes path u
+
+-- an identity without an entry has no name
+pub untouched : (names : Names) (entry_of after : ℕ → Option Entry) (k : ℕ) → Notes names entry_of → entry_of k ≡ None
+    → ((u : ℕ) → after u ≡ cond (nat_eq u k) None (entry_of u)) → Notes names after
+untouched names entry_of after k notes none is path u = notes path u ∙ ap (has_path path) (by (nat_eq u k) refl ∙ sym (is u))
+  where
+    by : (c : Bool) → nat_eq u k ≡ c → entry_of u ≡ cond c None (entry_of u)
+    by true same = ap entry_of (eqb-true u k same) ∙ none
+    by false other = refl
+
+-- the name of an identity is noted at a path key at which nothing stands
+pub notes_name : (old new : Names) (entry_of after : ℕ → Option Entry) (e : Entry) → Notes old entry_of → entry_of e.uuid ≡ None → id_at old (path_key e.dn) ≡ None
+    → SetsId old new (path_key e.dn) (Some e.uuid) → ((u : ℕ) → after u ≡ cond (nat_eq u e.uuid) (Some e) (entry_of u)) → Notes new after
+notes_name old new entry_of after e notes none free sets is path u =
+    ap (λ found. is_id found u) (sets path)
+    ∙ by (bytes_eq (path_key e.dn) path) refl (nat_eq u e.uuid) refl
+    ∙ sym (ap (has_path path) (is u))
+  where
+    by : (b : Bool) → bytes_eq (path_key e.dn) path ≡ b → (c : Bool) → nat_eq u e.uuid ≡ c
+        → is_id (cond b (Some e.uuid) (id_at old path)) u ≡ has_path path (cond c (Some e) (entry_of u))
+    by true here true same = nat_eq_equiv.symm e.uuid u ∙ same ∙ sym here
+    by true here false other =
+        nat_eq_equiv.symm e.uuid u ∙ other
+        ∙ sym (sym (notes path u) ∙ ap (λ found. is_id found u) (ap (id_at old) (sym (same_bytes (path_key e.dn) path here)) ∙ free))
+    by false off true same = notes path u ∙ ap (has_path path) (ap entry_of (eqb-true u e.uuid same) ∙ none) ∙ sym off
+    by false off false other = notes path u
+
+-- the names of one identity more are taken away
+pub forgets_more : (held : List Entry) (old new : Names) (c : ℕ × Option Entry) (rest : Stage) → slot rest c.0 ≡ None → Forgets old new (entry_at held c.0) → Notes old (stays held rest) → Notes new (stays held (c ∷ rest))
+forgets_more held old new c rest none gone notes = by (entry_at held c.0) refl gone
+  where
+    was : stays held rest c.0 ≡ entry_at held c.0
+    was = ap (λ (found : Option (Option Entry)). cond (is_some found) None (entry_at held c.0)) none
+
+    after : (u : ℕ) → stays held (c ∷ rest) u ≡ cond (nat_eq u c.0) None (stays held rest u)
+    after u = each (nat_eq u c.0) where
+      each : (b : Bool) → cond (is_some (cond b (Some c.1) (slot rest u))) None (entry_at held u) ≡ cond b None (stays held rest u)
+      each true = refl
+      each false = refl
+
+    by : (found : Option Entry) → entry_at held c.0 ≡ found → Forgets old new found → Notes new (stays held (c ∷ rest))
+    by None is same =
+        subst (λ (names : Names). Notes names (stays held (c ∷ rest))) (sym same) (untouched old (stays held rest) (stays held (c ∷ rest)) c.0 notes (was ∙ is) after)
+    by (Some e) is sets = forgets old new (stays held rest) (stays held (c ∷ rest)) e c.0 notes (was ∙ is) sets after
+
+-- ---- one change
+
+-- nothing is put
+pub notes_none : (names : Names) (uuid : ℕ) → NotesAll names names ((uuid, None) ∷ []) true
+notes_none names uuid entry_of notes free how path u = notes path u ∙ ap (has_path path) (by (nat_eq u uuid) refl)
+  where
+    by : (c : Bool) → nat_eq u uuid ≡ c → entry_of u ≡ unwrap_or (cond {A = Option (Option Entry)} c (Some None) None) (entry_of u)
+    by true same = free u (ap (λ b. is_some (cond {A = Option (Option Entry)} b (Some None) None)) same)
+    by false other = refl
+
+-- an entry is put
+pub notes_put : (old new : Names) (e : Entry) (is_free : Bool) → is_free ≡ is_none (id_at old (path_key e.dn)) → SetsId old new (path_key e.dn) (Some e.uuid)
+    → NotesAll old new ((e.uuid, Some e) ∷ []) is_free
+notes_put old new e is_free was sets entry_of notes free how =
+    notes_name old new entry_of (after_stage entry_of ((e.uuid, Some e) ∷ [])) e notes none (absent how) sets (λ u. put u (nat_eq u e.uuid))
+  where
+    after : ℕ → Option Entry
+    after = after_stage entry_of ((e.uuid, Some e) ∷ [])
+
+    own : nat_eq e.uuid e.uuid ≡ true
+    own = eq-eqb e.uuid e.uuid refl
+
+    none : entry_of e.uuid ≡ None
+    none = free e.uuid (ap (λ b. is_some (cond {A = Option (Option Entry)} b (Some (Some e)) None)) own)
+
+    put : (u : ℕ) (c : Bool) → unwrap_or (cond {A = Option (Option Entry)} c (Some (Some e)) None) (entry_of u) ≡ cond c (Some e) (entry_of u)
+    put u true = refl
+    put u false = refl
+
+    -- the identity that stands at the path key has an entry with it, and so has this one after it
+    never : ArePathsApart after → (v : ℕ) → id_at old (path_key e.dn) ≡ Some v → ⊥
+    never far v there =
+        let stood : has_path (path_key e.dn) (entry_of v) ≡ true = sym (notes (path_key e.dn) v) ∙ ap (λ found. is_id found v) there ∙ eq-eqb v v refl in
+        by (nat_eq v e.uuid) refl stood
+      where
+        by : (c : Bool) → nat_eq v e.uuid ≡ c → has_path (path_key e.dn) (entry_of v) ≡ true → ⊥
+        by true same stood = false≢true (sym (ap (has_path (path_key e.dn)) (ap entry_of (eqb-true v e.uuid same) ∙ none)) ∙ stood)
+        by false other stood =
+            let mine : has_path (path_key e.dn) (after e.uuid) ≡ true =
+            ap (has_path (path_key e.dn)) (put e.uuid (nat_eq e.uuid e.uuid) ∙ ap (λ c. cond c (Some e) (entry_of e.uuid)) own) ∙ (bytes_decides (path_key e.dn) (path_key e.dn)).1 refl in
+            let others : has_path (path_key e.dn) (after v) ≡ true =
+            ap (has_path (path_key e.dn)) (put v (nat_eq v e.uuid) ∙ ap (λ c. cond c (Some e) (entry_of v)) other) ∙ stood in
+            false≢true (sym other ∙ eq-eqb v e.uuid (far (path_key e.dn) v e.uuid others mine))
+
+    absent : (is_free ≡ true) ⊎ ArePathsApart after → id_at old (path_key e.dn) ≡ None
+    absent (inl freed) = by (id_at old (path_key e.dn)) (sym was ∙ freed) where
+      by : (found : Option ℕ) → is_none found ≡ true → found ≡ None
+      by None is = refl
+      by (Some v) is = absurd (false≢true is)
+    absent (inr far) = by (id_at old (path_key e.dn)) refl where
+      by : (found : Option ℕ) → id_at old (path_key e.dn) ≡ found → id_at old (path_key e.dn) ≡ None
+      by None is = is
+      by (Some v) is = absurd (never far v is)
+
+-- ---- a change more
+
+-- the names of one change are noted after those of the others
+pub notes_more : (old mid new : Names) (c : ℕ × Option Entry) (rest : Stage) (others own : Bool) → slot rest c.0 ≡ None
+    → NotesAll old mid rest others → NotesAll mid new (c ∷ []) own → NotesAll old new (c ∷ rest) (others && own)
+notes_more old mid new c rest others own none first last entry_of notes free how path u =
+    last before (first entry_of notes rest_free (earlier how)) own_free (later how) path u
+    ∙ ap (has_path path) (same u (nat_eq u c.0))
+  where
+    before : ℕ → Option Entry
+    before = after_stage entry_of rest
+
+    same : (u : ℕ) (b : Bool) → unwrap_or (cond {A = Option (Option Entry)} b (Some c.1) None) (unwrap_or (slot rest u) (entry_of u)) ≡ unwrap_or (cond b (Some c.1) (slot rest u)) (entry_of u)
+    same u true = refl
+    same u false = refl
+
+    rest_free : IsFreeOf entry_of rest
+    rest_free u some = free u (by (nat_eq u c.0)) where
+      by : (b : Bool) → is_some (cond b (Some c.1) (slot rest u)) ≡ true
+      by true = refl
+      by false = some
+
+    own_free : IsFreeOf before (c ∷ [])
+    own_free u some = by (nat_eq u c.0) refl some where
+      by : (b : Bool) → nat_eq u c.0 ≡ b → is_some (cond {A = Option (Option Entry)} b (Some c.1) None) ≡ true → unwrap_or (slot rest u) (entry_of u) ≡ None
+      by true is some =
+          let here = eqb-true u c.0 is in
+          ap (λ n. unwrap_or (slot rest n) (entry_of u)) here ∙ ap (λ found. unwrap_or found (entry_of u)) none
+          ∙ free u (ap (λ b. is_some (cond b (Some c.1) (slot rest u))) is)
+      by false off some = absurd (false≢true some)
+
+    -- an identity with a name before it has it after it
+    stays_on : (path : List ℕ) (u : ℕ) → has_path path (before u) ≡ true → has_path path (after_stage entry_of (c ∷ rest) u) ≡ true
+    stays_on path u has = by (nat_eq u c.0) refl where
+      by : (b : Bool) → nat_eq u c.0 ≡ b → has_path path (unwrap_or (cond b (Some c.1) (slot rest u)) (entry_of u)) ≡ true
+      by true is = absurd (false≢true (sym (ap (has_path path) (own_free u (ap (λ b. is_some (cond {A = Option (Option Entry)} b (Some c.1) None)) is))) ∙ has))
+      by false off = has
+
+    earlier : ((others && own) ≡ true) ⊎ ArePathsApart (after_stage entry_of (c ∷ rest)) → (others ≡ true) ⊎ ArePathsApart before
+    earlier (inl both) = inl (and_parts others own both).0
+    earlier (inr far) = inr (λ path one other has has'. far path one other (stays_on path one has) (stays_on path other has'))
+
+    later : ((others && own) ≡ true) ⊎ ArePathsApart (after_stage entry_of (c ∷ rest)) → (own ≡ true) ⊎ ArePathsApart (after_stage before (c ∷ []))
+    later (inl both) = inl (and_parts others own both).1
+    later (inr far) =
+        inr (λ path one other has has'. far path one other (sym (ap (has_path path) (same one (nat_eq one c.0))) ∙ has) (sym (ap (has_path path) (same other (nat_eq other c.0))) ∙ has'))
+
+-- no changes note nothing
+pub notes_nothing : (names : Names) (others : Bool) → NotesAll names names [] others
+notes_nothing names others entry_of notes free how = notes

@@ -1,5 +1,5 @@
 -- What rejects entries that a directory may not have.
-use Rattle.std.proofs.Common.{◌≡◌, ℕ, Bool, true, false, not, ◌&&◌, cond, nat_lt, List, length, Option, Some, None, refl, ap, subst, ◌∙◌}
+use Rattle.std.proofs.Common.{◌≡◌, ℕ, Bool, true, false, not, ◌&&◌, cond, nat_lt, List, length, Option, Some, None, refl, ap, ◌∙◌}
 use Rattle.std.specs.Prelude.{is_none, option_map}
 use Rattle.std.proofs.lemmas.Bool.{lt-ltb, or_left, or_right}
 use Rattle.entry_tree.specs.declared.commit.CommitRefusal.{CommitRefusal}
@@ -12,7 +12,6 @@ use Rattle.sync_model.specs.Copy.{Fault}
 use Rattle.sync_model.specs.Within.{against}
 use Rattle.sync_consumer.specs.SyncSession.{RefusesBy}
 use Rattle.sync_consumer.specs.Taking.{refusal_against}
-use Rattle.sync_consumer.specs.declared.fault.Refusal.{Refusal}
 
 abbrev by_name : Option (ℕ × ℕ) → Option Fault
 by_name pair = option_map (λ (p : ℕ × ℕ). DuplicateName p.0 p.1) pair
@@ -32,10 +31,6 @@ opposed entries (SameName one other) same = (
   refl,
 )
 opposed entries NoMemory none = tt
-
--- a refusal of entries is one of equal entries
-pub opposed_as : (left all : List Entry) (refusal : Refusal) → left ≡ all → RefusesBy (against left) refusal → RefusesBy (against all) refusal
-opposed_as left all refusal is refuses = subst (λ (es : List Entry). RefusesBy (against es) refusal) is refuses
 
 -- entries that may be held pass no limit
 pub unopposed : (entries : List Entry) → may_be_held entries ≡ true → against entries ≡ None

@@ -1,8 +1,8 @@
 -- What the steps of a search come to.
-use Rattle.std.proofs.Common.{◌≡◌, ℕ, Bool, false, true, List, [], ◌∷◌, map, Option, Some, None, Ok, refl, sym, ap, ◌∙◌, subst}
+use Rattle.std.proofs.Common.{◌≡◌, ℕ, Bool, false, true, List, Option, Some, None, Ok, refl, sym, ap, ◌∙◌, subst}
 use Rattle.std.specs.Prelude.{not, find}
 use Rattle.sync_model.specs.Message.{CookieText}
-use Rattle.sync_model.specs.Copy.{Stage, SyncSession, Copy, Answer, Fault, staged, all_dropped, effected, is_known, refused, commit_of, cleared, with_cookie, taken_names}
+use Rattle.sync_model.specs.Copy.{Stage, SyncSession, Copy, Answer, Fault, effected, is_known, refused, commit_of, cleared, with_cookie, taken_names}
 use Rattle.sync_model.specs.Copy.Answer.{Stored}
 use Rattle.sync_model.specs.Copy.Fault.{PresentUnknown}
 use Rattle.sync_model.specs.Within.{limit_fault, against, refused_by}
@@ -12,13 +12,7 @@ use Rattle.sync_consumer.specs.declared.held.HeldContent.{HeldContent}
 use Rattle.sync_consumer.specs.declared.session.SyncSession as kept
 use Rattle.sync_consumer.specs.declared.session.SearchStep.TheVariants.{Goes}
 use Rattle.sync_consumer.specs.SyncSession.{session_of, copy_with, within, StepsTo}
-use Rattle.sync_consumer.specs.Staging.{staged_each}
 use Rattle.sync_consumer.specs.Taking.{taken_commit}
-
--- drops that are laid one after another
-pub staged_dropped : (us : List ℕ) (stage : Stage) → staged_each stage (map (λ (uuid : ℕ). (uuid, None)) us) ≡ all_dropped stage us
-staged_dropped [] stage = refl
-staged_dropped (u ∷ us) stage = staged_dropped us (staged u None stage)
 
 -- an outcome within the limits
 abbrev pub limited : (puts : Bool) → Copy → Copy × Answer → Copy × Answer

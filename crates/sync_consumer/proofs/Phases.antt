@@ -6,7 +6,7 @@ use Rattle.std.specs.Option.{option_or}
 use Rattle.entry_tree.specs.declared.entry.Entry.{Entry}
 use Rattle.sync_model.specs.Message.{CookieText}
 use Rattle.sync_model.specs.Copy as model
-use Rattle.sync_model.specs.Copy.{Stage, SyncSession, Copy, Answer, effected, unmentioned, commit_of, refreshed, ends_phase, persists_on}
+use Rattle.sync_model.specs.Copy.{Stage, SyncSession, Copy, Answer, effected, present_ended, commit_of, refreshed, ends_phase, persists_on}
 use Rattle.sync_model.specs.Copy.Answer.{Stored, Copied}
 use Rattle.sync_model.specs.Within.{against, refused_by}
 use Rattle.sync_consumer.specs.declared.commit.Commit.{Commit}
@@ -15,18 +15,17 @@ use Rattle.sync_consumer.specs.declared.consumer.Taken.TheVariants as taken
 use Rattle.sync_consumer.specs.declared.held.HeldContent.{HeldContent}
 use Rattle.sync_consumer.specs.declared.session.SyncSession as kept
 use Rattle.sync_consumer.specs.declared.session.SearchStep.TheVariants.{Goes, Ends}
-use Rattle.sync_consumer.specs.SyncSession.{session_of, copy_of, copy_with, within, last_changes, refresh_ended, IsTakenAs, StepsTo}
-use Rattle.sync_consumer.specs.Staging.{staged_each}
+use Rattle.sync_consumer.specs.SyncSession.{session_of, copy_of, copy_with, within, refresh_ended, IsTakenAs, StepsTo}
 use Rattle.sync_consumer.specs.Taking.{taken_commit}
 use Rattle.sync_wire.specs.Requesting.{persists}
-use Rattle.sync_consumer.proofs.Outcomes.{staged_dropped, limited}
+use Rattle.sync_consumer.proofs.Outcomes.{limited}
 
--- the end of a phase, by what it stages
+-- the end of a phase, by what is staged then
 pub ends_as : (held : List Entry) (session : SyncSession) (deletes : Bool)
-    → ends_phase held session deletes ≡ record session { stage = staged_each session.stage (last_changes held session deletes); ended = session.ended || not deletes }
+    → ends_phase held session deletes ≡ record session { stage = (ends_phase held session deletes).stage; ended = session.ended || not deletes }
 ends_as held session true = λ i. record session { ended = sym (or-false session.ended) i }
 ends_as held session false =
-    λ i. record session { stage = sym (staged_dropped (unmentioned session.named session.stage held) session.stage) i; ended = sym (or-true session.ended) i }
+    λ i. record session { stage = present_ended session.named session.stage held; ended = sym (or-true session.ended) i }
 
 -- ---- the end of a refresh
 
@@ -58,7 +57,7 @@ refreshed_on session deletes = record (session_of session) { persisting = true; 
 
 -- the stage takes effect
 pub refresh_steps : (held : HeldContent) (session : kept.SyncSession) (held' : HeldContent) (session' : kept.SyncSession) (deletes : Bool) (cookie : Option CookieText) (commit : Commit) (stage : Stage)
-    → stage ≡ staged_each session.stage (last_changes held.entries (session_of session) deletes)
+    → stage ≡ (ends_phase held.entries (session_of session) deletes).stage
     → against (effected held.entries stage) ≡ None
     → held'.entries ≡ effected held.entries stage → held'.cookie ≡ option_or cookie held.cookie
     → commit ≡ taken_commit (commit_of stage cookie) → session_of session' ≡ refreshed_on session deletes
@@ -67,9 +66,9 @@ pub refresh_steps : (held : HeldContent) (session : kept.SyncSession) (held' : H
 refresh_steps held session held' session' deletes cookie commit stage staged off entries kept_cookie answer_taken after =
     let copy : Copy = copy_with held session in
     let now : SyncSession = ends_phase held.entries (session_of session) deletes in
-    let ends : now ≡ record (session_of session) { stage = staged_each session.stage (last_changes held.entries (session_of session) deletes); ended = session.ended || not deletes } =
+    let ends : now ≡ record (session_of session) { stage = now.stage; ended = session.ended || not deletes } =
     ends_as held.entries (session_of session) deletes in
-    let same : now.stage ≡ stage = ap (λ (r : SyncSession). r.stage) ends ∙ sym staged in
+    let same : now.stage ≡ stage = sym staged in
     let next : persists_on now ≡ session_of session' = ap persists_on ends ∙ sym after in
     let on : Option SyncSession = cond (persists session.mode) (Some (persists_on now)) None in
     let met : against (effected held.entries now.stage) ≡ None = ap (λ (s : Stage). against (effected held.entries s)) same ∙ off in

@@ -1,10 +1,11 @@
 -- What one more element adds to what a loop made of a list so far.
-use Rattle.std.proofs.Common.{◌≡◌, ◌<◌, ℕ, zero, suc, Bool, true, false, cond, List, [], ◌∷◌, ◌++◌, length, take, get_or, Some, None, sym, ap, ◌∙◌, arith}
+use Rattle.std.proofs.Common.{◌≡◌, ◌<◌, ℕ, zero, suc, Bool, true, false, cond, Bor, List, [], ◌∷◌, ◌++◌, length, take, get_or, Some, None, refl, sym, ap, ◌∙◌, arith}
 use Rattle.std.specs.List.{find}
-use Rattle.sync_model.specs.Copy.{puts_of, drops_of}
+use Rattle.entry_tree.specs.declared.entry.Entry.{Entry}
+use Rattle.sync_model.specs.Copy.{Stage, puts_of, drops_of}
 use Rattle.sync_consumer.specs.declared.stage.StagedChange.{StagedChange}
 use Rattle.sync_consumer.specs.declared.stage.StagedChange.TheVariants.{AddOrModify, Delete}
-use Rattle.sync_consumer.specs.Staging.{changes_of, put_alone, dropped_alone}
+use Rattle.sync_consumer.specs.Staging.{change_of, changes_in, put_alone, dropped_alone}
 
 -- ---- the first that passes a test
 
@@ -29,20 +30,34 @@ none_more {X} p (y ∷ ys) (suc i) x low is none fails = step (p y) (none_more p
 
 -- ---- the changes
 
+puts_alone : (c : StagedChange) → puts_of (change_of c ∷ []) ≡ put_alone c
+puts_alone (AddOrModify entry) = refl
+puts_alone (Delete uuid) = refl
+
+drops_alone : (c : StagedChange) → drops_of (change_of c ∷ []) ≡ dropped_alone c
+drops_alone (AddOrModify entry) = refl
+drops_alone (Delete uuid) = refl
+
+puts_after : (c : StagedChange) (more fewer : Stage) (es : List Entry) → puts_of more ≡ puts_of fewer ++ es → puts_of (change_of c ∷ more) ≡ puts_of (change_of c ∷ fewer) ++ es
+puts_after (AddOrModify entry) more fewer es is = ap (λ xs. entry ∷ xs) is
+puts_after (Delete uuid) more fewer es is = is
+
+drops_after : (c : StagedChange) (more fewer : Stage) (us : List ℕ) → drops_of more ≡ drops_of fewer ++ us → drops_of (change_of c ∷ more) ≡ drops_of (change_of c ∷ fewer) ++ us
+drops_after (AddOrModify entry) more fewer us is = is
+drops_after (Delete uuid) more fewer us is = ap (λ xs. uuid ∷ xs) is
+
 -- what a stage puts with one more of its changes
-pub puts_more : (stage : List StagedChange) (i : ℕ) (s : StagedChange) → i < length stage → s ≡ get_or stage i s
-    → puts_of (changes_of (take (suc i) stage)) ≡ puts_of (changes_of (take i stage)) ++ put_alone s
+pub puts_more : (stage : List (Bor StagedChange)) (i : ℕ) (s : Bor StagedChange) → i < length stage → s ≡ get_or stage i s
+    → puts_of (changes_in (take (suc i) stage)) ≡ puts_of (changes_in (take i stage)) ++ put_alone s.now
 puts_more [] i s low is = absurd (omega (arith, low))
-puts_more (AddOrModify k ∷ stage) zero s low is = ap put_alone (sym is)
-puts_more (Delete u ∷ stage) zero s low is = ap put_alone (sym is)
-puts_more (AddOrModify k ∷ stage) (suc i) s low is = ap (λ es. k.value ∷ es) (puts_more stage i s (omega (arith, low)) is)
-puts_more (Delete u ∷ stage) (suc i) s low is = puts_more stage i s (omega (arith, low)) is
+puts_more (c ∷ stage) zero s low is = puts_alone c.now ∙ ap (λ (x : Bor StagedChange). put_alone x.now) (sym is)
+puts_more (c ∷ stage) (suc i) s low is =
+    puts_after c.now (changes_in (take (suc i) stage)) (changes_in (take i stage)) (put_alone s.now) (puts_more stage i s (omega (arith, low)) is)
 
 -- what a stage drops with one more of its changes
-pub drops_more : (stage : List StagedChange) (i : ℕ) (s : StagedChange) → i < length stage → s ≡ get_or stage i s
-    → drops_of (changes_of (take (suc i) stage)) ≡ drops_of (changes_of (take i stage)) ++ dropped_alone s
+pub drops_more : (stage : List (Bor StagedChange)) (i : ℕ) (s : Bor StagedChange) → i < length stage → s ≡ get_or stage i s
+    → drops_of (changes_in (take (suc i) stage)) ≡ drops_of (changes_in (take i stage)) ++ dropped_alone s.now
 drops_more [] i s low is = absurd (omega (arith, low))
-drops_more (AddOrModify k ∷ stage) zero s low is = ap dropped_alone (sym is)
-drops_more (Delete u ∷ stage) zero s low is = ap dropped_alone (sym is)
-drops_more (AddOrModify k ∷ stage) (suc i) s low is = drops_more stage i s (omega (arith, low)) is
-drops_more (Delete u ∷ stage) (suc i) s low is = ap (λ us. u ∷ us) (drops_more stage i s (omega (arith, low)) is)
+drops_more (c ∷ stage) zero s low is = drops_alone c.now ∙ ap (λ (x : Bor StagedChange). dropped_alone x.now) (sym is)
+drops_more (c ∷ stage) (suc i) s low is =
+    drops_after c.now (changes_in (take (suc i) stage)) (changes_in (take i stage)) (dropped_alone s.now) (drops_more stage i s (omega (arith, low)) is)

@@ -1,20 +1,106 @@
--- Entries that are held.
-use Rattle.std.specs.Prelude.{◌≡◌, true, List, [], map, Option, Some, None}
-use Rattle.std.proofs.Common.{Vec, Global}
-use Rattle.std.specs.declared.rc.Rc.{Rc}
+-- Entries that are held, what they weigh, and the identities of their names.
+use Rattle.std.specs.Prelude.{◌≡◌, ◌<◌, ◌^◌, ℕ, Bool, true, false, ◌==◌, cond, is_some, bytes_eq, IfSome, List, Option, Some, None, Vec}
+use Rattle.std.proofs.Common.{Global, ◌⊎◌}
+use Rattle.std.specs.BTreeMap.{is_at}
+use Rattle.std.specs.Cmp.Lexicographic.{slice_cmp}
+use Rattle.std.specs.Map.{keys_of, values_of, lookup}
+use Rattle.std.specs.Option.{unwrap_or}
+use Rattle.std.specs.Ordering.{nat_cmp}
+use Rattle.dn_names.specs.Paths.{path_key, HasPath}
 use Rattle.entry_tree.specs.declared.entry.Entry.{Entry}
-use Rattle.entry_tree.specs.State.{ascends}
+use Rattle.entry_tree.specs.State.{ascends, entry_at, total_weight}
+use Rattle.entry_tree.specs.Touched.{identities}
+use Rattle.sync_model.specs.Copy.{Stage, slot}
 use Rattle.sync_model.specs.Within.{against}
-
--- the entries of a list that shares them with others
-abbrev pub entries_in : List (Rc Entry Global) → List Entry
-entries_in kept = map (λ (one : Rc Entry Global). one.value) kept
-
--- none, or those of a list that may be shared
-abbrev pub held_in : Option (Rc (Vec (Rc Entry Global) Global) Global) → List Entry
-held_in None = []
-held_in (Some shared) = entries_in shared.value.items
 
 -- entries that a consumer may hold: they ascend by identity, and nothing rejects them
 abbrev pub MayHold : List Entry → Type 0
 MayHold entries = (ascends entries ≡ true) × (against entries ≡ None)
+
+-- each entry is kept by its own identity, in ascending order, with what all of them weigh, which is
+-- a number of 64 bits
+pub record IsWeighed (entries : List (ℕ × Entry)) (weight : ℕ) : Type 0 where
+  pub own : keys_of entries ≡ identities (values_of entries)
+  pub ordered : ascends (values_of entries) ≡ true
+  pub weighed : weight ≡ total_weight (values_of entries)
+  pub small : weight < 2 ^ 64
+
+-- ---- identities by the path keys of names
+
+abbrev pub Names : Type 0
+Names = List (Vec ℕ Global × ℕ)
+
+-- the identity that stands at a path key
+abbrev pub id_at : Names → List ℕ → Option ℕ
+id_at names path = lookup (is_at (λ (key : Vec ℕ Global). slice_cmp nat_cmp path key.items)) names
+
+-- it is this identity
+abbrev pub is_id : Option ℕ → ℕ → Bool
+is_id None uuid = false
+is_id (Some other) uuid = other == uuid
+
+-- there is an entry, whose name has the path key
+abbrev pub has_path : List ℕ → Option Entry → Bool
+has_path path None = false
+has_path path (Some e) = bytes_eq (path_key e.dn) path
+
+-- where there is an entry, its name has a path key
+abbrev pub IsPathed : Option Entry → Type 0
+IsPathed found = IfSome found (λ (e : Entry). HasPath e.dn)
+
+-- an identity stands at a path key exactly where its entry has a name of that path key
+abbrev pub Notes : Names → (ℕ → Option Entry) → Type 0
+Notes names entry_of =
+    (path : List ℕ) (uuid : ℕ) → is_id (id_at names path) uuid ≡ has_path path (entry_of uuid)
+
+-- the names of these entries, all of which have path keys
+pub record IsIndex (names : Names) (entries : List Entry) : Type 0 where
+  pub exact : Notes names (λ uuid. entry_at entries uuid)
+  pub pathed : (uuid : ℕ) → IsPathed (entry_at entries uuid)
+
+-- entries that may be held, with their names
+pub record IsEntryMap (entries : List Entry) (names : Names) : Type 0 where
+  pub held : MayHold entries
+  pub index : IsIndex names entries
+
+-- ---- names that changes take away and bring
+
+-- this stands at the path key, or nothing does, and all else is as it was
+abbrev pub SetsId : Names → Names → List ℕ → Option ℕ → Type 0
+SetsId old new path found =
+    (other : List ℕ) → id_at new other ≡ cond (bytes_eq path other) found (id_at old other)
+
+-- the name of the entry is taken away, where there is one
+abbrev pub Forgets : Names → Names → Option Entry → Type 0
+Forgets old new None = new ≡ old
+Forgets old new (Some e) = SetsId old new (path_key e.dn) None
+
+-- the entry that an identity has, where nothing is staged of it
+abbrev pub stays : List Entry → Stage → ℕ → Option Entry
+stays entries stage uuid = cond (is_some (slot stage uuid)) None (entry_at entries uuid)
+
+-- what an identity has after a stage
+abbrev pub after_stage : (ℕ → Option Entry) → Stage → ℕ → Option Entry
+after_stage entry_of stage uuid = unwrap_or (slot stage uuid) (entry_of uuid)
+
+-- no two identities have names of one path key
+abbrev pub ArePathsApart : (ℕ → Option Entry) → Type 0
+ArePathsApart entry_of =
+    (path : List ℕ) (one other : ℕ)
+    → has_path path (entry_of one) ≡ true
+    → has_path path (entry_of other) ≡ true
+    → one ≡ other
+
+-- no identity of which something is staged has an entry
+abbrev pub IsFreeOf : (ℕ → Option Entry) → Stage → Type 0
+IsFreeOf entry_of stage = (uuid : ℕ) → is_some (slot stage uuid) ≡ true → entry_of uuid ≡ None
+
+-- the names of what the stage puts are noted beside those of all others: exactly, where none was
+-- there before, or where no two are of one path key after it
+abbrev pub NotesAll : Names → Names → Stage → Bool → Type 0
+NotesAll old new stage are_free =
+    (entry_of : ℕ → Option Entry)
+    → Notes old entry_of
+    → IsFreeOf entry_of stage
+    → (are_free ≡ true) ⊎ ArePathsApart (after_stage entry_of stage)
+    → Notes new (after_stage entry_of stage)

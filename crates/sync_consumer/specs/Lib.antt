@@ -1,7 +1,6 @@
 -- What a consumer keeps of its search, and what it makes of each message.
 pub mod Committing
 pub mod Holding
-pub mod Names
 pub mod SyncSession
 pub mod Staging
 pub mod Taking

@@ -1,6 +1,5 @@
 -- A search that runs, as it is kept, and what its steps are.
-use Rattle.std.specs.Prelude.{◌≡◌, ⊤, Bool, true, false, cond, ◌==◌, List, [], map, Option, Some, None, Result, Ok, Err}
-use Rattle.entry_tree.specs.declared.entry.Entry.{Entry}
+use Rattle.std.specs.Prelude.{◌≡◌, ⊤, Bool, true, false, cond, ◌==◌, [], Option, Some, None, Result, Ok, Err}
 use Rattle.ldap_messages.specs.declared.message.Message.{Message}
 use Rattle.sync_model.specs.Message.{CookieText, SyncMessage}
 use Rattle.sync_model.specs.Message.SyncMessage.{AddOrModify, Delete, Present, IdSet, NewCookie, RefreshDelete, RefreshPresent, Done, Ignored}
@@ -86,12 +85,6 @@ abbrev pub within :
     → model.Copy × model.Answer
 within puts held session outcome =
     refused_by_limit (limit_fault puts outcome.0 outcome.1) (copy_with held session) outcome
-
--- what the end of a phase stages
-abbrev pub last_changes : List Entry → model.SyncSession → (deletes : Bool) → model.Stage
-last_changes held session deletes =
-    cond deletes []
-    (map (λ uuid. (uuid, None)) (model.unmentioned session.named session.stage held))
 
 -- what a refresh that ended leads to: a search that persists goes on
 abbrev pub refresh_ended :

@@ -1,70 +1,67 @@
 //! The entries that are held.
 
-ghost use Rattle.std.specs.Prelude.{◌≡◌, ◌==◌, ◌-◌, ◌++◌, [], true, None, length, map, option_map, IfOk, IfErr, IfSome, IfNone, OnOk};
+ghost use Rattle.std.specs.Prelude.{◌≡◌, ◌==◌, ◌-◌, ◌++◌, [], true, false, None, length, map, option_map, IfOk, IfErr, IfSome, IfNone, OnOk, IsTrue};
 ghost use Rattle.std.specs.List.{slice_get};
 ghost use Rattle.std.specs.Option.{option_copied};
-ghost use Rattle.entry_tree.specs.State.{ascends, entry_at};
+ghost use Rattle.entry_tree.specs.State.{ascends, entry_at, is_crowded, same_named};
 ghost use Rattle.sync_model.specs.Copy.{effected};
 ghost use Rattle.sync_model.specs.Within.{against};
-ghost use Rattle.sync_consumer.specs.Holding.{entries_in, MayHold};
 ghost use Rattle.sync_consumer.specs.SyncSession.{RefusesBy};
 ghost use Rattle.sync_consumer.specs.Staging.{higher, up_to};
 
 use crate::fault::Refusal;
-use crate::kept::{Kept, entries_of};
-use crate::merge::{effected, parted};
-use crate::names::are_clear;
-use crate::places::place_of_entry;
-use crate::stage::Stage;
+use crate::names::{Names, names_after};
+use crate::stage::{MOST_ENTRIES, MOST_WEIGHT, Stage};
+use crate::weighed::{WeighedEntries, entries_after};
 use entry_tree::{Entry, check_held};
 use ldap_ber::NoMemory;
-use std::alloc::{AllocError, Global};
+use shared_map::SharedMap;
+use std::alloc::Global;
 use std::marker::Model;
-use std::rc::Rc;
 
-/// Entries by their identities, in ascending order, as a directory may have them. A copy shares the
-/// list, and a list with a stage in effect shares each entry that stayed.
+/// Entries by their identities, in ascending order, as a directory may have them, with the identity
+/// of each name. A copy shares all of them, and so does a map with a stage in effect, other than
+/// what the stage changes.
 #[derive(Drop)]
 pub struct EntryMap {
     alloc: Global,
-    /// Nothing where there was no entry yet.
-    entries: Option<Rc<Vec<Rc<Kept>>>>,
+    entries: WeighedEntries,
+    names: Names,
 }
 
 impl Model for EntryMap {
     ghost use Rattle.std.specs.Prelude.{List};
     ghost use Rattle.entry_tree.specs.declared.entry.Entry.{Entry};
-    ghost use Rattle.sync_consumer.specs.Holding.{held_in, MayHold};
+    ghost use Rattle.sync_consumer.specs.Holding.{IsEntryMap};
 
     ghost Value = { List Entry };
 
-    ghost view = { λ m. held_in m.entries };
+    ghost view = { λ m. m.entries };
 
-    ghost invariant = { λ m. MayHold (held_in m.entries) };
+    ghost invariant = { λ m. IsEntryMap m.entries m.names };
 }
 
 impl EntryMap {
-    #[tactic(auto, using(crate::proofs::Effecting::nothing_held))]
+    #[tactic(auto, using(crate::proofs::Effecting::nothing_mapped))]
     pub(crate) fn new(alloc: Global) -> EntryMap
         ensures { result ≡ [] }
     {
         EntryMap {
             alloc,
-            entries: None,
+            entries: WeighedEntries::new(alloc),
+            names: SharedMap::new(alloc),
         }
     }
 
     /// These entries, shared with this map.
+    #[tactic(auto, using(crate::proofs::Effecting::same_mapped))]
     pub(crate) fn copy(&self) -> Result<EntryMap, NoMemory>
         ensures { IfOk result (λ copy. copy ≡ self.now) }
     {
-        let entries = match &self.entries {
-            Some(shared) => Some(shared.clone()?),
-            None => None,
-        };
         Ok(EntryMap {
             alloc: self.alloc,
-            entries,
+            entries: self.entries.copy()?,
+            names: self.names.copy()?,
         })
     }
 
@@ -72,25 +69,21 @@ impl EntryMap {
     pub fn len(&self) -> usize
         ensures { result ≡ length self.now }
     {
-        self.kept().len()
+        self.entries.len()
     }
 
     /// Reports whether no entry is held.
     pub fn is_empty(&self) -> bool
         ensures { result ≡ (length self.now == 0) }
     {
-        self.kept().is_empty()
+        self.entries.len() == 0
     }
 
     /// The entry of that identity.
     pub fn get(&self, uuid: u128) -> Option<&Entry>
         ensures { option_copied result ≡ entry_at self.now uuid }
     {
-        let kept = self.kept();
-        match place_of_entry(kept, uuid) {
-            Ok(place) => Some(kept[place].entry()),
-            Err(_) => None,
-        }
+        self.entries.get(uuid)
     }
 
     /// The entries above an identity, in ascending order of identity.
@@ -100,7 +93,7 @@ impl EntryMap {
         ensures split { IfOk result (λ above.
             up_to uuid self.now ++ map (λ e. e.now) above.items ≡ self.now) }
     {
-        entries_of(self.alloc, parted(self.kept(), uuid).1)
+        self.entries.above(uuid)
     }
 
     /// The greatest identity, up to which all entries are.
@@ -110,20 +103,7 @@ impl EntryMap {
         ensures all { IfSome result (λ uuid. up_to uuid self.now ≡ self.now) }
         ensures none { IfNone result (self.now ≡ []) }
     {
-        match self.kept().last() {
-            Some(kept) => Some(kept.uuid()),
-            None => None,
-        }
-    }
-
-    /// The entry at this place, counted from 0.
-    pub fn at(&self, place: usize) -> Option<&Entry>
-        ensures { option_copied result ≡ slice_get self.now place }
-    {
-        match self.kept().get(place) {
-            Some(kept) => Some(kept.entry()),
-            None => None,
-        }
+        self.entries.greatest()
     }
 
     /// The entries, in ascending order of identity.
@@ -132,19 +112,7 @@ impl EntryMap {
         ensures ascends { ascends self.now ≡ true }
         ensures within { against self.now ≡ None }
     {
-        entries_of(self.alloc, self.kept())
-    }
-
-    /// The entries, in ascending order of identity, with the keys of their names.
-    pub(crate) fn kept(&self) -> &[Rc<Kept>]
-        ensures value { entries_in result.now ≡ self.now }
-        ensures ascends { ascends self.now ≡ true }
-        ensures within { against self.now ≡ None }
-    {
-        match &self.entries {
-            Some(shared) => shared.as_slice(),
-            None => &[],
-        }
+        self.entries.list()
     }
 
     pub(crate) fn allocator(&self) -> Global {
@@ -155,51 +123,40 @@ impl EntryMap {
     /// with this map and the stage.
     pub(crate) fn with(&self, stage: &Stage) -> Result<EntryMap, Refusal>
         ensures value { IfOk result (λ map. map ≡ effected self.now stage.now) }
+        ensures within { OnOk result (against (effected self.now stage.now) ≡ None) }
         ensures fault { IfErr result (RefusesBy (against (effected self.now stage.now))) }
     {
-        if stage.is_empty() {
-            return Ok(self.copy()?);
-        }
-        let after = self.after(stage)?;
+        let changes = stage.list()?;
+        let entries = entries_after(&self.entries, &changes)?;
+        let (names, are_apart) = names_after(&self.names, &self.entries, &changes)?;
+        check(self.alloc, &entries, are_apart)?;
         Ok(EntryMap {
             alloc: self.alloc,
-            entries: Some(list_of(self.alloc, after)?),
+            entries,
+            names,
         })
-    }
-
-    /// The entries that there would be with the stage in effect, where a directory may have them.
-    #[tactic(auto, using(crate::proofs::Opposing::opposed_as))]
-    fn after(&self, stage: &Stage) -> Result<Vec<Rc<Kept>>, Refusal>
-        ensures value { IfOk result (λ after.
-            entries_in after.items ≡ effected self.now stage.now) }
-        ensures held { IfOk result (λ after. MayHold (entries_in after.items)) }
-        ensures fault { IfErr result (RefusesBy (against (effected self.now stage.now))) }
-    {
-        let after = effected(self.alloc, self.kept(), stage.changes())?;
-        if !are_clear(self.alloc, &after, stage.changes())? {
-            check(self.alloc, &after)?;
-        }
-        Ok(after)
     }
 }
 
-/// Whether a directory may have these entries: all their names are compared.
+/// Refuses entries that a directory may not have. All their names are compared only where they are
+/// not known to be apart, or where there are too many entries, or too heavy ones.
 #[tactic(auto, using(crate::proofs::Opposing::opposed, crate::proofs::Opposing::unopposed))]
-fn check(alloc: Global, kept: &[Rc<Kept>]) -> Result<(), Refusal>
-    ensures ok { OnOk result (against (entries_in kept.now) ≡ None) }
-    ensures fault { IfErr result (RefusesBy (against (entries_in kept.now))) }
+fn check(alloc: Global, entries: &WeighedEntries, are_apart: bool) -> Result<(), Refusal>
+    requires { IsTrue are_apart → same_named entries.now ≡ None }
+    ensures ok { OnOk result (against entries.now ≡ None) }
+    ensures fault { IfErr result (RefusesBy (against entries.now)) }
 {
-    let entries = entries_of(alloc, kept)?;
-    check_held(alloc, &entries)?;
+    if are_apart && is_within(entries) {
+        return Ok(());
+    }
+    let list = entries.list()?;
+    check_held(alloc, &list)?;
     Ok(())
 }
 
-/// A list that copies can share.
-fn list_of(alloc: Global, kept: Vec<Rc<Kept>>) -> Result<Rc<Vec<Rc<Kept>>>, NoMemory>
-    ensures { IfOk result (λ shared. shared.value ≡ kept) }
+/// Whether the entries are no more and no heavier than a directory may have.
+fn is_within(entries: &WeighedEntries) -> bool
+    ensures { IsTrue result → is_crowded entries.now ≡ false }
 {
-    match Rc::new(alloc, kept) {
-        Ok(shared) => Ok(shared),
-        Err(_) => Err(AllocError),
-    }
+    entries.len() <= MOST_ENTRIES && entries.weight() <= MOST_WEIGHT
 }

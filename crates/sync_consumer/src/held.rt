@@ -42,33 +42,30 @@ impl HeldContent {
         })
     }
 
-    /// Brings the stage into effect, with the cookie where one came. A refusal leaves both as they
-    /// were.
+    /// Brings the stage into effect, with the cookie where one came. A refusal leaves all as it
+    /// was.
     pub(crate) fn commit_stage(
         &mut self,
-        stage: &mut Stage,
+        stage: &Stage,
         cookie: Option<Octets>,
     ) -> Result<Commit, Refusal>
         ensures commit { IfOk result (λ commit.
-            commit ≡ taken_commit (model.commit_of stage.old cookie)) }
+            commit ≡ taken_commit (model.commit_of stage.now cookie)) }
         ensures entries { OnOk result
-            (self.new.entries ≡ model.effected self.old.entries stage.old) }
+            (self.new.entries ≡ model.effected self.old.entries stage.now) }
         ensures cookie { OnOk result (self.new.cookie ≡ option_or cookie self.old.cookie) }
-        ensures stage { OnOk result (stage.new ≡ []) }
-        ensures within { OnOk result (against (model.effected self.old.entries stage.old) ≡ None) }
+        ensures within { OnOk result (against (model.effected self.old.entries stage.now) ≡ None) }
         ensures fault { IfErr result
-            (RefusesBy (against (model.effected self.old.entries stage.old))) }
+            (RefusesBy (against (model.effected self.old.entries stage.now))) }
         ensures err { OnErr result (self.new ≡ self.old) }
-        ensures err_stage { OnErr result (stage.new ≡ stage.old) }
     {
         let entries = self.entries.with(stage)?;
         let kept = copy_of(&cookie)?;
-        let commit = Commit::of(self.entries.allocator(), stage.changes(), cookie)?;
+        let commit = Commit::of(self.entries.allocator(), stage, cookie)?;
         self.entries = entries;
         if kept.is_some() {
             self.cookie = kept;
         }
-        let _ = stage.take();
         Ok(commit)
     }
 
@@ -99,10 +96,10 @@ impl HeldContent {
             uuids.items ≡ model.unmentioned named.now stage.now self.now.entries) }
     {
         let mut uuids = Vec::new(self.entries.allocator());
-        for kept in self.entries.kept() {
-            let uuid = kept.uuid();
-            if !named.has(uuid) && !stage.has_entry(uuid) {
-                uuids.push(uuid)?;
+        let entries = self.entries.list()?;
+        for entry in &entries {
+            if !named.has(entry.uuid) && !stage.has_entry(entry.uuid) {
+                uuids.push(entry.uuid)?;
             }
         }
         Ok(uuids)

@@ -6,20 +6,17 @@
 //! its grammar or not to be had ends the search and leaves the copy as it was.
 #![tactic(auto)]
 
-mod changes;
 mod commit;
 mod consumer;
 mod entry_map;
 mod fault;
 mod held;
-mod kept;
-mod merge;
 mod named;
 mod names;
 mod phase;
-mod places;
 mod session;
 mod stage;
+mod weighed;
 
 pub use commit::Commit;
 pub use consumer::{Consumer, Taken};

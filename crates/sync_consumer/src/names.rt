@@ -1,88 +1,120 @@
-//! The names of entries that are put.
+//! The identities of entries by the path keys of their names.
 
-ghost use Rattle.std.specs.Prelude.{◌≡◌, ◌^◌, ◌-◌, true, min, IfOk, OnOk, IsTrue};
-ghost use Rattle.std.specs.List.{list_all};
-ghost use Rattle.entry_tree.specs.State as state;
-ghost use Rattle.sync_model.specs.Copy.{puts_of};
-ghost use Rattle.sync_consumer.specs.Holding.{entries_in};
-ghost use Rattle.sync_consumer.specs.Names as spec;
-ghost use Rattle.sync_consumer.specs.Staging.{changes_of, put_alone};
+ghost use Rattle.std.specs.Prelude.{◌≡◌, ◌∷◌, [], ℕ, true, None, Some, is_none, IfOk, OnOk, IsTrue};
+ghost use Rattle.std.specs.Map.{keys_of};
+ghost use Rattle.dn_names.specs.Paths.{path_key, HasPath};
+ghost use Rattle.entry_tree.specs.State.{ascends, entry_at, same_named};
+ghost use Rattle.sync_model.specs.Copy.{effected};
+ghost use Rattle.sync_consumer.specs.Holding.{id_at, stays, Forgets, IsIndex, IsPathed, Notes, NotesAll, SetsId};
+ghost use Rattle.sync_consumer.specs.Staging.{change_of, changes_in, entry_staged, rises};
 
-use crate::kept::Kept;
-use crate::stage::{MOST_ENTRIES, MOST_WEIGHT, StagedChange};
+use crate::stage::StagedChange;
+use crate::weighed::WeighedEntries;
+use entry_tree::Entry;
 use ldap_ber::NoMemory;
-use std::alloc::Global;
-use std::collections::BTreeMap;
-use std::rc::Rc;
+use shared_map::SharedMap;
 
-/// Whether the entries that a stage left are within the limits of a directory, and none of them has
-/// a name that is put with another identity.
-pub(crate) fn are_clear(
-    alloc: Global,
-    after: &[Rc<Kept>],
-    stage: &[StagedChange],
-) -> Result<bool, NoMemory>
-    ensures { IfOk result (λ clear.
-        IsTrue clear → spec.AreClear (puts_of (changes_of stage.now)) (entries_in after.now)) }
+/// The identity of the entry at each path key.
+pub(crate) type Names = SharedMap<Vec<u8>, u128>;
+
+/// The names that there are after the changes, and whether no two entries have one then.
+pub(crate) fn names_after(
+    names: &Names,
+    held: &WeighedEntries,
+    changes: &[&StagedChange],
+) -> Result<(Names, bool), NoMemory>
+    requires index { IsIndex names.now held.now }
+    requires ascends { ascends held.now ≡ true }
+    requires ordered { rises (keys_of (changes_in changes.now)) ≡ true }
+    ensures apart { IfOk result (λ after.
+        IsTrue after.1 → same_named (effected held.now (changes_in changes.now)) ≡ None) }
+    ensures index { IfOk result (λ after.
+        same_named (effected held.now (changes_in changes.now)) ≡ None
+        → IsIndex after.0 (effected held.now (changes_in changes.now))) }
 {
-    if after.len() > MOST_ENTRIES || u128::from(total_weight(after)) > MOST_WEIGHT {
-        return Ok(false);
-    }
-    let names = names_of(alloc, stage)?;
-    Ok(are_free(&names, after))
+    let mut after = names.copy()?;
+    forget_each(&mut after, held, changes)?;
+    let are_apart = note_each(&mut after, changes)?;
+    Ok((after, are_apart))
 }
 
-/// What the entries weigh, as far as the numbers go.
-fn total_weight(entries: &[Rc<Kept>]) -> u64
-    ensures { result ≡ min (state.total_weight (entries_in entries.now)) (2 ^ 64 - 1) }
+/// Takes the names away that the entries have of which a change is.
+fn forget_each(
+    names: &mut Names,
+    held: &WeighedEntries,
+    changes: &[&StagedChange],
+) -> Result<(), NoMemory>
+    requires index { Notes names.old (λ uuid. entry_at held.now uuid) }
+    requires ordered { rises (keys_of (changes_in changes.now)) ≡ true }
+    ensures { OnOk result (Notes names.new (stays held.now (changes_in changes.now))) }
 {
-    let mut total: u64 = 0;
-    for kept in entries {
-        total = total.saturating_add(kept.entry().attrs.weight());
-    }
-    total
-}
-
-/// The identities of the entries that are put, by the keys of their names.
-fn names_of(alloc: Global, stage: &[StagedChange]) -> Result<BTreeMap<&[u8], u128>, NoMemory>
-    ensures { IfOk result (λ names. spec.are_noted names (puts_of (changes_of stage.now)) ≡ true) }
-{
-    let mut names = BTreeMap::new(alloc);
-    for staged in stage {
-        note(&mut names, staged)?;
-    }
-    Ok(names)
-}
-
-/// Notes the entry, where one is put.
-fn note<'a>(names: &mut BTreeMap<&'a [u8], u128>, staged: &'a StagedChange) -> Result<(), NoMemory>
-    ensures own { OnOk result (spec.are_noted names.new (put_alone staged.now) ≡ true) }
-    ensures others { OnOk result (spec.Keeps names.old names.new) }
-{
-    if let StagedChange::AddOrModify(kept) = staged {
-        let _ = names.insert(kept.key(), kept.uuid())?;
+    let mut left = changes.len();
+    while left > 0 {
+        left -= 1;
+        forget_at(names, held, changes[left].uuid())?;
     }
     Ok(())
 }
 
-/// Whether each entry's name is noted with its own identity, or not at all.
-fn are_free(names: &BTreeMap<&[u8], u128>, entries: &[Rc<Kept>]) -> bool
-    ensures { result ≡ list_all (spec.is_free names.now) (entries_in entries.now) }
+/// Takes the name away that the entry of the identity has.
+fn forget_at(names: &mut Names, held: &WeighedEntries, uuid: u128) -> Result<(), NoMemory>
+    ensures { OnOk result (Forgets names.old names.new (entry_at held.now uuid)) }
 {
-    for kept in entries {
-        if !is_free(names, kept) {
-            return false;
-        }
+    match held.get(uuid) {
+        Some(entry) => forget(names, entry),
+        None => Ok(()),
     }
-    true
 }
 
-/// Whether the entry's name is noted with its own identity, or not at all.
-fn is_free(names: &BTreeMap<&[u8], u128>, kept: &Kept) -> bool
-    ensures { result ≡ spec.is_free names.now kept.now }
+/// Takes the name of the entry away.
+#[tactic(auto, using(crate::proofs::Noting::sets_empty))]
+fn forget(names: &mut Names, entry: &Entry) -> Result<(), NoMemory>
+    ensures { OnOk result (SetsId names.old names.new (path_key entry.now.dn) None) }
 {
-    match names.get(kept.key()) {
-        Some(uuid) => *uuid == kept.uuid(),
-        None => true,
+    if names.len() == 0 {
+        return Ok(());
     }
+    names.remove(entry.dn.path())?;
+    Ok(())
+}
+
+/// Notes the names of the entries that are put. Whether none of them was there.
+fn note_each(names: &mut Names, changes: &[&StagedChange]) -> Result<bool, NoMemory>
+    requires { rises (keys_of (changes_in changes.now)) ≡ true }
+    ensures noted { IfOk result (NotesAll names.old names.new (changes_in changes.now)) }
+    ensures pathed { OnOk result
+        ((uuid : ℕ) → IsPathed (entry_staged (changes_in changes.now) uuid)) }
+{
+    let mut are_apart = true;
+    let mut left = changes.len();
+    while left > 0 {
+        left -= 1;
+        let is_free = note_change(names, changes[left])?;
+        are_apart &= is_free;
+    }
+    Ok(are_apart)
+}
+
+/// Notes the name of the entry that the change puts, if any. Whether it was not there.
+fn note_change(names: &mut Names, change: &StagedChange) -> Result<bool, NoMemory>
+    ensures noted { IfOk result (NotesAll names.old names.new (change_of change.now ∷ [])) }
+    ensures pathed { OnOk result (IsPathed (change_of change.now).1) }
+{
+    match change {
+        StagedChange::AddOrModify(entry) => note(names, entry),
+        StagedChange::Delete(_) => Ok(true),
+    }
+}
+
+/// Notes the name of the entry. Whether it was not there.
+fn note(names: &mut Names, entry: &Entry) -> Result<bool, NoMemory>
+    ensures free { IfOk result (λ is_free.
+        is_free ≡ is_none (id_at names.old (path_key entry.now.dn))) }
+    ensures noted { OnOk result
+        (SetsId names.old names.new (path_key entry.now.dn) (Some entry.now.uuid)) }
+    ensures pathed { HasPath entry.now.dn }
+{
+    let is_free = names.get(entry.dn.path()).is_none();
+    names.insert(entry.dn.path_key()?, entry.uuid)?;
+    Ok(is_free)
 }

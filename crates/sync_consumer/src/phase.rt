@@ -2,12 +2,11 @@
 
 ghost use Rattle.std.specs.Prelude.{◌≡◌, ◌||◌, ◌&&◌, pos, not, false, cond, None, IfOk};
 ghost use Rattle.std.specs.Ordering.{int_eq};
-ghost use Rattle.sync_model.specs.Copy.{taken_info};
+ghost use Rattle.sync_model.specs.Copy.{ends_phase, taken_info};
 ghost use Rattle.sync_model.specs.Message.SyncMessage.{Done};
 ghost use Rattle.sync_wire.specs.Decoding.{control_said};
 ghost use Rattle.sync_wire.specs.Requesting.{persists};
-ghost use Rattle.sync_consumer.specs.SyncSession.{session_of, copy_with, within, last_changes, refresh_ended, StepsTo, StepsBy};
-ghost use Rattle.sync_consumer.specs.Staging.{changes_of};
+ghost use Rattle.sync_consumer.specs.SyncSession.{session_of, copy_with, within, refresh_ended, StepsTo, StepsBy};
 ghost use Rattle.sync_consumer.specs.declared.consumer.Taken.TheVariants.{Stored, Copied, Over};
 ghost use Rattle.sync_consumer.specs.declared.session.SearchStep.TheVariants.{Goes, Ends};
 
@@ -16,7 +15,7 @@ use crate::consumer::Taken;
 use crate::fault::Refusal;
 use crate::held::HeldContent;
 use crate::session::{SearchStep, SyncSession};
-use crate::stage::{StagedChange, drops_of};
+use crate::stage::Stage;
 use ldap_ber::{NoMemory, Octets};
 use ldap_constants::{E_SYNC_REFRESH_REQUIRED, SUCCESS};
 use sync_messages::SyncDone;
@@ -40,8 +39,7 @@ impl SyncSession {
         if done {
             return self.end_refresh(held, deletes, cookie);
         }
-        let changes = self.last_changes(held, deletes)?;
-        let _ = self.stage.stage_each(changes)?;
+        self.stage = self.last_stage(held, deletes)?;
         self.ended |= !deletes;
         Ok(SearchStep::Goes(Taken::Staged))
     }
@@ -104,21 +102,14 @@ impl SyncSession {
             (within false held.old self.old
             (refresh_ended (copy_with held.old self.old) (session_of self.old) deletes cookie)) }
     {
-        let changes = self.last_changes(held, deletes)?;
-        let undo = self.stage.stage_each(changes)?;
+        let stage = self.last_stage(held, deletes)?;
         let has_cookie = cookie.is_some();
-        match held.commit_stage(&mut self.stage, cookie) {
-            Ok(commit) => {
-                self.named.clear();
-                self.ended |= !deletes;
-                self.persisting = true;
-                Ok(self.after_refresh(took_effect(commit, has_cookie)))
-            }
-            Err(refusal) => {
-                self.stage.undo(undo);
-                Err(refusal)
-            }
-        }
+        let commit = held.commit_stage(&stage, cookie)?;
+        self.named.clear();
+        self.stage.clear();
+        self.ended |= !deletes;
+        self.persisting = true;
+        Ok(self.after_refresh(took_effect(commit, has_cookie)))
     }
 
     /// Whether the search goes on after its refresh.
@@ -132,17 +123,16 @@ impl SyncSession {
         }
     }
 
-    /// What the end of a phase stages: a delete phase nothing.
-    fn last_changes(&self, held: &HeldContent, deletes: bool) -> Result<Vec<StagedChange>, NoMemory>
-        ensures { IfOk result (λ changes.
-            changes_of changes.items
-            ≡ last_changes held.now.entries (session_of self.now) deletes) }
+    /// What is staged at the end of a phase: a present phase drops what was not named.
+    fn last_stage(&self, held: &HeldContent, deletes: bool) -> Result<Stage, NoMemory>
+        ensures { IfOk result (λ stage.
+            stage ≡ (ends_phase held.now.entries (session_of self.now) deletes).stage) }
     {
-        let alloc = held.entries.allocator();
         if deletes {
-            return Ok(Vec::new(alloc));
+            return self.stage.copy();
         }
-        drops_of(alloc, &held.unmentioned(&self.named, &self.stage)?)
+        self.stage
+            .without_each(&held.unmentioned(&self.named, &self.stage)?)
     }
 }
 

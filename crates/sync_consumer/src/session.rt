@@ -5,13 +5,12 @@ ghost use Rattle.sync_model.specs.Copy as model;
 ghost use Rattle.sync_model.specs.Message.SyncMessage.{AddOrModify, IdSet};
 ghost use Rattle.sync_wire.specs.Requesting.{persists};
 ghost use Rattle.sync_consumer.specs.SyncSession.{session_of, copy_with, within, message_of, taken_by_search, StepsTo, StepsBy};
-ghost use Rattle.sync_consumer.specs.Staging.{changes_of, staged_each};
 
 use crate::consumer::Taken;
 use crate::fault::{PeerFault, Refusal};
 use crate::held::HeldContent;
 use crate::named::Named;
-use crate::stage::{Stage, StagedChange, drops_of, put_of};
+use crate::stage::Stage;
 use entry_tree::Entry;
 use ldap_ber::{NoMemory, Octets};
 use ldap_messages::Message;
@@ -117,8 +116,8 @@ impl SyncSession {
                 }
             }
             SyncEvent::NewCookie(cookie) => {
-                let nothing = Vec::new(held.entries.allocator());
-                self.stage_each(held, nothing, Some(cookie))
+                let stage = self.stage.copy()?;
+                self.take_stage(held, stage, Some(cookie))
             }
             SyncEvent::RefreshDelete { done, cookie } => self.end_phase(held, true, done, cookie),
             SyncEvent::RefreshPresent { done, cookie } => self.end_phase(held, false, done, cookie),
@@ -140,12 +139,11 @@ impl SyncSession {
         if !self.stage.has_room(&entry) {
             return Err(Refusal::Fault(PeerFault::StageFull));
         }
-        let changes = put_of(held.entries.allocator(), entry)?;
-        self.stage_each(held, changes, cookie)
+        let stage = self.stage.with_entry(entry)?;
+        self.take_stage(held, stage, cookie)
     }
 
     /// Stages that these identities have no entry.
-    #[tactic(auto, using(crate::proofs::Outcomes::staged_dropped))]
     fn drop_each(
         &mut self,
         held: &mut HeldContent,
@@ -154,8 +152,8 @@ impl SyncSession {
     ) -> Result<SearchStep, Refusal>
         ensures { StepsBy held.old self.old held.new self.new result (IdSet true uuids.now cookie) }
     {
-        let changes = drops_of(held.entries.allocator(), uuids)?;
-        self.stage_each(held, changes, cookie)
+        let stage = self.stage.without_each(uuids)?;
+        self.take_stage(held, stage, cookie)
     }
 
     /// Notes that these identities have an entry as before.
@@ -174,36 +172,29 @@ impl SyncSession {
         }
     }
 
-    /// Stages changes. After the refresh a cookie brings the stage into effect; before its end it
-    /// is not kept.
-    fn stage_each(
+    /// Takes this for what is staged. After the refresh a cookie brings it into effect; before its
+    /// end the cookie is not kept. A refusal leaves what was staged.
+    fn take_stage(
         &mut self,
         held: &mut HeldContent,
-        changes: Vec<StagedChange>,
+        stage: Stage,
         cookie: Option<Octets>,
     ) -> Result<SearchStep, Refusal>
         ensures { StepsTo held.old self.old held.new self.new result
             (within false held.old self.old (model.with_cookie (copy_with held.old self.old)
-            (record (session_of self.old) {
-              stage = staged_each self.old.stage (changes_of changes.items);
-            }) cookie)) }
+            (record (session_of self.old) { stage = stage }) cookie)) }
     {
-        let undo = self.stage.stage_each(changes)?;
         if !self.persisting {
+            self.stage = stage;
             return Ok(SearchStep::Goes(Taken::Staged));
         }
         let Some(cookie) = cookie else {
+            self.stage = stage;
             return Ok(SearchStep::Goes(Taken::Staged));
         };
-        match held.commit_stage(&mut self.stage, Some(cookie)) {
-            Ok(commit) => {
-                self.named.clear();
-                Ok(SearchStep::Goes(Taken::Stored(commit)))
-            }
-            Err(refusal) => {
-                self.stage.undo(undo);
-                Err(refusal)
-            }
-        }
+        let commit = held.commit_stage(&stage, Some(cookie))?;
+        self.named.clear();
+        self.stage.clear();
+        Ok(SearchStep::Goes(Taken::Stored(commit)))
     }
 }

@@ -1,6 +1,13 @@
+pub mod Dial
 pub mod Faults
 pub mod FaultySink
 pub mod FaultySource
+pub mod Links
+pub mod MemoryLink
 pub mod MemorySink
+pub mod Net
+pub mod Shelf
+pub mod Sides
 pub mod Sink
 pub mod Source
+pub mod Words

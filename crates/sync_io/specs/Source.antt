@@ -1,5 +1,5 @@
 -- What a read gives of the bytes that are left.
-use Rattle.std.specs.Prelude.{ℕ, ◌≤◌, ⊤, Option, List, length, take}
+use Rattle.std.specs.Prelude.{ℕ, ◌≤◌, ⊤, Option, List, [], length, take}
 use Rattle.std.specs.Io.KnownBytes.{Consumes, Keeps}
 use Rattle.sync_io.specs.declared.source.Piece.{Piece}
 use Rattle.sync_io.specs.declared.source.Piece.TheVariants.{Got, Quiet, End, Failed}
@@ -17,3 +17,10 @@ GivesNext old new (Got count) buffer = Consumes old new (take count buffer)
 GivesNext old new Quiet buffer = Keeps old new
 GivesNext old new End buffer = Keeps old new
 GivesNext old new Failed buffer = Keeps old new
+
+-- the bytes that a read gave: a prefix of the buffer, or none
+abbrev pub bytes_given : Piece → List ℕ → List ℕ
+bytes_given (Got count) buffer = take count buffer
+bytes_given Quiet buffer = []
+bytes_given End buffer = []
+bytes_given Failed buffer = []

@@ -1,5 +1,5 @@
 //! A sink that fails where it was reported to.
-ghost use Rattle.std.specs.Prelude.{◌≡◌, ◌<◌, ◌≤◌, [], Some, IsTrue, not, if◌then◌else◌, length};
+ghost use Rattle.std.specs.Prelude.{◌≡◌, ◌<◌, ◌≤◌, [], Some, None, IsTrue, not, if◌then◌else◌, length};
 ghost use Rattle.std.specs.Bool.{OnFalse};
 ghost use Rattle.sync_io.specs.Faults.{one_more, Rose};
 ghost use Rattle.sync_io.specs.declared.sink.Put.TheVariants.{Failed};
@@ -76,6 +76,8 @@ impl Sink for FaultySink {
     ghost bytes_held = { λ s. Some s.contents.bytes };
 
     ghost write_fault_count = { λ s. s.contents.faults };
+
+    ghost source_side = { λ _. None };
 
     fn write_faults(&self) -> u64 {
         self.sink.write_faults()

@@ -1,8 +1,9 @@
 //! A source that fails and waits where it was reported to.
-ghost use Rattle.std.specs.Prelude.{◌≡◌, ◌<◌, ◌≤◌, Some, IsTrue, length, filter};
+ghost use Rattle.std.specs.Prelude.{◌≡◌, ◌<◌, ◌≤◌, Some, None, IsTrue, length, filter};
 ghost use Rattle.std.specs.List.{list_any};
 ghost use Rattle.sync_io.specs.declared.source.Piece.TheVariants.{Quiet};
 ghost use Rattle.sync_io.specs.Source.{FitsBuffer};
+ghost use Rattle.sync_io.specs.Faults.{one_more};
 
 use crate::faults::count_fault;
 use crate::{MemorySource, Piece, Source};
@@ -86,6 +87,16 @@ impl FaultySource {
         }
     }
 
+    /// Counts a fault, and leaves the steps.
+    pub(crate) fn fail(&mut self)
+        ensures steps { self.new.steps ≡ self.old.steps }
+        ensures waits { self.new.waits ≡ self.old.waits }
+        ensures faults { self.new.faults ≡ one_more self.old.faults }
+        ensures later { self.old.faults ≤ self.new.faults }
+    {
+        count_fault(&mut self.faults);
+    }
+
     fn play(&mut self, buffer: &mut [u8]) -> Piece
         requires room { 0 < length buffer.old }
         ensures step { Plays self.old.steps self.new.steps result buffer.new }
@@ -127,9 +138,13 @@ impl Source for FaultySource {
 
     ghost bytes_left = { λ s. Some (bytes_of s.steps) };
 
+    ghost bytes_read = { λ _. None };
+
     ghost waits = { λ s. s.waits };
 
     ghost read_fault_count = { λ s. s.faults };
+
+    ghost sink_side = { λ _. None };
 
     fn read_faults(&self) -> u64 {
         self.faults

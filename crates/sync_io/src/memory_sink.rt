@@ -1,5 +1,5 @@
 //! A sink in memory.
-ghost use Rattle.std.specs.Prelude.{◌≡◌, ◌≤◌, Some, []};
+ghost use Rattle.std.specs.Prelude.{◌≡◌, ◌≤◌, Some, None, []};
 ghost use Rattle.sync_io.specs.Faults.{one_more};
 
 use crate::faults::count_fault;
@@ -55,6 +55,8 @@ impl Sink for MemorySink {
     ghost bytes_held = { λ s. Some s.bytes };
 
     ghost write_fault_count = { λ s. s.faults };
+
+    ghost source_side = { λ _. None };
 
     fn write_faults(&self) -> u64 {
         self.faults

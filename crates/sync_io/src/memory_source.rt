@@ -1,5 +1,5 @@
 //! A source in memory.
-ghost use Rattle.std.specs.Prelude.{◌≡◌, Some, false, length, min, take, drop};
+ghost use Rattle.std.specs.Prelude.{◌≡◌, Some, None, false, length, min, take, drop};
 
 use crate::{Piece, Source};
 use ldap_ber::Octets;
@@ -48,9 +48,13 @@ impl MemorySource {
 impl Source for MemorySource {
     ghost bytes_left = { λ s. Some s };
 
+    ghost bytes_read = { λ _. None };
+
     ghost waits = { λ _. false };
 
     ghost read_fault_count = { λ _. 0 };
+
+    ghost sink_side = { λ _. None };
 
     fn read_faults(&self) -> u64 {
         0

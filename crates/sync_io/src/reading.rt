@@ -1,5 +1,5 @@
 //! A source over any reader.
-ghost use Rattle.std.specs.Prelude.{◌≡◌, false};
+ghost use Rattle.std.specs.Prelude.{◌≡◌, None, false};
 
 use crate::faults::count_fault;
 use crate::{Piece, Source};
@@ -26,9 +26,13 @@ impl<R: Read + Drop> Reading<R> {
 impl<R: Read + Drop> Source for Reading<R> {
     ghost bytes_left = { λ s. R.remaining s.reader };
 
+    ghost bytes_read = { λ _. None };
+
     ghost waits = { λ _. false };
 
     ghost read_fault_count = { λ s. s.faults };
+
+    ghost sink_side = { λ _. None };
 
     fn read_faults(&self) -> u64 {
         self.faults

@@ -15,6 +15,7 @@ pub enum Put {
 pub trait Sink {
     ghost use Rattle.sync_io.specs.Faults.{Rose};
     ghost use Rattle.sync_io.specs.Sink.{FitsPiece, AppendsPiece};
+    ghost use Rattle.sync_io.specs.Sides.{SourceSide};
     ghost use Rattle.sync_io.specs.declared.sink.Put.TheVariants.{Failed};
     ghost use Rattle.std.specs.Io.KnownBytes.{Keeps};
 
@@ -23,6 +24,9 @@ pub trait Sink {
 
     /// How many writes and flushes have failed.
     ghost write_fault_count: { Self → ℕ };
+
+    /// What a write leaves as it was: of a link, its side where bytes come in.
+    ghost source_side: { Self → Option SourceSide };
 
     /// How many writes and flushes have failed. The count stops at the greatest number.
     fn write_faults(&self) -> u64
@@ -34,6 +38,7 @@ pub trait Sink {
 
         ensures count { FitsPiece result piece.now }
         ensures bytes { AppendsPiece (bytes_held self.old) (bytes_held self.new) result piece.now }
+        ensures apart { source_side self.new ≡ source_side self.old }
 
         ensures failed { result ≡ Failed
             → Rose (write_fault_count self.old) (write_fault_count self.new) }
@@ -42,6 +47,7 @@ pub trait Sink {
     /// Passes on what was written. It answers false where that failed.
     fn flush(&mut self) -> bool
         ensures bytes { Keeps (bytes_held self.old) (bytes_held self.new) }
+        ensures apart { source_side self.new ≡ source_side self.old }
 
         ensures failed { OnFalse result
             (Rose (write_fault_count self.old) (write_fault_count self.new)) }
@@ -58,6 +64,7 @@ pub fn write_whole<K: Sink>(sink: &mut K, bytes: &[u8]) -> bool
     ensures whole { OnTrue result
         (Appends (K.bytes_held sink.old) (K.bytes_held sink.new) bytes.now) }
     ensures prefix { AppendsPrefix (K.bytes_held sink.old) (K.bytes_held sink.new) bytes.now }
+    ensures apart { K.source_side sink.new ≡ K.source_side sink.old }
 
     ensures failed { OnFalse result
         (Rose (K.write_fault_count sink.old) (K.write_fault_count sink.new)) }

@@ -1,5 +1,5 @@
 //! A sink over any writer.
-ghost use Rattle.std.specs.Prelude.{◌≡◌};
+ghost use Rattle.std.specs.Prelude.{◌≡◌, None};
 
 use crate::faults::count_fault;
 use crate::{Put, Sink};
@@ -28,6 +28,8 @@ impl<W: Write + Drop> Sink for Writing<W> {
     ghost bytes_held = { λ s. W.contents s.writer };
 
     ghost write_fault_count = { λ s. s.faults };
+
+    ghost source_side = { λ _. None };
 
     fn write_faults(&self) -> u64 {
         self.faults

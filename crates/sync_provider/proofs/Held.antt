@@ -1,14 +1,12 @@
 -- The open searches as they are kept, by their numbers.
-use Rattle.std.proofs.Common.{◌≡◌, ℕ, Bool, true, false, cond, List, [], ◌∷◌, Option, Some, None, refl, ap, sym, subst, ◌∙◌, ◌⊎◌, inl, inr}
+use Rattle.std.proofs.Common.{◌≡◌, ◌≤◌, ℕ, Bool, true, false, cond, List, [], ◌∷◌, length, Option, Some, None, refl, ap, sym, ◌∙◌, arith}
 use Rattle.std.specs.Prelude.{is_some, option_map}
-use Rattle.std.specs.List.{list_all}
 use Rattle.std.specs.BTreeMap.{insert_entry, is_at}
-use Rattle.std.specs.Map.{keys_of, values_of}
-use Rattle.std.specs.Map.Calls.{RetainsPairs}
+use Rattle.std.specs.Map.{keys_of}
 use Rattle.std.specs.Ordering.{nat_cmp, match_ordering}
 use Rattle.std.specs.declared.cmp.Ordering.{Ordering}
 use Rattle.std.specs.declared.cmp.Ordering.TheVariants.{Less, Equal, Greater}
-use Rattle.std.proofs.lemmas.Bool.{and_parts}
+use Rattle.std.proofs.lemmas.List.{length-map}
 use Rattle.std.proofs.lemmas.Map.Made.{lookup-map_values, keys_of-map_values}
 use Rattle.entry_tree.specs.declared.op.Write.{Write}
 use Rattle.entry_tree.specs.declared.touched.EntryChange.{EntryChange}
@@ -17,9 +15,10 @@ use Rattle.directory_writes.specs.Directory.{DirectoryState}
 use Rattle.directory_writes.proofs.Keyed.{kept_at, closed_at, put_on}
 use Rattle.sync_provider.specs.HandingOut.{search_at, turn_of_pending, turn_of_found, turn_at}
 use Rattle.sync_provider.specs.Machine.{each_informed}
+use Rattle.sync_provider.specs.Placing.{put_back, ComesBack, shown}
 use Rattle.sync_provider.specs.Queueing.{is_queueing, group_of, pushed, informed}
 use Rattle.sync_provider.specs.Search.{SearchState, pending}
-use Rattle.sync_provider.specs.Staging.{HeldSearch, searches_of, messages_for, staged_for, IsTried, AreStaged, pushed_staged, each_pushed}
+use Rattle.sync_provider.specs.Staging.{HeldSearch, searches_of, messages_for, staged_for, AreStaged, pushed_staged, each_pushed}
 
 abbrev Held : Type 0
 Held = List (ℕ × HeldSearch)
@@ -75,47 +74,19 @@ held_opened (e ∷ es) k held = by (nat_cmp k e.0) (held_opened es k held) where
 pub held_keys : (es : Held) → keys_of (searches_of es) ≡ keys_of es
 held_keys es = keys_of-map_values (λ held. held.search) es
 
--- ---- after a change of each
+pub as_many : (es : Held) (n : ℕ) → length es ≤ n → length (searches_of es) ≤ n
+as_many es n few = let same : length (searches_of es) ≡ length es = length-map es (λ held. (held.0, held.1.search)) in omega (arith, same, few)
 
-pub record AreTried (entry_changes : List EntryChange) (cookie : CookieText) (old new : Held) : Type 0 where
-  pub searches : searches_of new ≡ searches_of old
-  pub staged : list_all (λ held. is_some held.staged) (values_of new) ≡ true → AreStaged entry_changes cookie new
+-- what is put back, or taken out where nothing was
+pub held_put_back : (es : Held) (k : ℕ) (found : Option HeldSearch) → searches_of (put_back es k found) ≡ put_back (searches_of es) k (shown found)
+held_put_back es k None = held_closed es k
+held_put_back es k (Some held) = held_opened es k held
 
-tried_one : (entry_changes : List EntryChange) (cookie : CookieText) (k : ℕ) (old new : HeldSearch) (olds news : Held) → IsTried entry_changes cookie old new → AreTried entry_changes cookie olds news
-    → AreTried entry_changes cookie ((k, old) ∷ olds) ((k, new) ∷ news)
-tried_one entry_changes cookie k old new olds news one rest = record {
-  searches = (λ i. (k, one.search i) ∷ rest.searches i);
-  staged = λ each.
-      let parts = and_parts (is_some new.staged) (list_all (λ held. is_some held.staged) (values_of news)) each in
-      (made one.staged parts.0, rest.staged parts.1);
-}
-  where
-    never : (found : Option (List SyncMessage)) → found ≡ None → is_some found ≡ true → ⊥
-    never found none some = let far : is_some found ≡ false = ap is_some none in cc
-
-    made : (new.staged ≡ Some (staged_for old.search entry_changes cookie)) ⊎ (new.staged ≡ None) → is_some new.staged ≡ true → new.staged ≡ Some (staged_for new.search entry_changes cookie)
-    made (inl is) some = is ∙ ap (λ s. Some (staged_for s entry_changes cookie)) (sym one.search)
-    made (inr none) some = absurd (never new.staged none some)
-
-pub all_tried : {F : Type 0} (T : F → ℕ → HeldSearch → Bool → HeldSearch → F → Type 0) (f : F) (entry_changes : List EntryChange) (cookie : CookieText)
-    → ((k : ℕ) (old : HeldSearch) (b : Bool) (new : HeldSearch) (g : F) → T f k old b new g → (b ≡ true) × (IsTried entry_changes cookie old new) × (g ≡ f))
-    → (es kept : Held) → RetainsPairs T f es kept → AreTried entry_changes cookie es kept
-all_tried T f entry_changes cookie each [] kept is = subst (AreTried entry_changes cookie []) (sym is) (record { searches = refl; staged = λ none. tt })
-all_tried T f entry_changes cookie each (e ∷ es) kept (b, new, g, rest, call, later, is) =
-    let one = each e.0 e.1 b new g call in
-    let all : kept ≡ (e.0, new) ∷ rest = is ∙ ap (λ c. cond c ((e.0, new) ∷ rest) rest) one.0 in
-    subst (AreTried entry_changes cookie (e ∷ es)) (sym all)
-    (tried_one entry_changes cookie e.0 e.1 new es rest one.1 (all_tried T f entry_changes cookie each es rest (subst (λ h. RetainsPairs T h es rest) one.2 later)))
-
-pub all_pushed : {F : Type 0} (T : F → ℕ → HeldSearch → Bool → HeldSearch → F → Type 0) (f : F) (limit : ℕ)
-    → ((k : ℕ) (old : HeldSearch) (b : Bool) (new : HeldSearch) (g : F) → T f k old b new g → (b ≡ true) × (new.search ≡ pushed_staged limit old.staged old.search) × (g ≡ f))
-    → (es kept : Held) → RetainsPairs T f es kept → searches_of kept ≡ each_pushed limit es
-all_pushed T f limit each [] kept is = ap searches_of is
-all_pushed T f limit each (e ∷ es) kept (b, new, g, rest, call, later, is) =
-    let one = each e.0 e.1 b new g call in
-    let more : searches_of rest ≡ each_pushed limit es = all_pushed T f limit each es rest (subst (λ h. RetainsPairs T h es rest) one.2 later) in
-    ap searches_of (is ∙ ap (λ c. cond c ((e.0, new) ∷ rest) rest) one.0)
-    ∙ (λ i. (e.0, one.1 i) ∷ more i)
+pub search_back : (es : Held) (k : ℕ) → ComesBack es k → ComesBack (searches_of es) k
+search_back es k back =
+    (λ i. put_back (sym (held_closed es k) i) k (search_held es k i))
+    ∙ sym (held_put_back (closed_at es k) k (kept_at es k))
+    ∙ ap searches_of back
 
 -- ---- tests of all
 

@@ -2,8 +2,10 @@
 pub mod Advanced
 pub mod Alone
 pub mod Asking
+pub mod AtPlace
 pub mod Coming
 pub mod Commits
+pub mod Comparisons
 pub mod Copying
 pub mod Deciding
 pub mod Filling
@@ -14,6 +16,11 @@ pub mod Growths
 pub mod Held
 pub mod Incrementally
 pub mod Informed
+pub mod JournalHandOuts
+pub mod JournalReplies
+pub mod JournalSteps
+pub mod JournalTurns
+pub mod Journals
 pub mod Judged
 pub mod Kept
 pub mod Known
@@ -23,6 +30,7 @@ pub mod Numbers
 pub mod Overflows
 pub mod Past
 pub mod Places
+pub mod PlainSearches
 pub mod RefreshTaken
 pub mod Refreshes
 pub mod Refusals
@@ -33,5 +41,6 @@ pub mod Sets
 pub mod StreamTurns
 pub mod Streams
 pub mod Delivery
+pub mod Tables
 pub mod Turns
 pub mod Whereabouts

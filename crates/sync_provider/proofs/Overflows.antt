@@ -13,7 +13,7 @@ use Rattle.sync_model.specs.Stream.{group}
 use Rattle.directory_writes.specs.Directory.{DirectoryState, judged, with_write, with_log_limit}
 use Rattle.sync_provider.specs.Accepting.{start_of_ask, persists_of_ask}
 use Rattle.sync_provider.specs.HandingOut.{without_first}
-use Rattle.sync_provider.specs.Law.{BeginsWith, refresh_of, later_of, stream_of, IsAtItsPlace, IsPlaced, asked, Tally, items_of, is_too_much, after_write, after_commit, after_hand_out, is_over_after}
+use Rattle.sync_provider.specs.Law.{BeginsWith, refresh_of, later_of, stream_of, IsAtItsPlace, IsPlaced, HasHandedOut, asked, Tally, items_of, is_too_much, after_write, after_commit, after_hand_out, is_over_after}
 use Rattle.sync_provider.specs.Committing.{commit_refusal}
 use Rattle.sync_provider.specs.Machine.{ProviderState, ProviderCall, judged_by, called}
 use Rattle.sync_provider.specs.declared.writing.CommitFault.{CommitFault}
@@ -29,15 +29,10 @@ use Rattle.sync_provider.proofs.Streams.{not_over, advanced_same}
 
 -- ---- a search and its count
 
--- as many messages as were counted were handed out
-pub record IsCounted (d : DirectoryState) (s : SearchState) (count : ℕ) : Type 0 where
-  pub now : IsPlaced d s
-  pub counted : count ≡ length now.handed + length now.handed_later
-
 pub record Matches (s0 : SearchState) (d : DirectoryState) (s : SearchState) (t : Tally) : Type 0 where
   pub same : IsSame s0 s
   pub over : t.over ≡ s.over
-  pub counted : s.over ≡ false → IsCounted d s t.handed
+  pub counted : s.over ≡ false → HasHandedOut d s t.handed
 
 group_like : (s0 s : SearchState) (d : DirectoryState) (w : Write) → IsSame s0 s → group_of d s0 w ≡ group_of d s w
 group_like s0 s d w same i = group (session_of (sym same.persists i) d.sid d.history (sym same.spec i) (d.writes ++ w ∷ [])) (length d.writes)
@@ -45,7 +40,7 @@ group_like s0 s d w same i = group (session_of (sym same.persists i) d.sid d.his
 itself : (d : DirectoryState) → BeginsWith d d.writes
 itself d = ([], append-nil d.writes)
 
-drop_all : (xs ys : List SyncMessage) → drop (length xs) (xs ++ ys) ≡ ys
+pub drop_all : (xs ys : List SyncMessage) → drop (length xs) (xs ++ ys) ≡ ys
 drop_all [] ys = refl
 drop_all (x ∷ xs) ys = drop_all xs ys
 
@@ -93,7 +88,7 @@ module _ (s0 : SearchState) (limit : ℕ) (d : DirectoryState) (w : Write) (s : 
       skipped (inl none) = let no_rest : length s.rest ≡ 0 = ap length none in omega (arith, long, no_rest, counted)
       skipped (inr none) = let no_later : length handed_later ≡ 0 = ap length none in omega (arith, long, no_later, counted)
 
-  too_much_is : s.persists ≡ true → IsCounted d s t.handed → is_too_much limit d s0 w t.handed ≡ (not (is_nil (group_of d s w)) && is_full limit (s.due ++ group_of d s w))
+  too_much_is : s.persists ≡ true → HasHandedOut d s t.handed → is_too_much limit d s0 w t.handed ≡ (not (is_nil (group_of d s w)) && is_full limit (s.due ++ group_of d s w))
   too_much_is goes count i =
       not (is_nil (group_like s0 s d w matches.same i)) && is_full limit (items_are goes count.now.handed count.now.handed_later count.now.place count.counted i)
 
@@ -123,7 +118,7 @@ module _ (s0 : SearchState) (limit : ℕ) (d : DirectoryState) (w : Write) (s : 
     same = same_then s0 s (informed limit d w s) matches.same (informed_same limit d w s);
     over = over_is;
     counted = λ still.
-        let was : IsCounted d s t.handed = matches.counted (informed_queued limit d w s still).off in
+        let was : HasHandedOut d s t.handed = matches.counted (informed_queued limit d w s still).off in
         record { now = informed_placed limit d w s still was.now; counted = was.counted };
   }
 
@@ -173,7 +168,7 @@ module _ (s0 : SearchState) (p : ProviderState) (s : SearchState) (t : Tally) (m
         same = same_then s0 s (without_first s) matches.same (advanced_same s s.rest s.due);
         over = matches.over ∙ sym (advanced_is s ms m off first).over;
         counted = λ still.
-            let was : IsCounted d s t.handed = matches.counted off in
+            let was : HasHandedOut d s t.handed = matches.counted off in
             let next : IsNext d (without_first s) (length was.now.handed + length was.now.handed_later) = next_place d s was.now m ms parts in
             record { now = next.now; counted = ap (λ n. n + 1) was.counted ∙ sym next.counted };
       })

@@ -10,7 +10,7 @@ use Rattle.directory_writes.specs.Directory.{DirectoryState, judged, cookie_at, 
 use Rattle.sync_provider.specs.Committing.{commit_refusal}
 use Rattle.sync_provider.specs.Machine.{ProviderState, ProviderCall, after_judged, judged_by, called, run}
 use Rattle.sync_provider.specs.Machine.ProviderCall.{Writes, Commits, Accepts, HandsOut, Drops, SetsLogLimit, SetsQueueLimit}
-use Rattle.sync_provider.specs.Returning.{SearchesSnapshot, snapshot_of, HasNoWriteSince, Step, returned, stepped, stepped_all, IsOpenTo, MayStep, MayStepAll, limits_of, limits_of_step, calls_at, counted, counted_all}
+use Rattle.sync_provider.specs.Returning.{KeptSearch, snapshot_of, HasNoWriteSince, Step, returned, stepped, stepped_all, MayReturn, IsOpenTo, MayStep, MayStepAll, limits_of, limits_of_step, calls_at, counted, counted_all}
 use Rattle.sync_provider.specs.Returning.Step.{Calls, Returns}
 use Rattle.sync_provider.proofs.Commits.{commit_case}
 
@@ -103,29 +103,29 @@ each_stands first p after step one (before ∷ snapshots) [] each = absurd each
 each_stands first p after step one (before ∷ snapshots) (calls ∷ counts) each = (one before calls each.0, each_stands first p after step one snapshots counts each.1)
 
 -- a return to a moment leaves the calls that count there
-returns_at : (first p : ProviderState) (snapshots : List ProviderState) (counts : List (List ProviderCall)) (ago : ℕ) → EachStands first p snapshots counts → IsOpenTo p (slice_get snapshots ago)
-    → returned p (slice_get snapshots ago) ≡ run first (calls_at (slice_get counts ago))
-returns_at first p [] counts ago each may = absurd may
-returns_at first p (before ∷ snapshots) [] ago each may = absurd each
-returns_at first p (before ∷ snapshots) (calls ∷ counts) zero each may = each.0.back may.counted
-returns_at first p (before ∷ snapshots) (calls ∷ counts) (suc ago) each may = returns_at first p snapshots counts ago each.1 may
+returns_at : (first p : ProviderState) (snapshots : List ProviderState) (counts : List (List ProviderCall)) (ago number : ℕ) → EachStands first p snapshots counts → MayReturn p number (slice_get snapshots ago)
+    → returned p number (slice_get snapshots ago) ≡ run first (calls_at (slice_get counts ago))
+returns_at first p [] counts ago number each may = absurd may
+returns_at first p (before ∷ snapshots) [] ago number each may = absurd each
+returns_at first p (before ∷ snapshots) (calls ∷ counts) zero number each may = ap (λ es. record p { searches = es }) may.others ∙ each.0.back may.no_write.counted
+returns_at first p (before ∷ snapshots) (calls ∷ counts) (suc ago) number each may = returns_at first p snapshots counts ago number each.1 may
 
 -- ---- each step
 
 step_stands : (first p : ProviderState) (snapshots : List ProviderState) (step : Step) (before : ProviderState) (calls : List ProviderCall) → Stands first p before calls
     → Stands first (stepped snapshots p step) before (calls ++ limits_of_step step)
 step_stands first p snapshots (Calls call) before calls is = stands_call first p before calls call is
-step_stands first p snapshots (Returns ago) before calls is = by (slice_get snapshots ago)
+step_stands first p snapshots (Returns ago number) before calls is = by (slice_get snapshots ago)
   where
-    by : (found : Option ProviderState) → Stands first (returned p found) before (calls ++ [])
+    by : (found : Option ProviderState) → Stands first (returned p number found) before (calls ++ [])
     by None = stands_steady first p before p calls (still_itself p) is
     by (Some earlier) =
-        stands_steady first p before (record p { searches = earlier.searches }) calls (record { low = omega arith; still = λ same. refl; kind = refl; queue_limit = refl }) is
+        stands_steady first p before (returned p number (Some earlier)) calls (record { low = omega arith; still = λ same. refl; kind = refl; queue_limit = refl }) is
 
 step_counts : (first p : ProviderState) (snapshots : List ProviderState) (counts : List (List ProviderCall)) (calls : List ProviderCall) (step : Step) → p ≡ run first calls → EachStands first p snapshots counts
     → MayStep snapshots p step → stepped snapshots p step ≡ run first (counted counts calls step)
 step_counts first p snapshots counts calls (Calls call) is each may = ap (λ q. called q call) is ∙ sym (run_append first calls (call ∷ []))
-step_counts first p snapshots counts calls (Returns ago) is each may = returns_at first p snapshots counts ago each may
+step_counts first p snapshots counts calls (Returns ago number) is each may = returns_at first p snapshots counts ago number each may
 
 all_count : (first : ProviderState) (steps : List Step) (before : List ProviderState) (counts : List (List ProviderCall)) (p : ProviderState) (calls : List ProviderCall) → p ≡ run first calls
     → EachStands first p before counts → MayStepAll before p steps → stepped_all before p steps ≡ run first (counted_all counts calls steps)
@@ -142,8 +142,8 @@ returns_count p steps may = all_count p steps [] [] p [] refl tt may
 -- ---- the moment of now
 
 -- where the directory is that of a moment, no write came since
-pub no_write_came : (p : ProviderState) (d : DirectoryState) (snapshot : SearchesSnapshot) → snapshot ≡ snapshot_of p → d ≡ p.directory → HasNoWriteSince d snapshot
-no_write_came p d snapshot is same = record {
+pub no_write_came : (p : ProviderState) (d : DirectoryState) (snapshot : KeptSearch) (number : ℕ) → snapshot ≡ snapshot_of p number → d ≡ p.directory → HasNoWriteSince d snapshot
+no_write_came p d snapshot number is same = record {
   suffix = ap (λ m. m.suffix) is ∙ ap (λ e. e.suffix) (sym same);
   counted = ap (λ m. m.writes) is ∙ ap (λ e. length e.writes) (sym same);
   same = ap (λ m. m.cookie) is ∙ ap (λ e. cookie_at e.sid e.history (last_csn_of e)) (sym same);

@@ -1,7 +1,7 @@
 -- What is pending of a search, and the open searches after a turn.
 use Rattle.std.proofs.Common.{◌≡◌, ◌+◌, ◌<◌, ◌≤◌, ℕ, zero, suc, Bool, true, false, cond, nat_le, arith, List, [], ◌∷◌, ◌++◌, length, drop, Option, Some, None, refl, ap, sym, ◌∙◌}
 use Rattle.std.specs.Prelude.{pos, slice_get}
-use Rattle.std.specs.BTreeMap.{is_at}
+use Rattle.std.specs.BTreeMap.{insert_entry, is_at}
 use Rattle.std.specs.Ordering.{nat_cmp}
 use Rattle.std.proofs.lemmas.Bool.{leb-false, false≢true, true≢false}
 use Rattle.std.proofs.lemmas.Bool.Decides.{nat_tests}
@@ -15,7 +15,7 @@ use Rattle.sync_model.specs.Message.SyncMessage.{AddOrModify, Delete, Present, I
 use Rattle.sync_model.specs.Stream.{end_of}
 use Rattle.sync_wire.specs.Sending.{sent}
 use Rattle.directory_writes.proofs.Keyed.{kept_at, closed_at, put_on}
-use Rattle.sync_provider.specs.HandingOut.{Turn, turn_of_message, turn_of_pending, turn_at, has_message, search_at, is_closing, after_own_turn, without_first, closed, handed_on, after_answer}
+use Rattle.sync_provider.specs.HandingOut.{Turn, turn_of_message, turn_of_pending, turn_at, has_message, search_at, is_closing, after_own_turn, without_first, handed_on, after_answer}
 use Rattle.sync_provider.specs.HandingOut.Turn.{Hands, Closes, Waits, Unknown}
 use Rattle.sync_provider.specs.Search.{SearchState, busy_end, pending, advanced, is_end, message_of, messages_of, first_of}
 use Rattle.sync_provider.specs.Staging.{HeldSearch, searches_of}
@@ -48,7 +48,7 @@ over_turn s on = ap (λ o. turn_of_pending s.id (cond o (busy_end ∷ []) (s.res
 turn_of_rest : (s : SearchState) (rest : List SyncMessage) → s.over ≡ false → s.rest ≡ rest → turn_now s ≡ turn_of_pending s.id (rest ++ s.due)
 turn_of_rest s rest off is = λ i. turn_of_pending s.id (cond (off i) (busy_end ∷ []) (is i ++ s.due))
 
-part_hands : (id : ℕ) (deletes : Bool) (p : RefreshItem) → turn_of_message id (message_of deletes p) ≡ Hands (sent id (message_of deletes p))
+pub part_hands : (id : ℕ) (deletes : Bool) (p : RefreshItem) → turn_of_message id (message_of deletes p) ≡ Hands (sent id (message_of deletes p))
 part_hands id deletes (part.Whole entry) = refl
 part_hands id deletes (part.Names uuids) = refl
 
@@ -110,7 +110,7 @@ none_turn s off none first = turn_of_rest s [] off none ∙ by s.due refl
 
 -- ---- where a message is pending there is one to write
 
-message_there : (id : ℕ) (m : SyncMessage) → has_message (turn_of_message id m) ≡ true
+pub message_there : (id : ℕ) (m : SyncMessage) → has_message (turn_of_message id m) ≡ true
 message_there id (AddOrModify adds entry cookie) = refl
 message_there id (Delete uuid name cookie) = refl
 message_there id (Present uuid cookie) = refl
@@ -147,23 +147,6 @@ found_has_message es k held found there = ap has_message (turn_found es k held f
 
 -- ---- the open searches after a turn
 
-closed-put_on : (es : List (ℕ × SearchState)) (k : ℕ) (s : SearchState) → closed (put_on es k s) k ≡ closed es k
-closed-put_on [] k s = refl
-closed-put_on (e ∷ es) k s = by (closed-put_on es k s) (is_at (nat_cmp k) e.0) refl
-  where
-    by : closed (put_on es k s) k ≡ closed es k → (b : Bool) → is_at (nat_cmp k) e.0 ≡ b
-        → closed (cond b ((e.0, s) ∷ es) (e ∷ put_on es k s)) k ≡ cond b es (e ∷ closed es k)
-    by rest true hit = ap (λ b. cond b es ((e.0, s) ∷ closed es k)) hit
-    by rest false miss = ap (λ b. cond b (put_on es k s) (e ∷ closed (put_on es k s) k)) miss ∙ ap (λ xs. e ∷ xs) rest
-
-closed_by : (es : List (ℕ × SearchState)) (k : ℕ) (s : SearchState) (turn : Option Turn) → is_closing turn ≡ true
-    → closed (put_on es k s) k ≡ after_answer es k turn
-closed_by es k s (Some (Closes code message)) h = closed-put_on es k s
-closed_by es k s None h = absurd (false≢true h)
-closed_by es k s (Some (Hands message)) h = absurd (false≢true h)
-closed_by es k s (Some Waits) h = absurd (false≢true h)
-closed_by es k s (Some Unknown) h = absurd (false≢true h)
-
 open_by : (es : List (ℕ × SearchState)) (k : ℕ) (s : SearchState) (turn : Option Turn) → search_at es k ≡ Some s → is_closing turn ≡ false
     → put_on es k (after_own_turn s turn) ≡ after_answer es k turn
 open_by es k s None found h = set_value_same (is_at (nat_cmp k)) es s found
@@ -172,15 +155,18 @@ open_by es k s (Some (Closes code message)) found h = absurd (true≢false h)
 open_by es k s (Some Waits) found h = set_value_same (is_at (nat_cmp k)) es s found
 open_by es k s (Some Unknown) found h = set_value_same (is_at (nat_cmp k)) es s found
 
-pub closed_after : (es : List (ℕ × HeldSearch)) (k : ℕ) (held : HeldSearch) (turn : Option Turn) → is_closing turn ≡ true
-    → searches_of (closed_at (put_on es k held) k) ≡ after_answer (searches_of es) k turn
-closed_after es k held turn h =
-    held_closed (put_on es k held) k ∙ ap (λ xs. closed xs k) (held_put es k held) ∙ closed_by (searches_of es) k held.search turn h
+pub closed_after : (es : List (ℕ × HeldSearch)) (k : ℕ) (turn : Option Turn) → is_closing turn ≡ true → searches_of (closed_at es k) ≡ after_answer (searches_of es) k turn
+closed_after es k (Some (Closes code message)) h = held_closed es k
+closed_after es k None h = absurd (false≢true h)
+closed_after es k (Some (Hands message)) h = absurd (false≢true h)
+closed_after es k (Some Waits) h = absurd (false≢true h)
+closed_after es k (Some Unknown) h = absurd (false≢true h)
 
-pub open_after : (es : List (ℕ × HeldSearch)) (k : ℕ) (old new : HeldSearch) (turn : Option Turn) → kept_at es k ≡ Some old → new.search ≡ after_own_turn old.search turn → is_closing turn ≡ false
-    → searches_of (put_on es k new) ≡ after_answer (searches_of es) k turn
-open_after es k old new turn found same h =
-    held_put es k new ∙ ap (put_on (searches_of es) k) same ∙ open_by (searches_of es) k old.search turn (search_found es k old found) h
+-- a search that is taken out for its turn and put back
+pub open_after : (es : List (ℕ × HeldSearch)) (k : ℕ) (old new : HeldSearch) (turn : Option Turn) → kept_at es k ≡ Some old → ((held : HeldSearch) → insert_entry nat_cmp (closed_at es k) k held ≡ put_on es k held)
+    → new.search ≡ after_own_turn old.search turn → is_closing turn ≡ false → searches_of (insert_entry nat_cmp (closed_at es k) k new) ≡ after_answer (searches_of es) k turn
+open_after es k old new turn found again same h =
+    ap searches_of (again new) ∙ held_put es k new ∙ ap (put_on (searches_of es) k) same ∙ open_by (searches_of es) k old.search turn (search_found es k old found) h
 
 -- ---- the end of a refresh
 
@@ -197,7 +183,7 @@ not_end xs k h = by (nat_le (length xs) k) refl
     by true is = absurd (false≢true (sym h ∙ sym (end_is xs k) ∙ is))
     by false is = leb-false (length xs) k is
 
-drop_none : {X : Type 0} (k : ℕ) → drop {A = X} k [] ≡ []
+pub drop_none : {X : Type 0} (k : ℕ) → drop {A = X} k [] ≡ []
 drop_none zero = refl
 drop_none (suc k) = refl
 

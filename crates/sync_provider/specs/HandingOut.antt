@@ -1,5 +1,5 @@
 -- What is handed out of a search.
-use Rattle.std.specs.Prelude.{ℕ, Bool, true, false, ℤ, pos, List, [], ◌∷◌, Option, Some, None}
+use Rattle.std.specs.Prelude.{ℕ, Bool, true, false, ℤ, pos, List, [], ◌∷◌, drop, Option, Some, None}
 use Rattle.std.specs.Ordering.{nat_cmp}
 use Rattle.std.specs.Map.{lookup, remove_entry, set_value}
 use Rattle.std.specs.BTreeMap.{is_at}
@@ -48,6 +48,14 @@ search_at searches number = lookup (is_at (nat_cmp number)) searches
 -- the turn of the search with this number
 abbrev pub turn_at : List (ℕ × SearchState) → ℕ → Turn
 turn_at searches number = turn_of_found (search_at searches number)
+
+-- the turn of the message with n before it of those that are pending
+abbrev pub turn_of_place : ℕ → Option SearchState → Turn
+turn_of_place place None = Unknown
+turn_of_place place (Some s) = turn_of_pending s.id (drop place (pending s))
+
+abbrev pub turn_at_place : List (ℕ × SearchState) → ℕ → ℕ → Turn
+turn_at_place searches number place = turn_of_place place (search_at searches number)
 
 -- there is a message in it, which has to be written
 abbrev pub has_message : Turn → Bool

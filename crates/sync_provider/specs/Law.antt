@@ -138,6 +138,11 @@ pub record IsPlaced (d : DirectoryState) (s : SearchState) : Type 0 where
   pub handed_later : List SyncMessage
   pub place : IsAtItsPlace d s handed handed_later
 
+-- as many of its messages as these were handed out
+pub record HasHandedOut (d : DirectoryState) (s : SearchState) (count : ℕ) : Type 0 where
+  pub now : IsPlaced d s
+  pub counted : count ≡ length now.handed + length now.handed_later
+
 -- where no write was too much
 abbrev pub KeepsItsPlace : DirectoryState → SearchState → Type 0
 KeepsItsPlace d s = s.over ≡ false → IsPlaced d s

@@ -1,5 +1,5 @@
 -- How a write is reported to the open searches before it is accepted (RFC 4533, section 3.4).
-use Rattle.std.specs.Prelude.{ℕ, ◌≡◌, ◌<◌, ◌≤◌, ◌⊎◌, ⊤, ◌-◌, ◌^◌, Bool, true, false, min, cond, List, [], ◌∷◌, length, map, flat_map, Option, Some, None, IfSome}
+use Rattle.std.specs.Prelude.{ℕ, ◌≡◌, ◌<◌, ◌≤◌, ⊤, ◌-◌, ◌^◌, Bool, true, false, min, cond, List, [], ◌∷◌, length, map, flat_map, Option, Some, None, IfSome}
 use Rattle.csn_cookie.specs.declared.cookie.Cookie as cookies
 use Rattle.dn_names.specs.Writing.{name_text}
 use Rattle.entry_tree.specs.declared.entry.Entry.{Entry}
@@ -75,13 +75,10 @@ messages_for search entry_changes cookie =
 abbrev pub counted_weight : SyncMessage → ℕ
 counted_weight message = min (message_weight message) (2 ^ 64 - 1)
 
--- a message that is kept: its cookie has a text, and its weight is that of the message, to which a
--- cookie adds nothing
-pub record IsLater
-    (change : ContentChange) (cookie : Option cookies.Cookie) (weight : ℕ) : Type 0 where
+-- the cookie of a message that is kept has a text
+pub record HasCookieText (cookie : Option cookies.Cookie) : Type 0 where
   pub rid : IfSome cookie (λ c. c.rid < 1000)
   pub sid : IfSome cookie (λ c. c.sid < 4096)
-  pub weighed : weight ≡ counted_weight (message_of_change change None)
 
 -- ---- a search as it is kept
 
@@ -101,14 +98,6 @@ searches_of held = map (λ kept. (kept.0, kept.1.search)) held
 abbrev pub staged_for : SearchState → List EntryChange → CookieText → List SyncMessage
 staged_for s entry_changes cookie =
     cond (is_queueing s) (messages_for s.spec entry_changes cookie) []
-
--- what is left of a search where its messages of a write are to be made: the search itself, and all
--- of them, or none where memory ran out
-pub record IsTried
-    (entry_changes : List EntryChange) (cookie : CookieText) (old new : HeldSearch) : Type 0 where
-  pub search : new.search ≡ old.search
-  pub staged :
-      (new.staged ≡ Some (staged_for old.search entry_changes cookie)) ⊎ (new.staged ≡ None)
 
 -- the messages of the write are made for each
 abbrev pub AreStaged : List EntryChange → CookieText → List (ℕ × HeldSearch) → Type 0

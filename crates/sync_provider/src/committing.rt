@@ -13,12 +13,13 @@ ghost use Rattle.sync_provider.specs.Staging.{searches_of};
 ghost use Rattle.sync_provider.specs.declared.writing.CommitFault.TheVariants as faults;
 
 use crate::NoMemory;
-use crate::open_search::{OpenSearch, discard};
-use crate::provider::{Kind, Provider};
+use crate::open_search::discard;
+use crate::provider::Kind;
+use crate::search_table::SearchTable;
+use crate::sync_directory::SyncDirectory;
 use crate::writing::CommitFault;
 use directory_writes::DirectorySnapshot;
 use entry_tree::EntryList;
-use std::collections::BTreeMap;
 use sync_messages::IdList;
 
 /// A commit that is staged: the entries that it puts, each in the place of one of its identity, and
@@ -29,7 +30,7 @@ pub struct StagedCommit {
     pub drops: IdList,
 }
 
-impl Provider {
+impl SyncDirectory {
     /// Adds one write for each of these commits, in their order, where the clock shows `now`, as
     /// `commit` does: all of them or none. Each is judged on what the ones before it left. The
     /// answer is the number of accepted writes after them, or the first cause against one of them,
@@ -125,11 +126,11 @@ impl Provider {
         ensures directory { IfOk result (λ snapshot.
             IsSnapshotOf self.now.directory snapshot.directory) }
         ensures searches { IfOk result (λ snapshot.
-            searches_of snapshot.searches.entries ≡ self.now.searches) }
+            searches_of snapshot.searches ≡ self.now.searches) }
     {
         Ok(ProviderSnapshot {
             directory: self.directory.snapshot()?,
-            searches: self.copy_of_searches()?,
+            searches: self.searches.copy()?,
         })
     }
 
@@ -138,7 +139,7 @@ impl Provider {
         requires { IsSnapshotOf (back_at snapshot.directory self.old.directory) snapshot.directory }
         ensures { self.new ≡ record self.old {
           directory = back_at snapshot.directory self.old.directory;
-          searches = searches_of snapshot.searches.entries;
+          searches = searches_of snapshot.searches;
         } }
     {
         self.directory.return_to_snapshot(snapshot.directory);
@@ -150,5 +151,5 @@ impl Provider {
 #[derive(Drop)]
 struct ProviderSnapshot {
     directory: DirectorySnapshot,
-    searches: BTreeMap<u64, OpenSearch>,
+    searches: SearchTable,
 }

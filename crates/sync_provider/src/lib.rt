@@ -14,28 +14,43 @@
 //! accepted write puts, in the same call, one message for each identity that it changes in the
 //! content into the search's queue, all of them or none. A search whose queue would hold too many
 //! messages, or too heavy ones, ends with the code busy.
+//!
+//! A `SyncDirectory` is all this. A `Provider` keeps a journal beside it: the writes that were
+//! accepted, the searches that were opened, and their ends. It is a `Port`, by which a directory is
+//! written to, searched and followed, whether other ports do so too or not.
 #![tactic(auto)]
 
+mod by_number;
 mod committing;
+mod comparing;
 mod content_change;
 mod gathering;
 mod handed;
+mod journal;
+mod journal_note;
 mod laws;
 mod notifying;
 mod open_search;
-mod open_searches;
+mod opened_search;
 mod pending_refresh;
 mod persist_message;
+mod port;
+mod ports;
 mod provider;
 mod refresh_item;
 mod refreshing;
+mod returning;
+mod search_table;
 mod searches;
+mod searching;
 mod selecting;
 mod staging;
+mod sync_directory;
 mod writing;
 
 pub use committing::StagedCommit;
 pub use handed::Handed;
+pub use journal_note::{ClosedSearch, JournalNote, SearchChange, SearchEvent};
 pub use laws::{
     cookies_name_their_prefix, logs_show_what_was_touched, numbers_show_what_was_touched,
     queues_overflow_exactly, refreshes_are_incremental, refusals_count_as_none,
@@ -44,8 +59,12 @@ pub use laws::{
 };
 pub use ldap_ber::NoMemory;
 pub use open_search::OpenSearch;
-pub use open_searches::OpenSearches;
+pub use opened_search::OpenedSearch;
+pub use port::Port;
 pub use provider::{Kind, Provider};
+pub use returning::SearchSnapshot;
 pub use searches::{Accepted, SyncSearch};
+pub use searching::{PlainSearch, SearchReply};
+pub use sync_directory::SyncDirectory;
 pub use sync_wire::done_message;
 pub use writing::{CommitFault, Reply};

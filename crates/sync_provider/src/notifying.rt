@@ -47,7 +47,7 @@ fn notified_of_changes(
     let mut messages = Vec::new(alloc);
     for entry_change in touched {
         if let Some(change) = change_of(alloc, search, entry_change)? {
-            messages.push(PersistMessage::new(alloc, change)?)?;
+            messages.push(PersistMessage::new(alloc, change))?;
         }
     }
     Ok(messages)

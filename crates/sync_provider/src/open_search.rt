@@ -1,17 +1,20 @@
 //! A search that is open.
 
-ghost use Rattle.std.specs.Prelude.{◌≡◌, ◌<◌, [], false, true, is_some, Some, None, IfOk, IfSome};
+ghost use Rattle.std.specs.Prelude.{◌≡◌, ◌<◌, [], false, true, drop, Some, None, IfOk, IfSome, OnOk};
 ghost use Rattle.csn_cookie.specs.Cookie.{cookie_text};
 ghost use Rattle.directory_writes.specs.Starting.{start_of};
 ghost use Rattle.entry_tree.specs.Selection.{search_of};
 ghost use Rattle.sync_model.specs.Stream.{is_delete_phase};
-ghost use Rattle.sync_provider.specs.HandingOut.{turn_of, turn_of_pending, has_message, after_own_turn};
+ghost use Rattle.sync_provider.specs.HandingOut.{turn_of, turn_of_pending, has_message, is_closing};
+ghost use Rattle.sync_provider.specs.HandingOut.{after_own_turn, without_first};
+ghost use Rattle.sync_provider.specs.Opened.{opening_of_search};
 ghost use Rattle.sync_provider.specs.Queueing.{is_queueing};
 ghost use Rattle.sync_provider.specs.Search.{pending, messages_of};
-ghost use Rattle.sync_provider.specs.Staging.{staged_for, pushed_staged, IsTried};
+ghost use Rattle.sync_provider.specs.Staging.{staged_for, pushed_staged};
 
 use crate::handed::Handed;
 use crate::notifying::messages_for;
+use crate::opened_search::OpenedSearch;
 use crate::pending_refresh::{PendingRefresh, shared};
 use crate::persist_message::PersistMessage;
 use crate::refresh_item::RefreshItem;
@@ -161,6 +164,46 @@ impl OpenSearch {
         self.persists && !self.over
     }
 
+    /// Whether a message is pending.
+    #[tactic(auto, using(crate::proofs::Turns::over_has_message, crate::proofs::Turns::rest_has_message, crate::proofs::Turns::due_has_message, crate::proofs::Journals::none_has_message))]
+    pub(crate) fn has_message(&self) -> bool
+        ensures { result
+            ≡ has_message (turn_of_pending self.now.search.id (pending self.now.search)) }
+    {
+        if self.over {
+            return true;
+        }
+        if let Some(_) = &self.rest {
+            return true;
+        }
+        let Some(_) = self.queue.get(0) else {
+            return false;
+        };
+        true
+    }
+
+    /// Whether a write was too much for it.
+    pub(crate) fn is_over(&self) -> bool
+        ensures { result ≡ self.now.search.over }
+    {
+        self.over
+    }
+
+    /// How it was opened, under this number, with its specification once more.
+    pub(crate) fn opened(&self, number: u64, spec: Spec) -> OpenedSearch
+        requires { search_of spec ≡ self.now.search.spec }
+        ensures { result ≡ opening_of_search number self.now.search }
+    {
+        OpenedSearch {
+            number,
+            id: self.id,
+            spec,
+            start: self.start,
+            accepted: self.accepted,
+            persists: self.persists,
+        }
+    }
+
     /// The message that is pending first, which counts as handed out where it is not the last.
     #[tactic(auto, using(crate::proofs::Turns::over_turn, crate::proofs::Turns::over_has_message, crate::proofs::Turns::rest_has_message, crate::proofs::Turns::part_turn, crate::proofs::Turns::part_state, crate::proofs::Turns::end_turn, crate::proofs::Turns::end_state, crate::proofs::Turns::last_turn))]
     pub(crate) fn hand_out(&mut self) -> Handed
@@ -215,12 +258,120 @@ impl OpenSearch {
         Handed::Message(message)
     }
 
+    /// The message with n before it of those that are pending. None is handed out.
+    #[tactic(auto, using(crate::proofs::AtPlace::no_refresh, crate::proofs::AtPlace::past_left, crate::proofs::AtPlace::parts_after, crate::proofs::AtPlace::last_after, crate::proofs::AtPlace::stay_after, crate::proofs::AtPlace::refresh_has_message))]
+    pub(crate) fn pending_at(&self, place: usize) -> Handed
+        ensures turn { IfSome (turn_of result) (λ turn.
+            turn ≡ turn_of_pending self.now.search.id (drop place (pending self.now.search))) }
+        ensures memory { result ≡ Handed.NoMemory
+            → has_message
+            (turn_of_pending self.now.search.id (drop place (pending self.now.search)))
+            ≡ true }
+    {
+        if self.over {
+            return self.busy_end_at(place);
+        }
+        let Some(rest) = &self.rest else {
+            return self.later_at(place, place);
+        };
+        let left = rest.left();
+        if place > left {
+            return self.later_at(place, place - left - 1);
+        }
+        let deletes = self.start.deletes();
+        let Ok(message) = rest.message_at(place, self.id, self.persists, deletes) else {
+            return Handed::NoMemory;
+        };
+        if place < left || self.persists {
+            return Handed::Message(message);
+        }
+        Handed::Ended(SUCCESS, message)
+    }
+
+    /// The end with the code busy, where nothing is before it.
+    #[tactic(auto, using(crate::proofs::AtPlace::over_after, crate::proofs::AtPlace::over_nothing, crate::proofs::AtPlace::over_is_message))]
+    fn busy_end_at(&self, place: usize) -> Handed
+        requires { self.now.search.over ≡ true }
+        ensures turn { IfSome (turn_of result) (λ turn.
+            turn ≡ turn_of_pending self.now.search.id (drop place (pending self.now.search))) }
+        ensures memory { result ≡ Handed.NoMemory
+            → has_message
+            (turn_of_pending self.now.search.id (drop place (pending self.now.search)))
+            ≡ true }
+    {
+        if place > 0 {
+            return Handed::Nothing;
+        }
+        match done_message(self.alloc, self.id, BUSY) {
+            Ok(message) => Handed::Ended(BUSY, message),
+            Err(_) => Handed::NoMemory,
+        }
+    }
+
+    /// The message of later writes with n of them before it, which stands at this place of all that
+    /// are pending.
+    #[tactic(auto, using(crate::proofs::AtPlace::due_after, crate::proofs::AtPlace::due_nothing, crate::proofs::AtPlace::due_is_message))]
+    fn later_at(&self, place: usize, after: usize) -> Handed
+        requires { drop place (pending self.now.search) ≡ drop after self.now.search.due }
+        ensures turn { IfSome (turn_of result) (λ turn.
+            turn ≡ turn_of_pending self.now.search.id (drop place (pending self.now.search))) }
+        ensures memory { result ≡ Handed.NoMemory
+            → has_message
+            (turn_of_pending self.now.search.id (drop place (pending self.now.search)))
+            ≡ true }
+    {
+        let Some(later) = self.queue.get(after) else {
+            return Handed::Nothing;
+        };
+        match later.message(self.id) {
+            Ok(message) => Handed::Message(message),
+            Err(_) => Handed::NoMemory,
+        }
+    }
+
+    /// Whether the message that is pending first is the last one.
+    #[tactic(auto, using(crate::proofs::AtPlace::over_closes, crate::proofs::AtPlace::refresh_closes, crate::proofs::AtPlace::due_closes, crate::proofs::AtPlace::none_closes))]
+    pub(crate) fn is_ending(&self) -> bool
+        ensures { result ≡ is_closing
+            (Some (turn_of_pending self.now.search.id (pending self.now.search))) }
+    {
+        if self.over {
+            return true;
+        }
+        let Some(rest) = &self.rest else {
+            return match self.queue.get(0) {
+                Some(later) => later.is_end(),
+                None => false,
+            };
+        };
+        rest.is_end() && !self.persists
+    }
+
+    /// The message that is pending first counts as handed out. It takes no memory.
+    #[tactic(auto, using(crate::proofs::Turns::part_state, crate::proofs::Turns::end_state, crate::proofs::AtPlace::popped))]
+    pub(crate) fn advance(&mut self)
+        ensures { self.new.search ≡ without_first self.old.search }
+    {
+        let Some(rest) = &mut self.rest else {
+            let _ = self.queue.pop();
+            return;
+        };
+        if rest.is_end() {
+            discard(self.rest.take());
+            return;
+        }
+        rest.advance();
+    }
+
     /// Makes the messages that a write sends, and the room for them in the queue. They are not
     /// pending before the write is accepted.
     pub(crate) fn stage(&mut self, touched: &[EntryChange], cookie: Cookie) -> Result<(), NoMemory>
         requires rid { cookie.rid < 1000 }
         requires sid { cookie.sid < 4096 }
-        ensures { IsTried touched.now (cookie_text cookie) self.old self.new }
+        ensures search { self.new.search ≡ self.old.search }
+        ensures staged { OnOk result
+            (self.new.staged
+            ≡ Some (staged_for self.old.search touched.now (cookie_text cookie))) }
     {
         discard(self.staged.take());
         let messages = self.messages_of(touched, cookie)?;
@@ -245,13 +396,6 @@ impl OpenSearch {
         } else {
             Ok(Vec::new(self.alloc))
         }
-    }
-
-    /// Whether the messages of a write are made.
-    pub(crate) fn is_staged(&self) -> bool
-        ensures { result ≡ is_some self.now.staged }
-    {
-        self.staged.is_some()
     }
 
     /// Puts what was staged after what is due, of which there may be so much, or else ends the

@@ -1,6 +1,6 @@
 //! What is left of a refresh.
 
-ghost use Rattle.std.specs.Prelude.{◌≡◌, ◌≢◌, ◌<◌, [], false, drop, IfOk};
+ghost use Rattle.std.specs.Prelude.{◌≡◌, ◌≢◌, ◌<◌, [], false, drop, IfOk, ◌≤◌, length};
 ghost use Rattle.csn_cookie.specs.Cookie.{cookie_text};
 ghost use Rattle.ldap_messages.specs.Whole.{whole_of};
 ghost use Rattle.sync_model.specs.Law.{is_nil};
@@ -73,6 +73,14 @@ impl PendingRefresh {
         })
     }
 
+    /// How many parts are left before the end.
+    #[tactic(auto, using(crate::proofs::AtPlace::parts_left))]
+    pub(crate) fn left(&self) -> usize
+        ensures { result ≡ length self.now.parts }
+    {
+        self.parts.len() - self.handed
+    }
+
     /// Whether nothing is left but the end.
     #[tactic(auto, using(crate::proofs::Turns::end_is))]
     pub(crate) fn is_end(&self) -> bool
@@ -92,7 +100,6 @@ impl PendingRefresh {
 
     /// The next message, in a search that goes on after its refresh or not, and in a delete phase
     /// or a present phase.
-    #[tactic(auto, using(crate::proofs::Turns::first_part, crate::proofs::Turns::first_end))]
     pub(crate) fn message(
         &self,
         id: u32,
@@ -102,8 +109,25 @@ impl PendingRefresh {
         ensures { IfOk result (λ message.
             whole_of message ≡ sent id (first_of persists deletes self.now.parts self.now.cookie)) }
     {
+        self.message_at(0, id, persists, deletes)
+    }
+
+    /// The message after n parts that are left, in such a search and phase.
+    #[tactic(auto, using(crate::proofs::AtPlace::part_after, crate::proofs::AtPlace::end_after))]
+    pub(crate) fn message_at(
+        &self,
+        place: usize,
+        id: u32,
+        persists: bool,
+        deletes: bool,
+    ) -> Result<Message, NoMemory>
+        requires { place ≤ length self.now.parts }
+        ensures { IfOk result (λ message.
+            whole_of message
+            ≡ sent id (first_of persists deletes (drop place self.now.parts) self.now.cookie)) }
+    {
         let alloc = *self.parts.allocator();
-        match self.parts.get(self.handed) {
+        match self.parts.get(self.handed + place) {
             Some(part) => part_message(alloc, id, deletes, part),
             None => end_message(alloc, id, persists, deletes, &self.cookie),
         }

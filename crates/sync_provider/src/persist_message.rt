@@ -29,8 +29,6 @@ pub(crate) struct PersistMessage {
     change: ContentChange,
     /// The last message of a write has the write's cookie.
     cookie: Option<Cookie>,
-    /// Kept, since the name has to be written to know it.
-    weight: u64,
 }
 
 impl Model for PersistMessage {
@@ -38,13 +36,13 @@ impl Model for PersistMessage {
     ghost use Rattle.csn_cookie.specs.Cookie.{cookie_text};
     ghost use Rattle.sync_model.specs.Message.{SyncMessage};
     ghost use Rattle.sync_provider.specs.Search.{is_end};
-    ghost use Rattle.sync_provider.specs.Staging.{message_of_change, IsLater};
+    ghost use Rattle.sync_provider.specs.Staging.{message_of_change, HasCookieText};
 
     ghost Value = { SyncMessage };
 
     ghost view = { λ l. message_of_change l.change (option_map cookie_text l.cookie) };
 
-    ghost invariant = { λ l. IsLater l.change l.cookie l.weight };
+    ghost invariant = { λ l. HasCookieText l.cookie };
 }
 
 impl Weighs for PersistMessage {
@@ -52,22 +50,20 @@ impl Weighs for PersistMessage {
 
     #[tactic(auto, using(crate::proofs::Saying::change_weight))]
     fn weight(&self) -> u64 {
-        self.weight
+        weight_of(&self.change)
     }
 }
 
 impl PersistMessage {
     /// The message of a change, without a cookie.
-    pub(crate) fn new(alloc: Global, change: ContentChange) -> Result<PersistMessage, NoMemory>
-        ensures { IfOk result (λ later. later ≡ message_of_change change None) }
+    pub(crate) fn new(alloc: Global, change: ContentChange) -> PersistMessage
+        ensures { result ≡ message_of_change change None }
     {
-        let weight = weight_of(&change)?;
-        Ok(PersistMessage {
+        PersistMessage {
             alloc,
             change,
             cookie: None,
-            weight,
-        })
+        }
     }
 
     #[tactic(auto, using(crate::proofs::Saying::change_marked))]
@@ -80,7 +76,6 @@ impl PersistMessage {
             alloc: self.alloc,
             change: self.change,
             cookie: Some(cookie),
-            weight: self.weight,
         }
     }
 
@@ -91,8 +86,18 @@ impl PersistMessage {
             alloc: self.alloc,
             change: self.change.copy()?,
             cookie: self.cookie,
-            weight: self.weight,
         })
+    }
+
+    /// Whether it ends its search, which no message of a write does.
+    #[tactic(auto, using(crate::proofs::Saying::change_goes))]
+    pub(crate) fn is_end(&self) -> bool
+        ensures { result ≡ is_end self.now }
+    {
+        match &self.change {
+            ContentChange::Added(_) | ContentChange::Modified(_) => false,
+            ContentChange::Deleted(_, _) => false,
+        }
     }
 
     /// The message of LDAP that it is sent as. The search goes on after it.
@@ -123,21 +128,21 @@ impl PersistMessage {
 
 /// The length of the name as it is written and the weight of the attributes without the marks, and
 /// 64. The greatest number stands for all sums above it.
-fn weight_of(change: &ContentChange) -> Result<u64, NoMemory>
-    ensures { IfOk result (λ weight. weight ≡ counted_weight (message_of_change change.now None)) }
+fn weight_of(change: &ContentChange) -> u64
+    ensures { result ≡ counted_weight (message_of_change change.now None) }
 {
     let carried = match change {
         ContentChange::Added(entry) | ContentChange::Modified(entry) => {
-            name_weight(&entry.dn)?.saturating_add(entry.attrs.weight())
+            name_weight(&entry.dn).saturating_add(entry.attrs.weight())
         }
-        ContentChange::Deleted(_, name) => name_weight(name)?,
+        ContentChange::Deleted(_, name) => name_weight(name),
     };
-    Ok(carried.saturating_add(MESSAGE_WEIGHT))
+    carried.saturating_add(MESSAGE_WEIGHT)
 }
 
 /// The length of the name as it is written.
-fn name_weight(name: &Dn) -> Result<u64, NoMemory>
-    ensures { IfOk result (λ weight. weight ≡ spec.name_weight name.now) }
+fn name_weight(name: &Dn) -> u64
+    ensures { result ≡ spec.name_weight name.now }
 {
-    Ok(name.write()?.as_slice().len() as u64)
+    name.written_len() as u64
 }

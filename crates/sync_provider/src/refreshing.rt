@@ -64,9 +64,9 @@ fn identities(alloc: Global, directory: &Directory) -> Result<Vec<u128>, NoMemor
     ensures exact { IfOk result (λ uuids. uuids.items ≡ refreshing.all_identities directory.now) }
     ensures ascends { IfOk result (λ uuids. IsStrictlySortedBy nat_cmp uuids.items) }
 {
-    let entries = directory.tree().entries();
+    let entries = directory.tree().entries()?;
     let mut uuids = Vec::new(alloc);
-    for entry in entries {
+    for entry in &entries {
         uuids.push(entry.uuid)?;
     }
     Ok(uuids)

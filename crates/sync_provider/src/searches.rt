@@ -1,6 +1,6 @@
 //! How a search is accepted (RFC 4533, sections 3.3 and 3.4).
 
-ghost use Rattle.std.specs.Prelude.{◌≡◌, length, Ok, IfOk, IfErr, OnOk, OnErr};
+ghost use Rattle.std.specs.Prelude.{◌≡◌, length, Ok, IfOk, IfErr, IfSome, OnOk, OnErr};
 ghost use Rattle.entry_tree.specs.Selection.{search_of};
 ghost use Rattle.std.specs.Ordering.{nat_cmp};
 ghost use Rattle.sync_messages.specs.Request.{request_of};
@@ -10,12 +10,14 @@ ghost use Rattle.sync_provider.specs.Accepting as accepting;
 ghost use Rattle.sync_provider.specs.Answering.{AcceptLeaves};
 ghost use Rattle.directory_writes.specs.Starting.{IsServed};
 ghost use Rattle.directory_writes.specs.Starting.{start_of};
+ghost use Rattle.sync_provider.specs.Placing.{IsNumber};
 ghost use Rattle.sync_provider.specs.Search.{opening};
 ghost use Rattle.sync_provider.specs.declared.searches.Accepted.TheVariants.{Opened, Refused};
 
 use crate::open_search::{Asked, OpenSearch, discard};
-use crate::provider::Provider;
 use crate::refreshing::refresh;
+use crate::search_table::MOST_SEARCHES;
+use crate::sync_directory::SyncDirectory;
 use csn_cookie::is_blank;
 use directory_writes::Start;
 use entry_tree::Spec;
@@ -24,9 +26,6 @@ use ldap_constants::{
     ADMIN_LIMIT_EXCEEDED, E_SYNC_REFRESH_REQUIRED, NO_SUCH_OBJECT, PROTOCOL_ERROR,
 };
 use sync_messages::{Mode, SyncFault, SyncRequest};
-
-/// The greatest number of a search, and so the most searches that are open at once.
-const MOST_SEARCHES: u64 = 64;
 
 /// A search with a Sync Request control that is asked for.
 #[derive(Drop)]
@@ -55,7 +54,7 @@ pub enum Accepted {
     NoMemory,
 }
 
-impl Provider {
+impl SyncDirectory {
     /// Opens a search under the smallest free number, or reports the first of the codes against it:
     /// protocolError for a control's value outside its grammar, noSuchObject for a base outside the
     /// suffix, adminLimitExceeded where the 64 numbers are all in use, and e-syncRefreshRequired
@@ -120,6 +119,7 @@ impl Provider {
         ensures start { IfOk result (λ found.
             start_of found.start ≡ accepting.start_of_request self.now.directory request.now) }
         ensures served { IfOk result (λ found. IsServed self.now.directory (start_of found.start)) }
+        ensures number { IfOk result (λ found. IsNumber found.number) }
         ensures code { IfErr result (λ code.
             accepting.answer_to_request self.now.directory self.now.searches ask.now
             (Ok request.now)
@@ -142,7 +142,8 @@ impl Provider {
     /// Opens a search with this number, and answers how many writes the directory has.
     #[tactic(auto, using(crate::proofs::Held::held_opened))]
     fn open(&mut self, number: u64, asked: Asked) -> Result<u64, NoMemory>
-        requires { IsServed self.old.directory (start_of asked.start) }
+        requires served { IsServed self.old.directory (start_of asked.start) }
+        requires number { IsNumber number }
         ensures writes { IfOk result (λ writes. writes ≡ length self.old.directory.writes) }
         ensures ok { OnOk result (self.new ≡ record self.old {
           searches = insert_entry nat_cmp self.old.searches number
@@ -156,7 +157,7 @@ impl Provider {
                 let accepted = self.writes();
                 let cookie = self.directory.cookie();
                 let search = OpenSearch::new(self.alloc, asked, accepted, parts, cookie)?;
-                discard(self.searches.insert(number, search)?);
+                self.searches.put(number, search);
                 Ok(accepted)
             }
             Err(full) => {
@@ -169,10 +170,11 @@ impl Provider {
     /// The smallest number, of those up to 64, under which no search is open.
     #[tactic(auto, using(crate::proofs::Numbers::found_here, crate::proofs::Numbers::found_later, crate::proofs::Numbers::found_none))]
     fn free_number(&self) -> Option<u64>
-        ensures { result ≡ accepting.free_number self.now.searches }
+        ensures value { result ≡ accepting.free_number self.now.searches }
+        ensures number { IfSome result IsNumber }
     {
         for number in 1..=MOST_SEARCHES {
-            if !self.searches.contains_key(&number) {
+            if !self.searches.contains(number) {
                 return Some(number);
             }
         }

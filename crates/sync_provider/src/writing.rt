@@ -13,8 +13,9 @@ ghost use Rattle.sync_provider.specs.Machine as machine;
 
 use crate::NoMemory;
 use crate::open_search::discard;
-use crate::provider::{Kind, Provider};
-use crate::staging::{push_each, stage_write};
+use crate::provider::Kind;
+use crate::staging::stage_write;
+use crate::sync_directory::SyncDirectory;
 use directory_writes::{DirectoryFault, Preview};
 use entry_tree::{EntryList, Op, OpFault};
 use ldap_constants::{OTHER, SUCCESS, UNWILLING_TO_PERFORM};
@@ -55,7 +56,7 @@ impl From<DirectoryFault> for CommitFault {
     }
 }
 
-impl Provider {
+impl SyncDirectory {
     /// Applies a write of a client where the clock shows `now`, in microseconds from the first
     /// moment of 1970 on, and reports it to the searches that go on and whose content it changes. A
     /// write that is not accepted leaves all as it was. A replica accepts none.
@@ -108,7 +109,8 @@ impl Provider {
         }
     }
 
-    /// The same at a replica.
+    /// The same at a replica. The commit is judged once.
+    #[tactic(auto, using(crate::proofs::Delivery::judged_good))]
     fn take_commit(
         &mut self,
         puts: EntryList,
@@ -127,12 +129,14 @@ impl Provider {
         ensures number { IfOk result (λ number. number ≡ length self.new.directory.writes) }
         ensures one { IfOk result (λ number. number ≡ length self.old.directory.writes + 1) }
     {
-        self.directory.check_commit(puts.list(), drops.list(), now)?;
-        self.write_and_notify(Op::Commit(puts, drops), now)?;
+        let preview = self
+            .directory
+            .preview_commit(puts.list(), drops.list(), now)?;
+        self.put_and_notify(Op::Commit(puts, drops), &preview)?;
         Ok(self.writes())
     }
 
-    /// Applies a write, whoever asks for it, and reports it. The answer is its code.
+    /// Applies a write of a client, and reports it. The answer is its code.
     #[tactic(auto, using(crate::proofs::Delivery::judged_good, directory_writes::proofs::Judged::code_good))]
     fn write_and_notify(&mut self, op: Op, now: u64) -> Result<u32, NoMemory>
         requires sound { is_sound_op op ≡ true }
@@ -166,7 +170,7 @@ impl Provider {
         match stage_write(&mut self.searches, &self.directory, preview) {
             Ok(()) => {
                 self.directory.put(op, preview)?;
-                push_each(&mut self.searches, self.queue_limit);
+                self.searches.push_each(self.queue_limit);
                 Ok(())
             }
             Err(full) => {

@@ -20,6 +20,9 @@ use std::alloc::Global;
 use sync_messages::{IdList, State, SyncDone, SyncInfo, SyncState};
 use uuid::Uuid;
 
+/// How many attributes an entry is sent with beside those that are held.
+const OPERATIONAL_ATTRIBUTES: usize = 2;
+
 /// The end of a search, with this result code and no control.
 #[tactic(auto, using(crate::proofs::Operations::done_operation))]
 pub fn done_message(alloc: Global, id: u32, code: u32) -> Result<Message, NoMemory>
@@ -217,7 +220,7 @@ fn text_of(alloc: Global, cookie: Option<Cookie>) -> Result<Option<Octets>, NoMe
 fn list_of(alloc: Global, uuids: &[u128]) -> Result<IdList, NoMemory>
     ensures { IfOk result (λ list. list ≡ uuids.now) }
 {
-    let mut list = IdList::new(alloc);
+    let mut list = IdList::with_room(alloc, uuids.len())?;
     for uuid in uuids {
         list.push(*uuid)?;
     }
@@ -228,8 +231,9 @@ fn list_of(alloc: Global, uuids: &[u128]) -> Result<IdList, NoMemory>
 fn attributes_of(alloc: Global, entry: &Entry) -> Result<RawList, NoMemory>
     ensures { IfOk result (λ list. list ≡ attributes_of entry.now) }
 {
-    let mut list = RawList::new(alloc);
-    for attribute in entry.attrs.list() {
+    let held = entry.attrs.list();
+    let mut list = RawList::with_room(alloc, held.len().saturating_add(OPERATIONAL_ATTRIBUTES))?;
+    for attribute in held {
         list.push(RawAttribute {
             name: Octets::from_slice(alloc, attribute.kind.name())?,
             values: attribute.values.copy()?,
@@ -263,7 +267,7 @@ fn uuid_mark(alloc: Global, uuid: u128) -> Result<RawAttribute, NoMemory>
 fn single(alloc: Global, name: &[u8], value: &[u8]) -> Result<RawAttribute, NoMemory>
     ensures { IfOk result (λ single. single ≡ attribute name.now value.now) }
 {
-    let mut values = OctetsList::new(alloc);
+    let mut values = OctetsList::with_room(alloc, 1)?;
     values.push(Octets::from_slice(alloc, value)?)?;
     Ok(RawAttribute {
         name: Octets::from_slice(alloc, name)?,
@@ -276,7 +280,7 @@ fn one_control(alloc: Global, name: &[u8], value: Octets) -> Result<ControlList,
     ensures { IfOk result (λ controls.
         controls ≡ record { name = name.now; critical = false; value = Some value } ∷ []) }
 {
-    let mut controls = ControlList::new(alloc);
+    let mut controls = ControlList::with_room(alloc, 1)?;
     controls.push(Control {
         name: Octets::from_slice(alloc, name)?,
         critical: false,

@@ -8,7 +8,7 @@ use Rattle.atomic_table.proofs.Lists.{set_here}
 use Rattle.turn_cell.specs.declared.table.PassView.{PassView}
 use Rattle.turn_cell.specs.declared.table.SeatView.{SeatView}
 use Rattle.turn_cell.specs.Journals.{Every, IsNumber, HasGrown}
-use Rattle.turn_cell.specs.Rule.{tickets_at, times, in_turn, HasSeen, HaveSeen, Fits, TakesTurns, Grows}
+use Rattle.turn_cell.specs.Rule.{tickets_at, times, in_turn, IsOther, IsOneOf, HasSeen, HaveSeen, Fits, TakesTurns, Grows}
 use Rattle.turn_cell.specs.Steps.{updated, Counts}
 use Rattle.turn_cell.proofs.Sums.{two-le-total, each-set, place-low}
 use Rattle.turn_cell.proofs.Each.{every-append, every-weaker, every-both}
@@ -35,16 +35,16 @@ grown-more seats number opened before after added grown grew own is_number = rec
 module _ {D N X : Type 0} (journal : D → List (N × ℕ)) (share : D → ℕ → List X) where
   -- a pass of another number has still seen its own entries
   seen-grown : (number : ℕ) (before after : D) → Grows journal share number before after
-      → (pass : PassView N X) → pass.number ≢ number
+      → (pass : PassView N X) → pass.number ≢ number → IsNumber pass.seats number
       → HasSeen (journal before) (share before pass.number) pass
       → HasSeen (journal after) (share after pass.number) pass
-  seen-grown number before after grows pass other has = record {
+  seen-grown number before after grows pass other is_number has = record {
     later = has.later ++ grows.added;
     goes_on = grows.entries
         ∙ (ap (λ entries. entries ++ grows.added) has.goes_on ∙ append_assoc pass.seen has.later grows.added);
-    others = every-append (λ entry. entry.1 ≢ pass.number) has.later grows.added has.others
-        (every-weaker (λ entry. entry.1 ≡ number) (λ entry. entry.1 ≢ pass.number) grows.added
-        (λ entry is same. other (sym same ∙ is)) grows.own);
+    others = every-append (IsOther pass) has.later grows.added has.others
+        (every-weaker (λ entry. entry.1 ≡ number) (IsOther pass) grows.added
+        (λ entry is. ((λ same. other (sym same ∙ is)), subst (IsNumber pass.seats) (sym is) is_number)) grows.own);
     same = grows.others pass.number other ∙ has.same;
   }
 
@@ -57,8 +57,8 @@ module _ {D N X : Type 0} (journal : D → List (N × ℕ)) (share : D → ℕ �
   )
 
   numbers-updated : (seats : ℕ) (value : D) (passes : List (PassView N X))
-      → Every (λ pass. IsNumber seats pass.number) passes
-      → Every (λ pass. IsNumber seats pass.number) (map (updated journal share value) passes)
+      → Every (IsOneOf seats) passes
+      → Every (IsOneOf seats) (map (updated journal share value) passes)
   numbers-updated seats value [] all = tt
   numbers-updated seats value (pass ∷ passes) all = (all.0, numbers-updated seats value passes all.1)
 
@@ -81,7 +81,8 @@ counts {D} {N} {X} journal share opened seats slots id passes ticket number n fo
     let sum : length (journal rule.value) + n ≡ length (journal value) = omega (arith, same, more) in
     rw sum (mod-eq_of_lt few) in
     let lengths : length (map update passes) ≡ length passes = length-map passes update in
-    let is_number : IsNumber seats number = held_by_one (IsNumber seats) number passes some_own mine.numbers in (
+    let is_number : IsNumber seats number = held_by_one (IsNumber seats) number passes some_own
+    (every-weaker (IsOneOf seats) (λ pass. IsNumber seats pass.number) passes (λ pass one. one.0) mine.numbers) in (
       new,
       keeps,
       tt,
@@ -113,11 +114,14 @@ counts {D} {N} {X} journal share opened seats slots id passes ticket number n fo
             let one = rule.dealt.once number in
             omega (arith, two, one, some_own) in
             record {
-              seen = every-both (λ pass. pass.number ≢ number)
+              seen = every-both (λ pass. (pass.number ≢ number) × IsOneOf seats pass)
                   (λ pass. HasSeen (journal rule.value) (share rule.value pass.number) pass)
                   (λ pass. HasSeen (journal value) (share value pass.number) pass) view.passes
-                  (λ pass. seen-grown journal share number rule.value value from pass)
-                  (every-other number view.passes none_own) fits.seen;
+                  (λ pass other. seen-grown journal share number rule.value value from pass other.0
+                  (subst (λ n. IsNumber n number) (sym other.1.1) is_number))
+                  (every-both (λ pass. pass.number ≢ number) (IsOneOf seats) (λ pass. (pass.number ≢ number) × IsOneOf seats pass)
+                  view.passes (λ pass other one. (other, one)) (every-other number view.passes none_own) fits.numbers)
+                  fits.seen;
               numbers = fits.numbers;
               ticket = fits.ticket;
               taken = others_rest journal share opened seats state rule id old at mine.taken.1 other view apart there

@@ -1,15 +1,15 @@
 -- A seat is split: the new one gets its first pass.
-use Rattle.std.proofs.Common.{ℕ, List, set, take, drop, length, refl, arith}
+use Rattle.std.proofs.Common.{ℕ, List, [], ◌∷◌, ◌++◌, set, take, drop, refl, arith}
 use Rattle.atomic_table.specs.Table.{Splits}
 use Rattle.turn_cell.specs.declared.table.PassView.{PassView}
 use Rattle.turn_cell.specs.declared.table.SeatView.{SeatView}
-use Rattle.turn_cell.specs.Journals.{IsNumber}
-use Rattle.turn_cell.specs.Rule.{times, tickets, tickets_at, idle, HasSeen, Fits, TakesTurns}
+use Rattle.turn_cell.specs.Rule.{idle, IsOneOf, HasSeen, Fits, TakesTurns}
 use Rattle.turn_cell.specs.Steps.{dealt, undealt}
 use Rattle.turn_cell.proofs.Sums.{total-set, total-snoc, each-set, each-snoc}
 use Rattle.turn_cell.proofs.Each.{every-take, every-drop}
 use Rattle.turn_cell.proofs.Numbers.{times-split, length-split}
 use Rattle.turn_cell.proofs.Tickets.{placed-set, placed-snoc}
+use Rattle.turn_cell.proofs.Seats.{dealt-again}
 
 pub deals : {D N X : Type 0} (journal : D → List (N × ℕ)) (share : D → ℕ → List X) (opened : List (N × ℕ))
     (seats id : ℕ) (passes : List (PassView N X))
@@ -21,25 +21,23 @@ deals {D} {N} {X} journal share opened seats id passes state rule at =
     let views = set state.views id left in
     let mine = rule.each id old at in
     let has = λ (pass : PassView N X). HasSeen (journal rule.value) (share rule.value pass.number) pass in
-    let numbered = λ (pass : PassView N X). IsNumber seats pass.number in
-    let sum = λ (f : SeatView D N X → ℕ). total-set f state.views id old left at in
-    let sum_after = λ (f : SeatView D N X → ℕ). total-snoc f views right in record {
+    let numbered = λ (pass : PassView N X). IsOneOf seats pass in record {
       value = rule.value;
       served = rule.served;
       drawn = rule.drawn;
       words = rule.words;
       few = rule.few;
       grown = rule.grown;
-      dealt = record {
-        passes = let f : SeatView D N X → ℕ = λ view. length view.passes in
-            omega (arith, sum f, sum_after f, length-split passes, rule.dealt.passes);
-        once = λ number. let f : SeatView D N X → ℕ = λ view. times number view.passes in
-            omega (arith, sum f, sum_after f, times-split number passes, rule.dealt.once number);
-        out = let f : SeatView D N X → ℕ = λ view. tickets view.ticket in
-            omega (arith, sum f, sum_after f, rule.dealt.out);
-        apart = λ ticket. let f : SeatView D N X → ℕ = λ view. tickets_at ticket view.ticket in
-            omega (arith, sum f, sum_after f, rule.dealt.apart ticket);
-      };
+      dealt = dealt-again seats rule.served rule.drawn state.views (views ++ right ∷ []) (old ∷ []) (left ∷ right ∷ [])
+          (λ f. let sum = total-set f state.views id old left at in
+          let sum_after = total-snoc f views right in omega (arith, sum, sum_after))
+          (record {
+            passes = let split = length-split passes in omega (arith, split);
+            once = λ number. let split = times-split number passes in omega (arith, split);
+            out = refl;
+            apart = λ ticket. refl;
+          })
+          rule.dealt;
       placed = placed-snoc journal share rule.value state.homes views right
           (placed-set journal share rule.value state.homes state.views id old left at refl rule.placed);
       each = each-snoc (Fits journal share seats rule.served rule.drawn rule.value state.homes) views right

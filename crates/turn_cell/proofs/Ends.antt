@@ -12,10 +12,10 @@ use Rattle.turn_cell.proofs.Numbers.{new_passes-once, new_passes-length, new_pas
 use Rattle.turn_cell.proofs.Tickets.{none-some}
 
 pub opens : {D N X : Type 0} (journal : D → List (N × ℕ)) (share : D → ℕ → List X) (seats : ℕ) (value : D)
-    → seats ≤ 1024 → ((number : ℕ) → share value number ≡ [])
+    → seats ≤ 1024
     → TakesTurns journal share (journal value) seats
-    (opening (0 ∷ 0 ∷ length (journal value) ∷ []) (Some value ∷ []) (dealer (journal value) seats))
-opens {D} {N} {X} journal share seats value few no_share = let entries = journal value in record {
+    (opening (0 ∷ 0 ∷ length (journal value) ∷ []) (Some value ∷ []) (dealer (journal value) (share value) seats))
+opens {D} {N} {X} journal share seats value few = let entries = journal value in record {
   value = value;
   served = 0;
   drawn = 0;
@@ -23,17 +23,17 @@ opens {D} {N} {X} journal share seats value few no_share = let entries = journal
   few = few;
   grown = record { added = []; grew = sym (append-nil entries); numbers = tt };
   dealt = record {
-    passes = omega (arith, new_passes-length X entries 1 seats);
-    once = λ number. omega (arith, new_passes-once X entries number 1 seats);
+    passes = omega (arith, new_passes-length seats entries (share value) 1 seats);
+    once = λ number. omega (arith, new_passes-once seats entries (share value) number 1 seats);
     out = refl;
     apart = λ ticket. omega arith;
   };
   placed = inl refl;
-  each = λ place view there. each-snoc (Fits journal share seats 0 0 value (some (Some value) ∷ [])) [] (dealer entries seats)
+  each = λ place view there. each-snoc (Fits journal share seats 0 0 value (some (Some value) ∷ [])) [] (dealer entries (share value) seats)
       (record {
-        seen = new_passes-every X entries (λ pass. HasSeen entries (share value pass.number) pass)
-            (λ number. record { later = []; goes_on = sym (append-nil entries); others = tt; same = no_share number }) 1 seats;
-        numbers = new_passes-numbers X entries seats 1 seats (omega arith) (omega arith);
+        seen = new_passes-every seats entries (share value) (λ pass. HasSeen entries (share value pass.number) pass)
+            (λ number. record { later = []; goes_on = sym (append-nil entries); others = tt; same = refl }) 1 seats;
+        numbers = new_passes-numbers seats entries (share value) 1 seats (omega arith) (omega arith);
         ticket = tt;
         taken = tt;
       })

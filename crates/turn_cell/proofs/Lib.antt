@@ -3,6 +3,7 @@ pub mod Each
 pub mod Numbers
 pub mod Placing
 pub mod Tickets
+pub mod Seats
 pub mod Draw
 pub mod Serve
 pub mod Counting

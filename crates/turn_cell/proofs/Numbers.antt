@@ -3,8 +3,8 @@ use Rattle.std.proofs.Common.{◌≡◌, ◌≢◌, ℕ, zero, suc, ◌+◌, ◌
 use Rattle.std.proofs.lemmas.Bool.Decides.{nat_tests}
 use Rattle.std.proofs.lemmas.Bool.{cases_eq}
 use Rattle.turn_cell.specs.declared.table.PassView.{PassView}
-use Rattle.turn_cell.specs.Journals.{Every, IsNumber}
-use Rattle.turn_cell.specs.Rule.{times, new_passes}
+use Rattle.turn_cell.specs.Journals.{Every}
+use Rattle.turn_cell.specs.Rule.{times, new_pass, new_passes, IsOneOf}
 
 module _ {N X : Type 0} where
   pub times-append : (number : ℕ) (xs ys : List (PassView N X))
@@ -78,17 +78,17 @@ module _ {N X : Type 0} where
 
 -- ---- passes that are new
 
-module _ {N : Type 0} (X : Type 0) (journal : List (N × ℕ)) where
-  abbrev new_pass : ℕ → PassView N X
-  new_pass number = record { number = number; seen = journal; share = [] }
+module _ {N X : Type 0} (seats : ℕ) (journal : List (N × ℕ)) (share : ℕ → List X) where
+  abbrev new : ℕ → PassView N X
+  new = new_pass seats journal share
 
   abbrev from : ℕ → ℕ → List (PassView N X)
-  from = new_passes journal
+  from = new_passes seats journal share
 
   new_passes-above : (number first n : ℕ) → number < first → times number (from first n) ≡ 0
   new_passes-above number first zero low = refl
   new_passes-above number first (suc n) low =
-      times-other number (new_pass first) (from (suc first) n) (omega arith)
+      times-other number (new first) (from (suc first) n) (omega arith)
       ∙ new_passes-above number (suc first) n (omega arith)
 
   pub new_passes-once : (number first n : ℕ) → times number (from first n) ≤ 1
@@ -96,11 +96,11 @@ module _ {N : Type 0} (X : Type 0) (journal : List (N × ℕ)) where
   new_passes-once number first (suc n) =
       ⊎_elim
       (λ (is : number ≡ first).
-      let here = times-here number (new_pass first) (from (suc first) n) is in
+      let here = times-here number (new first) (from (suc first) n) is in
       let none = new_passes-above number (suc first) n (omega arith) in
       let once : times number (from first (suc n)) ≤ 1 = rw (here, none) (omega arith) in once)
       (λ (other : number ≡ first → ⊥).
-      let rest = times-other number (new_pass first) (from (suc first) n) other in
+      let rest = times-other number (new first) (from (suc first) n) other in
       rw rest (new_passes-once number (suc first) n))
       (cases_eq number first)
 
@@ -108,13 +108,13 @@ module _ {N : Type 0} (X : Type 0) (journal : List (N × ℕ)) where
   new_passes-length first zero = refl
   new_passes-length first (suc n) = ap suc (new_passes-length (suc first) n)
 
-  pub new_passes-numbers : (seats first n : ℕ) → 1 ≤ first → first + n ≤ suc seats
-      → Every (λ pass. IsNumber seats pass.number) (from first n)
-  new_passes-numbers seats first zero low high = tt
-  new_passes-numbers seats first (suc n) low high =
-      ((low, omega arith), new_passes-numbers seats (suc first) n (omega arith) (omega arith))
+  pub new_passes-numbers : (first n : ℕ) → 1 ≤ first → first + n ≤ suc seats
+      → Every (IsOneOf seats) (from first n)
+  new_passes-numbers first zero low high = tt
+  new_passes-numbers first (suc n) low high =
+      (((low, omega arith), refl), new_passes-numbers (suc first) n (omega arith) (omega arith))
 
-  pub new_passes-every : (P : PassView N X → Type 0) → ((number : ℕ) → P (new_pass number))
+  pub new_passes-every : (P : PassView N X → Type 0) → ((number : ℕ) → P (new number))
       → (first n : ℕ) → Every P (from first n)
   new_passes-every P each first zero = tt
   new_passes-every P each first (suc n) = (each first, new_passes-every P each (suc first) n)

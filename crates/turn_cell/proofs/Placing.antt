@@ -3,8 +3,9 @@ use Rattle.std.proofs.Common.{◌≡◌, ◌≢◌, ℕ, suc, ◌+◌, ◌==◌,
 use Rattle.std.proofs.lemmas.Bool.Decides.{nat_tests}
 use Rattle.turn_cell.specs.declared.table.PassView.{PassView}
 use Rattle.turn_cell.specs.Journals.{Every, places_from, places, notes_of, next_places}
-use Rattle.turn_cell.specs.Rule.{HasSeen}
+use Rattle.turn_cell.specs.Rule.{HasSeen, IsOther}
 use Rattle.turn_cell.specs.Passes.{mine, Continues}
+use Rattle.turn_cell.proofs.Each.{every-weaker}
 
 module _ {N : Type 0} (number : ℕ) where
   abbrev from : ℕ → List (N × ℕ) → List ℕ
@@ -57,15 +58,19 @@ module _ {N : Type 0} (number : ℕ) where
 pub continues : {N X : Type 0} (journal : List (N × ℕ)) (share : List X) (pass : PassView N X)
     → HasSeen journal share pass → Continues journal share pass
 continues journal share pass has =
-    let number = pass.number in record {
-      begins = (has.later, sym has.goes_on);
+    let number = pass.number in
+    let apart : Every (λ entry. entry.1 ≢ number) has.later =
+    every-weaker (IsOther pass) (λ entry. entry.1 ≢ number) has.later (λ entry other. other.0) has.others in record {
+      later = has.later;
+      begins = has.goes_on;
+      others = has.others;
       own = ap (places number) has.goes_on
           ∙ (places-append number 0 pass.seen has.later
-          ∙ (ap (λ more. mine pass ++ more) (places-none number (0 + length pass.seen) has.later has.others)
+          ∙ (ap (λ more. mine pass ++ more) (places-none number (0 + length pass.seen) has.later apart)
           ∙ append-nil (mine pass)));
       notes = ap (notes_of number) has.goes_on
           ∙ (notes-append number pass.seen has.later
-          ∙ (ap (λ more. notes_of number pass.seen ++ more) (notes-none number has.later has.others)
+          ∙ (ap (λ more. notes_of number pass.seen ++ more) (notes-none number has.later apart)
           ∙ append-nil (notes_of number pass.seen)));
       same = has.same;
     }

@@ -38,7 +38,7 @@ next_places place (suc n) = place ∷ next_places (suc place) n
 abbrev pub IsNumber : ℕ → ℕ → Type 0
 IsNumber seats number = (1 ≤ number) × (number ≤ seats)
 
--- The later journal is the earlier one and then entries of the passes.
+-- The later journal is the earlier one and then entries of passes.
 pub record HasGrown {N : Type 0} (seats : ℕ) (earlier later : List (N × ℕ)) : Type 0 where
   pub added : List (N × ℕ)
   pub grew : later ≡ earlier ++ added

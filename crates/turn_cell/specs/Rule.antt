@@ -14,16 +14,26 @@ use Rattle.turn_cell.specs.Journals.{Every, IsNumber, HasGrown}
 
 -- ---- views
 
--- n passes that are new, with the numbers from `number` on
-abbrev pub new_passes : {N X : Type 0} → List (N × ℕ) → ℕ → ℕ → List (PassView N X)
-new_passes journal number zero = []
-new_passes journal number (suc n) =
-    record { number = number; seen = journal; share = [] } ∷ new_passes journal (suc number) n
+-- one of the passes of a cell that has taken no turn, which has seen the journal and its share
+abbrev pub new_pass : {N X : Type 0} → ℕ → List (N × ℕ) → (ℕ → List X) → ℕ → PassView N X
+new_pass seats journal share number = record {
+  number = number;
+  seats = seats;
+  seen = journal;
+  share = share number;
+}
+
+-- n such passes, with the numbers from `number` on
+abbrev pub new_passes :
+    {N X : Type 0} → ℕ → List (N × ℕ) → (ℕ → List X) → ℕ → ℕ → List (PassView N X)
+new_passes seats journal share number zero = []
+new_passes seats journal share number (suc n) =
+    new_pass seats journal share number ∷ new_passes seats journal share (suc number) n
 
 module _ {N X : Type 0} where
   -- the first of these passes, or one with the number 0
   abbrev pub first_pass : List (PassView N X) → PassView N X
-  first_pass [] = record { number = 0; seen = []; share = [] }
+  first_pass [] = new_pass 0 [] (λ number. []) 0
   first_pass (pass ∷ passes) = pass
 
 -- the ticket, or 0
@@ -49,8 +59,8 @@ module _ {D N X : Type 0} where
   }
 
   -- the seat that a table is made with, which stands for all the passes
-  abbrev pub dealer : List (N × ℕ) → ℕ → SeatView D N X
-  dealer journal seats = idle (new_passes journal 1 seats)
+  abbrev pub dealer : List (N × ℕ) → (ℕ → List X) → ℕ → SeatView D N X
+  dealer journal share seats = idle (new_passes seats journal share 1 seats)
 
 -- ---- sums over views
 
@@ -76,14 +86,22 @@ tickets_at this (Some ticket) = if this == ticket then 1 else 0
 
 -- ---- the rule
 
--- The journal goes on from what the pass has seen, without further entries of its number, and its
--- share is the one that it has seen.
+-- an entry of another pass of the cell
+abbrev pub IsOther : {N X : Type 0} → PassView N X → N × ℕ → Type 0
+IsOther pass entry = (entry.1 ≢ pass.number) × IsNumber pass.seats entry.1
+
+-- The journal goes on from what the pass has seen by entries of other passes, and its share is the
+-- one that it has seen.
 pub record HasSeen {N X : Type 0} (journal : List (N × ℕ)) (share : List X) (pass : PassView N X)
     : Type 0 where
   pub later : List (N × ℕ)
   pub goes_on : journal ≡ pass.seen ++ later
-  pub others : Every (λ entry. entry.1 ≢ pass.number) later
+  pub others : Every (IsOther pass) later
   pub same : share ≡ pass.share
+
+-- one of the passes of a cell with this number of them
+abbrev pub IsOneOf : {N X : Type 0} → ℕ → PassView N X → Type 0
+IsOneOf seats pass = IsNumber seats pass.number × (pass.seats ≡ seats)
 
 module _ {D N X : Type 0} where
   -- Each pass is with one seat, and no two have one number. The tickets from `served` up to before
@@ -104,7 +122,7 @@ module _ {D N X : Type 0} (journal : D → List (N × ℕ)) (share : D → ℕ �
   pub record Fits (seats served drawn : ℕ) (value : D) (homes : List (maybe.Option (Option D)))
       (view : SeatView D N X) : Type 0 where
     pub seen : HaveSeen value view.passes
-    pub numbers : Every (λ pass. IsNumber seats pass.number) view.passes
+    pub numbers : Every (IsOneOf seats) view.passes
     pub ticket : IfSome view.ticket (λ ticket.
         (served ≤ ticket) × (ticket < drawn) × (0 < length view.passes))
     pub taken : IfSome view.taken (λ taken.

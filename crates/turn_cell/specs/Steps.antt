@@ -66,6 +66,7 @@ module _ {D N X : Type 0} (journal : D → List (N × ℕ)) (share : D → ℕ �
   abbrev pub updated : D → PassView N X → PassView N X
   updated value pass = record {
     number = pass.number;
+    seats = pass.seats;
     seen = journal value;
     share = share value pass.number;
   }

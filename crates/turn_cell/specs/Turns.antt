@@ -18,6 +18,10 @@ module _ {D C N X : Type 0} where
   abbrev pub number_of : TurnAt D C N X → ℕ
   number_of turn = turn.number
 
+  -- how many passes its cell has
+  abbrev pub passes_of : TurnAt D C N X → ℕ
+  passes_of turn = (first_pass turn.seat.me.0.passes).seats
+
 -- It is a turn at this cell. What its value is now does not matter.
 pub record IsTurn {D C N X : Type 0} (journal : D → List (N × ℕ)) (cell : TableId)
     (turn : TurnAt D C N X) : Type 0 where

@@ -2,7 +2,7 @@ ghost use Rattle.std.specs.Prelude.{◌≡◌, ◌%◌, ◌^◌, ◌≤◌, [], 
 ghost use Rattle.turn_cell.specs.Rule.{waiting, ticket_of};
 ghost use Rattle.turn_cell.specs.Steps.{HasTaken};
 ghost use Rattle.turn_cell.specs.Passes.{cell_id, cell_of, view_of, Continues};
-ghost use Rattle.turn_cell.specs.Turns.{IsTurn, value_of, found_of, number_of};
+ghost use Rattle.turn_cell.specs.Turns.{IsTurn, value_of, found_of, number_of, passes_of};
 
 use crate::cell::TurnCell;
 use crate::journalled::Journalled;
@@ -26,6 +26,7 @@ impl<D: Journalled> TurnCell<D> {
         ensures cell { result.cell.now ≡ self.now }
         ensures turn { IsTurn D.journal (cell_id self.now) result }
         ensures number { number_of result ≡ (view_of pass).number }
+        ensures passes { passes_of result ≡ (view_of pass).seats }
         ensures found { value_of result ≡ found_of result }
         ensures continues { Continues (D.journal (value_of result))
             (D.share (value_of result) (view_of pass).number) (view_of pass) }

@@ -3,7 +3,7 @@ ghost use Rattle.turn_cell.specs.Journals.{places, next_places};
 ghost use Rattle.turn_cell.specs.Rule.{idle, Grows};
 ghost use Rattle.turn_cell.specs.Steps.{updated};
 ghost use Rattle.turn_cell.specs.Passes.{cell_id, cell_of, view_of, mine};
-ghost use Rattle.turn_cell.specs.Turns.{IsTurn, MayEnd, value_of, found_of, number_of};
+ghost use Rattle.turn_cell.specs.Turns.{IsTurn, MayEnd, value_of, found_of, number_of, passes_of};
 
 use crate::cell::TurnCell;
 use crate::journalled::Journalled;
@@ -20,6 +20,7 @@ impl<'a, D: Journalled> TurnAt<D, &'a TurnCell<D>> {
         requires grows { Grows D.journal D.share (number_of self) (found_of self) (value_of self) }
         ensures cell { cell_of result.0 ≡ cell_id self.entry.cell.now }
         ensures number { (view_of result.0).number ≡ number_of self.entry }
+        ensures passes { (view_of result.0).seats ≡ passes_of self.entry }
         ensures seen { (view_of result.0).seen ≡ D.journal (value_of self.entry) }
         ensures share { (view_of result.0).share
             ≡ D.share (value_of self.entry) (number_of self.entry) }

@@ -1,6 +1,6 @@
-ghost use Rattle.std.specs.Prelude.{◌≡◌, ℕ, ◌≤◌, [], ◌∷◌, length, vec_len, vec_capacity, IfOk, IfErr, Some};
+ghost use Rattle.std.specs.Prelude.{◌≡◌, ◌≤◌, [], ◌∷◌, length, vec_len, vec_capacity, IfOk, IfErr, Some};
 ghost use Rattle.turn_cell.specs.Journals.{Every};
-ghost use Rattle.turn_cell.specs.Rule.{dealer, idle, first_pass, new_passes};
+ghost use Rattle.turn_cell.specs.Rule.{dealer, idle, new_passes};
 ghost use Rattle.turn_cell.specs.Passes.{AreNew, cell_id, opened_with, seats_of};
 
 use crate::cell::{NoMemory, TurnCell};
@@ -13,8 +13,8 @@ use std::alloc::{AllocError, Global};
 use std::snapshot::Snapshot;
 
 impl<D: Journalled> TurnCell<D> {
-    /// A cell with `seats` passes, numbered from 1, in this order. Each has seen the journal as it
-    /// is. When out of memory, the value comes back.
+    /// A cell with `seats` passes, numbered from 1, in this order. Each has seen the journal and its
+    /// share as they are. When out of memory, the value comes back.
     pub fn new(
         alloc: Global,
         value: D,
@@ -22,11 +22,10 @@ impl<D: Journalled> TurnCell<D> {
     ) -> Result<(TurnCell<D>, Vec<Pass<D>>), (NoMemory, D)>
         requires seats { (1 ≤ seats) × (seats ≤ 1024) }
         requires before { Every (λ entry. entry.1 ≡ 0) (D.journal value) }
-        requires no_share { (number : ℕ) → D.share value number ≡ [] }
         ensures cell { IfOk result (λ made.
             (seats_of made.0 ≡ seats) × (opened_with made.0 ≡ value)) }
         ensures passes { IfOk result (λ made.
-            AreNew (cell_id made.0) (D.journal value) 1 made.1.items
+            AreNew (cell_id made.0) seats (D.journal value) (D.share value) 1 made.1.items
             × (length made.1.items ≡ seats)) }
         ensures err { IfErr result (λ refused. refused.1 ≡ value) }
     {
@@ -50,14 +49,13 @@ fn table_of<D: Journalled>(
     seats: u32,
 ) -> Result<(CellTable<D>, CellSeat<D>), D>
     requires few { seats ≤ 1024 }
-    requires no_share { (number : ℕ) → D.share value number ≡ [] }
     ensures sized { IfOk result (λ made.
         (made.0.shared.table_id.words ≡ 3) × (made.0.shared.table_id.slots ≡ 1)) }
     ensures opened { IfOk result (λ made.
         (made.0.shared.key.seats ≡ seats) × (made.0.shared.key.value.value ≡ value)) }
     ensures dealer { IfOk result (λ made.
         (made.1.table_id ≡ made.0.shared.table_id)
-        × (made.1.me ≡ (dealer (D.journal value) seats, []))) }
+        × (made.1.me ≡ (dealer (D.journal value) (D.share value) seats, []))) }
     ensures err { IfErr result (λ back. back ≡ value) }
 {
     let length = value.count();
@@ -106,13 +104,16 @@ fn deal<D: Journalled>(
 )
     requires table { (dealer.old.table_id ≡ words.now.table_id)
         × (words.now.table_id.words ≡ 3) }
-    requires dealer { dealer.old.me
-        ≡ (idle (new_passes (first_pass dealer.old.me.0.passes).seen 1 seats), []) }
-    requires seen { seen ≡ length (first_pass dealer.old.me.0.passes).seen }
+    requires dealer { dealer.old.me ≡ (
+      idle (new_passes seats
+          (D.journal words.now.key.value.value) (D.share words.now.key.value.value) 1 seats),
+      [],
+    ) }
+    requires seen { seen ≡ length (D.journal words.now.key.value.value) }
     requires room { (passes.old.items ≡ []) × (vec_len passes.old ≡ 0)
         × (seats ≤ vec_capacity passes.old) }
-    ensures passes { AreNew dealer.old.table_id (first_pass dealer.old.me.0.passes).seen 1
-        passes.new.items }
+    ensures passes { AreNew dealer.old.table_id seats (D.journal words.now.key.value.value)
+        (D.share words.now.key.value.value) 1 passes.new.items }
     ensures count { length passes.new.items ≡ seats }
 {
     for place in 0..seats {

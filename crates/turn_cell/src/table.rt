@@ -22,6 +22,8 @@ pub(crate) const VALUE: usize = 0;
 /// speak of it; no value of it is made.
 pub struct PassView<N, X> {
     pub number: u64,
+    /// How many passes its cell has.
+    pub seats: u64,
     pub seen: LinkedList<(N, u64)>,
     pub share: LinkedList<X>,
 }
@@ -60,7 +62,8 @@ impl<D: Journalled> TableRule<Option<D>, SeatView<D, D::Note, D::Item>, Opening<
     ghost holds = { λ opening.
         TakesTurns D.journal D.share (D.journal opening.value.value) opening.seats };
 
-    ghost first = { λ opening. dealer (D.journal opening.value.value) opening.seats };
+    ghost first = { λ opening.
+        dealer (D.journal opening.value.value) (D.share opening.value.value) opening.seats };
 }
 
 pub type CellTable<D> = Table<

@@ -125,8 +125,15 @@ fn octets_both_ways(rt: HostRuntime) -> Result<(), Fail> {
     Ok(())
 }
 
-/// Octet strings: no octet, some that are no text, and a URI.
-const STRINGS: [&[u8]; 3] = [b"", b"\0\xff", b"ldap://a"];
+/// Octet strings: no octet, some that are no text, a URI, and as many octets as a string keeps in
+/// itself at most, and one more.
+const STRINGS: [&[u8]; 5] = [
+    b"",
+    b"\0\xff",
+    b"ldap://a",
+    b"abcdefghijklmnopqrstuvwxyzabcd",
+    b"abcdefghijklmnopqrstuvwxyzabcde",
+];
 
 #[test]
 fn copies_of_octets(rt: HostRuntime) -> Result<(), Fail> {

@@ -10,6 +10,8 @@ mod ldap_ber_tests;
 #[cfg(test)]
 mod ldap_constants_tests;
 #[cfg(test)]
+mod sync_io_link_tests;
+#[cfg(test)]
 mod sync_io_tests;
 #[cfg(test)]
 mod sync_messages_tests;

@@ -1,5 +1,5 @@
 //! What sources give and sinks hold, over small pieces.
-ghost use Rattle.std.specs.Prelude.{Some};
+ghost use Rattle.std.specs.Prelude.{Some, None};
 
 use crate::assertions::assert_same;
 use ldap_ber::Octets;
@@ -99,6 +99,8 @@ impl Sink for Narrow {
     ghost bytes_held = { λ s. Some s.sink.bytes };
 
     ghost write_fault_count = { λ s. s.sink.faults };
+
+    ghost source_side = { λ _. None };
 
     fn write_faults(&self) -> u64 {
         self.sink.write_faults()

@@ -1,7 +1,8 @@
-use Rattle.std.proofs.Common.{[], ◌∷◌, ◌∙◌, ap, rules, w64, SFits}
+use Rattle.std.proofs.Common.{[], ◌∷◌, ◌∙◌, ap, refl, rules, w64, SFits}
 use Rattle.std.proofs.lemmas.Int.{to_z-of_z}
 use Rattle.cascade_report.specs.ReportLines.ReportLine.{Ended}
 use Rattle.cascade_report.specs.Report.{said}
+use Rattle.cascade_exchange.specs.Exchange.{closed, emptied}
 use Rattle.cascade_exchange.proofs.Reception.{receives_copied, receives_stored, receives_over, receives_fault}
 use Rattle.cascade_exchange.proofs.receiving.hand_to_consumer.Goals as goal
 
@@ -25,5 +26,6 @@ returns-in-Over-clause-does c =
 
 pub returns-in-Fault-clause-does : goal.returns-in-Fault-clause-does
 returns-in-Fault-clause-does c =
-    receives_fault c.args.out.now.lineage c.args.provider.now c.give_up.new.provider c.args.consumer_node.now c.give_up.new.consumer_node c.take.new.self c.args.message.now _ _ _ c.in-Fault.ensures.spec c.in-Fault.ensures.reload c.in-Fault.ensures.exact
-    c.give_up.ensures.pair (rw c.fault_name.ensures at c.in_ok-give_up-in-Fault.ensures.line)
+    let after = record c.args.consumer_node.now { consumer = c.take.new.self } in
+    receives_fault c.args.out.now.lineage c.args.provider.now (closed c.args.provider.now after.search) c.args.consumer_node.now (emptied after after.consumer.copy) c.take.new.self c.args.message.now _ _ _ c.in-Fault.ensures.spec c.in-Fault.ensures.reload c.in-Fault.ensures.exact
+    refl (rw (c.as_slice-in-Fault.ensures, c.fault_name.ensures) at c.in_ok-faulted-in-Fault.ensures)

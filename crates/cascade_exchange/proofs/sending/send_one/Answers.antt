@@ -18,10 +18,10 @@ returns-in_default-clause-does c =
 pub returns-in-Ok-clause-does : goal.returns-in-Ok-clause-does
 returns-in-Ok-clause-does c =
     sends_found c.args.out.now.lineage c.args.provider.now c.next_message.new.provider c.args.consumer_node.now c.next_message.new.consumer_node c.put_into_link-linked.new.consumer_node c.in_ok-message.field-0 c.in-Some.message c.args.out.now c.put_into_link-linked.new.out
-    (c.in_ok-message.ensures.exact c.args.out.now.lineage) c.in-Some.is c.in-Ok.ensures
+    (c.in_ok-message.ensures.exact c.args.out.now.lineage) c.in-Some.is c.in-Ok.ensures.links
 
 pub returns-in-Err-clause-does : goal.returns-in-Err-clause-does
 returns-in-Err-clause-does c =
     overflows_found c.args.out.now.lineage c.args.provider.now c.next_message.new.provider c.args.consumer_node.now c.next_message.new.consumer_node c.put_into_link-linked.new.consumer_node c.in_ok-message.field-0 c.in-Some.message c.args.out.now c.put_into_link-linked.new.out
     (agreement_of c.next_message.new.provider c.put_into_link-linked.new.consumer_node c.args.out.now.lineage) c.in-Err.cause
-    (c.in_ok-message.ensures.exact c.args.out.now.lineage) c.in-Some.is c.in-Err.ensures
+    (c.in_ok-message.ensures.exact c.args.out.now.lineage) c.in-Some.is c.in-Err.ensures.links

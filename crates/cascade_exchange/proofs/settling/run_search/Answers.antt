@@ -23,9 +23,7 @@ loop-provider-preserved c =
     let taken = takes_at c.send_one.new.provider c.take_one.new.provider c.send_one.new.consumer_node c.take_one.new.consumer_node c.send_one.new.out.lineage c.args.out.now.lineage c.send_one.new.out c.take_one.new.out (Ok c.in_ok-take_one.field-0) then c.in_ok-take_one.ensures.does in
     record {
       left = run_goes_on whole (agreement_of c.loop-provider.provider c.loop-provider.consumer_node c.args.out.now.lineage) (agreement_of c.send_one.new.provider c.send_one.new.consumer_node c.args.out.now.lineage) (agreement_of c.take_one.new.provider c.take_one.new.consumer_node c.args.out.now.lineage) _ _ _ _ c.in_ok-send_one.field-0 c.in_ok-take_one.field-0 c.loop-provider.invariant.left sent c.if-branch.true taken;
-      directory = c.in_ok-take_one.ensures.provider.directory ∙ (c.in_ok-send_one.ensures.provider.directory ∙ c.loop-provider.invariant.directory);
-      queue_limit = c.in_ok-take_one.ensures.provider.queue_limit ∙ (c.in_ok-send_one.ensures.provider.queue_limit ∙ c.loop-provider.invariant.queue_limit);
-      kind = c.in_ok-take_one.ensures.provider.kind ∙ (c.in_ok-send_one.ensures.provider.kind ∙ c.loop-provider.invariant.kind);
+      others = c.in_ok-take_one.ensures.provider ∙ (c.in_ok-send_one.ensures.provider ∙ c.loop-provider.invariant.others);
     }
 
 pub loop-provider-smaller : goal.loop-provider-smaller

@@ -11,9 +11,7 @@ loop-preserved c =
     let one = takes_at c.loop.provider c.take_one.new.provider c.loop.consumer_node c.take_one.new.consumer_node c.loop.out.lineage c.args.out.now.lineage c.loop.out c.take_one.new.out (Ok c.in_ok-take_one.field-0) same c.in_ok-take_one.ensures.does in
     record {
       left = drains_on whole (agreement_of c.loop.provider c.loop.consumer_node c.args.out.now.lineage) (agreement_of c.take_one.new.provider c.take_one.new.consumer_node c.args.out.now.lineage) _ _ _ c.in_ok-take_one.field-0 c.loop.invariant.left one c.if-branch.true;
-      directory = c.in_ok-take_one.ensures.provider.directory ∙ c.loop.invariant.directory;
-      queue_limit = c.in_ok-take_one.ensures.provider.queue_limit ∙ c.loop.invariant.queue_limit;
-      kind = c.in_ok-take_one.ensures.provider.kind ∙ c.loop.invariant.kind;
+      others = c.in_ok-take_one.ensures.provider ∙ c.loop.invariant.others;
     }
 
 pub returns-clause-does : goal.returns-clause-does

@@ -1,11 +1,13 @@
--- All stay where the set is empty, and else what is not in it.
-use Rattle.std.proofs.Common.{rules, sym}
-use Rattle.std.proofs.lemmas.Fn.{filter_same}
-use Rattle.entry_tree.proofs.Directory.{none_dropped}
+-- One more change.
+use Rattle.std.proofs.Common.{◌∙◌, [], ◌∷◌, ap, sym}
+use Rattle.std.specs.Prelude.{fold}
+use Rattle.entry_writes.specs.Touched.{drops_of}
+use Rattle.entry_tree.proofs.ByIdentity.{taken_out, dropped_more}
 use Rattle.entry_tree.proofs.put.remove_each.Goals as goal
 
-pub returns-then-is_empty-clause-items : goal.returns-then-is_empty-clause-items
-returns-then-is_empty-clause-items c = sym (none_dropped c.args.dropped.now.keys c.args.entries.now.items (c.is_empty.ensures.0 c.if-is_empty.true))
-
-pub returns-clause-items : goal.returns-clause-items
-returns-clause-items c = filter_same _ _ _ (λ x b f' k. search rules) _ _ c.retain.ensures.filtered
+pub loop-change-preserved : goal.loop-change-preserved
+loop-change-preserved c =
+    let change = c.change-item.result in
+    c.in_ok-remove_one.ensures
+    ∙ ap (λ held. fold taken_out held (drops_of (change ∷ []))) c.loop-change.invariant
+    ∙ sym (dropped_more c.args.entries.now c.args.changes.now c.loop-change.change-index change c.loop-change-test.true c.change-item.is)

@@ -9,7 +9,7 @@ use Rattle.schema_rules.proofs.attributes.joined.Goals as goal
 pub returns-in_err-kind-clause-fault : goal.returns-in_err-kind-clause-fault
 returns-in_err-kind-clause-fault c =
     let raws = c.args.raws.now in
-    let p = err_from_is_err_and c.from_residual.result c.from_residual.ensures.1 in
+    let p = err_from_is_err_and c.from_residual-in_err-kind.result c.from_residual-in_err-kind.ensures.1 in
     rw (p.1, p.2) (HasCode-same (raw_code c.raw-item.result) (first_code raws) _
     (λ n some. first_code_some raws _ _ n c.loop-raw-test.true c.raw-item.is c.loop-raw.invariant.none some) c.in_err-kind.ensures.fault)
 

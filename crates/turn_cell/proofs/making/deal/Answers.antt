@@ -1,5 +1,5 @@
 use Rattle.std.proofs.Common.{◌≡◌, ◌+◌, ◌-◌, length, [], ◌∷◌, sym, refl, ap, ◌∙◌, subst, arith, length-append}
-use Rattle.turn_cell.specs.Rule.{first_pass, idle, new_passes}
+use Rattle.turn_cell.specs.Rule.{first_pass, idle, new_pass, new_passes}
 use Rattle.turn_cell.specs.Steps.{dealt, undealt}
 use Rattle.turn_cell.specs.Passes.{AreNew}
 use Rattle.turn_cell.proofs.Dealt.{deals}
@@ -10,7 +10,12 @@ pub loop-place-init : goal.loop-place-init
 loop-place-init g c = record {
   table = refl;
   dealer = let whole : c.args.seats ≡ c.args.seats - 0 = omega arith in
-      c.requires.dealer ∙ ap (λ n. (idle (new_passes (first_pass c.args.dealer.now.me.0.passes).seen 1 n), [])) whole;
+      c.requires.dealer
+      ∙ ap (λ n. (
+        idle (new_passes c.args.seats (g.D.Journalled.journal c.args.words.now.key.value.value)
+            (g.D.Journalled.share c.args.words.now.key.value.value) 1 n),
+        [],
+      )) whole;
   dealt = rw c.requires.room.0 tt;
   count = rw c.requires.room.0 refl;
   len = c.requires.room.1;
@@ -19,20 +24,22 @@ loop-place-init g c = record {
 
 pub split_seat-seat-requires : goal.split_seat-seat-requires
 split_seat-seat-requires g c =
-    let seen = (first_pass c.args.dealer.now.me.0.passes).seen in
+    let seen = g.D.Journalled.journal c.args.words.now.key.value.value in
+    let share = g.D.Journalled.share c.args.words.now.key.value.value in
     let inv = c.loop-place.invariant in
     let place = c.loop-place.place in (
       inv.table ∙ c.requires.table.0,
       omega (arith, c.requires.table.1),
-      rw inv.dealer (deals g.D.Journalled.journal g.D.Journalled.share _ _ _ (new_passes seen (place + 1) (c.args.seats - place))),
+      rw inv.dealer (deals g.D.Journalled.journal g.D.Journalled.share _ _ _ (new_passes c.args.seats seen share (place + 1) (c.args.seats - place))),
     )
 
 pub invariant_of-push_reserved : goal.invariant_of-push_reserved
 invariant_of-push_reserved g c =
-    let seen = (first_pass c.args.dealer.now.me.0.passes).seen in
+    let seen = g.D.Journalled.journal c.args.words.now.key.value.value in
+    let share = g.D.Journalled.share c.args.words.now.key.value.value in
     let place = c.loop-place.place in
-    let next = new_passes-next _ seen place c.args.seats c.loop-place-test.true in
-    let new : c.split_seat-seat.result.me ≡ (idle (record { number = place + 1; seen = seen; share = [] } ∷ []), []) =
+    let next = new_passes-next seen share place c.args.seats c.loop-place-test.true in
+    let new : c.split_seat-seat.result.me ≡ (idle (new_pass c.args.seats seen share (place + 1) ∷ []), []) =
     c.split_seat-seat.ensures.4 ∙ ap (λ m. (dealt m.0, [])) (c.loop-place.invariant.dealer ∙ ap (λ passes. (idle passes, [])) next) in
     record { idle = rw new refl; numbered = rw new refl; looked = rw new (sym c.requires.seen) }
 
@@ -41,19 +48,20 @@ push_reserved-requires g c = let inv = c.loop-place.invariant in omega (arith, i
 
 pub loop-place-preserved : goal.loop-place-preserved
 loop-place-preserved g c =
-    let seen = (first_pass c.args.dealer.now.me.0.passes).seen in
+    let seen = g.D.Journalled.journal c.args.words.now.key.value.value in
+    let share = g.D.Journalled.share c.args.words.now.key.value.value in
     let inv = c.loop-place.invariant in
     let place = c.loop-place.place in
-    let next = new_passes-next _ seen place c.args.seats c.loop-place-test.true in
-    let before : c.loop-place.dealer.me ≡ (idle (record { number = place + 1; seen = seen; share = [] } ∷ new_passes seen (place + 1 + 1) (c.args.seats - (place + 1))), []) =
+    let next = new_passes-next seen share place c.args.seats c.loop-place-test.true in
+    let before : c.loop-place.dealer.me ≡ (idle (new_pass c.args.seats seen share (place + 1) ∷ new_passes c.args.seats seen share (place + 1 + 1) (c.args.seats - (place + 1))), []) =
     inv.dealer ∙ ap (λ passes. (idle passes, [])) next in
-    let new : c.split_seat-seat.result.me ≡ (idle (record { number = place + 1; seen = seen; share = [] } ∷ []), []) =
+    let new : c.split_seat-seat.result.me ≡ (idle (new_pass c.args.seats seen share (place + 1) ∷ []), []) =
     c.split_seat-seat.ensures.4 ∙ ap (λ m. (dealt m.0, [])) before in
     record {
       table = c.split_seat-seat.ensures.0 ∙ inv.table;
       dealer = c.split_seat-seat.ensures.2 ∙ ap (λ m. (undealt m.0, m.1)) before;
-      dealt = subst (AreNew c.args.dealer.now.table_id seen 1) (sym c.push_reserved.ensures.items)
-          (AreNew-snoc c.args.dealer.now.table_id seen 1 (place + 1) c.loop-place.passes.items _ inv.dealt (omega (arith, inv.count))
+      dealt = subst (AreNew c.args.dealer.now.table_id c.args.seats seen share 1) (sym c.push_reserved.ensures.items)
+          (AreNew-snoc c.args.dealer.now.table_id c.args.seats seen share 1 (place + 1) c.loop-place.passes.items _ inv.dealt (omega (arith, inv.count))
           (c.split_seat-seat.ensures.3 ∙ inv.table, ap (λ m. first_pass m.0.passes) new));
       count = ap length c.push_reserved.ensures.items ∙ (length-append c.loop-place.passes.items _ ∙ ap (λ n. n + 1) inv.count);
       len = c.push_reserved.ensures.len ∙ ap (λ n. n + 1) inv.len;

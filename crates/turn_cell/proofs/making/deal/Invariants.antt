@@ -1,5 +1,5 @@
 use Rattle.std.proofs.Common.{◌≡◌, ◌+◌, ◌-◌, ◌≤◌, [], length, vec_len, vec_capacity}
-use Rattle.turn_cell.specs.Rule.{first_pass, idle, new_passes}
+use Rattle.turn_cell.specs.Rule.{idle, new_passes}
 use Rattle.turn_cell.specs.Passes.{AreNew}
 use Rattle.turn_cell.proofs.making.deal.Given as goal
 
@@ -7,8 +7,8 @@ use Rattle.turn_cell.proofs.making.deal.Given as goal
 abbrev pub invariant-loop-place : goal.invariant-loop-place
 invariant-loop-place g l = record {
   table : l.dealer.table_id ≡ l.fn.dealer.table_id;
-  dealer : l.dealer.me ≡ (idle (new_passes (first_pass l.fn.dealer.me.0.passes).seen (l.place + 1) (l.seats - l.place)), []);
-  dealt : AreNew l.fn.dealer.table_id (first_pass l.fn.dealer.me.0.passes).seen 1 l.passes.items;
+  dealer : l.dealer.me ≡ (idle (new_passes l.seats (g.D.Journalled.journal l.words.key.value.value) (g.D.Journalled.share l.words.key.value.value) (l.place + 1) (l.seats - l.place)), []);
+  dealt : AreNew l.fn.dealer.table_id l.seats (g.D.Journalled.journal l.words.key.value.value) (g.D.Journalled.share l.words.key.value.value) 1 l.passes.items;
   count : length l.passes.items ≡ l.place;
   len : vec_len l.passes ≡ l.place;
   room : l.seats ≤ vec_capacity l.passes;

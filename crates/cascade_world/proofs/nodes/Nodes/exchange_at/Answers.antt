@@ -2,7 +2,7 @@ use Rattle.std.proofs.Common.{◌≡◌, [], sym, ◌∙◌, arith}
 use Rattle.std.specs.Prelude.{Ok, Err}
 use Rattle.std.proofs.lemmas.Result.{err_from_is_err_and}
 use Rattle.cascade_exchange.specs.Exchange.{part_of}
-use Rattle.cascade_world.proofs.AtPlaces.{no_stages, leaves_at, no_write, taken_back}
+use Rattle.cascade_world.proofs.AtPlaces.{no_stages, some_stages, leaves_at, no_write, kept_ours, taken_back}
 use Rattle.cascade_world.proofs.Steps.{exchange_can, exchange_done, exchange_through, exchange_refused, exchange_stopped}
 use Rattle.cascade_world.proofs.nodes.Nodes.exchange_at.Goals as goal
 
@@ -34,13 +34,20 @@ returns-in-Err-clause-steps c = λ name places.
 
 pub returns-in-Err-clause-err : goal.returns-in-Err-clause-err
 returns-in-Err-clause-err c =
-    taken_back c.args.self.now c.perform.new.self _ c.args.provider_node c.args.consumer_node (part_of c.args.exchange) c.in_ok-done.done c.index_mut.result.now c.restore.new.provider c.restore.new.consumer_node c.requires.provider_node c.requires.consumer_node
-    c.in_ok-done.ensures.does (c.self.view_is ∙ c.in-Err.ensures.err) c.index_mut.ensures.value c.restore.ensures.provider c.restore.ensures.consumer_node
+    taken_back c.args.self.now c.perform.new.self _ c.args.provider_node c.args.consumer_node (part_of c.args.exchange) c.in_ok-done.done c.index_mut-from.result.now c.index_mut-to.result.now c.restore.new.provider c.restore.new.consumer_node c.requires.provider_node c.requires.consumer_node
+    c.in_ok-done.ensures.does (some_stages c.in_ok-done.done.stages.items c.in_ok-done.done.stages.len (omega (arith, c.in_ok-done.done.stages.ok.0)) (sym c.is_empty.ensures ∙ c.if-is_empty.false))
+    (c.self.view_is ∙ c.in-Err.ensures.err) c.index_mut-from.ensures.value c.index_mut-to.ensures.value c.restore.ensures.provider c.restore.ensures.consumer_node
 
-pub restore-requires-clause-snapshot : goal.restore-requires-clause-snapshot
-restore-requires-clause-snapshot c =
-    no_write c.args.self.now c.perform.new.self _ c.args.provider_node c.args.consumer_node (part_of c.args.exchange) c.in_ok-done.done c.index_mut.result.now c.requires.provider_node c.in_ok-done.ensures.does
-    (c.self.view_is ∙ c.in-Err.ensures.err) c.index_mut.ensures.value
+pub restore-requires-clause-no_write : goal.restore-requires-clause-no_write
+restore-requires-clause-no_write c =
+    no_write c.args.self.now c.perform.new.self _ c.args.provider_node c.args.consumer_node (part_of c.args.exchange) c.in_ok-done.done c.index_mut-from.result.now c.requires.provider_node c.in_ok-done.ensures.does
+    (some_stages c.in_ok-done.done.stages.items c.in_ok-done.done.stages.len (omega (arith, c.in_ok-done.done.stages.ok.0)) (sym c.is_empty.ensures ∙ c.if-is_empty.false))
+    (c.self.view_is ∙ c.in-Err.ensures.err) c.index_mut-from.ensures.value
+
+pub restore-requires-clause-ours : goal.restore-requires-clause-ours
+restore-requires-clause-ours c =
+    kept_ours c.args.self.now c.perform.new.self c.args.provider_node c.args.consumer_node (part_of c.args.exchange) c.in_ok-done.done c.in_ok-done.ensures.does
+    (some_stages c.in_ok-done.done.stages.items c.in_ok-done.done.stages.len (omega (arith, c.in_ok-done.done.stages.ok.0)) (sym c.is_empty.ensures ∙ c.if-is_empty.false))
 
 pub commit-requires-clause-can : goal.commit-requires-clause-can
 commit-requires-clause-can c =

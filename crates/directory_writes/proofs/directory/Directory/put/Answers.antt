@@ -2,7 +2,6 @@
 use Rattle.std.proofs.Common.{rules, ◌≡◌, ap, sym, subst, ◌∙◌}
 use Rattle.entry_tree.specs.Touched.{CanBeMade}
 use Rattle.directory_writes.specs.Directory.{DirectoryState, with_write, IsPlanned}
-use Rattle.directory_writes.specs.Touches.{KeepsNumbers}
 use Rattle.directory_writes.proofs.Writes.{kept_after, kept_refused, put_is}
 use Rattle.directory_writes.proofs.directory.Directory.put.Goals as goal
 
@@ -22,7 +21,7 @@ invariant_of-self-in_err-put c =
     let entries : after.entries ≡ was.held.entries = search rules in
     let log : after.touches.log ≡ was.held.touches.log = search rules in
     let writes : c.reserve.new.self.items ≡ was.accepted.items = search rules in
-    let numbers : KeepsNumbers was.held.touches.numbers after.touches.numbers = search rules in
+    let numbers : after.touches.numbers ≡ was.held.touches.numbers = search rules in
     kept_refused d was.held.entries after.entries was.csn_maker was.weight was.held.touches.numbers after.touches.numbers after.touches.log c.reserve.new.self.items
     c.self.invariant entries log numbers writes
 

@@ -20,8 +20,8 @@ returns-then-branch-clause-fault c =
     rdn_of-pairs c.args.place c.args.ended c.args.signs.now _ (sym c.begins_with_space.ensures ∙ c.if-begins_with_space.false) c.in_ok-pairs.ensures.ok
     ∙ checked-double c.args.place c.in_ok-pairs.pairs.items (sym double ∙ c.if-branch.true)
 
-pub returns-then-len-gt-MOST_BYTES-clause-fault : goal.returns-then-len-gt-MOST_BYTES-clause-fault
-returns-then-len-gt-MOST_BYTES-clause-fault c =
+pub returns-then-length-gt-MOST_BYTES-clause-fault : goal.returns-then-length-gt-MOST_BYTES-clause-fault
+returns-then-length-gt-MOST_BYTES-clause-fault c =
     let double = rw c.as_slice.ensures.value at c.in_ok-has_double.ensures in
     let long : 1024 < length (rdn_text c.in_ok-pairs.pairs.items) = grind (arith, common_steps) in
     rdn_of-pairs c.args.place c.args.ended c.args.signs.now _ (sym c.begins_with_space.ensures ∙ c.if-begins_with_space.false) c.in_ok-pairs.ensures.ok
@@ -31,7 +31,10 @@ pub invariant_of-result : goal.invariant_of-result
 invariant_of-result c =
     let double = rw c.as_slice.ensures.value at c.in_ok-has_double.ensures in
     let fits : length (rdn_text c.in_ok-pairs.pairs.items) ≤ 1024 = grind (arith, common_steps) in
-    read_is_rdn c.args.place c.args.ended c.args.signs.now c.in_ok-pairs.pairs.items c.in_ok-pairs.ensures.ok (sym double ∙ c.if-branch.false) fits
+    record {
+      rdn = read_is_rdn c.args.place c.args.ended c.args.signs.now c.in_ok-pairs.pairs.items c.in_ok-pairs.ensures.ok (sym double ∙ c.if-branch.false) fits;
+      written = grind (arith, common_steps);
+    }
 
 pub returns-clause-ok : goal.returns-clause-ok
 returns-clause-ok c =

@@ -14,7 +14,7 @@ returns-clause-plan c =
     let es = c.args.self.now in
     let made : Entry = record { uuid = c.args.uuid; csn = c.args.csn; dn = c.args.dn.now; attrs = c.args.attrs.now } in
     let room = add_where_none c.args.suffix.now es c.args.dn.now c.args.attrs.now c.in_ok-entry.ensures.accepted in
-    let held = subst (λ xs. IsDirectory xs c.self.inside.weight) c.self.view_is c.self.invariant in
+    let held = subst (λ xs. IsDirectory xs c.self.inside.weight) c.self.view_is c.self.invariant.directory in
     record {
       ordered = held.ascends;
       exact = c.in_ok-change.ensures ∙ (λ i. filter is_change (put_change (c.get-was.ensures.value i) (c.in_ok-entry.ensures.value i) ∷ [])) ∙ sym (touched_put made es held.ascends);

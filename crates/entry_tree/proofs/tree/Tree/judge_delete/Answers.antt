@@ -1,6 +1,8 @@
 -- The entries of the name go.
-use Rattle.std.proofs.Common.{◌∙◌, ◌-◌, not, ap, map, sym}
+use Rattle.std.proofs.Common.{◌≡◌, ◌∙◌, ◌-◌, Bor, not, ap, map, sym}
 use Rattle.std.specs.List.{filter}
+use Rattle.std.specs.Map.{values_of}
+use Rattle.entry_writes.specs.declared.entry.Entry.{Entry}
 use Rattle.entry_writes.specs.State.{is_named, total_weight}
 use Rattle.entry_tree.proofs.Directory.{without_passing}
 use Rattle.entry_tree.proofs.Removed.{removed, touched_removed}
@@ -10,10 +12,13 @@ use Rattle.entry_tree.proofs.tree.Tree.judge_delete.Goals as goal
 pub returns-clause-plan : goal.returns-clause-plan
 returns-clause-plan c =
     let goes = is_named c.args.dn.now in
-    let es = c.self.inside.entries.items in
+    let es = values_of c.self.inside.entries in
+    let named : map (λ (e : Bor Entry). e.now) c.deref.result.now ≡ filter goes es =
+    ap (map (λ (e : Bor Entry). e.now)) c.deref.ensures.value ∙ c.in_ok-entries.ensures ∙ ap (filter goes) (sym c.self.view_is)
+    in
     rw (← c.self.view_is)
     (record {
-      ordered = c.self.invariant.ascends;
-      exact = c.in_ok-removals.ensures ∙ ap (λ xs. map removed (filter goes xs)) c.deref-2.ensures.value ∙ sym (touched_removed goes es c.self.invariant.ascends);
-      directory = directory_total (filter (λ e. not (goes e)) es) (c.self.inside.weight - total_weight (filter goes es)) (without_passing goes es c.self.inside.weight c.self.invariant);
+      ordered = c.self.invariant.directory.ascends;
+      exact = c.in_ok-removals.ensures ∙ ap (map removed) named ∙ sym (touched_removed goes es c.self.invariant.directory.ascends);
+      directory = directory_total (filter (λ e. not (goes e)) es) (c.self.inside.weight - total_weight (filter goes es)) (without_passing goes es c.self.inside.weight c.self.invariant.directory);
     })

@@ -1,48 +1,54 @@
--- What is left after the drops ascends, and what is put into it is a directory.
-use Rattle.std.proofs.Common.{◌∙◌, not, ap, sym, subst, arith}
-use Rattle.entry_writes.specs.Effects.{is_one_of}
-use Rattle.entry_writes.specs.State.{ascends, IsDirectory}
-use Rattle.entry_writes.specs.Touched.{CanBeMade, drops_of, puts_of, with_changes}
-use Rattle.entry_tree.proofs.Committing.{left_by_steps, committed_by_steps}
-use Rattle.entry_tree.proofs.Directory.{ascends_filter}
+-- The entries after the changes are those of a directory, and their index is that of their names.
+use Rattle.std.proofs.Common.{◌∙◌, ap, sym, subst, arith}
+use Rattle.std.specs.Map.{values_of}
+use Rattle.entry_writes.specs.State.{IsDirectory}
+use Rattle.entry_writes.specs.Touched.{CanBeMade, with_changes}
+use Rattle.entry_tree.specs.NameIndex.{by_identity, IsIndex}
+use Rattle.entry_tree.proofs.ByIdentity.{keyed_as}
+use Rattle.entry_tree.proofs.NameChanges.{index_made}
 use Rattle.entry_tree.proofs.Weighing.{directory_made, weighs_made}
 use Rattle.entry_tree.proofs.tree.Tree.put.Goals as goal
 
 pub weight_with-weight-requires-clause-before : goal.weight_with-weight-requires-clause-before
 weight_with-weight-requires-clause-before c =
-    let es = c.self.inside.entries.items in
+    let es = values_of c.self.inside.entries in
     let changes = c.list-changes.result.now in
     let can = subst (CanBeMade es) (sym c.list-changes.ensures) (subst (λ xs. CanBeMade xs c.args.entry_changes.now) (sym c.self.view_is) c.requires) in
-    omega (arith, c.self.invariant.weighed, (weighs_made es changes c.self.invariant.ascends can).before)
+    omega (arith, c.self.invariant.directory.weighed, (weighs_made es changes c.self.invariant.directory.ascends can).before)
 
 pub weight_with-weight-requires-clause-after : goal.weight_with-weight-requires-clause-after
 weight_with-weight-requires-clause-after c =
-    let es = c.self.inside.entries.items in
+    let es = values_of c.self.inside.entries in
     let changes = c.list-changes.result.now in
     let can = subst (CanBeMade es) (sym c.list-changes.ensures) (subst (λ xs. CanBeMade xs c.args.entry_changes.now) (sym c.self.view_is) c.requires) in
-    omega (arith, can.directory.light, (weighs_made es changes c.self.invariant.ascends can).after)
+    omega (arith, can.directory.light, (weighs_made es changes c.self.invariant.directory.ascends can).after)
 
-pub put_each-requires-clause-ascends : goal.put_each-requires-clause-ascends
-put_each-requires-clause-ascends c =
-    let es = c.self.inside.entries.items in
-    let drops = drops_of c.list-changes.result.now in
-    let left = left_by_steps es c.reserve.new.self.items c.remove_each.new.entries.items drops c.in_ok-dropped.dropped.keys c.reserve.ensures.items c.in_ok-dropped.ensures c.remove_each.ensures.items in
-    ap ascends left ∙ ascends_filter (λ e. not (is_one_of drops e)) es c.self.invariant.ascends
+pub reindexed-requires : goal.reindexed-requires
+reindexed-requires c = c.self.invariant.index.some
 
-pub invariant_of-self-2 : goal.invariant_of-self-2
-invariant_of-self-2 c =
-    let es = c.self.inside.entries.items in
+pub changed-requires-clause-keyed : goal.changed-requires-clause-keyed
+changed-requires-clause-keyed c = c.self.invariant.keyed
+
+pub changed-requires-clause-ascends : goal.changed-requires-clause-ascends
+changed-requires-clause-ascends c = c.self.invariant.directory.ascends
+
+pub invariant_of-self : goal.invariant_of-self
+invariant_of-self c =
+    let es = values_of c.self.inside.entries in
     let changes = c.list-changes.result.now in
     let can = subst (CanBeMade es) (sym c.list-changes.ensures) (subst (λ xs. CanBeMade xs c.args.entry_changes.now) (sym c.self.view_is) c.requires) in
-    let left = left_by_steps es c.reserve.new.self.items c.remove_each.new.entries.items (drops_of changes) c.in_ok-dropped.dropped.keys c.reserve.ensures.items c.in_ok-dropped.ensures c.remove_each.ensures.items in
-    let whole = committed_by_steps es (puts_of changes) c.remove_each.new.entries.items c.in_ok-puts.puts.items c.put_each.new.entries.items (drops_of changes) left c.in_ok-puts.ensures c.put_each.ensures in
-    subst (λ xs. IsDirectory xs c.weight_with-weight.result) (sym whole)
-    (directory_made es changes c.self.inside.weight c.weight_with-weight.result c.self.invariant can c.weight_with-weight.ensures)
+    let made = c.in_ok-entries.ensures in
+    let values = keyed_as c.in_ok-entries.entries (with_changes es changes) made in
+    record {
+      keyed = made ∙ ap by_identity (sym values);
+      directory = subst (λ xs. IsDirectory xs c.weight_with-weight.result) (sym values)
+          (directory_made es changes c.self.inside.weight c.weight_with-weight.result c.self.invariant.directory can c.weight_with-weight.ensures);
+      index = subst (IsIndex c.in_ok-names.names) (sym values)
+          (index_made es changes c.self.inside.names c.in_ok-names.names c.self.invariant.index can c.in_ok-names.ensures.some c.in_ok-names.ensures.placed c.in_ok-names.ensures.exact);
+    }
 
 pub returns-clause-ok : goal.returns-clause-ok
 returns-clause-ok c =
-    let es = c.self.inside.entries.items in
+    let es = values_of c.self.inside.entries in
     let changes = c.list-changes.result.now in
-    let left = left_by_steps es c.reserve.new.self.items c.remove_each.new.entries.items (drops_of changes) c.in_ok-dropped.dropped.keys c.reserve.ensures.items c.in_ok-dropped.ensures c.remove_each.ensures.items in
-    let whole = committed_by_steps es (puts_of changes) c.remove_each.new.entries.items c.in_ok-puts.puts.items c.put_each.new.entries.items (drops_of changes) left c.in_ok-puts.ensures c.put_each.ensures in
-    whole ∙ (λ i. with_changes (c.self.view_is i) (c.list-changes.ensures i))
+    keyed_as c.in_ok-entries.entries (with_changes es changes) c.in_ok-entries.ensures ∙ (λ i. with_changes (c.self.view_is i) (c.list-changes.ensures i))

@@ -3,4 +3,4 @@ use Rattle.ldap_ber.proofs.octets.OctetsList.copy.Given as goal
 
 -- the strings so far are copied
 abbrev pub invariant-loop-item : goal.invariant-loop-item
-invariant-loop-item l = l.items.items ≡ take l.item-index l.item-items
+invariant-loop-item l = l.list ≡ take l.item-index l.item-items

@@ -1,8 +1,9 @@
-use Rattle.std.proofs.Common.{◌≡◌, take}
+use Rattle.std.proofs.Common.{◌≡◌, Bor, map, take}
+use Rattle.entry_tree.specs.declared.entry.Entry.{Entry}
 use Rattle.sync_model.specs.Copy.{unmentioned}
-use Rattle.sync_consumer.specs.Holding.{entries_in}
 use Rattle.sync_consumer.proofs.held.HeldContent.unmentioned.Given as goal
 
 -- those of the entries so far that were not spoken of are there
-abbrev pub invariant-loop-kept : goal.invariant-loop-kept
-invariant-loop-kept l = l.uuids.items ≡ unmentioned l.named l.stage (entries_in (take l.kept-index l.kept-items))
+abbrev pub invariant-loop-entry : goal.invariant-loop-entry
+invariant-loop-entry l =
+    l.uuids.items ≡ unmentioned l.named l.stage (map (λ (e : Bor Entry). e.now) (take l.entry-index l.entry-items))

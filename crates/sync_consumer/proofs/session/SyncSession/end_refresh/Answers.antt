@@ -7,33 +7,31 @@ use Rattle.sync_consumer.specs.declared.consumer.Taken.TheVariants.{Stored, Copi
 use Rattle.sync_consumer.specs.declared.session.SyncSession as kept
 use Rattle.sync_consumer.specs.declared.session.SearchStep.{SearchStep}
 use Rattle.sync_consumer.specs.declared.session.SearchStep.TheVariants.{Goes, Ends}
-use Rattle.sync_consumer.specs.SyncSession.{session_of, copy_with, within, last_changes, refresh_ended, StepsTo}
-use Rattle.sync_consumer.specs.Staging.{staged_each}
+use Rattle.sync_consumer.specs.SyncSession.{session_of, copy_with, within, refresh_ended, StepsTo}
 use Rattle.sync_consumer.proofs.Phases.{refresh_steps}
 use Rattle.sync_consumer.proofs.session.SyncSession.end_refresh.Goals as goal
 
-pub returns-in-Ok : goal.returns-in-Ok
-returns-in-Ok c =
-    let stage : Stage = c.stage_each.new.self in
+pub returns : goal.returns
+returns c =
+    let stage : Stage = c.in_ok-stage.stage in
     let after : kept.SyncSession = record c.args.self.now {
       persisting = true;
       ended = c.args.self.now.ended || not c.args.deletes;
       named = c.clear.new.self;
-      stage = c.commit_stage.new.stage;
+      stage = c.clear-2.new.self;
     } in
-    let staged : stage ≡ staged_each c.args.self.now.stage (last_changes c.args.held.now.entries (session_of c.args.self.now) c.args.deletes) =
-    cc (c.in_ok-undo.ensures.ok, c.in_ok-changes.ensures) in
-    let answer_taken : Taken = cond (is_some c.args.cookie) (Stored c.in-Ok.commit) (Copied c.in-Ok.commit) in
+    let commit = c.in_ok-commit.commit in
+    let answer_taken : Taken = cond (is_some c.args.cookie) (Stored commit) (Copied commit) in
     let step : c.after_refresh.result ≡ cond (persists c.args.self.now.mode) (Goes answer_taken) (Ends answer_taken) = cc (c.after_refresh.ensures, c.took_effect.ensures, c.is_some-has_cookie.ensures) in
     subst (λ (s : SearchStep). StepsTo c.args.held.now c.args.self.now c.commit_stage.new.self after (Ok s)
     (within false c.args.held.now c.args.self.now (refresh_ended (copy_with c.args.held.now c.args.self.now) (session_of c.args.self.now) c.args.deletes c.args.cookie))) (sym step)
-    (refresh_steps c.args.held.now c.args.self.now c.commit_stage.new.self after c.args.deletes c.args.cookie c.in-Ok.commit stage staged
-    c.in-Ok.ensures.within c.in-Ok.ensures.entries c.in-Ok.ensures.cookie c.in-Ok.ensures.commit
+    (refresh_steps c.args.held.now c.args.self.now c.commit_stage.new.self after c.args.deletes c.args.cookie commit stage c.in_ok-stage.ensures
+    c.in_ok-commit.ensures.within c.in_ok-commit.ensures.entries c.in_ok-commit.ensures.cookie c.in_ok-commit.ensures.commit
     (λ i. record {
       id = c.args.self.now.id;
       persists = persists c.args.self.now.mode;
       persisting = true;
       ended = c.args.self.now.ended || not c.args.deletes;
       named = c.clear.ensures i;
-      stage = c.in-Ok.ensures.stage i;
+      stage = c.clear-2.ensures i;
     }))

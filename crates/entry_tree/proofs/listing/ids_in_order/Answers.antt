@@ -1,0 +1,15 @@
+-- Those that are found, each once.
+use Rattle.std.proofs.Common.{◌≡◌, ◌∙◌, sym}
+use Rattle.entry_tree.specs.NameIndex.{ids_at}
+use Rattle.entry_tree.proofs.NameKeys.{ids_found, ids_absent}
+use Rattle.entry_tree.proofs.listing.ids_in_order.Goals as goal
+
+pub returns-in-Some : goal.returns-in-Some
+returns-in-Some c =
+    let names = c.args.names.now in
+    let path = c.args.path.now in
+    let found : c.deref.result.now ≡ ids_at names path = c.deref.ensures.value ∙ ids_found names path c.in-Some.uuids.now c.in-Some.ensures in
+    rw found at c.in_order.ensures
+
+pub returns-in-None : goal.returns-in-None
+returns-in-None c = rw (ids_absent c.args.names.now c.args.path.now (sym c.in-None.ensures)) c.new.ensures.items

@@ -1,0 +1,16 @@
+-- The entries of the identities at the path key of the name.
+use Rattle.std.proofs.Common.{◌∙◌, ap, sym}
+use Rattle.std.specs.List.{filter, filter_map}
+use Rattle.std.specs.Map.{values_of}
+use Rattle.entry_writes.specs.State.{entry_at, is_named}
+use Rattle.entry_tree.proofs.Taking.{at_name_is}
+use Rattle.entry_tree.proofs.tree.Tree.at_name.Goals as goal
+
+pub returns : goal.returns
+returns c =
+    let es = values_of c.self.inside.entries in
+    let name = c.args.dn.now in
+    let is = (λ i. filter_map (entry_at (sym c.self.view_is i)) ((c.deref.ensures.value ∙ c.in_ok-uuids.ensures) i))
+    ∙ at_name_is name es c.self.inside.names c.path.result.now c.self.invariant.directory.ascends c.self.invariant.index c.path.ensures.sound c.path.ensures.value
+    ∙ ap (filter (is_named name)) c.self.view_is in
+    rw is at c.entries_of.ensures

@@ -1,0 +1,135 @@
+//! Calls of a map that shares its nodes, and how long its ways down become.
+use crate::rows::check_rows;
+use shared_map::SharedMap;
+use std::alloc::{AllocError, Global};
+use std::test::Fail;
+
+type Numbers = SharedMap<u64, u64>;
+
+/// Calls of a map and of a copy of it, and what comes of each.
+const ROWS: &str = "\
+# Ascending, descending and mixed keys, and a key that is there
+map put 1 10;put 2 20;put 3 30;put 4 40;put 5 50;values => ok,ok,ok,ok,ok,[10, 20, 30, 40, 50],
+map put 5 50;put 4 40;put 3 30;put 2 20;put 1 10;values => ok,ok,ok,ok,ok,[10, 20, 30, 40, 50],
+map put 3 30;put 1 10;put 5 50;put 4 40;put 2 20;values => ok,ok,ok,ok,ok,[10, 20, 30, 40, 50],
+map put 1 10;put 3 30;put 2 20;values;put 2 21;values;len => ok,ok,ok,[10, 20, 30],ok,[10, 21, 30],3,
+map put 3 30;put 1 10;put 2 20;values => ok,ok,ok,[10, 20, 30],
+# What is found
+map get 1;first;last;from 0;after 0;values;above 0;len => None,None,None,None,None,[],[],0,
+map put 2 20;put 4 40;get 1;get 2;get 3;get 4 => ok,ok,None,Some(20),None,Some(40),
+map put 4 40;put 2 20;first;last => ok,ok,Some((2, 20)),Some((4, 40)),
+map put 2 20;put 4 40;from 1;from 2;from 3;from 4;from 5 => ok,ok,Some((2, 20)),Some((2, 20)),Some((4, 40)),Some((4, 40)),None,
+map put 2 20;put 4 40;after 1;after 2;after 3;after 4;after 5 => ok,ok,Some((2, 20)),Some((4, 40)),Some((4, 40)),None,None,
+map put 2 20;put 4 40;put 6 60;above 1;above 2;above 5;above 6 => ok,ok,ok,[20, 40, 60],[40, 60],[60],[],
+# Removals: of a key with keys on both sides, of one at an end, of one that is not there, of all
+map put 2 20;put 1 10;put 3 30;remove 2;values;len => ok,ok,ok,ok,[10, 30],2,
+map put 2 20;put 1 10;put 3 30;remove 1;remove 4;values;len => ok,ok,ok,ok,ok,[20, 30],2,
+map put 1 10;put 2 20;put 3 30;put 4 40;remove 1;remove 2;values => ok,ok,ok,ok,ok,ok,[30, 40],
+map put 4 40;put 3 30;put 2 20;put 1 10;remove 4;remove 3;values => ok,ok,ok,ok,ok,ok,[10, 20],
+map put 1 10;remove 1;values;len;put 1 11;values => ok,ok,[],0,ok,[11],
+# A copy stays as it was
+map put 1 10;put 2 20;copy;put 2 21;put 3 30;values;old => ok,ok,ok,ok,ok,[10, 21, 30],[10, 20],
+map put 1 10;put 2 20;copy;remove 1;values;old => ok,ok,ok,ok,[20],[10, 20],
+";
+
+#[test]
+fn calls_of_a_map(rt: HostRuntime) -> Result<(), Fail> {
+    check_rows(&rt, rt.alloc(), ROWS)
+}
+
+/// Steps through the keys below 20,000 that lead to each of them: up, down, and to and fro.
+const STEPS: [u64; 3] = [1, 19_999, 7_919];
+
+#[test]
+fn ways_down_stay_short(rt: HostRuntime) -> Result<(), Fail> {
+    for step in STEPS {
+        let mut map = filled(rt.alloc(), step)?;
+        assert!(rt;
+            map.len() == 20_000 && map.height() < 32,
+            "{step}: {}",
+            map.height()
+        );
+        drain_half(&mut map)?;
+        assert!(rt;
+            map.len() == 10_000 && map.height() < 32,
+            "{step}: {}",
+            map.height()
+        );
+    }
+    Ok(())
+}
+
+fn filled(alloc: Global, step: u64) -> Result<Numbers, AllocError> {
+    let mut map = SharedMap::new(alloc);
+    let mut key = 0u64;
+    for _ in 0..20_000 {
+        map.insert(key, key)?;
+        key = key.wrapping_add(step) % 20_000;
+    }
+    Ok(map)
+}
+
+/// Removes the keys from 5,000 to 14,999.
+fn drain_half(map: &mut Numbers) -> Result<(), AllocError> {
+    for key in 5_000..15_000u64 {
+        map.remove(&key)?;
+    }
+    Ok(())
+}
+
+/// What comes of each call, with a comma after it.
+pub(crate) fn reported(alloc: Global, calls: &str) -> Result<String, AllocError> {
+    let mut map = SharedMap::new(alloc);
+    let mut old = SharedMap::new(alloc);
+    let mut text = String::new(alloc);
+    for call in calls.split(';') {
+        let (word, of) = call.split_once(' ').unwrap_or((call, ""));
+        let answer = after_call(alloc, &mut map, &mut old, word, of)?;
+        text.push_str(&answer)?;
+        text.push(',')?;
+    }
+    Ok(text)
+}
+
+fn number(text: &str) -> u64 {
+    text.parse::<u64>().unwrap_or(0)
+}
+
+fn after_call(
+    alloc: Global,
+    map: &mut Numbers,
+    old: &mut Numbers,
+    word: &str,
+    of: &str,
+) -> Result<String, AllocError> {
+    match word {
+        "put" => {
+            let (key, value) = of.split_once(' ').unwrap_or((of, ""));
+            map.insert(number(key), number(value))?;
+            "ok".to_string(alloc)
+        }
+        "remove" => {
+            map.remove(&number(of))?;
+            "ok".to_string(alloc)
+        }
+        "copy" => {
+            *old = map.copy()?;
+            "ok".to_string(alloc)
+        }
+        "old" => format!(in alloc; "{:?}", old.values()?),
+        _ => found(alloc, map, word, number(of)),
+    }
+}
+
+fn found(alloc: Global, map: &Numbers, word: &str, key: u64) -> Result<String, AllocError> {
+    match word {
+        "get" => format!(in alloc; "{:?}", map.get(&key)),
+        "first" => format!(in alloc; "{:?}", map.first()),
+        "last" => format!(in alloc; "{:?}", map.last()),
+        "from" => format!(in alloc; "{:?}", map.next_from(&key)),
+        "after" => format!(in alloc; "{:?}", map.next_after(&key)),
+        "above" => format!(in alloc; "{:?}", map.values_after(&key)?),
+        "len" => format!(in alloc; "{}", map.len()),
+        _ => format!(in alloc; "{:?}", map.values()?),
+    }
+}

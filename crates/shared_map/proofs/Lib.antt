@@ -1,0 +1,5 @@
+pub mod Around
+pub mod Changes
+pub mod Keys
+pub mod Opened
+pub mod Parts

@@ -1,0 +1,17 @@
+//! Ordered maps whose copies share their nodes: a copy counts one reference up, and a change makes
+//! the nodes on the way to its place anew, so that the other copies stay what they were.
+#![tactic(auto)]
+
+mod balance;
+mod crossing;
+mod nodes;
+mod ordered;
+mod placing;
+mod queries;
+mod seeking;
+mod taking;
+mod walking;
+
+pub use crossing::{map_is_sent, map_is_shared};
+pub use ordered::SharedMap;
+pub use queries::Query;

@@ -1,0 +1,199 @@
+ghost use Rattle.std.specs.Prelude.{◌≡◌, ◌-◌, ◌<◌, ◌^◌, ◌↔◌, [], IsTrue, length, map, slice_get, option_copied, IfOk, OnErr, OnOk};
+ghost use Rattle.std.specs.Option.{option_map};
+ghost use Rattle.std.specs.Ordering.{is_le, is_lt};
+ghost use Rattle.std.specs.List.{filter};
+ghost use Rattle.std.specs.List.Sorted.{IsStrictlySortedBy};
+ghost use Rattle.std.specs.Map.{keys_of, values_of, lookup, lookup_entry, remove_entry};
+ghost use Rattle.std.specs.BTreeMap.{is_at, insert_entry};
+ghost use Rattle.shared_map.specs.Nodes.{pair_of};
+
+use crate::nodes::{Nodes, Pair};
+use crate::placing::with_pair;
+use crate::queries::Query;
+use crate::seeking::{first_pair, last_pair, pair_after, pair_from, value_at};
+use crate::taking::without;
+use crate::walking::{push_values, push_values_after};
+use std::alloc::{AllocError, Global};
+use std::marker::Model;
+use std::sync::Arc;
+
+const MOST_PAIRS: usize = 0x7fff_ffff_ffff_ffff;
+
+/// Pairs of a key and a value in ascending order of key, one pair at most for a key.
+#[derive(Drop)]
+pub struct SharedMap<K: Ord, V> {
+    alloc: Global,
+    root: Nodes<K, V>,
+    len: usize,
+}
+
+impl<K: Ord, V> Model for SharedMap<K, V> {
+    ghost use Rattle.std.specs.Prelude.{◌≡◌, ◌<◌, ◌^◌, List, length};
+    ghost use Rattle.std.specs.List.Sorted.{IsStrictlySortedBy};
+    ghost use Rattle.std.specs.Map.{keys_of};
+    ghost use Rattle.shared_map.specs.Nodes.{pairs};
+
+    ghost Value = { List (K × V) };
+
+    ghost view = { λ map. pairs map.root };
+
+    ghost invariant = { λ map. IsStrictlySortedBy K.cmp (keys_of (pairs map.root))
+        × (map.len ≡ length (pairs map.root)) × (map.len < 2 ^ 63) };
+}
+
+impl<K: Ord, V> SharedMap<K, V> {
+    /// A map with no pair, which takes no memory.
+    pub fn new(alloc: Global) -> SharedMap<K, V>
+        ensures { result ≡ [] }
+    {
+        SharedMap {
+            alloc,
+            root: Nodes::Nothing,
+            len: 0,
+        }
+    }
+
+    /// The number of pairs.
+    pub fn len(&self) -> usize
+        ensures value { result ≡ length self.now }
+        ensures small { result < 2 ^ 63 }
+        ensures ordered { IsStrictlySortedBy K.cmp (keys_of self.now) }
+    {
+        self.len
+    }
+
+    pub fn is_empty(&self) -> bool
+        ensures { IsTrue result ↔ (self.now ≡ []) }
+    {
+        self.len == 0
+    }
+
+    /// How many nodes the longest way down has: a hint of what a look-up costs, which no contract
+    /// speaks of.
+    pub fn height(&self) -> u8 {
+        self.root.height()
+    }
+
+    /// The value at the key.
+    pub fn get<Q: Query<K>>(&self, key: Q) -> Option<&V>
+        ensures { option_copied result ≡ lookup (is_at (Q.compare key)) self.now }
+    {
+        value_at(&self.root, key)
+    }
+
+    pub fn first(&self) -> Option<(&K, &V)>
+        ensures { option_map (λ pair. (pair.0.now, pair.1.now)) result ≡ slice_get self.now 0 }
+    {
+        lent(first_pair(&self.root))
+    }
+
+    pub fn last(&self) -> Option<(&K, &V)>
+        ensures { option_map (λ pair. (pair.0.now, pair.1.now)) result
+            ≡ slice_get self.now (length self.now - 1) }
+    {
+        lent(last_pair(&self.root))
+    }
+
+    /// The first pair whose key is not below what the query stands for.
+    pub fn next_from<Q: Query<K>>(&self, key: Q) -> Option<(&K, &V)>
+        ensures { option_map (λ pair. (pair.0.now, pair.1.now)) result
+            ≡ lookup_entry (λ other. is_le (Q.compare key other)) self.now }
+    {
+        lent(pair_from(&self.root, key))
+    }
+
+    /// The first pair whose key is above what the query stands for.
+    pub fn next_after<Q: Query<K>>(&self, key: Q) -> Option<(&K, &V)>
+        ensures { option_map (λ pair. (pair.0.now, pair.1.now)) result
+            ≡ lookup_entry (λ other. is_lt (Q.compare key other)) self.now }
+    {
+        lent(pair_after(&self.root, key))
+    }
+
+    /// The values in the order of their keys.
+    pub fn values(&self) -> Result<Vec<&V>, AllocError>
+        ensures { IfOk result (λ list. map (λ value. value.now) list.items ≡ values_of self.now) }
+    {
+        let mut list = Vec::with_capacity(self.alloc, self.len)?;
+        push_values(&mut list, &self.root)?;
+        Ok(list)
+    }
+
+    /// The values of the keys above what the query stands for, in their order.
+    pub fn values_after<Q: Query<K>>(&self, key: Q) -> Result<Vec<&V>, AllocError>
+        ensures { IfOk result (λ list. map (λ value. value.now) list.items
+            ≡ values_of (filter (λ pair. is_lt (Q.compare key pair.0)) self.now)) }
+    {
+        let mut list = Vec::new(self.alloc);
+        push_values_after(&mut list, &self.root, key)?;
+        Ok(list)
+    }
+
+    /// The number of pairs with one at the key.
+    fn len_with(&self, key: &K) -> Result<usize, AllocError>
+        ensures { IfOk result (λ number. (number < 2 ^ 63)
+            × ((value : V) → number ≡ length (insert_entry K.cmp self.now key.now value))) }
+    {
+        if self.get(key).is_some() {
+            return Ok(self.len);
+        }
+        if self.len == MOST_PAIRS {
+            return Err(AllocError);
+        }
+        Ok(self.len + 1)
+    }
+}
+
+impl<K: Ord + Drop, V: Drop> SharedMap<K, V> {
+    /// The same map. It shares all nodes.
+    pub fn copy(&self) -> Result<SharedMap<K, V>, AllocError>
+        ensures { IfOk result (λ copy. copy ≡ self.now) }
+    {
+        Ok(SharedMap {
+            alloc: self.alloc,
+            root: self.root.copy()?,
+            len: self.len,
+        })
+    }
+
+    /// Puts the value at the key. A key that is there stays.
+    pub fn insert(&mut self, key: K, value: V) -> Result<(), AllocError>
+        ensures ok { OnOk result (self.new ≡ insert_entry K.cmp self.old key value) }
+        ensures err { OnErr result (self.new ≡ self.old) }
+    {
+        let len = self.len_with(&key)?;
+        let pair = Pair {
+            key: Arc::new(self.alloc, key)?,
+            value: Arc::new(self.alloc, value)?,
+        };
+        let root = with_pair(self.alloc, &self.root, pair)?;
+        self.root = root;
+        self.len = len;
+        Ok(())
+    }
+
+    /// Takes the pair of the key out. Where there is none, no memory is taken.
+    pub fn remove<Q: Query<K>>(&mut self, key: Q) -> Result<(), AllocError>
+        ensures ok { OnOk result
+            (self.new ≡ remove_entry (is_at (Q.compare key)) self.old) }
+        ensures err { OnErr result (self.new ≡ self.old) }
+    {
+        if self.get(key).is_none() {
+            return Ok(());
+        }
+        let root = without(self.alloc, &self.root, key)?;
+        self.root = root;
+        self.len -= 1;
+        Ok(())
+    }
+}
+
+fn lent<'a, K, V>(pair: Option<&'a Pair<K, V>>) -> Option<(&'a K, &'a V)>
+    ensures { option_map (λ pair. (pair.0.now, pair.1.now)) result
+        ≡ option_map (λ pair. pair_of pair.now) pair.entry }
+{
+    match pair {
+        None => None,
+        Some(pair) => Some((&pair.key, &pair.value)),
+    }
+}

@@ -1,0 +1,55 @@
+//! How values are listed in the order of their keys.
+ghost use Rattle.std.specs.Prelude.{◌≡◌, ◌++◌, map, OnOk};
+ghost use Rattle.std.specs.Ordering.{is_lt};
+ghost use Rattle.std.specs.List.{filter};
+ghost use Rattle.std.specs.List.Sorted.{IsStrictlySortedBy};
+ghost use Rattle.std.specs.Map.{keys_of, values_of};
+ghost use Rattle.shared_map.specs.Nodes.{pairs};
+
+use crate::nodes::Nodes;
+use crate::queries::Query;
+use std::alloc::AllocError;
+
+pub(crate) fn push_values<'a, K, V>(
+    list: &mut Vec<&'a V>,
+    nodes: &'a Nodes<K, V>,
+) -> Result<(), AllocError>
+    ensures { OnOk result (map (λ value. value.now) list.new.items
+        ≡ map (λ value. value.now) list.old.items ++ values_of (pairs nodes.now)) }
+{
+    match nodes {
+        Nodes::Nothing => Ok(()),
+        Nodes::Fork(node) => {
+            push_values(list, &node.lower)?;
+            list.push(&node.pair.value)?;
+            push_values(list, &node.higher)
+        }
+    }
+}
+
+/// Pushes the values of keys above what the query stands for.
+pub(crate) fn push_values_after<'a, K: Ord, V, Q: Query<K>>(
+    list: &mut Vec<&'a V>,
+    nodes: &'a Nodes<K, V>,
+    key: Q,
+) -> Result<(), AllocError>
+    ensures { IsStrictlySortedBy K.cmp (keys_of (pairs nodes.now))
+        → OnOk result (map (λ value. value.now) list.new.items
+        ≡ map (λ value. value.now) list.old.items
+        ++ values_of (filter (λ pair. is_lt (Q.compare key pair.0)) (pairs nodes.now))) }
+{
+    match nodes {
+        Nodes::Nothing => Ok(()),
+        Nodes::Fork(shared) => {
+            let node = &**shared;
+            let fits = key.compare(&node.pair.key).is_lt();
+            if fits {
+                push_values_after(list, &node.lower, key)?;
+                list.push(&node.pair.value)?;
+                push_values(list, &node.higher)
+            } else {
+                push_values_after(list, &node.higher, key)
+            }
+        }
+    }
+}

@@ -1,0 +1,34 @@
+-- The name of one change more is noted.
+use Rattle.std.proofs.Common.{◌≡◌, ◌-◌, true, drop, sym, subst, arith}
+use Rattle.sync_model.specs.Copy.{Stage}
+use Rattle.sync_consumer.specs.Holding.{IsPathed, NotesAll}
+use Rattle.sync_consumer.specs.Staging.{changes_in, entry_staged}
+use Rattle.sync_consumer.proofs.Applying.{notes_from, pathed_from}
+use Rattle.sync_consumer.proofs.Effecting.{none_from}
+use Rattle.sync_consumer.proofs.Noting.{notes_nothing}
+use Rattle.sync_consumer.proofs.names.note_each.Goals as goal
+
+pub loop-left-init : goal.loop-left-init
+loop-left-init c = record {
+  within = omega arith;
+  noted = subst (λ (s : Stage). NotesAll c.args.names.now c.args.names.now s true) (sym (none_from c.args.changes.now)) (notes_nothing c.args.names.now true);
+  pathed = λ uuid. subst (λ (s : Stage). IsPathed (entry_staged s uuid)) (sym (none_from c.args.changes.now)) tt;
+}
+
+pub loop-left-preserved : goal.loop-left-preserved
+loop-left-preserved c =
+    let k = c.loop-left.left - 1 in
+    let change = c.index-changes-left.result in
+    let within = c.loop-left.invariant.within in
+    record {
+      within = omega (arith, within);
+      noted = notes_from c.args.changes.now k c.loop-left.left change (omega arith) (omega (arith, within)) c.index-changes-left.is c.requires
+          c.args.names.now c.loop-left.names c.note_change.new.names c.loop-left.are_apart c.in_ok-is_free.is_free c.loop-left.invariant.noted c.in_ok-is_free.ensures.noted;
+      pathed = pathed_from c.args.changes.now k c.loop-left.left change (omega arith) (omega (arith, within)) c.index-changes-left.is
+          c.loop-left.invariant.pathed c.in_ok-is_free.ensures.pathed;
+    }
+
+pub returns-clause-noted : goal.returns-clause-noted
+returns-clause-noted c =
+    let none : c.loop-left.left ≡ 0 = omega arith in
+    subst (λ n. NotesAll c.args.names.now c.loop-left.names (changes_in (drop n c.args.changes.now)) c.loop-left.are_apart) none c.loop-left.invariant.noted

@@ -1,0 +1,15 @@
+use Rattle.std.proofs.Common.{ℕ, ◌≤◌, length, drop}
+use Rattle.sync_consumer.specs.Holding.{IsPathed, NotesAll}
+use Rattle.sync_consumer.specs.Staging.{changes_in, entry_staged}
+use Rattle.sync_consumer.proofs.names.note_each.Given as goal
+
+-- the names that the changes from this one on put are noted, and have path keys
+abbrev pub invariant-loop-left : goal.invariant-loop-left
+invariant-loop-left l = record {
+  within : l.left ≤ length l.changes;
+  noted : NotesAll l.fn.names l.names (changes_in (drop l.left l.changes)) l.are_apart;
+  pathed : (uuid : ℕ) → IsPathed (entry_staged (changes_in (drop l.left l.changes)) uuid);
+}
+
+abbrev pub decreases-loop-left : goal.decreases-loop-left
+decreases-loop-left l = l.left

@@ -1,0 +1,79 @@
+//! Links to others, asked for by address.
+ghost use Rattle.std.specs.Prelude.{◌≡◌, ◌+◌, ◌<◌, ◌≤◌, ℕ, Bool, Option, List, Some, IfOk, IfSome, IsErrOf, IsSome, is_ok, option_map, length};
+
+use crate::{Sink, Source};
+
+/// Why no link came.
+#[derive(Clone, Copy, Debug, PartialEq, Eq)]
+pub enum NetFault {
+    /// The call failed, and was counted as a fault.
+    Failed,
+    /// Out of memory.
+    NoMemory,
+}
+
+/// What gives links to others, by their addresses.
+pub trait Dial {
+    type Link: Source + Sink + Send + Drop;
+
+    ghost use Rattle.sync_io.specs.Faults.{Rose, one_more};
+    ghost use Rattle.sync_io.specs.Dial.{Dialled, dials, hangs_up};
+    ghost use Rattle.sync_io.specs.Links.{HasNoFaults, IsUnused};
+
+    /// What it was asked and what came back to it, where it reports that.
+    ghost dialled: { Self → Option (Dialled Self.Link) };
+
+    /// How many of its calls have failed, and how many links came back with faults.
+    ghost dial_fault_count: { Self → ℕ };
+
+    /// How many faults were counted. The count stops at the greatest number.
+    fn faults(&self) -> u64
+        ensures { result ≡ dial_fault_count self.now };
+
+    /// Gives a link to this address.
+    fn connect(&mut self, address: &str) -> Result<Self::Link, NetFault>
+        ensures asked { ¬ (IsErrOf result NetFault.NoMemory)
+            → dialled self.new ≡ option_map (dials address.now (is_ok result)) (dialled self.old) }
+        ensures unasked { IsErrOf result NetFault.NoMemory → dialled self.new ≡ dialled self.old }
+
+        ensures sound { IfOk result (λ link. HasNoFaults
+            (Self.Link.read_fault_count link) (Self.Link.write_fault_count link)) }
+        ensures unused { IfOk result (λ link. IfSome (dialled self.old) (λ _. IsUnused
+            (Self.Link.bytes_read link) (Self.Link.bytes_held link))) }
+
+        ensures failed { IsErrOf result NetFault.Failed
+            → Rose (dial_fault_count self.old) (dial_fault_count self.new) }
+        ensures later { dial_fault_count self.old ≤ dial_fault_count self.new };
+
+    /// Takes back a link. It counts a fault exactly where a call of the link failed.
+    fn hang_up(&mut self, link: Self::Link)
+        requires came { IfSome (dialled self.old) (λ d. length d.hung_up < d.came) }
+
+        ensures dialled { dialled self.new ≡ option_map (hangs_up link) (dialled self.old) }
+
+        ensures faulty { 0 < Self.Link.read_fault_count link + Self.Link.write_fault_count link
+            → dial_fault_count self.new ≡ one_more (dial_fault_count self.old) }
+        ensures sound { Self.Link.read_fault_count link + Self.Link.write_fault_count link ≡ 0
+            → dial_fault_count self.new ≡ dial_fault_count self.old }
+        ensures later { dial_fault_count self.old ≤ dial_fault_count self.new };
+
+    /// No more links are hung up than came.
+    ghost within: { (d : Self) → IfSome (dialled d) (λ all. length all.hung_up ≤ all.came) };
+
+    /// A read of a link leaves its side where bytes go out as it was.
+    ghost reads_apart: { (l : Self.Link) → Self.Link.sink_side l
+        ≡ Some (record { held = Self.Link.bytes_held l; faults = Self.Link.write_fault_count l }) };
+
+    /// A write on a link leaves its side where bytes come in as it was.
+    ghost writes_apart: { (l : Self.Link) → Self.Link.source_side l
+        ≡ Some (record {
+          left = Self.Link.bytes_left l;
+          read = Self.Link.bytes_read l;
+          waits = Self.Link.waits l;
+          faults = Self.Link.read_fault_count l;
+        }) };
+
+    /// A link that reports the bytes left reports those that were read from it.
+    ghost reads_reported: { (l : Self.Link)
+        → IsSome (Self.Link.bytes_left l) → IsSome (Self.Link.bytes_read l) };
+}

@@ -1,0 +1,126 @@
+//! A link in memory.
+ghost use Rattle.std.specs.Prelude.{◌≡◌, [], filter, Some};
+
+use crate::{FaultySink, FaultySource, Piece, Put, Sink, Source, Step};
+use std::alloc::Global;
+use std::marker::Model;
+
+/// What a link in memory does: the steps of its reads, and the numbers of the writes and flushes
+/// that fail.
+#[derive(Drop)]
+pub struct LinkPlan {
+    pub steps: Vec<Step>,
+    pub failing: Vec<u64>,
+}
+
+/// A source and a sink in one. It keeps what was read from it and what was written to it.
+#[derive(Drop)]
+pub struct MemoryLink {
+    source: FaultySource,
+    sink: FaultySink,
+    read: Vec<u8>,
+}
+
+impl Model for MemoryLink {
+    ghost use Rattle.sync_io.specs.MemoryLink.{LinkContents};
+
+    ghost Value = { LinkContents };
+
+    ghost view = { λ l. record { source = l.source; sink = l.sink; read = l.read.items } };
+}
+
+impl MemoryLink {
+    ghost use Rattle.sync_io.specs.FaultySource.{is_played};
+
+    /// A link from which nothing was read and to which nothing was written.
+    pub fn new(alloc: Global, plan: LinkPlan) -> MemoryLink
+        ensures steps { result.source.steps ≡ filter is_played plan.steps.items }
+        ensures failing { result.sink.failing ≡ plan.failing.items }
+        ensures read { result.read ≡ [] }
+        ensures held { result.sink.contents.bytes ≡ [] }
+        ensures read_faults { result.source.faults ≡ 0 }
+        ensures write_faults { result.sink.contents.faults ≡ 0 }
+    {
+        let LinkPlan { steps, failing } = plan;
+        MemoryLink {
+            source: FaultySource::new(steps),
+            sink: FaultySink::new(alloc, failing),
+            read: Vec::new(alloc),
+        }
+    }
+
+    /// All that was read.
+    pub fn bytes_read(&self) -> &[u8]
+        ensures { result.now ≡ self.now.read }
+    {
+        self.read.as_slice()
+    }
+
+    /// All that was written.
+    pub fn bytes_held(&self) -> &[u8]
+        ensures { result.now ≡ self.now.sink.contents.bytes }
+    {
+        self.sink.bytes()
+    }
+}
+
+impl Source for MemoryLink {
+    ghost use Rattle.sync_io.specs.FaultySource.{bytes_of};
+
+    ghost bytes_left = { λ l. Some (bytes_of l.source.steps) };
+
+    ghost bytes_read = { λ l. Some l.read };
+
+    ghost waits = { λ l. l.source.waits };
+
+    ghost read_fault_count = { λ l. l.source.faults };
+
+    ghost sink_side = { λ l. Some (record {
+      held = Some l.sink.contents.bytes;
+      faults = l.sink.contents.faults;
+    }) };
+
+    fn read_faults(&self) -> u64 {
+        self.source.read_faults()
+    }
+
+    /// A read that finds no memory to keep its bytes fails, and takes none of them.
+    fn read(&mut self, buffer: &mut [u8]) -> Piece {
+        if self.read.reserve(buffer.len()).is_err() {
+            self.source.fail();
+            return Piece::Failed;
+        }
+        let piece = self.source.read(buffer);
+        if let Piece::Got(count) = piece {
+            let _ = self.read.extend_from_slice(&buffer[..count]);
+        }
+        piece
+    }
+}
+
+impl Sink for MemoryLink {
+    ghost use Rattle.sync_io.specs.FaultySource.{bytes_of};
+
+    ghost bytes_held = { λ l. Some l.sink.contents.bytes };
+
+    ghost write_fault_count = { λ l. l.sink.contents.faults };
+
+    ghost source_side = { λ l. Some (record {
+      left = Some (bytes_of l.source.steps);
+      read = Some l.read;
+      waits = l.source.waits;
+      faults = l.source.faults;
+    }) };
+
+    fn write_faults(&self) -> u64 {
+        self.sink.write_faults()
+    }
+
+    fn write(&mut self, piece: &[u8]) -> Put {
+        self.sink.write(piece)
+    }
+
+    fn flush(&mut self) -> bool {
+        self.sink.flush()
+    }
+}

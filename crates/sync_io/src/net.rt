@@ -1,0 +1,119 @@
+//! A net: links that others ask for, and callers that ask others for links.
+ghost use Rattle.std.specs.Prelude.{◌≡◌, ◌+◌, ◌<◌, ◌≤◌, ℕ, Option, Some, IfOk, IfSome, IsErrOf, IsSome, is_ok, option_map, length};
+
+use crate::{Dial, NetFault, Sink, Source};
+
+/// Where a program listens for links, and what gives it callers.
+pub trait Net {
+    type Door: Drop;
+
+    type Link: Source + Sink + Send + Drop;
+
+    type Caller: Dial + Send + Drop;
+
+    ghost use Rattle.sync_io.specs.Faults.{Rose, one_more};
+    ghost use Rattle.sync_io.specs.Net.{
+      Served,
+      listens,
+      accepts,
+      releases,
+      calls,
+      retires,
+      lets_go,
+    };
+    ghost use Rattle.sync_io.specs.Links.{HasNoFaults, IsUnused};
+
+    /// What it was asked and what came back to it, where it reports that.
+    ghost served: { Self → Option (Served Self.Link Self.Caller) };
+
+    /// How many of its calls have failed, and how many callers were retired with faults.
+    ghost net_fault_count: { Self → ℕ };
+
+    /// How many faults were counted. The count stops at the greatest number.
+    fn faults(&self) -> u64
+        ensures { result ≡ net_fault_count self.now };
+
+    /// Opens a door at this address.
+    fn listen(&mut self, address: &str) -> Result<Self::Door, NetFault>
+        ensures asked { ¬ (IsErrOf result NetFault.NoMemory)
+            → served self.new ≡ option_map (listens address.now) (served self.old) }
+        ensures unasked { IsErrOf result NetFault.NoMemory → served self.new ≡ served self.old }
+
+        ensures failed { IsErrOf result NetFault.Failed
+            → Rose (net_fault_count self.old) (net_fault_count self.new) }
+        ensures later { net_fault_count self.old ≤ net_fault_count self.new };
+
+    /// Gives the next link that someone asked for at this door. It may wait for one.
+    fn accept(&mut self, door: &mut Self::Door) -> Result<Self::Link, NetFault>
+        ensures served { served self.new ≡ option_map (accepts (is_ok result)) (served self.old) }
+
+        ensures sound { IfOk result (λ link. HasNoFaults
+            (Self.Link.read_fault_count link) (Self.Link.write_fault_count link)) }
+        ensures unused { IfOk result (λ link. IfSome (served self.old) (λ _. IsUnused
+            (Self.Link.bytes_read link) (Self.Link.bytes_held link))) }
+
+        ensures failed { IsErrOf result NetFault.Failed
+            → Rose (net_fault_count self.old) (net_fault_count self.new) }
+        ensures later { net_fault_count self.old ≤ net_fault_count self.new };
+
+    /// Takes back an accepted link.
+    fn release(&mut self, link: Self::Link)
+        requires accepted { IfSome (served self.old) (λ s. length s.released < s.accepted) }
+
+        ensures served { served self.new ≡ option_map (releases link) (served self.old) }
+        ensures faults { net_fault_count self.new ≡ net_fault_count self.old };
+
+    /// Gives a caller.
+    fn caller(&mut self) -> Result<Self::Caller, NetFault>
+        ensures served { served self.new ≡ option_map (calls (is_ok result)) (served self.old) }
+
+        ensures sound { IfOk result (λ caller. Self.Caller.dial_fault_count caller ≡ 0) }
+
+        ensures failed { IsErrOf result NetFault.Failed
+            → Rose (net_fault_count self.old) (net_fault_count self.new) }
+        ensures later { net_fault_count self.old ≤ net_fault_count self.new };
+
+    /// Takes back a caller. It counts a fault exactly where the caller has counted one.
+    fn retire(&mut self, caller: Self::Caller)
+        requires given { IfSome (served self.old) (λ s. length s.retired + length s.gone < s.callers) }
+
+        ensures served { served self.new ≡ option_map (retires caller) (served self.old) }
+
+        ensures faulty { 0 < Self.Caller.dial_fault_count caller
+            → net_fault_count self.new ≡ one_more (net_fault_count self.old) }
+        ensures sound { Self.Caller.dial_fault_count caller ≡ 0
+            → net_fault_count self.new ≡ net_fault_count self.old }
+        ensures later { net_fault_count self.old ≤ net_fault_count self.new };
+
+    /// Takes back a caller, and counts none of its faults.
+    fn let_go(&mut self, caller: Self::Caller)
+        requires given { IfSome (served self.old) (λ s. length s.retired + length s.gone < s.callers) }
+
+        ensures served { served self.new ≡ option_map (lets_go caller) (served self.old) }
+        ensures faults { net_fault_count self.new ≡ net_fault_count self.old };
+
+    /// No more links are released than were accepted.
+    ghost links_within: { (n : Self) →
+        IfSome (served n) (λ s. length s.released ≤ s.accepted) };
+
+    /// No more callers come back than were given.
+    ghost callers_within: { (n : Self) →
+        IfSome (served n) (λ s. length s.retired + length s.gone ≤ s.callers) };
+
+    /// A read of a link leaves its side where bytes go out as it was.
+    ghost reads_apart: { (l : Self.Link) → Self.Link.sink_side l
+        ≡ Some (record { held = Self.Link.bytes_held l; faults = Self.Link.write_fault_count l }) };
+
+    /// A write on a link leaves its side where bytes come in as it was.
+    ghost writes_apart: { (l : Self.Link) → Self.Link.source_side l
+        ≡ Some (record {
+          left = Self.Link.bytes_left l;
+          read = Self.Link.bytes_read l;
+          waits = Self.Link.waits l;
+          faults = Self.Link.read_fault_count l;
+        }) };
+
+    /// A link that reports the bytes left reports those that were read from it.
+    ghost reads_reported: { (l : Self.Link)
+        → IsSome (Self.Link.bytes_left l) → IsSome (Self.Link.bytes_read l) };
+}

@@ -1,0 +1,137 @@
+//! A link over TCP.
+ghost use Rattle.std.specs.Prelude.{◌≡◌, None, Some, true};
+ghost use Rattle.std.specs.Io.{ReadsAtMost};
+
+use crate::faults::count_fault;
+use crate::{Piece, Put, Sink, Source};
+use std::io;
+use std::io::{ErrorKind, Read, Write};
+use std::net::TcpStream;
+use std::time::Duration;
+
+/// How many milliseconds a read waits at most, and how many after a write: whoever was just
+/// answered mostly has more to ask, and a search that stays mostly has more to send.
+const WAIT: u64 = 20;
+
+const WAIT_AFTER_WRITE: u64 = 1;
+
+/// A link over TCP. It reports none of its bytes. A read waits for a moment, and is then quiet.
+#[derive(Drop)]
+pub struct TcpLink {
+    stream: TcpStream,
+    wait: u64,
+    has_written: bool,
+    read_faults: u64,
+    write_faults: u64,
+}
+
+impl TcpLink {
+    /// A link over this stream, of which no call has failed yet. What is written is sent at once.
+    pub fn new(stream: TcpStream) -> TcpLink
+        ensures read_faults { result.read_faults ≡ 0 }
+        ensures write_faults { result.write_faults ≡ 0 }
+    {
+        let _ = stream.set_nodelay(true);
+        TcpLink {
+            stream,
+            wait: 0,
+            has_written: false,
+            read_faults: 0,
+            write_faults: 0,
+        }
+    }
+
+    /// Reads as the stream does, for as long as a read waits now.
+    fn read_soon(&mut self, buffer: &mut [u8]) -> io::Result<usize>
+        ensures bound { ReadsAtMost result buffer.new }
+        ensures read_faults { self.new.read_faults ≡ self.old.read_faults }
+        ensures write_faults { self.new.write_faults ≡ self.old.write_faults }
+    {
+        let wait = if self.has_written {
+            WAIT_AFTER_WRITE
+        } else {
+            WAIT
+        };
+        if wait != self.wait {
+            self.stream
+                .set_read_timeout(Some(Duration::from_millis(wait)))?;
+            self.wait = wait;
+        }
+        self.has_written = false;
+        self.stream.read(buffer)
+    }
+}
+
+/// Whether a read ended because no byte came in its time.
+fn is_quiet(error: &io::Error) -> bool {
+    matches!(
+        error.kind(),
+        ErrorKind::WouldBlock | ErrorKind::TimedOut | ErrorKind::Interrupted
+    )
+}
+
+impl Source for TcpLink {
+    ghost bytes_left = { λ _. None };
+
+    ghost bytes_read = { λ _. None };
+
+    ghost waits = { λ _. true };
+
+    ghost read_fault_count = { λ l. l.read_faults };
+
+    ghost sink_side = { λ l. Some (record { held = None; faults = l.write_faults }) };
+
+    fn read_faults(&self) -> u64 {
+        self.read_faults
+    }
+
+    fn read(&mut self, buffer: &mut [u8]) -> Piece {
+        match self.read_soon(buffer) {
+            Ok(0) => Piece::End,
+            Ok(count) => Piece::Got(count),
+            Err(error) if is_quiet(&error) => Piece::Quiet,
+            Err(_) => {
+                count_fault(&mut self.read_faults);
+                Piece::Failed
+            }
+        }
+    }
+}
+
+impl Sink for TcpLink {
+    ghost bytes_held = { λ _. None };
+
+    ghost write_fault_count = { λ l. l.write_faults };
+
+    ghost source_side = { λ l. Some (record {
+      left = None;
+      read = None;
+      waits = true;
+      faults = l.read_faults;
+    }) };
+
+    fn write_faults(&self) -> u64 {
+        self.write_faults
+    }
+
+    fn write(&mut self, piece: &[u8]) -> Put {
+        self.has_written = true;
+        match self.stream.write(piece) {
+            Ok(0) | Err(_) => {
+                count_fault(&mut self.write_faults);
+                Put::Failed
+            }
+            Ok(count) => Put::Wrote(count),
+        }
+    }
+
+    fn flush(&mut self) -> bool {
+        match self.stream.flush() {
+            Ok(()) => true,
+            Err(_) => {
+                count_fault(&mut self.write_faults);
+                false
+            }
+        }
+    }
+}

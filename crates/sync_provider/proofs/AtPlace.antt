@@ -1,0 +1,237 @@
+-- The messages that a search has pending, by their places.
+use Rattle.std.proofs.Common.{◌≡◌, ◌+◌, ◌-◌, ◌<◌, ◌≤◌, ◌↔◌, inl, inr, ℕ, zero, suc, Bool, true, false, cond, not, ◌&&◌, arith, List, [], ◌∷◌, ◌++◌, length, drop, Option, Some, None, refl, ap, sym, ◌∙◌, length-drop}
+use Rattle.std.specs.Prelude.{pos, slice_get, IsNone, IfSome, IfNone}
+use Rattle.std.specs.BTreeMap.{insert_entry}
+use Rattle.std.specs.Ordering.{nat_cmp}
+use Rattle.std.proofs.lemmas.Bool.{cases_lt, false≢true, true≢false}
+use Rattle.std.proofs.lemmas.List.{drop_more, drop-drop}
+use Rattle.std.proofs.lemmas.Option.{slice_get_within, get_or_from_slice_get}
+use Rattle.ldap_constants.specs.declared.result_codes.TheConstants.{SUCCESS, BUSY}
+use Rattle.sync_model.specs.Law.{is_nil}
+use Rattle.sync_model.specs.Message.{CookieText, SyncMessage}
+use Rattle.sync_model.specs.Message.SyncMessage.{Done}
+use Rattle.sync_model.specs.Stream.{end_of}
+use Rattle.sync_wire.specs.Sending.{sent}
+use Rattle.directory_writes.proofs.Keyed.{kept_at, closed_at, put_on}
+use Rattle.sync_provider.specs.HandingOut.{Turn, turn_of_message, turn_of_pending, turn_of_found, turn_of_place, turn_at, turn_at_place, has_message, is_closing, after_own_turn, without_first, after_turn}
+use Rattle.sync_provider.specs.HandingOut.Turn.{Hands, Closes, Waits, Unknown}
+use Rattle.sync_provider.specs.Search.{SearchState, busy_end, pending, advanced, is_end, message_of, messages_of, first_of}
+use Rattle.sync_provider.specs.Staging.{HeldSearch, searches_of}
+use Rattle.sync_provider.specs.declared.refresh_item.RefreshItem.{RefreshItem}
+use Rattle.sync_provider.proofs.Kept.{hands}
+use Rattle.sync_provider.proofs.Held.{search_found, search_none, turn_found}
+use Rattle.sync_provider.proofs.Turns.{first_part, first_end, over_turn, later_state, later_turn, none_turn, part_hands, part_turn, end_turn, last_turn, end_hands, message_there, closed_after, open_after, drop_none}
+
+-- ---- what is left of a refresh
+
+pub parts_left : {X : Type 0} (xs : List X) (k : ℕ) → length xs - k ≡ length (drop k xs)
+parts_left xs k = sym (length-drop k xs)
+
+pub part_after : (persists deletes : Bool) (parts : List RefreshItem) (handed place : ℕ) (p : RefreshItem) (cookie : CookieText) → slice_get parts (handed + place) ≡ Some p
+    → first_of persists deletes (drop place (drop handed parts)) cookie ≡ message_of deletes p
+part_after persists deletes parts handed place p cookie at =
+    ap (λ ps. first_of persists deletes ps cookie) (drop-drop place handed parts) ∙ first_part persists deletes parts (handed + place) p cookie at
+
+pub end_after : (persists deletes : Bool) (parts : List RefreshItem) (handed place : ℕ) (cookie : CookieText) → length parts ≤ handed + place
+    → first_of persists deletes (drop place (drop handed parts)) cookie ≡ end_of persists deletes cookie
+end_after persists deletes parts handed place cookie all =
+    ap (λ ps. first_of persists deletes ps cookie) (drop-drop place handed parts) ∙ first_end persists deletes parts (handed + place) cookie all
+
+parts_at : (id : ℕ) (persists deletes : Bool) (parts : List RefreshItem) (cookie : CookieText) (due : List SyncMessage) (place : ℕ) → place < length parts
+    → turn_of_pending id (drop place (messages_of persists deletes parts cookie ++ due)) ≡ Hands (sent id (first_of persists deletes (drop place parts) cookie))
+parts_at id persists deletes [] cookie due place low = absurd (omega arith)
+parts_at id persists deletes (p ∷ parts) cookie due zero low = part_hands id deletes p
+parts_at id persists deletes (p ∷ parts) cookie due (suc place) low = parts_at id persists deletes parts cookie due place (omega arith)
+
+end_at : (id : ℕ) (persists deletes : Bool) (parts : List RefreshItem) (cookie : CookieText) (due : List SyncMessage) (place : ℕ) → place ≡ length parts
+    → turn_of_pending id (drop place (messages_of persists deletes parts cookie ++ due)) ≡ turn_of_message id (first_of persists deletes (drop place parts) cookie)
+end_at id persists deletes [] cookie due zero e = refl
+end_at id persists deletes [] cookie due (suc place) e = absurd (omega arith)
+end_at id persists deletes (p ∷ parts) cookie due zero e = absurd (omega arith)
+end_at id persists deletes (p ∷ parts) cookie due (suc place) e = end_at id persists deletes parts cookie due place (omega arith)
+
+end_is_first : (persists deletes : Bool) (parts : List RefreshItem) (cookie : CookieText) (place : ℕ) → place ≡ length parts → first_of persists deletes (drop place parts) cookie ≡ end_of persists deletes cookie
+end_is_first persists deletes parts cookie place e = first_end persists deletes parts place cookie (omega arith)
+
+past_refresh_list : (persists deletes : Bool) (parts : List RefreshItem) (cookie : CookieText) (due : List SyncMessage) (place : ℕ) → length parts < place
+    → drop place (messages_of persists deletes parts cookie ++ due) ≡ drop (place - length parts - 1) due
+past_refresh_list persists deletes [] cookie due zero low = absurd (omega arith)
+past_refresh_list persists deletes [] cookie due (suc place) low = let e : place ≡ suc place - 0 - 1 = omega arith in ap (λ k. drop k due) e
+past_refresh_list persists deletes (p ∷ parts) cookie due zero low = absurd (omega arith)
+past_refresh_list persists deletes (p ∷ parts) cookie due (suc place) low =
+    let e : place - length parts - 1 ≡ suc place - length (p ∷ parts) - 1 = omega arith in
+    past_refresh_list persists deletes parts cookie due place (omega arith) ∙ ap (λ k. drop k due) e
+
+-- ---- at a place of what is pending
+
+pending_list : (s : SearchState) (rest : List SyncMessage) → s.over ≡ false → s.rest ≡ rest → pending s ≡ rest ++ s.due
+pending_list s rest off is = λ i. cond (off i) (busy_end ∷ []) (is i ++ s.due)
+
+pub over_after : (s : SearchState) (place : ℕ) → s.over ≡ true → place ≤ 0 → turn_of_pending s.id (drop place (pending s)) ≡ Closes (pos BUSY) (sent s.id (Done (pos BUSY) None))
+over_after s zero on first = over_turn s on
+over_after s (suc place) on first = absurd (omega arith)
+
+pub over_is_message : (s : SearchState) (place : ℕ) → s.over ≡ true → place ≤ 0 → has_message (turn_of_pending s.id (drop place (pending s))) ≡ true
+over_is_message s place on first = ap has_message (over_after s place on first)
+
+pub over_nothing : (s : SearchState) (place : ℕ) → s.over ≡ true → 0 < place → turn_of_pending s.id (drop place (pending s)) ≡ Waits
+over_nothing s zero on later = absurd (omega arith)
+over_nothing s (suc place) on later = ap (λ o. turn_of_pending s.id (drop (suc place) (cond o (busy_end ∷ []) (s.rest ++ s.due)))) on ∙ ap (turn_of_pending s.id) (drop_none place)
+
+pub parts_after : (s : SearchState) (persists deletes : Bool) (parts : List RefreshItem) (cookie : CookieText) (place : ℕ) → s.over ≡ false → s.rest ≡ messages_of persists deletes parts cookie → place < length parts
+    → turn_of_pending s.id (drop place (pending s)) ≡ Hands (sent s.id (first_of persists deletes (drop place parts) cookie))
+parts_after s persists deletes parts cookie place off is low =
+    ap (λ ms. turn_of_pending s.id (drop place ms)) (pending_list s (messages_of persists deletes parts cookie) off is) ∙ parts_at s.id persists deletes parts cookie s.due place low
+
+end_of_refresh : (s : SearchState) (persists deletes : Bool) (parts : List RefreshItem) (cookie : CookieText) (place : ℕ) → s.over ≡ false → s.rest ≡ messages_of persists deletes parts cookie → place ≡ length parts
+    → turn_of_pending s.id (drop place (pending s)) ≡ turn_of_message s.id (first_of persists deletes (drop place parts) cookie)
+end_of_refresh s persists deletes parts cookie place off is e =
+    ap (λ ms. turn_of_pending s.id (drop place ms)) (pending_list s (messages_of persists deletes parts cookie) off is) ∙ end_at s.id persists deletes parts cookie s.due place e
+
+-- each message of a refresh that the search goes on after
+pub stay_after : (s : SearchState) (deletes : Bool) (parts : List RefreshItem) (cookie : CookieText) (place : ℕ) → s.over ≡ false → s.rest ≡ messages_of true deletes parts cookie → place ≤ length parts
+    → turn_of_pending s.id (drop place (pending s)) ≡ Hands (sent s.id (first_of true deletes (drop place parts) cookie))
+stay_after s deletes parts cookie place off is within =
+    elim (cases_lt place (length parts)) [
+      | inl low ↦ parts_after s true deletes parts cookie place off is low
+      | inr high ↦
+          let e : place ≡ length parts = omega arith in
+          let first = end_is_first true deletes parts cookie place e in
+          end_of_refresh s true deletes parts cookie place off is e
+          ∙ ap (turn_of_message s.id) first ∙ end_hands s.id deletes cookie ∙ ap (λ m. Hands (sent s.id m)) (sym first)
+    ]
+
+-- the end of a refresh with which the search ends
+pub last_after : (s : SearchState) (deletes : Bool) (parts : List RefreshItem) (cookie : CookieText) (place : ℕ) → s.over ≡ false → s.rest ≡ messages_of false deletes parts cookie → place ≡ length parts
+    → turn_of_pending s.id (drop place (pending s)) ≡ Closes (pos SUCCESS) (sent s.id (first_of false deletes (drop place parts) cookie))
+last_after s deletes parts cookie place off is e =
+    let first = end_is_first false deletes parts cookie place e in
+    end_of_refresh s false deletes parts cookie place off is e
+    ∙ ap (turn_of_message s.id) first ∙ ap (λ m. Closes (pos SUCCESS) (sent s.id m)) (sym first)
+
+pub refresh_has_message : (s : SearchState) (persists deletes : Bool) (parts : List RefreshItem) (cookie : CookieText) (place : ℕ) → s.over ≡ false → s.rest ≡ messages_of persists deletes parts cookie → place ≤ length parts
+    → has_message (turn_of_pending s.id (drop place (pending s))) ≡ true
+refresh_has_message s persists deletes parts cookie place off is within =
+    elim (cases_lt place (length parts)) [
+      | inl low ↦ ap has_message (parts_after s persists deletes parts cookie place off is low)
+      | inr high ↦
+          let e : place ≡ length parts = omega arith in
+          ap has_message (end_of_refresh s persists deletes parts cookie place off is e) ∙ message_there s.id (first_of persists deletes (drop place parts) cookie)
+    ]
+
+-- what is pending once the refresh is handed out, and after it
+pub no_refresh : (s : SearchState) (place : ℕ) → s.over ≡ false → s.rest ≡ [] → drop place (pending s) ≡ drop place s.due
+no_refresh s place off none = ap (drop place) (pending_list s [] off none)
+
+pub past_refresh : (s : SearchState) (persists deletes : Bool) (parts : List RefreshItem) (cookie : CookieText) (place : ℕ) → s.over ≡ false → s.rest ≡ messages_of persists deletes parts cookie → length parts < place
+    → drop place (pending s) ≡ drop (place - length parts - 1) s.due
+past_refresh s persists deletes parts cookie place off is later =
+    ap (drop place) (pending_list s (messages_of persists deletes parts cookie) off is) ∙ past_refresh_list persists deletes parts cookie s.due place later
+
+-- the same, where n parts of the refresh are left
+pub past_left : (s : SearchState) (persists deletes : Bool) (parts : List RefreshItem) (cookie : CookieText) (place left : ℕ) → s.over ≡ false → s.rest ≡ messages_of persists deletes parts cookie → left ≡ length parts → left < place
+    → drop place (pending s) ≡ drop (place - left - 1) s.due
+past_left s persists deletes parts cookie place left off is few later =
+    let low : length parts < place = omega (arith, few, later) in
+    let same : place - length parts - 1 ≡ place - left - 1 = omega (arith, few) in
+    past_refresh s persists deletes parts cookie place off is low ∙ ap (λ k. drop k s.due) same
+
+due_first : (s : SearchState) (place after : ℕ) (m : SyncMessage) → drop place (pending s) ≡ drop after s.due → slice_get s.due after ≡ Some m → turn_of_pending s.id (drop place (pending s)) ≡ turn_of_message s.id m
+due_first s place after m is at =
+    ap (turn_of_pending s.id) (is ∙ drop_more s.due after m (slice_get_within s.due after m at))
+    ∙ ap (turn_of_message s.id) (get_or_from_slice_get s.due after m m at)
+
+pub due_after : (s : SearchState) (place after : ℕ) (m : SyncMessage) → drop place (pending s) ≡ drop after s.due → slice_get s.due after ≡ Some m → is_end m ≡ false → turn_of_pending s.id (drop place (pending s)) ≡ Hands (sent s.id m)
+due_after s place after m is at goes = due_first s place after m is at ∙ hands s.id m goes
+
+pub due_is_message : (s : SearchState) (place after : ℕ) (m : SyncMessage) → drop place (pending s) ≡ drop after s.due → slice_get s.due after ≡ Some m → has_message (turn_of_pending s.id (drop place (pending s))) ≡ true
+due_is_message s place after m is at = ap has_message (due_first s place after m is at) ∙ message_there s.id m
+
+drop_past : {X : Type 0} (xs : List X) (k : ℕ) → slice_get xs k ≡ None → drop k xs ≡ []
+drop_past [] k past = drop_none k
+drop_past (x ∷ xs) zero past = absurd (never past)
+  where
+    never : Some x ≡ None → ⊥
+    never e = cc
+drop_past (x ∷ xs) (suc k) past = drop_past xs k past
+
+pub due_nothing : (s : SearchState) (place after : ℕ) → drop place (pending s) ≡ drop after s.due → slice_get s.due after ≡ None → turn_of_pending s.id (drop place (pending s)) ≡ Waits
+due_nothing s place after is past = ap (turn_of_pending s.id) (is ∙ drop_past s.due after past)
+
+-- ---- whether the first one is the last
+
+pub over_closes : (s : SearchState) → s.over ≡ true → is_closing (Some (turn_of_pending s.id (pending s))) ≡ true
+over_closes s on = ap (λ t. is_closing (Some t)) (over_turn s on)
+
+pub refresh_closes : (s : SearchState) (persists deletes : Bool) (parts : List RefreshItem) (cookie : CookieText) → s.over ≡ false → s.rest ≡ messages_of persists deletes parts cookie
+    → is_closing (Some (turn_of_pending s.id (pending s))) ≡ (is_nil parts && not persists)
+refresh_closes s true deletes [] cookie off is = ap (λ t. is_closing (Some t)) (end_turn s deletes [] cookie off is refl)
+refresh_closes s false deletes [] cookie off is = ap (λ t. is_closing (Some t)) (last_turn s deletes [] cookie off is refl)
+refresh_closes s persists deletes (p ∷ parts) cookie off is = ap (λ t. is_closing (Some t)) (part_turn s persists deletes (p ∷ parts) cookie off is refl)
+
+pub due_closes : (s : SearchState) (m : SyncMessage) → s.over ≡ false → s.rest ≡ [] → slice_get s.due 0 ≡ Some m → is_end m ≡ false → is_closing (Some (turn_of_pending s.id (pending s))) ≡ false
+due_closes s m off none first goes = ap (λ t. is_closing (Some t)) (later_turn s m off none first goes)
+
+pub none_closes : (s : SearchState) → s.over ≡ false → s.rest ≡ [] → slice_get s.due 0 ≡ None → is_closing (Some (turn_of_pending s.id (pending s))) ≡ false
+none_closes s off none past = ap (λ t. is_closing (Some t)) (none_turn s off none past)
+
+-- ---- the search once its first message is past
+
+-- the first message of later writes, where there is one
+pub popped : (s : SearchState) (due : List SyncMessage) (found : Option SyncMessage) → s.rest ≡ [] → IfSome found (λ m. s.due ≡ m ∷ due) → (IsNone found ↔ (s.due ≡ [])) → IfNone found (due ≡ [])
+    → without_first s ≡ record s { due = due }
+popped s due (Some m) none first empty left = later_state s m due none first
+popped s due None none first empty left =
+    let was : s.due ≡ [] = empty.0 refl in
+    (λ i. advanced s (none i) (was i)) ∙ (λ i. record s { due = (was ∙ sym left) i })
+
+abbrev remade : SearchState → Bool → List SyncMessage → List SyncMessage → SearchState
+remade s over rest due = record s { over = over; rest = rest; due = due }
+
+-- the first message is past where the search goes on
+pub goes_past : (s : SearchState) → is_closing (Some (turn_of_pending s.id (pending s))) ≡ false → without_first s ≡ after_own_turn s (Some (turn_of_pending s.id (pending s)))
+goes_past s goes = by s.over s.rest s.due goes
+  where
+    first : (t : SearchState) (turn : Turn) → is_closing (Some turn) ≡ false → has_message turn ≡ true → without_first t ≡ after_own_turn t (Some turn)
+    first t (Hands whole) goes there = refl
+    first t (Closes code whole) goes there = absurd (true≢false goes)
+    first t Waits goes there = absurd (false≢true there)
+    first t Unknown goes there = absurd (false≢true there)
+
+    by : (over : Bool) (rest due : List SyncMessage) → is_closing (Some (turn_of_pending s.id (pending (remade s over rest due)))) ≡ false
+        → without_first (remade s over rest due) ≡ after_own_turn (remade s over rest due) (Some (turn_of_pending s.id (pending (remade s over rest due))))
+    by true rest due goes = absurd (true≢false goes)
+    by false [] [] goes = refl
+    by false [] (m ∷ due) goes = first (remade s false [] (m ∷ due)) (turn_of_message s.id m) goes (message_there s.id m)
+    by false (m ∷ rest) due goes = first (remade s false (m ∷ rest) due) (turn_of_message s.id m) goes (message_there s.id m)
+
+-- ---- among the open searches
+
+pub found_after : (es : List (ℕ × HeldSearch)) (k place : ℕ) (held : HeldSearch) → kept_at es k ≡ Some held → turn_at_place (searches_of es) k place ≡ turn_of_pending held.search.id (drop place (pending held.search))
+found_after es k place held found = ap (turn_of_place place) (search_found es k held found)
+
+pub none_after : (es : List (ℕ × HeldSearch)) (k place : ℕ) → kept_at es k ≡ None → turn_at_place (searches_of es) k place ≡ Unknown
+none_after es k place found = ap (turn_of_place place) (search_none es k found)
+
+pub found_is_message : (es : List (ℕ × HeldSearch)) (k place : ℕ) (held : HeldSearch) → kept_at es k ≡ Some held → has_message (turn_of_pending held.search.id (drop place (pending held.search))) ≡ true
+    → has_message (turn_at_place (searches_of es) k place) ≡ true
+found_is_message es k place held found there = ap has_message (found_after es k place held found) ∙ there
+
+-- a search that ends is closed
+pub skips_last : (es : List (ℕ × HeldSearch)) (k : ℕ) (was : HeldSearch) → kept_at es k ≡ Some was → is_closing (Some (turn_of_pending was.search.id (pending was.search))) ≡ true
+    → searches_of (closed_at es k) ≡ after_turn (searches_of es) k (turn_at (searches_of es) k)
+skips_last es k was found ends =
+    closed_after es k (Some (turn_of_pending was.search.id (pending was.search))) ends
+    ∙ ap (after_turn (searches_of es) k) (sym (turn_found es k was found))
+
+-- another one goes on
+pub skips_on : (es : List (ℕ × HeldSearch)) (k : ℕ) (old new : HeldSearch) → kept_at es k ≡ Some old → ((held : HeldSearch) → insert_entry nat_cmp (closed_at es k) k held ≡ put_on es k held)
+    → new.search ≡ without_first old.search → is_closing (Some (turn_of_pending old.search.id (pending old.search))) ≡ false
+    → searches_of (insert_entry nat_cmp (closed_at es k) k new) ≡ after_turn (searches_of es) k (turn_at (searches_of es) k)
+skips_on es k old new found again past goes =
+    open_after es k old new (Some (turn_of_pending old.search.id (pending old.search))) found again (past ∙ goes_past old.search goes) goes
+    ∙ ap (after_turn (searches_of es) k) (sym (turn_found es k old found))
+
+-- where none is open all stays
+pub skips_none : (es : List (ℕ × HeldSearch)) (k : ℕ) → kept_at es k ≡ None → searches_of es ≡ after_turn (searches_of es) k (turn_at (searches_of es) k)
+skips_none es k none = sym (ap (λ found. after_turn (searches_of es) k (turn_of_found found)) (search_none es k none))

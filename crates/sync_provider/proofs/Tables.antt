@@ -1,0 +1,341 @@
+-- Open searches in the places of their numbers.
+use Rattle.std.proofs.Common.{◌≡◌, ◌<◌, ◌≤◌, ◌+◌, ◌-◌, ◌⊎◌, ℕ, zero, suc, Bool, true, false, cond, List, [], ◌∷◌, ◌++◌, length, map, take, drop, set, get_or, Option, Some, None, refl, ap, sym, subst, ◌∙◌, inl, inr, arith}
+use Rattle.std.specs.Prelude.{⊤}
+use Rattle.std.specs.BTreeMap.{insert_entry, is_at}
+use Rattle.std.specs.Ordering.{nat_cmp, match_ordering}
+use Rattle.std.proofs.lemmas.Bool.{cases_order}
+use Rattle.std.proofs.lemmas.List.{take_more}
+use Rattle.directory_writes.proofs.Keyed.{kept_at, closed_at, put_on, less_cmp, same_cmp, more_cmp, is_at-same, is_at-other}
+use Rattle.entry_tree.specs.declared.touched.EntryChange.{EntryChange}
+use Rattle.sync_model.specs.Message.{CookieText}
+use Rattle.sync_provider.specs.Placing.{HasNoPlace, IsNumber, placed_from, put_back, ComesBack, shown, pushed_at, IsStagedAt, AreStagedAt}
+use Rattle.sync_provider.specs.Staging.{HeldSearch, searches_of, AreStaged, pushed_staged, each_pushed}
+
+abbrev Order : ℕ → ℕ → Type 0
+Order a b = (a ≡ b) ⊎ ((a < b) ⊎ (b < a))
+
+-- ---- numbers that ascend from one on
+
+abbrev pub Ascends : {X : Type 0} → ℕ → List (ℕ × X) → Type 0
+Ascends low [] = ⊤
+Ascends low (e ∷ es) = (low ≤ e.0) × Ascends (suc e.0) es
+
+weaker : {X : Type 0} (es : List (ℕ × X)) (low next : ℕ) → low ≤ next → Ascends next es → Ascends low es
+weaker [] low next less h = tt
+weaker (e ∷ es) low next less h = (omega (arith, h.0), h.1)
+
+pub placed_ascends : {X : Type 0} (places : List (Option X)) (first : ℕ) → Ascends first (placed_from first places)
+placed_ascends [] first = tt
+placed_ascends (None ∷ places) first = weaker (placed_from (suc first) places) first (suc first) (omega arith) (placed_ascends places (suc first))
+placed_ascends (Some held ∷ places) first = (omega arith, placed_ascends places (suc first))
+
+-- there are no more than places
+pub placed_length : {X : Type 0} (places : List (Option X)) (first : ℕ) → length (placed_from first places) ≤ length places
+placed_length [] first = omega arith
+placed_length (None ∷ places) first = let rest : length (placed_from (suc first) places) ≤ length places = placed_length places (suc first) in omega (arith, rest)
+placed_length (Some held ∷ places) first = let rest : length (placed_from (suc first) places) ≤ length places = placed_length places (suc first) in omega (arith, rest)
+
+-- a number below all
+none_below : {X : Type 0} (es : List (ℕ × X)) (low k : ℕ) → Ascends low es → k < low → kept_at es k ≡ None
+none_below [] low k h less = refl
+none_below (e ∷ es) low k h less =
+    let more : k < e.0 = omega (arith, h.0) in
+    ap (λ b. cond b (Some e.1) (kept_at es k)) (is_at-other k e.0 (λ same. omega arith)) ∙ none_below es (suc e.0) k h.1 (omega arith)
+
+closed_below : {X : Type 0} (es : List (ℕ × X)) (low k : ℕ) → Ascends low es → k < low → closed_at es k ≡ es
+closed_below [] low k h less = refl
+closed_below (e ∷ es) low k h less =
+    let more : k < e.0 = omega (arith, h.0) in
+    ap (λ b. cond b es (e ∷ closed_at es k)) (is_at-other k e.0 (λ same. omega arith)) ∙ ap (λ xs. e ∷ xs) (closed_below es (suc e.0) k h.1 (omega arith))
+
+put_below : {X : Type 0} (es : List (ℕ × X)) (low k : ℕ) (x : X) → Ascends low es → k < low → insert_entry nat_cmp es k x ≡ (k, x) ∷ es
+put_below [] low k x h less = refl
+put_below (e ∷ es) low k x h less =
+    let more : k < e.0 = omega (arith, h.0) in
+    ap (λ o. match_ordering o ((k, x) ∷ e ∷ es) ((e.0, x) ∷ es) (e ∷ insert_entry nat_cmp es k x)) (less_cmp k e.0 more)
+
+-- what is put back of a number above the first one
+later_back : {X : Type 0} (e : ℕ × X) (es : List (ℕ × X)) (k : ℕ) → e.0 < k → (found : Option X) → put_back (e ∷ es) k found ≡ e ∷ put_back es k found
+later_back e es k more None = ap (λ b. cond b es (e ∷ closed_at es k)) (is_at-other k e.0 (λ same. omega arith))
+later_back e es k more (Some x) = ap (λ o. match_ordering o ((k, x) ∷ e ∷ es) ((e.0, x) ∷ es) (e ∷ insert_entry nat_cmp es k x)) (more_cmp k e.0 more)
+
+-- what is taken out and put back leaves all as it was
+pub comes_back : {X : Type 0} (es : List (ℕ × X)) (low k : ℕ) → Ascends low es → ComesBack es k
+comes_back [] low k h = refl
+comes_back (e ∷ es) low k h = by (comes_back es (suc e.0) k h.1) (cases_order k e.0)
+  where
+    by : ComesBack es k → Order k e.0 → ComesBack (e ∷ es) k
+    by rest (inl same) =
+        let here : is_at (nat_cmp k) e.0 ≡ true = is_at-same k e.0 same in
+        (λ i. put_back (cond (here i) es (e ∷ closed_at es k)) k (cond (here i) (Some e.1) (kept_at es k)))
+        ∙ put_below es (suc e.0) k e.1 h.1 (omega arith)
+        ∙ ap (λ n. (n, e.1) ∷ es) same
+    by rest (inr (inl less)) =
+        let all : Ascends e.0 (e ∷ es) = (omega arith, h.1) in
+        let same : closed_at (e ∷ es) k ≡ e ∷ es = closed_below (e ∷ es) e.0 k all less in
+        (λ i. put_back (same i) k (none_below (e ∷ es) e.0 k all less i)) ∙ same
+    by rest (inr (inr more)) =
+        let apart : is_at (nat_cmp k) e.0 ≡ false = is_at-other k e.0 (λ same. omega arith) in
+        (λ i. put_back (cond (apart i) es (e ∷ closed_at es k)) k (cond (apart i) (Some e.1) (kept_at es k)))
+        ∙ later_back e (closed_at es k) k more (kept_at es k)
+        ∙ ap (λ xs. e ∷ xs) rest
+
+-- and what is put back otherwise stands in the place of what was taken out
+put_again : {X : Type 0} (es : List (ℕ × X)) (low k : ℕ) (was x : X) → Ascends low es → kept_at es k ≡ Some was → insert_entry nat_cmp (closed_at es k) k x ≡ put_on es k x
+put_again [] low k was x h found = absurd (far found)
+  where
+    far : None ≡ Some was → ⊥
+    far e = cc
+put_again (e ∷ es) low k was x h found = by (put_again es (suc e.0) k was x h.1) (cases_order k e.0)
+  where
+    far : None ≡ Some was → ⊥
+    far e = cc
+
+    by : (kept_at es k ≡ Some was → insert_entry nat_cmp (closed_at es k) k x ≡ put_on es k x) → Order k e.0 → insert_entry nat_cmp (closed_at (e ∷ es) k) k x ≡ put_on (e ∷ es) k x
+    by rest (inl same) =
+        let here : is_at (nat_cmp k) e.0 ≡ true = is_at-same k e.0 same in
+        (λ i. insert_entry nat_cmp (cond (here i) es (e ∷ closed_at es k)) k x)
+        ∙ put_below es (suc e.0) k x h.1 (omega arith)
+        ∙ ap (λ n. (n, x) ∷ es) same
+        ∙ sym (ap (λ b. cond b ((e.0, x) ∷ es) (e ∷ put_on es k x)) here)
+    by rest (inr (inl less)) =
+        let all : Ascends e.0 (e ∷ es) = (omega arith, h.1) in
+        absurd (far (sym (none_below (e ∷ es) e.0 k all less) ∙ found))
+    by rest (inr (inr more)) =
+        let apart : is_at (nat_cmp k) e.0 ≡ false = is_at-other k e.0 (λ same. omega arith) in
+        (λ i. insert_entry nat_cmp (cond (apart i) es (e ∷ closed_at es k)) k x)
+        ∙ ap (λ o. match_ordering o ((k, x) ∷ e ∷ closed_at es k) ((e.0, x) ∷ closed_at es k) (e ∷ insert_entry nat_cmp (closed_at es k) k x)) (more_cmp k e.0 more)
+        ∙ ap (λ xs. e ∷ xs) (rest (sym (ap (λ b. cond b (Some e.1) (kept_at es k)) apart) ∙ found))
+        ∙ sym (ap (λ b. cond b ((e.0, x) ∷ es) (e ∷ put_on es k x)) apart)
+
+-- where there was none nothing is taken out
+pub closed_none : {X : Type 0} (es : List (ℕ × X)) (k : ℕ) → kept_at es k ≡ None → closed_at es k ≡ es
+closed_none [] k none = refl
+closed_none (e ∷ es) k none = by (closed_none es k) (is_at (nat_cmp k) e.0) refl
+  where
+    far : Some e.1 ≡ None → ⊥
+    far is = cc
+
+    by : (kept_at es k ≡ None → closed_at es k ≡ es) → (b : Bool) → is_at (nat_cmp k) e.0 ≡ b → closed_at (e ∷ es) k ≡ e ∷ es
+    by rest true hit = absurd (far (sym (ap (λ b. cond b (Some e.1) (kept_at es k)) hit) ∙ none))
+    by rest false miss = ap (λ b. cond b es (e ∷ closed_at es k)) miss ∙ ap (λ xs. e ∷ xs) (rest (sym (ap (λ b. cond b (Some e.1) (kept_at es k)) miss) ∙ none))
+
+-- what is taken out is gone
+gone : {X : Type 0} (es : List (ℕ × X)) (low k : ℕ) → Ascends low es → kept_at (closed_at es k) k ≡ None
+gone [] low k h = refl
+gone (e ∷ es) low k h = by (gone es (suc e.0) k h.1) (cases_order k e.0)
+  where
+    apart : is_at (nat_cmp k) e.0 ≡ false → kept_at (closed_at es k) k ≡ None → kept_at (closed_at (e ∷ es) k) k ≡ None
+    apart far rest = ap (λ b. kept_at (cond b es (e ∷ closed_at es k)) k) far ∙ ap (λ b. cond b (Some e.1) (kept_at (closed_at es k) k)) far ∙ rest
+
+    by : kept_at (closed_at es k) k ≡ None → Order k e.0 → kept_at (closed_at (e ∷ es) k) k ≡ None
+    by rest (inl same) = ap (λ b. kept_at (cond b es (e ∷ closed_at es k)) k) (is_at-same k e.0 same) ∙ none_below es (suc e.0) k h.1 (omega (arith, same))
+    by rest (inr (inl less)) = apart (is_at-other k e.0 (λ same. omega arith)) rest
+    by rest (inr (inr more)) = apart (is_at-other k e.0 (λ same. omega arith)) rest
+
+pub gone_of : {X : Type 0} (places : List (Option X)) (es : List (ℕ × X)) (k : ℕ) → es ≡ closed_at (placed_from 1 places) k → kept_at es k ≡ None
+gone_of places es k is = ap (λ xs. kept_at xs k) is ∙ gone (placed_from 1 places) 1 k (placed_ascends places 1)
+
+pub put_again_at : {X : Type 0} (places : List (Option X)) (k : ℕ) (was : X) → kept_at (placed_from 1 places) k ≡ Some was
+    → (x : X) → insert_entry nat_cmp (closed_at (placed_from 1 places) k) k x ≡ put_on (placed_from 1 places) k x
+put_again_at places k was found x = put_again (placed_from 1 places) 1 k was x (placed_ascends places 1) found
+
+pub all_come_back : {X : Type 0} (places : List (Option X)) (k : ℕ) → ComesBack (placed_from 1 places) k
+all_come_back places k = comes_back (placed_from 1 places) 1 k (placed_ascends places 1)
+
+-- ---- by places
+
+kept_from : {X : Type 0} (places : List (Option X)) (first k place : ℕ) (x : Option X) → k ≡ first + place → place < length places → x ≡ get_or places place x → kept_at (placed_from first places) k ≡ x
+kept_from [] first k place x at low is = absurd (omega arith)
+kept_from (None ∷ places) first k zero x at low is = none_below (placed_from (suc first) places) (suc first) k (placed_ascends places (suc first)) (omega arith) ∙ sym is
+kept_from (None ∷ places) first k (suc place) x at low is = kept_from places (suc first) k place x (omega arith) (omega arith) is
+kept_from (Some held ∷ places) first k zero x at low is =
+    ap (λ b. cond b (Some held) (kept_at (placed_from (suc first) places) k)) (is_at-same k first (omega arith)) ∙ sym is
+kept_from (Some held ∷ places) first k (suc place) x at low is =
+    ap (λ b. cond b (Some held) (kept_at (placed_from (suc first) places) k)) (is_at-other k first (λ same. omega arith))
+    ∙ kept_from places (suc first) k place x (omega arith) (omega arith) is
+
+none_past : {X : Type 0} (places : List (Option X)) (first k : ℕ) → first + length places ≤ k → kept_at (placed_from first places) k ≡ None
+none_past [] first k past = refl
+none_past (None ∷ places) first k past = none_past places (suc first) k (omega arith)
+none_past (Some held ∷ places) first k past =
+    ap (λ b. cond b (Some held) (kept_at (placed_from (suc first) places) k)) (is_at-other k first (λ same. omega arith)) ∙ none_past places (suc first) k (omega arith)
+
+filled_from : {X : Type 0} (places : List (Option X)) (first k place : ℕ) (x : X) → k ≡ first + place → place < length places → placed_from first (set places place (Some x)) ≡ insert_entry nat_cmp (placed_from first places) k x
+filled_from [] first k place x at low = absurd (omega arith)
+filled_from (None ∷ places) first k zero x at low =
+    let same : first ≡ k = omega arith in
+    ap (λ n. (n, x) ∷ placed_from (suc first) places) same ∙ sym (put_below (placed_from (suc first) places) (suc first) k x (placed_ascends places (suc first)) (omega arith))
+filled_from (None ∷ places) first k (suc place) x at low = filled_from places (suc first) k place x (omega arith) (omega arith)
+filled_from (Some held ∷ places) first k zero x at low =
+    let rest = placed_from (suc first) places in
+    sym (ap (λ o. match_ordering o ((k, x) ∷ (first, held) ∷ rest) ((first, x) ∷ rest) ((first, held) ∷ insert_entry nat_cmp rest k x)) (same_cmp k first (omega arith)))
+filled_from (Some held ∷ places) first k (suc place) x at low =
+    let rest = placed_from (suc first) places in
+    ap (λ es. (first, held) ∷ es) (filled_from places (suc first) k place x (omega arith) (omega arith))
+    ∙ sym (ap (λ o. match_ordering o ((k, x) ∷ (first, held) ∷ rest) ((first, x) ∷ rest) ((first, held) ∷ insert_entry nat_cmp rest k x)) (more_cmp k first (omega arith)))
+
+emptied_from : {X : Type 0} (places : List (Option X)) (first k place : ℕ) → k ≡ first + place → placed_from first (set places place None) ≡ closed_at (placed_from first places) k
+emptied_from [] first k place at = refl
+emptied_from (None ∷ places) first k zero at = sym (closed_below (placed_from (suc first) places) (suc first) k (placed_ascends places (suc first)) (omega arith))
+emptied_from (None ∷ places) first k (suc place) at = emptied_from places (suc first) k place (omega arith)
+emptied_from (Some held ∷ places) first k zero at =
+    let rest = placed_from (suc first) places in
+    sym (ap (λ b. cond b rest ((first, held) ∷ closed_at rest k)) (is_at-same k first (omega arith)))
+emptied_from (Some held ∷ places) first k (suc place) at =
+    let rest = placed_from (suc first) places in
+    ap (λ es. (first, held) ∷ es) (emptied_from places (suc first) k place (omega arith))
+    ∙ sym (ap (λ b. cond b rest ((first, held) ∷ closed_at rest k)) (is_at-other k first (λ same. omega arith)))
+
+-- ---- by numbers
+
+-- a number without a place has no search
+pub none_at : {X : Type 0} (places : List (Option X)) (number : ℕ) → length places ≡ 64 → HasNoPlace number → kept_at (placed_from 1 places) number ≡ None
+none_at places number all (inl zero_is) = none_below (placed_from 1 places) 1 number (placed_ascends places 1) (omega arith)
+none_at places number all (inr past) = none_past places 1 number (omega arith)
+
+-- so nothing is taken out there
+pub nothing_there : {X : Type 0} (places : List (Option X)) (number : ℕ) → length places ≡ 64 → HasNoPlace number → closed_at (placed_from 1 places) number ≡ placed_from 1 places
+nothing_there places number all (inl zero_is) = closed_below (placed_from 1 places) 1 number (placed_ascends places 1) (omega arith)
+nothing_there places number all (inr past) = closed_past places 1 (omega arith)
+  where
+    closed_past : {X : Type 0} (places : List (Option X)) (first : ℕ) → first + length places ≤ number → closed_at (placed_from first places) number ≡ placed_from first places
+    closed_past [] first past = refl
+    closed_past (None ∷ places) first past = closed_past places (suc first) (omega arith)
+    closed_past (Some held ∷ places) first past =
+        let rest = placed_from (suc first) places in
+        ap (λ b. cond b rest ((first, held) ∷ closed_at rest number)) (is_at-other number first (λ same. omega arith)) ∙ ap (λ es. (first, held) ∷ es) (closed_past places (suc first) (omega arith))
+
+-- the search of a number stands in its place
+pub found_at : {X : Type 0} (places : List (Option X)) (number place : ℕ) (x : Option X) → length places ≡ 64 → (number ≡ place + 1) × (place < 64) → x ≡ get_or places place x → kept_at (placed_from 1 places) number ≡ x
+found_at places number place x all at is = kept_from places 1 number place x (omega (arith, at.0)) (omega (arith, at.1)) is
+
+-- it is put there
+pub filled : {X : Type 0} (places : List (Option X)) (number : ℕ) (x : X) → length places ≡ 64 → IsNumber number → placed_from 1 (set places (number - 1) (Some x)) ≡ insert_entry nat_cmp (placed_from 1 places) number x
+filled places number x all is = filled_from places 1 number (number - 1) x (omega (arith, is.first)) (omega (arith, is.first, is.last))
+
+-- and taken out
+pub emptied : {X : Type 0} (places : List (Option X)) (number place : ℕ) → (number ≡ place + 1) × (place < 64) → placed_from 1 (set places place None) ≡ closed_at (placed_from 1 places) number
+emptied places number place at = emptied_from places 1 number place (omega (arith, at.0))
+
+-- ---- all places
+
+abbrev Places : Type 0
+Places = List (Option HeldSearch)
+
+-- the searches are those that their places show
+seen_from : (places : Places) (first : ℕ) → searches_of (placed_from first places) ≡ placed_from first (map shown places)
+seen_from [] first = refl
+seen_from (None ∷ places) first = seen_from places (suc first)
+seen_from (Some held ∷ places) first = ap (λ es. (first, held.search) ∷ es) (seen_from places (suc first))
+
+pushed_from : (limit : ℕ) (places : Places) (first : ℕ) → each_pushed limit (placed_from first places) ≡ placed_from first (map (pushed_at limit) places)
+pushed_from limit [] first = refl
+pushed_from limit (None ∷ places) first = pushed_from limit places (suc first)
+pushed_from limit (Some held ∷ places) first = ap (λ es. (first, pushed_staged limit held.staged held.search) ∷ es) (pushed_from limit places (suc first))
+
+-- places that show the same
+pub same_seen : (one other : Places) → map shown one ≡ map shown other → searches_of (placed_from 1 one) ≡ searches_of (placed_from 1 other)
+same_seen one other same = seen_from one 1 ∙ ap (placed_from 1) same ∙ sym (seen_from other 1)
+
+map_long : {X Y : Type 0} (f : X → Y) (xs : List X) → length (map f xs) ≡ length xs
+map_long f [] = refl
+map_long f (x ∷ xs) = ap suc (map_long f xs)
+
+pub same_long : (one other : Places) → map shown one ≡ map shown other → length one ≡ length other
+same_long one other same = sym (map_long shown one) ∙ ap length same ∙ map_long shown other
+
+pub pushed_long : (limit : ℕ) (one other : Places) → map shown one ≡ map (pushed_at limit) other → length one ≡ length other
+pushed_long limit one other same = sym (map_long shown one) ∙ ap length same ∙ map_long (pushed_at limit) other
+
+pub each_seen_pushed : (limit : ℕ) (new old : Places) → map shown new ≡ map (pushed_at limit) old → searches_of (placed_from 1 new) ≡ each_pushed limit (placed_from 1 old)
+each_seen_pushed limit new old same = seen_from new 1 ∙ ap (placed_from 1) same ∙ sym (pushed_from limit old 1)
+
+each_staged_from : (entry_changes : List EntryChange) (cookie : CookieText) (places : Places) (first : ℕ) → AreStagedAt entry_changes cookie places → AreStaged entry_changes cookie (placed_from first places)
+each_staged_from entry_changes cookie [] first each = tt
+each_staged_from entry_changes cookie (None ∷ places) first each = each_staged_from entry_changes cookie places (suc first) each.1
+each_staged_from entry_changes cookie (Some held ∷ places) first each = (each.0, each_staged_from entry_changes cookie places (suc first) each.1)
+
+pub each_staged : (entry_changes : List EntryChange) (cookie : CookieText) (places : Places) → AreStagedAt entry_changes cookie places → AreStaged entry_changes cookie (placed_from 1 places)
+each_staged entry_changes cookie places each = each_staged_from entry_changes cookie places 1 each
+
+-- ---- one place after another
+
+-- a free place more
+pub free_pushed : {X : Type 0} (places : List (Option X)) (first : ℕ) → placed_from first (places ++ None ∷ []) ≡ placed_from first places
+free_pushed [] first = refl
+free_pushed (None ∷ places) first = free_pushed places (suc first)
+free_pushed (Some held ∷ places) first = ap (λ es. (first, held) ∷ es) (free_pushed places (suc first))
+
+-- a place that shows the same
+pub set_shown : (places : Places) (i : ℕ) (was now : Option HeldSearch) → was ≡ get_or places i was → shown now ≡ shown was → map shown (set places i now) ≡ map shown places
+set_shown [] i was now is same = refl
+set_shown (place ∷ places) zero was now is same = ap (λ s. s ∷ map shown places) (same ∙ ap shown is)
+set_shown (place ∷ places) (suc i) was now is same = ap (λ ss. shown place ∷ ss) (set_shown places i was now is same)
+
+staged_next : (entry_changes : List EntryChange) (cookie : CookieText) (places : Places) (i : ℕ) (now : Option HeldSearch) → i < length places → AreStagedAt entry_changes cookie (take i places) → IsStagedAt entry_changes cookie now
+    → AreStagedAt entry_changes cookie (take (suc i) (set places i now))
+staged_next entry_changes cookie [] i now low each one = absurd (omega arith)
+staged_next entry_changes cookie (place ∷ places) zero now low each one = (one, tt)
+staged_next entry_changes cookie (place ∷ places) (suc i) now low each one = (each.0, staged_next entry_changes cookie places i now (omega arith) each.1 one)
+
+pub staged_on : (entry_changes : List EntryChange) (cookie : CookieText) (places : Places) (i : ℕ) (now : Option HeldSearch) → i < length places → AreStagedAt entry_changes cookie (take i places) → IsStagedAt entry_changes cookie now
+    → AreStagedAt entry_changes cookie (take (i + 1) (set places i now))
+staged_on entry_changes cookie places i now low each one =
+    let more : suc i ≡ i + 1 = omega arith in
+    subst (λ n. AreStagedAt entry_changes cookie (take n (set places i now))) more (staged_next entry_changes cookie places i now low each one)
+
+map_push : (places : Places) (place : Option HeldSearch) → map shown (places ++ place ∷ []) ≡ map shown places ++ shown place ∷ []
+map_push [] place = refl
+map_push (other ∷ places) place = ap (λ ss. shown other ∷ ss) (map_push places place)
+
+-- one place more is copied
+pub copied_on : (places copies : Places) (i : ℕ) (place copy : Option HeldSearch) → map shown copies ≡ map shown (take i places) → i < length places → place ≡ get_or places i place → shown copy ≡ shown place
+    → map shown (copies ++ copy ∷ []) ≡ map shown (take (i + 1) places)
+copied_on places copies i place copy so low is same =
+    let last : take (i + 1) places ≡ take i places ++ place ∷ [] = take_more places i place low ∙ ap (λ x. take i places ++ x ∷ []) (sym is) in
+    map_push copies copy ∙ (λ k. so k ++ same k ∷ []) ∙ sym (map_push (take i places) place) ∙ sym (ap (map shown) last)
+
+-- after n of the places what was staged is pushed in these, and the others are as before
+pub record ArePushed (limit n : ℕ) (old new : Places) : Type 0 where
+  pub done : map shown (take n new) ≡ map (pushed_at limit) (take n old)
+  pub rest : drop n new ≡ drop n old
+  pub long : length new ≡ length old
+
+pub none_pushed : (limit : ℕ) (places : Places) → ArePushed limit 0 places places
+none_pushed limit places = record { done = refl; rest = refl; long = refl }
+
+pub all_pushed_places : (limit n : ℕ) (old new : Places) → ArePushed limit n old new → length old ≤ n → map shown new ≡ map (pushed_at limit) old
+all_pushed_places limit n old new are all =
+    ap (map shown) (sym (take_all new n (omega (arith, are.long)))) ∙ are.done ∙ ap (map (pushed_at limit)) (take_all old n all)
+  where
+    take_all : (xs : Places) (k : ℕ) → length xs ≤ k → take k xs ≡ xs
+    take_all [] zero low = refl
+    take_all [] (suc k) low = refl
+    take_all (x ∷ xs) zero low = absurd (omega arith)
+    take_all (x ∷ xs) (suc k) low = ap (λ l. x ∷ l) (take_all xs k (omega arith))
+
+push_next : (limit i : ℕ) (old new : Places) (was now : Option HeldSearch) → i < length old → ArePushed limit i old new → was ≡ get_or new i was → shown now ≡ pushed_at limit was → ArePushed limit (suc i) old (set new i now)
+push_next limit i [] new was now low are is same = absurd (omega arith)
+push_next limit i (x ∷ old) [] was now low are is same = absurd (omega (arith, are.long))
+push_next limit zero (x ∷ old) (y ∷ new) was now low are is same =
+    let first : y ≡ x = ap (λ xs. get_or xs 0 x) are.rest in
+    record {
+      done = ap (λ s. s ∷ []) (same ∙ ap (pushed_at limit) (is ∙ first));
+      rest = ap (drop 1) are.rest;
+      long = are.long;
+    }
+push_next limit (suc i) (x ∷ old) (y ∷ new) was now low are is same =
+    let inner : ArePushed limit i old new = record { done = ap (drop 1) are.done; rest = are.rest; long = omega (arith, are.long) } in
+    let next = push_next limit i old new was now (omega arith) inner is same in
+    let head : shown y ≡ pushed_at limit x = ap (λ ss. get_or ss 0 (shown y)) are.done in
+    record {
+      done = λ k. head k ∷ next.done k;
+      rest = next.rest;
+      long = ap suc next.long;
+    }
+
+pub pushed_on : (limit i : ℕ) (old new : Places) (was now : Option HeldSearch) → i < length old → ArePushed limit i old new → was ≡ get_or new i was → shown now ≡ pushed_at limit was → ArePushed limit (i + 1) old (set new i now)
+pushed_on limit i old new was now low are is same =
+    let more : suc i ≡ i + 1 = omega arith in
+    subst (λ n. ArePushed limit n old (set new i now)) more (push_next limit i old new was now low are is same)

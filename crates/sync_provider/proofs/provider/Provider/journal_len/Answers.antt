@@ -1,0 +1,11 @@
+-- The writes and the events are all of the journal.
+use Rattle.std.proofs.Common.{◌+◌, length, ap, ◌∙◌}
+use Rattle.sync_provider.specs.Journal.{journal_of}
+use Rattle.sync_provider.proofs.Journals.{journal_counts}
+use Rattle.sync_provider.proofs.provider.Provider.journal_len.Goals as goal
+
+pub returns-clause-value : goal.returns-clause-value
+returns-clause-value c =
+    (λ i. c.writes.ensures.value i + length (c.events.ensures i))
+    ∙ journal_counts c.self.inside.directory.directory.writes c.self.inside.journal.events
+    ∙ ap (λ v. length (journal_of v.state.directory.writes v.events)) c.self.view_is

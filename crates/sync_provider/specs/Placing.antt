@@ -1,0 +1,53 @@
+-- The places of open searches, of which the first is that of the number 1.
+use Rattle.std.specs.Prelude.{◌≡◌, ⊤, ℕ, suc, ◌<◌, ◌≤◌, ◌⊎◌, List, [], ◌∷◌, Option, Some, None, option_map}
+use Rattle.std.specs.BTreeMap.{insert_entry, is_at}
+use Rattle.std.specs.Map.{lookup, remove_entry}
+use Rattle.std.specs.Ordering.{nat_cmp}
+use Rattle.entry_tree.specs.declared.touched.EntryChange.{EntryChange}
+use Rattle.sync_model.specs.Message.{CookieText}
+use Rattle.sync_provider.specs.Search.{SearchState}
+use Rattle.sync_provider.specs.Staging.{HeldSearch, staged_for, pushed_staged}
+
+-- a number that has a place
+pub record IsNumber (number : ℕ) : Type 0 where
+  pub first : 1 ≤ number
+  pub last : number ≤ 64
+
+-- and one that has none
+abbrev pub HasNoPlace : ℕ → Type 0
+HasNoPlace number = (number ≡ 0) ⊎ (64 < number)
+
+-- what the places hold, the first of which is that of this number
+abbrev pub placed_from : {X : Type 0} → ℕ → List (Option X) → List (ℕ × X)
+placed_from number [] = []
+placed_from number (None ∷ places) = placed_from (suc number) places
+placed_from number (Some held ∷ places) = (number, held) ∷ placed_from (suc number) places
+
+-- a map with this value of a key, or with none
+abbrev pub put_back : {X : Type 0} → List (ℕ × X) → ℕ → Option X → List (ℕ × X)
+put_back es k None = remove_entry (is_at (nat_cmp k)) es
+put_back es k (Some held) = insert_entry nat_cmp es k held
+
+-- what is taken out of the place of this number and put back leaves the map as it was
+abbrev pub ComesBack : {X : Type 0} → List (ℕ × X) → ℕ → Type 0
+ComesBack es k =
+    put_back (remove_entry (is_at (nat_cmp k)) es) k (lookup (is_at (nat_cmp k)) es) ≡ es
+
+-- the search of a place
+abbrev pub shown : Option HeldSearch → Option SearchState
+shown place = option_map (λ held. held.search) place
+
+-- the messages of the write are made for the search of a place, where there is one
+abbrev pub IsStagedAt : List EntryChange → CookieText → Option HeldSearch → Type 0
+IsStagedAt entry_changes cookie None = ⊤
+IsStagedAt entry_changes cookie (Some held) =
+    held.staged ≡ Some (staged_for held.search entry_changes cookie)
+
+abbrev pub AreStagedAt : List EntryChange → CookieText → List (Option HeldSearch) → Type 0
+AreStagedAt entry_changes cookie [] = ⊤
+AreStagedAt entry_changes cookie (place ∷ places) =
+    IsStagedAt entry_changes cookie place × AreStagedAt entry_changes cookie places
+
+-- the search of a place after what was staged is put after what is due
+abbrev pub pushed_at : ℕ → Option HeldSearch → Option SearchState
+pushed_at limit place = option_map (λ held. pushed_staged limit held.staged held.search) place

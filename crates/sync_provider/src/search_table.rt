@@ -1,0 +1,270 @@
+//! The places of the searches that are open.
+
+ghost use Rattle.std.specs.Prelude.{◌≡◌, ◌<◌, ◌≤◌, ◌+◌, [], length, map, is_some, option_copied, None, IfOk, IfSome, IfNone, OnOk};
+ghost use Rattle.std.specs.BTreeMap.{insert_entry, is_at};
+ghost use Rattle.std.specs.Map.{lookup, remove_entry, set_value};
+ghost use Rattle.std.specs.Ordering.{nat_cmp};
+ghost use Rattle.csn_cookie.specs.Cookie.{cookie_text};
+ghost use Rattle.sync_provider.specs.Placing.{ComesBack, HasNoPlace, IsNumber, AreStagedAt, IsStagedAt, put_back, shown, pushed_at};
+ghost use Rattle.sync_provider.specs.Staging.{HeldSearch, searches_of, each_pushed, AreStaged};
+
+use crate::NoMemory;
+use crate::open_search::{OpenSearch, discard};
+use csn_cookie::Cookie;
+use entry_tree::EntryChange;
+use std::alloc::Global;
+use std::marker::Model;
+use std::mem;
+
+/// The greatest number of a search, and so the most searches that are open at once.
+pub(crate) const MOST_SEARCHES: u64 = 64;
+
+/// The open searches by their numbers, from 1 on. Each number has its place from the start, so that
+/// a search is put there, taken out and put back without memory.
+#[derive(Drop)]
+pub(crate) struct SearchTable {
+    places: Vec<Option<OpenSearch>>,
+}
+
+impl Model for SearchTable {
+    ghost use Rattle.std.specs.Prelude.{◌≡◌, List, ℕ, length};
+    ghost use Rattle.std.specs.Coded.{codes};
+    ghost use Rattle.entry_tree.specs.FilterCode.{tree_code};
+    ghost use Rattle.sync_provider.specs.Placing.{placed_from};
+    ghost use Rattle.sync_provider.specs.Staging.{HeldSearch};
+
+    ghost Value = { List (ℕ × HeldSearch) };
+
+    ghost coded = { Prim.hlevel (codes, tree_code) };
+
+    ghost view = { λ t. placed_from 1 t.places.items };
+
+    ghost invariant = { λ t. length t.places.items ≡ 64 };
+}
+
+impl SearchTable {
+    /// A table of which each place is free.
+    #[tactic(auto, using(crate::proofs::Tables::free_pushed))]
+    pub(crate) fn new(alloc: Global) -> Result<SearchTable, NoMemory>
+        ensures { IfOk result (λ table. table ≡ []) }
+    {
+        let mut places = Vec::with_capacity(alloc, MOST_SEARCHES as usize)?;
+        for _free in 0..MOST_SEARCHES {
+            places.push(None)?;
+        }
+        Ok(SearchTable { places })
+    }
+
+    /// How many searches it has room for.
+    #[tactic(auto, using(crate::proofs::Tables::placed_length))]
+    pub(crate) fn most_open(&self) -> usize
+        ensures { length self.now ≤ result }
+    {
+        self.places.len()
+    }
+
+    /// The search with this number.
+    #[tactic(auto, using(crate::proofs::Tables::none_at, crate::proofs::Tables::found_at))]
+    pub(crate) fn get(&self, number: u64) -> Option<&OpenSearch>
+        ensures value { option_copied result ≡ lookup (is_at (nat_cmp number)) self.now }
+        ensures number { IfSome result (λ search. IsNumber number) }
+    {
+        let places = &self.places;
+        let Some(place) = place_of(number) else {
+            return None;
+        };
+        match &places[place] {
+            Some(search) => Some(search),
+            None => None,
+        }
+    }
+
+    /// The search with this number once more.
+    #[tactic(auto, using(crate::proofs::Tables::none_at, crate::proofs::Tables::found_at, crate::proofs::Tables::all_come_back))]
+    pub(crate) fn copy_at(&self, number: u64) -> Result<Option<OpenSearch>, NoMemory>
+        ensures search { IfOk result (λ copy.
+            shown copy ≡ shown (lookup (is_at (nat_cmp number)) self.now)) }
+        ensures number { IfOk result (λ copy. IfSome copy (λ search. IsNumber number)) }
+        ensures back { ComesBack self.now number }
+    {
+        let places = &self.places;
+        let Some(place) = place_of(number) else {
+            return Ok(None);
+        };
+        copy_of_place(&places[place])
+    }
+
+    /// Whether a search has this number.
+    pub(crate) fn contains(&self, number: u64) -> bool
+        ensures { result ≡ is_some (lookup (is_at (nat_cmp number)) self.now) }
+    {
+        self.get(number).is_some()
+    }
+
+    /// Puts the search into the place of this number.
+    #[tactic(auto, using(crate::proofs::Tables::filled))]
+    pub(crate) fn put(&mut self, number: u64, search: OpenSearch)
+        requires { IsNumber number }
+        ensures { self.new ≡ insert_entry nat_cmp self.old number search }
+    {
+        self.places[number as usize - 1] = Some(search);
+    }
+
+    /// Takes the search out of the place of this number.
+    #[tactic(auto, using(crate::proofs::Tables::none_at, crate::proofs::Tables::found_at, crate::proofs::Tables::emptied, crate::proofs::Tables::nothing_there, crate::proofs::Tables::closed_none, crate::proofs::Tables::put_again_at, crate::proofs::Tables::gone_of))]
+    pub(crate) fn remove(&mut self, number: u64) -> Option<OpenSearch>
+        ensures value { result ≡ lookup (is_at (nat_cmp number)) self.old }
+        ensures entries { self.new ≡ remove_entry (is_at (nat_cmp number)) self.old }
+        ensures unchanged { IfNone result (self.new ≡ self.old) }
+        ensures gone { lookup (is_at (nat_cmp number)) self.new ≡ None }
+        ensures number { IfSome result (λ search. IsNumber number) }
+        ensures again { IfSome result (λ was. (held : HeldSearch)
+            → insert_entry nat_cmp (remove_entry (is_at (nat_cmp number)) self.old) number held
+            ≡ set_value (is_at (nat_cmp number)) self.old held) }
+    {
+        let places = &mut self.places;
+        let Some(place) = place_of(number) else {
+            return None;
+        };
+        mem::replace(&mut places[place], None)
+    }
+
+    /// Puts back what had this number, or leaves its place free.
+    pub(crate) fn put_back(&mut self, number: u64, search: Option<OpenSearch>)
+        requires { IfSome search (λ held. IsNumber number) }
+        ensures { self.new ≡ put_back self.old number search }
+    {
+        let Some(search) = search else {
+            discard(self.remove(number));
+            return;
+        };
+        self.put(number, search);
+    }
+
+    /// The same searches once more, with nothing staged.
+    #[tactic(auto, using(crate::proofs::Tables::same_seen, crate::proofs::Tables::same_long))]
+    pub(crate) fn copy(&self) -> Result<SearchTable, NoMemory>
+        ensures { IfOk result (λ copy. searches_of copy ≡ searches_of self.now) }
+    {
+        let places = copy_of_places(*self.places.allocator(), &self.places)?;
+        Ok(SearchTable { places })
+    }
+
+    /// Makes the messages of a write with these touches and this cookie for each search.
+    #[tactic(auto, using(crate::proofs::Tables::same_seen, crate::proofs::Tables::same_long, crate::proofs::Tables::each_staged))]
+    pub(crate) fn stage_each(
+        &mut self,
+        touched: &[EntryChange],
+        cookie: Cookie,
+    ) -> Result<(), NoMemory>
+        requires rid { cookie.rid < 1000 }
+        requires sid { cookie.sid < 4096 }
+        ensures searches { searches_of self.new ≡ searches_of self.old }
+        ensures staged { OnOk result (AreStaged touched.now (cookie_text cookie) self.new) }
+    {
+        stage_places(&mut self.places, touched, &cookie)
+    }
+
+    /// Puts what was made into the queues, each of which may hold n messages.
+    #[tactic(auto, using(crate::proofs::Tables::each_seen_pushed, crate::proofs::Tables::pushed_long))]
+    pub(crate) fn push_each(&mut self, limit: u64)
+        ensures { searches_of self.new ≡ each_pushed limit self.old }
+    {
+        push_places(&mut self.places, limit);
+    }
+}
+
+/// The place of this number, where it has one.
+fn place_of(number: u64) -> Option<usize>
+    ensures some { IfSome result (λ place. (number ≡ place + 1) × (place < 64)) }
+    ensures none { IfNone result (HasNoPlace number) }
+{
+    if number == 0 {
+        return None;
+    }
+    if number > MOST_SEARCHES {
+        return None;
+    }
+    Some(number as usize - 1)
+}
+
+/// The same places once more, with nothing staged.
+#[tactic(auto, using(crate::proofs::Tables::copied_on))]
+fn copy_of_places(
+    alloc: Global,
+    places: &[Option<OpenSearch>],
+) -> Result<Vec<Option<OpenSearch>>, NoMemory>
+    ensures { IfOk result (λ copies. map shown copies.items ≡ map shown places.now) }
+{
+    let mut copies = Vec::with_capacity(alloc, places.len())?;
+    for place in places {
+        copies.push(copy_of_place(place)?)?;
+    }
+    Ok(copies)
+}
+
+/// Makes the messages of a write for the search of each place.
+#[tactic(auto, using(crate::proofs::Tables::set_shown, crate::proofs::Tables::staged_on))]
+fn stage_places(
+    places: &mut Vec<Option<OpenSearch>>,
+    touched: &[EntryChange],
+    cookie: &Cookie,
+) -> Result<(), NoMemory>
+    requires rid { cookie.now.rid < 1000 }
+    requires sid { cookie.now.sid < 4096 }
+    ensures searches { map shown places.new.items ≡ map shown places.old.items }
+    ensures staged { OnOk result
+        (AreStagedAt touched.now (cookie_text cookie.now) places.new.items) }
+{
+    for place in 0..places.len() {
+        stage_at(&mut places[place], touched, cookie)?;
+    }
+    Ok(())
+}
+
+/// Puts what was made into the queue of the search of each place.
+#[tactic(auto, using(crate::proofs::Tables::none_pushed, crate::proofs::Tables::all_pushed_places))]
+fn push_places(places: &mut Vec<Option<OpenSearch>>, limit: u64)
+    ensures { map shown places.new.items ≡ map (pushed_at limit) places.old.items }
+{
+    for place in 0..places.len() {
+        push_at(&mut places[place], limit);
+    }
+}
+
+/// The search of a place once more.
+fn copy_of_place(place: &Option<OpenSearch>) -> Result<Option<OpenSearch>, NoMemory>
+    ensures { IfOk result (λ copy. shown copy ≡ shown place.now) }
+{
+    match place {
+        Some(search) => Ok(Some(search.copy()?)),
+        None => Ok(None),
+    }
+}
+
+/// Makes the messages of a write for the search of a place.
+fn stage_at(
+    place: &mut Option<OpenSearch>,
+    touched: &[EntryChange],
+    cookie: &Cookie,
+) -> Result<(), NoMemory>
+    requires rid { cookie.now.rid < 1000 }
+    requires sid { cookie.now.sid < 4096 }
+    ensures search { shown place.new ≡ shown place.old }
+    ensures staged { OnOk result (IsStagedAt touched.now (cookie_text cookie.now) place.new) }
+{
+    let Some(search) = place else {
+        return Ok(());
+    };
+    search.stage(touched, *cookie)
+}
+
+/// Puts what was made into the queue of the search of a place.
+fn push_at(place: &mut Option<OpenSearch>, limit: u64)
+    ensures { shown place.new ≡ pushed_at limit place.old }
+{
+    let Some(search) = place else {
+        return;
+    };
+    search.push_staged(limit);
+}
