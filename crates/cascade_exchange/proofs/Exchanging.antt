@@ -12,13 +12,14 @@ use Rattle.sync_model.specs.Copy.{Copy, SyncSession}
 use Rattle.sync_provider.specs.Machine.{ProviderState}
 use Rattle.sync_provider.specs.declared.searches.Accepted.{Accepted}
 use Rattle.sync_provider.specs.declared.searches.Accepted.TheVariants as accepted
-use Rattle.cascade_exchange.specs.Exchange.{Agreement, ExchangeOutcome, part_of, name_of, copy_of, handed, linked, sends, sent, closed, given_up, taken_as, taking, takes, is_busy, cut, idle, opened_by, opens, settles, holding, lost, given, wanted, respecs}
+use Rattle.cascade_exchange.specs.Exchange.{Agreement, ExchangeOutcome, part_of, name_of, copy_of, handed, linked, sends, sent, given_up, taken_as, taking, takes, is_busy, cut, idle, opened_by, opens, settles, holding, lost, given, wanted, respecs}
 use Rattle.cascade_exchange.specs.Reception.{Came, received}
 use Rattle.cascade_exchange.specs.Reception.{Came as came}
 use Rattle.cascade_report.specs.ReportLines.{ReportLine}
 use Rattle.cascade_report.specs.ReportLines.{ReportLine as reported}
 use Rattle.cascade_exchange.proofs.EachPart.{LeavesIn, LeavesTaking, AnyMode, SmallSteps, sent_leaves, taking_leaves, takes_leave, cut_leaves, idle_leaves, opens_leave, settles_leave, given_leaves}
 use Rattle.cascade_exchange.specs.Trace.{seen_of, took, dropped, after_own, name_in}
+use Rattle.cascade_exchange.proofs.Others.{directory_stays, kind_stays}
 
 -- lines of the consumer of this name
 abbrev pub EachOwn : List ℕ → List ReportLine → Type 0
@@ -101,14 +102,6 @@ sends_keeps pair search message = record {
   traced = refl;
 }
 
-closed_directory : (p : ProviderState) (search : Option ℕ) → (closed p search).directory ≡ p.directory
-closed_directory p None = refl
-closed_directory p (Some number) = refl
-
-closed_kind : (p : ProviderState) (search : Option ℕ) → (closed p search).kind ≡ p.kind
-closed_kind p None = refl
-closed_kind p (Some number) = refl
-
 -- a search that is given up leaves a closed pair, whose line reports what became of the copy
 given_up_keeps : (pair : Agreement) (copy : Copy) (line : ReportLine) → name_in line ≡ pair.consumer_node.name → seen_of (given_up pair copy).consumer_node ≡ after_own (seen_of pair.consumer_node) line
     → Keeps pair (given_up pair copy) (line ∷ [])
@@ -117,8 +110,8 @@ given_up_keeps pair copy line named traced = record {
   source = refl;
   spec = refl;
   reload = refl;
-  directory = closed_directory pair.provider pair.consumer_node.search;
-  kind = closed_kind pair.provider pair.consumer_node.search;
+  directory = directory_stays pair.provider pair.consumer_node.search;
+  kind = kind_stays pair.provider pair.consumer_node.search;
   lineage = refl;
   own = (named, tt);
   traced = traced;

@@ -32,7 +32,7 @@ queue_limit_stays : (p : ProviderState) (search : Option ℕ) → (closed p sear
 queue_limit_stays p None = refl
 queue_limit_stays p (Some number) = refl
 
-kind_stays : (p : ProviderState) (search : Option ℕ) → (closed p search).kind ≡ p.kind
+pub kind_stays : (p : ProviderState) (search : Option ℕ) → (closed p search).kind ≡ p.kind
 kind_stays p None = refl
 kind_stays p (Some number) = refl
 

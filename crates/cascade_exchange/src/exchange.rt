@@ -10,12 +10,13 @@ ghost use Rattle.cascade_exchange.specs.Parts.{consumer_back, opened_since, prov
 
 use crate::cookies::{give, lose};
 use crate::cutting::{close, cut};
+use crate::dropping::discard;
 use crate::opening::{cut_if_busy, open_search};
 use crate::receiving::take;
 use crate::sending::send;
 use crate::settling::settle;
 use crate::wanting::want;
-use cascade_nodes::{ConsumerNode, ProviderNode, ScriptProvider, discard};
+use cascade_nodes::{ConsumerNode, ProviderNode, ScriptProvider};
 use cascade_report::{Report, StoredStage};
 use cascade_script::Cause;
 use entry_tree::Spec;
@@ -94,7 +95,8 @@ impl Exchange {
         ensures does { parts.Does
             (part_of self (agreement_of provider.old consumer_node.old out.old.lineage))
             out.old (agreement_of provider.new consumer_node.new out.old.lineage) out.new result }
-        ensures provider { KeepsOthers provider.old consumer_node.old provider.new consumer_node.new }
+        ensures provider { KeepsOthers
+            provider.old consumer_node.old provider.new consumer_node.new }
         ensures kept { AreKept provider.old consumer_node.old.search kept.old
             → AreKept provider.old consumer_node.old.search kept.new }
         ensures untouched { is_stepwise self ≡ true

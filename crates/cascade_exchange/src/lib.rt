@@ -4,6 +4,7 @@
 
 mod cookies;
 mod cutting;
+mod dropping;
 mod ending;
 mod exchange;
 mod opening;

@@ -11,7 +11,8 @@ ghost use Rattle.cascade_exchange.specs.Parts.{Does, KeepsOthers, Opens, Refuses
 ghost use Rattle.cascade_exchange.specs.Parts.{first_value};
 
 use crate::cutting::{cut, is_busy};
-use cascade_nodes::{ConsumerNode, MESSAGE_ID, ScriptProvider, copy_wanted, discard};
+use crate::dropping::discard;
+use cascade_nodes::{ConsumerNode, MESSAGE_ID, ScriptProvider, copy_wanted};
 use cascade_report::{Digested, Report};
 use cascade_script::Cause;
 use ldap_ber::{NoMemory, Octets};

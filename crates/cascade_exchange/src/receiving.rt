@@ -1,5 +1,5 @@
 //! Messages that a consumer takes from its link, as what their bytes spell.
-ghost use Rattle.std.specs.Prelude.{◌≡◌, ◌<◌, ◌≤◌, ◌∷◌, [], Some, None, option_map, IfOk, OnOk};
+ghost use Rattle.std.specs.Prelude.{◌≡◌, ◌<◌, ◌≤◌, ◌∷◌, [], Some, None, drop, option_map, IfOk, OnOk};
 ghost use Rattle.ldap_messages.specs.Whole.{whole_of};
 ghost use Rattle.cascade_exchange.specs.Exchange as spec;
 ghost use Rattle.cascade_exchange.specs.Reception as decoding;
@@ -11,10 +11,11 @@ ghost use Rattle.cascade_report.specs.Report.{said};
 ghost use Rattle.cascade_report.specs.ReportLines.{commit_reported, ReportLine as reported};
 
 use crate::cutting::drop_all;
+use crate::dropping::discard;
 use crate::ending::ends_bare;
 use crate::exchange::kept_search;
 use crate::taking::{BAD_MESSAGE, OUT_OF_PLACE, fault_name, stored_number};
-use cascade_nodes::{ConsumerNode, ScriptProvider, discard};
+use cascade_nodes::{ConsumerNode, ScriptProvider};
 use cascade_report::Report;
 use cascade_script::Cause;
 use ldap_ber::NoMemory;
@@ -149,13 +150,38 @@ fn take_next(
         out.old (agreement_of provider.now consumer_node.new out.old.lineage) out.new result }
     ensures search { consumer_node.new.search ≡ consumer_node.old.search }
 {
-    let Some(bytes) = consumer_node.link.pop()? else {
+    let Some(bytes) = consumer_node.link.first() else {
         return Ok(None);
     };
-    let found = decoded(alloc, bytes.as_slice())?;
-    match take_found(alloc, provider, consumer_node, found, out) {
+    let found = decoded(alloc, bytes)?;
+    match take_first(alloc, provider, consumer_node, found, out) {
         Ok(goes_on) => Ok(Some(goes_on)),
         Err(cause) => Err(cause),
+    }
+}
+
+/// Takes the first message of the link, of which this was decoded. False where the search is to be
+/// given up.
+fn take_first(
+    alloc: Global,
+    provider: &ScriptProvider,
+    consumer_node: &mut ConsumerNode,
+    found: Option<Message>,
+    out: &mut Report,
+) -> Result<bool, Cause>
+    ensures does { ReceivedSoFar
+        (agreement_of provider.now
+        (record consumer_node.old { link = drop 1 consumer_node.old.link }) out.old.lineage)
+        (decoding.received_next consumer_node.old.consumer.copy (option_map whole_of found))
+        out.old (agreement_of provider.now consumer_node.new out.old.lineage) out.new result }
+    ensures search { consumer_node.new.search ≡ consumer_node.old.search }
+{
+    match consumer_node.link.drop_first() {
+        Ok(()) => take_found(alloc, provider, consumer_node, found, out),
+        Err(_) => {
+            discard(found);
+            Err(Cause::NoMemory)
+        }
     }
 }
 

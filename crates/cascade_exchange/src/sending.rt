@@ -8,7 +8,8 @@ ghost use Rattle.cascade_exchange.specs.Parts.{Does, HandsOut, KeepsOthers, Link
 ghost use Rattle.cascade_exchange.specs.Parts.{SendsOne};
 ghost use Rattle.cascade_exchange.specs.Passing.{passed, IsAhead, LinksAll, OnlyLinks};
 
-use cascade_nodes::{ConsumerNode, ScriptProvider, discard};
+use crate::dropping::discard;
+use cascade_nodes::{ConsumerNode, ScriptProvider};
 use cascade_report::Report;
 use cascade_script::Cause;
 use ldap_messages::Message;

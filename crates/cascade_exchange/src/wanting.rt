@@ -5,8 +5,9 @@ ghost use Rattle.cascade_exchange.specs.Exchange as spec;
 ghost use Rattle.cascade_exchange.specs.Exchange.{agreement_of};
 ghost use Rattle.cascade_exchange.specs.Parts.{Does, KeepsOthers};
 
+use crate::dropping::discard;
 use crate::opening::cut_if_busy;
-use cascade_nodes::{ConsumerNode, ScriptProvider, discard};
+use cascade_nodes::{ConsumerNode, ScriptProvider};
 use cascade_report::Report;
 use cascade_script::Cause;
 use entry_tree::Spec;

@@ -4,6 +4,7 @@ use Rattle.std.specs.Prelude.{◌⊎◌, ◌&&◌, Ok, Err, is_some, option_map}
 use Rattle.std.proofs.Math.Seq.{take-length}
 use Rattle.std.proofs.lemmas.Bool.{false≢true, true≢false}
 use Rattle.std.proofs.lemmas.List.Sums.{fold-append}
+use Rattle.std.proofs.lemmas.List.{nil_from_length}
 use Rattle.ldap_messages.specs.Whole.{message_octets}
 use Rattle.csn_cookie.specs.Cookie.{cookie_text}
 use Rattle.csn_cookie.specs.Csn.{start}
@@ -64,10 +65,6 @@ map_none : (link : List SyncMessage) → map octets_of link ≡ [] → link ≡ 
 map_none [] same = refl
 map_none (m ∷ link) same = let never : ⊥ = cc in absurd never
 
-length_none : {X : Type 0} (xs : List X) → length xs ≡ 0 → xs ≡ []
-length_none [] same = refl
-length_none (x ∷ xs) same = absurd (omega (arith, same))
-
 -- the messages that are pending are counted
 pending_counted : (lin : Lineage) (p : ProviderState) (f : ConsumerNode) (mode cut : Bool) (own : Option ℕ) (messages : List SyncMessage) → HasPending p.searches f.consumer.spec mode cut own messages
     → left_to_send (agreement_of p f lin) own ≡ length messages
@@ -79,7 +76,7 @@ module _ (lin : Lineage) (number : ℕ) (p : ProviderState) (f : ConsumerNode) (
   no_link = map_none goes.session.linked (sym goes.link ∙ drained.link)
 
   no_pending : goes.session.pending ≡ []
-  no_pending = length_none goes.session.pending (sym (pending_counted lin p f opening.persists goes.session.cut f.search goes.session.pending goes.search) ∙ drained.none)
+  no_pending = nil_from_length goes.session.pending (sym (pending_counted lin p f opening.persists goes.session.cut f.search goes.session.pending goes.search) ∙ drained.none)
 
   nothing_left : goes.session.linked ++ goes.session.pending ≡ []
   nothing_left = (λ i. no_link i ++ no_pending i)
@@ -216,7 +213,7 @@ as_shorter pair rest copy (came.Over code) = record { link = omega arith; left =
 as_shorter pair rest copy (came.Refused fault) = record { link = omega arith; left = omega arith }
 
 took_some : (count : ℕ) (idle : List ReportLine) (pair : Agreement) → length pair.consumer_node.link ≤ count → ((taken_some count idle pair).0.consumer_node.link ≡ []) × (Left (taken_some count idle pair).0 ≤ Left pair)
-took_some zero idle pair few = (length_none pair.consumer_node.link (omega (arith, few)), omega arith)
+took_some zero idle pair few = (nil_from_length pair.consumer_node.link (omega (arith, few)), omega arith)
 took_some (suc count) idle pair few = by (λ next. took_some count idle next) pair.consumer_node.link refl
   where
     Took : Agreement × List ReportLine → Type 0

@@ -112,9 +112,6 @@ module _ (fresh_is : FreshIsSource) (state : WorldState) (kind : Kind) (name : L
     undeclared = λ number above low. let above' : state.nodes < number = omega (arith, above) in is.undeclared number above' low;
   }
 
-  pub provider_node_avoids : (n : List ℕ) (s : ProviderNode) → provider_nodes_by state.provider_nodes n ≡ Some s → bytes_eq n name ≡ false
-  provider_node_avoids n s e = other_provider_node state name n s new e
-
 -- ---- one consumer more
 
 consumer_node_later : (said : List ReportLine) (nodes : ℕ) (provider_nodes : List ProviderNode) (f : ConsumerNode) → IsConsumerNode said nodes provider_nodes f → IsConsumerNode said (nodes + 1) provider_nodes f

@@ -1,15 +1,15 @@
 -- A consumer that wants something else is cut where it is busy, and rests with its entries and without a cookie.
-use Rattle.std.proofs.Common.{◌≡◌, ℕ, Bool, true, false, cond, Option, Some, None, List, [], ◌∷◌, refl, ap, sym, ◌∙◌, inl, subst}
+use Rattle.std.proofs.Common.{◌≡◌, ℕ, Bool, true, false, cond, None, List, [], ◌∷◌, refl, ap, sym, ◌∙◌, inl, subst}
 use Rattle.std.specs.Prelude.{Ok}
 use Rattle.directory_writes.specs.Directory.{DirectoryState}
 use Rattle.dn_names.specs.Names.{TypeAndValue, is_at_or_below}
 use Rattle.entry_tree.specs.Selection.{Search}
 use Rattle.sync_consumer.specs.Taking.{wanting}
-use Rattle.sync_provider.specs.Machine.{ProviderState}
 use Rattle.cascade_nodes.specs.declared.node.ConsumerNode.{ConsumerNode}
 use Rattle.cascade_nodes.proofs.Fed.{IsAtRest}
 use Rattle.cascade_exchange.proofs.Owns.{owns-still}
-use Rattle.cascade_world.specs.Exchange.{Agreement, ExchangeOutcome, copy_of, name_of, closed, given_up, is_busy, wanted, and_then}
+use Rattle.cascade_exchange.proofs.Others.{directory_stays}
+use Rattle.cascade_world.specs.Exchange.{Agreement, ExchangeOutcome, copy_of, name_of, given_up, is_busy, wanted, and_then}
 use Rattle.cascade_laws.specs.Headline.{Known}
 use Rattle.cascade_world.specs.ReportLines.{ReportLine}
 use Rattle.cascade_world.specs.ReportLines.{ReportLine as reported}
@@ -81,10 +81,6 @@ rest_respecced number suffix search pair known below source fed rest = record {
 
 -- ---- whether it is busy or not
 
-closed_directory : (p : ProviderState) (own : Option ℕ) → (closed p own).directory ≡ p.directory
-closed_directory p None = refl
-closed_directory p (Some number) = refl
-
 -- what is left where it is not refused
 abbrev RespeccedIn : ℕ → Name → Search → Agreement → Known → ExchangeOutcome → Type 0
 RespeccedIn number suffix search pair known outcome = (after : Agreement) (lines : List ReportLine) → outcome ≡ Ok (after, lines) → IsRespecced number suffix search pair after lines known
@@ -106,7 +102,7 @@ respecs_are_kept number suffix search before after lines known below source fed 
     by_cut : RespeccedIn number suffix search before known (and_then (CutOff before) (wanted search))
     by_cut =
         let cut = cut_kept number suffix before known source fed in
-        let offered = ap (λ (d : DirectoryState). is_at_or_below search.base d.suffix) (closed_directory before.provider before.consumer_node.search) ∙ below in
+        let offered = ap (λ (d : DirectoryState). is_at_or_below search.base d.suffix) (directory_stays before.provider before.consumer_node.search) ∙ below in
         done_respecced number suffix search before (wanting_then given search) (reported.Cut (name_of before) ∷ reported.Holds (name_of before) None ∷ []) known
         (respecced-then number suffix search before given (wanting_then given search) (reported.Cut (name_of before) ∷ []) (reported.Holds (name_of before) None ∷ []) known cut refl
         (rest_respecced number suffix search given known offered cut.source cut.fed (emptied_rests before.consumer_node)))

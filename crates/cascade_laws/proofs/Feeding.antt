@@ -18,12 +18,12 @@ use Rattle.entry_tree.specs.declared.op.Op.TheVariants.{Commit}
 use Rattle.entry_tree.specs.declared.op.Write.{Write}
 use Rattle.sync_model.specs.Incremental.{number_of}
 use Rattle.sync_model.specs.Message.{SyncMessage}
-use Rattle.sync_model.specs.Stream.{SyncOperation, Start, later}
+use Rattle.sync_model.specs.Stream.{Start, later}
 use Rattle.sync_provider.specs.Committing.{commit_refusal}
 use Rattle.sync_provider.specs.Law.{Delivers}
 use Rattle.sync_provider.specs.Machine as machine
 use Rattle.sync_provider.specs.Machine.{ProviderState, fresh, log_limited, queue_limited}
-use Rattle.sync_provider.specs.Search.{cookie_after, session_of, pending}
+use Rattle.sync_provider.specs.Search.{cookie_after, pending}
 use Rattle.sync_provider.specs.declared.provider.Kind.{Kind}
 use Rattle.sync_provider.specs.declared.provider.Kind.TheVariants.{Root, Replica}
 use Rattle.sync_provider.specs.declared.writing.CommitFault.{CommitFault}
@@ -58,10 +58,6 @@ pub record IsSource (number : ℕ) (suffix : List (List TypeAndValue)) (p : Prov
   pub accepted : p.kind ≡ Root → WereAccepted suffix number p.directory.writes
   pub few : length p.directory.writes ≤ 1000000
   pub apart : AreDistinct p.searches
-
--- a search over these writes
-abbrev pub session_at : ℕ → Bool → Search → List Write → SyncOperation
-session_at number persists search writes = session_of persists number number search writes
 
 -- what is known of a consumer that wants this promises so
 abbrev pub Promises : ℕ → Search → List Write → Known → Type 0
@@ -173,9 +169,6 @@ abbrev pub LinesAreRightOf : ℕ → Frame → Known → List ReportLine → Typ
 LinesAreRightOf number frame known [] = Unit {0}
 LinesAreRightOf number frame known (line ∷ lines) =
     LineIsRightOf number frame known line × LinesAreRightOf number frame (known_after frame.name known line) lines
-
-abbrev pub LineIsRight : ℕ → Agreement → Known → ReportLine → Type 0
-LineIsRight number pair known line = LineIsRightOf number (frame_of pair) known line
 
 abbrev pub LinesAreRight : ℕ → Agreement → Known → List ReportLine → Type 0
 LinesAreRight number pair known lines = LinesAreRightOf number (frame_of pair) known lines

@@ -1,7 +1,7 @@
 -- What a cookie has to do with the answer to a consumer that asks, and with where its search begins.
 use Rattle.std.proofs.Common.{◌≡◌, ◌≤◌, ℕ, Bool, true, false, cond, Option, Some, None, List, length, take, refl, ap, sym, ◌∙◌, inl, inr, arith, subst, eqb-true, eq-eqb}
 use Rattle.std.specs.Prelude.{◌&&◌, ◌==◌, not, is_some, nat_le, Ok}
-use Rattle.std.proofs.lemmas.Bool.{and_parts}
+use Rattle.std.proofs.lemmas.Bool.{and_parts, not-true, not-false}
 use Rattle.std.proofs.lemmas.Bool.Decides.{nat_tests}
 use Rattle.ldap_constants.specs.declared.result_codes.TheConstants.{NO_SUCH_OBJECT, E_SYNC_REFRESH_REQUIRED}
 use Rattle.csn_cookie.specs.Cookie.{cookie_of_text, is_blank}
@@ -92,14 +92,10 @@ module _ (d : DirectoryState) (number : ℕ) (sid : d.sid ≡ number) (history :
   lost_unserved (Some text) reload h =
       let parts = and_parts (has_cookie (Some text)) (not (is_some (asked_prefix d (Some text))) && not reload) h in
       let both = and_parts (not (is_some (asked_prefix d (Some text)))) (not reload) parts.1 in (
-        from_not reload both.1,
+        not-true reload both.1,
         λ blank. not_both (is_blank text) parts.0 (blank-is_blank text blank),
         λ serves. not_both (is_some (asked_prefix d (Some text))) both.0 (servable_ours text serves),
       )
-    where
-      from_not : (b : Bool) → not b ≡ true → b ≡ false
-      from_not true n = let never : ⊥ = cc in absurd never
-      from_not false n = refl
 
   kept_served : (cookie : Option (List ℕ)) (reload : Bool) → is_lost cookie reload ≡ false → IsServed reload number d.writes cookie
   kept_served None reload h = tt
@@ -208,12 +204,8 @@ module _ (number : ℕ) (first : 1 ≤ number) (small : number ≤ 16) (search :
   given_promised held None promised h = tt
   given_promised held (Some cookie) promised h = λ own. by held promised (held_back own h) own
     where
-      not_false : (b : Bool) → not b ≡ false → b ≡ true
-      not_false true n = refl
-      not_false false n = let never : ⊥ = cc in absurd never
-
       held_back : cookie.history ≡ number → goes_beyond held (Some cookie) ≡ false → is_not_before cookie held ≡ true
-      held_back own h = not_false (is_not_before cookie held) (sym (ap (λ b. b && not (is_not_before cookie held)) (of_node number cookie first small own)) ∙ h)
+      held_back own h = not-false (is_not_before cookie held) (sym (ap (λ b. b && not (is_not_before cookie held)) (of_node number cookie first small own)) ∙ h)
 
       by : (held : Option Cookie) → IsPromised number search writes entries held → is_not_before cookie held ≡ true → cookie.history ≡ number → IsContent number search writes entries cookie.csn
       by None promised h own = let never : ⊥ = cc in absurd never
@@ -223,10 +215,6 @@ module _ (number : ℕ) (first : 1 ≤ number) (small : number ≤ 16) (search :
           record {
             count = is.count;
             within = is.within;
-            not_below = is_upto_then cookie.csn other.csn (last_csn (start number) (take is.count writes)) (not_before_upto other.csn cookie.csn (from_not (is_before other.csn cookie.csn) parts.1)) is.not_below;
+            not_below = is_upto_then cookie.csn other.csn (last_csn (start number) (take is.count writes)) (not_before_upto other.csn cookie.csn (not-true (is_before other.csn cookie.csn) parts.1)) is.not_below;
             same = is.same;
           }
-        where
-          from_not : (b : Bool) → not b ≡ true → b ≡ false
-          from_not true n = let never : ⊥ = cc in absurd never
-          from_not false n = refl

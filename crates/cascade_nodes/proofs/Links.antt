@@ -1,5 +1,5 @@
 -- The messages of a link by their numbers.
-use Rattle.std.proofs.Common.{◌≡◌, ◌≤◌, ◌+◌, ℕ, List, [], ◌∷◌, ◌++◌, Some, None, length, cond, refl, ap, sym, ◌∙◌, arith}
+use Rattle.std.proofs.Common.{◌≡◌, ◌≤◌, ◌+◌, ◌-◌, ℕ, List, [], ◌∷◌, ◌++◌, Some, None, length, drop, cond, refl, ap, sym, ◌∙◌, arith}
 use Rattle.std.specs.List.{slice_get}
 use Rattle.std.specs.Map.{values_of, remove_entry}
 use Rattle.std.specs.BTreeMap.{insert_entry, is_at}
@@ -44,30 +44,54 @@ with_last_holds es new next bytes message octets below size is same small =
 
 -- ---- the first message
 
--- it stands before what is left without it
-pub first_popped : (es new : Numbered) (number : ℕ) (message copy : List ℕ) → Some (number, message) ≡ slice_get es 0 → copy ≡ message → new ≡ remove_entry (is_at (nat_cmp number)) es → values_of es ≡ copy ∷ values_of new
-first_popped [] new number message copy first same is = cc
-first_popped (e ∷ es) new number message copy first same is =
+-- it stands before the others
+pub first_stands : (es : Numbered) (number : ℕ) (message octets : List ℕ) → Some (number, message) ≡ slice_get es 0 → octets ≡ message → values_of es ≡ octets ∷ drop 1 (values_of es)
+first_stands [] number message octets first same = cc
+first_stands (e ∷ es) number message octets first same =
+    let own : (number, message) ≡ e = cc in
+    ap (λ (m : List ℕ). m ∷ values_of es) (sym (same ∙ ap (λ x. x.1) own))
+
+-- without it these are left
+first_popped : (es new : Numbered) (number : ℕ) (message : List ℕ) → Some (number, message) ≡ slice_get es 0 → new ≡ remove_entry (is_at (nat_cmp number)) es → values_of es ≡ message ∷ values_of new
+first_popped [] new number message first is = cc
+first_popped (e ∷ es) new number message first is =
     let own : (number, message) ≡ e = cc in
     let one : number ≡ e.0 = ap (λ x. x.0) own in
     let rest : new ≡ es = is ∙ ap (λ b. cond b es (e ∷ remove_entry (is_at (nat_cmp number)) es)) (is_at-same number e.0 one) in
-    λ i. (sym (same ∙ ap (λ x. x.1) own)) i ∷ values_of (sym rest i)
+    λ i. (sym (ap (λ x. x.1) own)) i ∷ values_of (sym rest i)
 
--- there is none
+pub first_dropped : (es new : Numbered) (number : ℕ) (message : List ℕ) → Some (number, message) ≡ slice_get es 0 → new ≡ remove_entry (is_at (nat_cmp number)) es → values_of new ≡ drop 1 (values_of es)
+first_dropped es new number message first is = sym (ap (λ (link : List (List ℕ)). drop 1 link) (first_popped es new number message first is))
+
+-- where there is none, none is left
 pub none_there : (es : Numbered) → None ≡ slice_get es 0 → values_of es ≡ []
 none_there [] none = refl
 none_there (e ∷ es) none = cc
 
+pub none_dropped : (es : Numbered) → None ≡ slice_get es 0 → values_of es ≡ drop 1 (values_of es)
+none_dropped [] none = refl
+none_dropped (e ∷ es) none = cc
+
 -- the numbers that are left are below the next one still
-pub rest_below : (es new : Numbered) (next number : ℕ) (message : List ℕ) → AreBelow next es → Some (number, message) ≡ slice_get es 0 → new ≡ remove_entry (is_at (nat_cmp number)) es → AreBelow next new
+rest_below : (es new : Numbered) (next number : ℕ) (message : List ℕ) → AreBelow next es → Some (number, message) ≡ slice_get es 0 → new ≡ remove_entry (is_at (nat_cmp number)) es → AreBelow next new
 rest_below [] new next number message below first is = cc
 rest_below (e ∷ es) new next number message below first is =
     let same : (number, message) ≡ e = cc in
     let one : number ≡ e.0 = ap (λ x. x.0) same in
     rw (is ∙ ap (λ b. cond b es (e ∷ remove_entry (is_at (nat_cmp number)) es)) (is_at-same number e.0 one)) below.1
 
--- and its size is counted beside that of what is left
-pub first_size : (es new : Numbered) (number : ℕ) (message copy : List ℕ) → Some (number, message) ≡ slice_get es 0 → copy ≡ message → new ≡ remove_entry (is_at (nat_cmp number)) es
-    → link_size (values_of es) ≡ length copy + link_size (values_of new)
-first_size es new number message copy first same is =
-    ap link_size (first_popped es new number message copy first same is) ∙ sum_by-cons length copy (values_of new)
+-- its size is counted beside that of what is left
+pub first_size : (es new : Numbered) (number : ℕ) (message octets : List ℕ) → Some (number, message) ≡ slice_get es 0 → octets ≡ message → new ≡ remove_entry (is_at (nat_cmp number)) es
+    → link_size (values_of es) ≡ length octets + link_size (values_of new)
+first_size es new number message octets first same is =
+    ap link_size (first_popped es new number message first is)
+    ∙ sum_by-cons length message (values_of new)
+    ∙ ap (λ (m : List ℕ). length m + link_size (values_of new)) (sym same)
+
+-- so the numbers and the size are those of what is left
+pub first_dropped_holds : (es new : Numbered) (next bytes number : ℕ) (message octets : List ℕ) → AreBelow next es → bytes ≡ link_size (values_of es) → bytes ≤ most_link
+    → Some (number, message) ≡ slice_get es 0 → octets ≡ message → new ≡ remove_entry (is_at (nat_cmp number)) es
+    → AreBelow next new × ((bytes - length octets ≡ link_size (values_of new)) × (bytes - length octets ≤ most_link))
+first_dropped_holds es new next bytes number message octets below size small first same is =
+    let whole = first_size es new number message octets first same is in
+    (rest_below es new next number message below first is, (omega (arith, size, whole), omega (arith, small)))

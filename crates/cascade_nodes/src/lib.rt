@@ -3,12 +3,10 @@
 #![tactic(auto)]
 
 mod committing;
-mod dropping;
 mod link;
 mod node;
 mod script_provider;
 
-pub use dropping::discard;
 pub use ldap_ber::NoMemory;
 pub use node::{ConsumerNode, ProviderNode, copy_wanted};
 pub use script_provider::{MESSAGE_ID, ScriptProvider};

@@ -1,5 +1,5 @@
 //! The link from a provider to a consumer.
-ghost use Rattle.std.specs.Prelude.{◌≡◌, ◌+◌, ◌≤◌, ◌∷◌, ◌++◌, [], ◌==◌, length, IfOk, IfSome, IfNone, IfErr, OnOk, OnErr};
+ghost use Rattle.std.specs.Prelude.{◌≡◌, ◌+◌, ◌≤◌, ◌∷◌, ◌++◌, [], ◌==◌, length, drop, IfOk, IfSome, IfNone, IfErr, OnOk, OnErr};
 ghost use Rattle.cascade_nodes.specs.Link.{link_size, most_link, RefusesLink};
 
 use cascade_script::Cause;
@@ -91,24 +91,32 @@ impl Link {
         Ok(())
     }
 
-    /// Takes the first message. It is `NoMemory` where memory runs out, and then the link is as
-    /// before.
-    #[tactic(auto, using(crate::proofs::Links::first_popped, crate::proofs::Links::none_there, crate::proofs::Links::first_size, crate::proofs::Links::rest_below))]
-    pub fn pop(&mut self) -> Result<Option<Octets>, NoMemory>
-        ensures first { IfOk result (λ found.
-            IfSome found (λ message. self.old ≡ message ∷ self.new)) }
-        ensures none { IfOk result (λ found. IfNone found (self.old ≡ [])) }
-        ensures empty { IfOk result (λ found. IfNone found (self.new ≡ [])) }
+    /// Lends the first message.
+    pub fn first(&self) -> Option<&[u8]>
+        ensures first { IfSome result (λ message. self.now ≡ message.now ∷ drop 1 self.now) }
+        ensures none { IfNone result (self.now ≡ []) }
+    {
+        match self.messages.first() {
+            Some((_, message)) => Some(message.as_slice()),
+            None => None,
+        }
+    }
+
+    /// Drops the first message, where there is one. It is `NoMemory` where memory runs out, and
+    /// then the link is as before.
+    #[tactic(auto, using(crate::proofs::Links::first_dropped, crate::proofs::Links::none_dropped))]
+    pub fn drop_first(&mut self) -> Result<(), NoMemory>
+        ensures ok { OnOk result (self.new ≡ drop 1 self.old) }
         ensures err { OnErr result (self.new ≡ self.old) }
     {
         let Some((number, message)) = self.messages.first() else {
-            return Ok(None);
+            return Ok(());
         };
         let number = *number;
-        let message = message.copy()?;
+        let length = message.as_slice().len();
         self.messages.remove(&number)?;
-        self.bytes -= message.as_slice().len();
-        Ok(Some(message))
+        self.bytes -= length;
+        Ok(())
     }
 
     /// Drops all messages.

@@ -1,5 +1,5 @@
 //! A provider of a script.
-ghost use Rattle.std.specs.Prelude.{◌≡◌, ◌<◌, ◌^◌, true, false, length, map, IfOk, IfSome};
+ghost use Rattle.std.specs.Prelude.{◌≡◌, ◌<◌, ◌^◌, true, false, length, map, None, IfOk, IfSome};
 ghost use Rattle.csn_cookie.specs.Csn as csn_specs;
 ghost use Rattle.entry_tree.specs.Selection.{search_of};
 ghost use Rattle.entry_tree.specs.Fitting.{is_light};
@@ -8,7 +8,7 @@ ghost use Rattle.std.specs.List.{list_all};
 ghost use Rattle.sync_provider.specs.Accepting as accepting;
 ghost use Rattle.directory_writes.specs.Directory as directory;
 ghost use Rattle.sync_provider.specs.Answering.{WriteLeaves, CommitsLeave, HandOutLeaves, DropLeaves};
-ghost use Rattle.sync_provider.specs.HandingOut.{turn_at_place, turn_of};
+ghost use Rattle.sync_provider.specs.HandingOut.{has_message, is_closing, search_at, turn_at_place, turn_of};
 ghost use Rattle.sync_provider.specs.Machine as machine;
 ghost use Rattle.sync_provider.specs.Placing.{ComesBack, put_back};
 ghost use Rattle.sync_provider.specs.Returning.{snapshot_of, HasNoWriteSince};
@@ -82,10 +82,14 @@ impl ScriptProvider {
         self.provider.suffix()
     }
 
-    /// How many writes were accepted.
+    /// How many writes were accepted. Each was sound, had nothing against it on the entries before
+    /// it, and has a CSN above those before it.
     pub fn writes(&self) -> u64
         ensures value { result ≡ length self.now.directory.writes }
         ensures small { result < 2 ^ 63 }
+        ensures accepted { directory.AreAccepted
+            self.now.directory.suffix self.now.directory.history self.now.directory.writes }
+        ensures rises { directory.CsnsRise self.now.directory.sid self.now.directory.writes }
     {
         self.provider.writes()
     }
@@ -164,6 +168,8 @@ impl ScriptProvider {
     #[tactic(auto, using(crate::proofs::Asked::turn_ours))]
     pub fn hand_out(&mut self, number: u64) -> Handed
         ensures leaves { HandOutLeaves self.old number result self.new }
+        ensures gone { is_closing (turn_of result) ≡ true
+            → search_at self.new.searches number ≡ None }
         ensures spelled { IsSpelled result }
     {
         self.provider.hand_out(number)
@@ -174,6 +180,8 @@ impl ScriptProvider {
     pub fn pending_at(&self, number: u64, place: usize) -> Handed
         ensures turn { IfSome (turn_of result)
             (λ turn. turn ≡ turn_at_place self.now.searches number place) }
+        ensures memory { result ≡ Handed.NoMemory
+            → has_message (turn_at_place self.now.searches number place) ≡ true }
         ensures spelled { IsSpelled result }
     {
         self.provider.pending_at(number, place)
@@ -214,6 +222,7 @@ impl ScriptProvider {
     #[tactic(auto, using(crate::proofs::Asked::dropped_ours))]
     pub fn drop_search(&mut self, number: u64) -> bool
         ensures leaves { DropLeaves self.old number result self.new }
+        ensures gone { search_at self.new.searches number ≡ None }
     {
         self.provider.drop_search(number)
     }

@@ -1,7 +1,9 @@
 -- Digests of entries, of which some stay.
-use Rattle.std.proofs.Common.{◌≡◌, ℕ, List, [], ◌++◌, Option, Some, None, sym, ap, ◌∙◌, subst}
+use Rattle.std.proofs.Common.{◌≡◌, ◌+◌, ◌<◌, ℕ, List, [], ◌∷◌, ◌++◌, length, map, take, get_or, Bor, Option, Some, None, sym, ap, ◌∙◌, subst}
 use Rattle.std.specs.Prelude.{IfSome, IfNone}
+use Rattle.std.specs.List.{flat_map}
 use Rattle.std.proofs.lemmas.Grind.{flat_map-append}
+use Rattle.std.proofs.lemmas.List.{flat_map_more, map-append, take_more}
 use Rattle.entry_tree.specs.declared.entry.Entry.{Entry}
 use Rattle.sha2.specs.Hashers.{Holds256}
 use Rattle.sha2.specs.Sha256.{sha256}
@@ -42,3 +44,26 @@ digest_is old reached held rest digest has split more = more (text_of (prefix re
 
 pub same_digested : (old new : Sha256) (reached : Option ℕ) (held : List Entry) → new ≡ old → HasDigested old reached held → HasDigested new reached held
 same_digested old new reached held same has = subst (λ (h : Sha256). HasDigested h reached held) (sym same) has
+
+-- ---- texts that are taken one after another
+
+-- entries that are lent
+abbrev lent : List (Bor Entry) → List Entry
+lent es = map (λ (e : Bor Entry). e.now) es
+
+lent_more : (es : List (Bor Entry)) (i : ℕ) (e : Bor Entry) → i < length es → e ≡ get_or es i e → lent (take (i + 1) es) ≡ lent (take i es) ++ e.now ∷ []
+lent_more es i e low is =
+    ap lent (take_more es i e low)
+    ∙ map-append (λ (x : Bor Entry). x.now) (take i es) (get_or es i e ∷ [])
+    ∙ ap (λ (x : Bor Entry). lent (take i es) ++ x.now ∷ []) (sym is)
+
+-- with the text of one entry more, that of one more is taken
+pub taken_more : (old new : Sha256) (m text : List ℕ) (es : List (Bor Entry)) (i : ℕ) (e : Bor Entry) → i < length es → e ≡ get_or es i e → text ≡ entry_text e.now
+    → Holds256 old (m ++ flat_map entry_text (lent (take i es))) → ((m : List ℕ) → Holds256 old m → Holds256 new (m ++ text))
+    → Holds256 new (m ++ flat_map entry_text (lent (take (i + 1) es)))
+taken_more old new m text es i e low is same has more =
+    subst (Holds256 new)
+    (ap (λ (t : List ℕ). (m ++ flat_map entry_text (lent (take i es))) ++ t) same
+    ∙ flat_map_more entry_text m (lent (take i es)) e.now
+    ∙ ap (λ (xs : List Entry). m ++ flat_map entry_text xs) (sym (lent_more es i e low is)))
+    (more (m ++ flat_map entry_text (lent (take i es))) has)

@@ -13,7 +13,7 @@ ghost use Rattle.sync_consumer.specs.Staging.{is_above, up_to};
 ghost use Rattle.cascade_report.specs.Digests.{prefix};
 ghost use Rattle.cascade_report.specs.ReportLines.{text_of};
 
-use crate::lines::text_of;
+use crate::lines::entry_text;
 use entry_tree::{Entry, Spec};
 use ldap_ber::NoMemory;
 use ldap_messages::Message;
@@ -70,21 +70,18 @@ impl Digested {
         &self.consumer
     }
 
-    /// A consumer that goes on as this one does. It is `NoMemory` where memory runs out.
+    /// A consumer that goes on as this one does, of whose entries none is digested yet. It is
+    /// `NoMemory` where memory runs out.
     pub fn copy(&self) -> Result<Digested, NoMemory>
         ensures { IfOk result (λ copy. copy ≡ self.now) }
     {
-        let hasher = self.hasher.clone()?;
-        let reached = self.reached;
-        Ok(Digested {
-            consumer: self.consumer.copy()?,
-            hasher,
-            reached,
-        })
+        Ok(Digested::new(self.consumer.copy()?))
     }
 
     /// The digest of the text of its entries, of which those that stayed since it was last asked
-    /// for, up to the first that did not, cost nothing.
+    /// for, up to the first that did not, cost nothing. It is the one part of an event that goes
+    /// through the others, and stands apart from what calls it, so that a profile shows its cost.
+    #[inline(never)]
     #[tactic(auto, using(crate::proofs::Digests::all_digested, crate::proofs::Digests::digest_is, crate::proofs::Digests::same_digested))]
     pub fn digest(&mut self) -> Result<[u8; 32], NoMemory>
         ensures same { self.new ≡ self.old }
@@ -188,12 +185,24 @@ fn digest_with(alloc: Global, hasher: &mut Sha256, entries: &[&Entry]) -> Result
         → digest ≡ sha256 (m ++ text_of (map (λ e. e.now) entries.now))) }
     ensures err { OnErr result (hasher.new ≡ hasher.old) }
 {
-    let text = text_of(alloc, entries)?;
     let mut longer = hasher.clone()?;
-    longer.update(&text);
+    take_each(alloc, &mut longer, entries)?;
     let digest = longer.clone()?.finalize();
     *hasher = longer;
     Ok(digest)
+}
+
+/// Takes the texts of these entries, one after another, so that no two are in memory at once.
+fn take_each(alloc: Global, hasher: &mut Sha256, entries: &[&Entry]) -> Result<(), NoMemory>
+    ensures { OnOk result
+        ((m : List ℕ) → Holds256 hasher.old m
+        → Holds256 hasher.new (m ++ text_of (map (λ e. e.now) entries.now))) }
+{
+    for entry in entries {
+        let text = entry_text(alloc, entry)?;
+        hasher.update(&text);
+    }
+    Ok(())
 }
 
 /// Whether a message left the entries up to an identity as they were, by what came of it.

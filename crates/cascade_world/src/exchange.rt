@@ -8,10 +8,10 @@ ghost use Rattle.cascade_world.specs.Places.{ArePlaces, PerformsAt};
 ghost use Rattle.cascade_world.specs.World as spec;
 ghost use Rattle.cascade_world.specs.World.{Does};
 
+use crate::dropping::discard;
 use crate::nodes::Nodes;
 use crate::world::Lines;
 use cascade_exchange::{Exchange, Performed, serve};
-use cascade_nodes::discard;
 use cascade_report::StoredStage;
 use cascade_script::Cause;
 use ldap_ber::Octets;

@@ -6,10 +6,11 @@ ghost use Rattle.cascade_script.specs.Orders.{Order as order};
 ghost use Rattle.cascade_world.specs.World as spec;
 ghost use Rattle.cascade_world.specs.World.{Does};
 
+use crate::dropping::discard;
 use crate::nodes::{Nodes, no_lines};
 use crate::world::Lines;
 use cascade_exchange::MOST_NODES;
-use cascade_nodes::{ConsumerNode, ProviderNode, discard};
+use cascade_nodes::{ConsumerNode, ProviderNode};
 use cascade_script::Cause;
 use dn_names::Dn;
 use entry_tree::Spec;

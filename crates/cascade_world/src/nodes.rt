@@ -12,9 +12,10 @@ ghost use Rattle.cascade_world.specs.World.{Does};
 ghost use Rattle.cascade_exchange.specs.Exchange.{Agreement, ExchangeOutcome};
 ghost use Rattle.cascade_world.specs.Places.{ArePlaces, Writes};
 
+use crate::dropping::discard;
 use crate::world::Lines;
 use cascade_exchange::Exchange;
-use cascade_nodes::{ConsumerNode, ProviderNode, ScriptProvider, discard};
+use cascade_nodes::{ConsumerNode, ProviderNode, ScriptProvider};
 use cascade_report::{push_wrote, text_of};
 use cascade_script::{Cause, Command};
 use entry_tree::{OpFault, read_op};

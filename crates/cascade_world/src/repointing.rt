@@ -9,10 +9,10 @@ ghost use Rattle.cascade_world.specs.World as spec;
 ghost use Rattle.cascade_world.specs.World.{Does};
 ghost use Rattle.cascade_world.specs.InStep.{AreInStep};
 
+use crate::dropping::discard;
 use crate::nodes::Nodes;
 use crate::world::Lines;
 use cascade_exchange::Exchange;
-use cascade_nodes::discard;
 use cascade_script::Cause;
 use entry_tree::Spec;
 use ldap_ber::{NoMemory, Octets};

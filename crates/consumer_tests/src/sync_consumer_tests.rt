@@ -279,6 +279,28 @@ refreshDelete f -> Stored f
 modify 5 - ou=a,o=x CSN -> Staged
 modify 6 g ou=b,o=x CSN -> Stored +5 +6 g
 has -> 4 5 6 g
+# An entry that is modified keeps its name, which another gets once it is gone.
+new
+stay
+add 4 - o=x CSN -> Staged
+add 5 - ou=a,o=x CSN -> Staged
+refreshDelete c -> Stored +4 +5 c
+modify 5 d OU=A,o=X CSN -> Stored +5 d
+add 6 e ou=a,o=x CSN -> DuplicateName(5, 6)
+has -> 4 5 d
+stay
+refreshDelete e -> Stored e
+modify 5 - ou=a,o=x CSN -> Staged
+add 6 f ou=A,o=x CSN -> DuplicateName(5, 6)
+has -> 4 5 e
+stay
+refreshDelete f -> Stored f
+modify 5 g ou=a,o=x CSN -> Stored +5 g
+delete 5 - ou=a,o=x -> Staged
+add 6 h ou=a,o=x CSN -> Stored +6 -5 h
+modify 6 i ou=b,o=x CSN -> Stored +6 i
+add 7 j ou=a,o=x CSN -> Stored +7 j
+has -> 4 6 7 j
 # A stage is full.
 new
 once

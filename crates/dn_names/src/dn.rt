@@ -22,11 +22,21 @@ use std::sync::Arc;
 const MOST_RDNS: usize = 32;
 
 /// RDNs, the entry's own first, and at most 32. A copy shares them.
-#[derive(Drop)]
 pub struct Dn {
     alloc: Global,
     /// Nothing where the name was made without RDNs.
     name: Option<Arc<Name>>,
+}
+
+/// A call of its own, so that what drops a name does not ask whether it has RDNs.
+impl Drop for Dn {
+    #[inline(always)]
+    fn drop(self) {
+        let Dn {
+            alloc: _,
+            name: _name,
+        } = self;
+    }
 }
 
 impl Model for Dn {

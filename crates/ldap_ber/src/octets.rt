@@ -32,9 +32,16 @@ enum Kept {
 }
 
 /// An octet string that owns its bytes. It takes memory only where it has more than 30 octets.
-#[derive(Drop)]
 pub struct Octets {
     kept: Kept,
+}
+
+/// A call of its own, so that what drops a string is one step, whatever its kind.
+impl Drop for Octets {
+    #[inline(always)]
+    fn drop(self) {
+        let Octets { kept: _kept } = self;
+    }
 }
 
 impl Model for Octets {
@@ -209,10 +216,20 @@ impl Listed {
 }
 
 /// A list of octet strings. It takes memory of its own only where it has more than one.
-#[derive(Drop)]
 pub struct OctetsList {
     alloc: Global,
     listed: Listed,
+}
+
+/// A call of its own, as for [`Octets`].
+impl Drop for OctetsList {
+    #[inline(always)]
+    fn drop(self) {
+        let OctetsList {
+            alloc: _,
+            listed: _listed,
+        } = self;
+    }
 }
 
 impl Model for OctetsList {
@@ -275,7 +292,8 @@ impl OctetsList {
         ensures ok { OnOk result (self.new ≡ self.old ++ more) }
         ensures err { OnErr result (self.new ≡ self.old) }
     {
-        match more.listed {
+        let OctetsList { alloc: _, listed } = more;
+        match listed {
             Listed::One(item) => self.push(item),
             Listed::Any(strings) => self.append_strings(strings),
         }

@@ -21,7 +21,7 @@ use std::test::Fail;
 // with a fault: so no proof goes through the cases of an operation at each of its ends.
 
 /// The message of the whole of the bytes.
-fn message_of(alloc: Global, bytes: &[u8]) -> Result<Message, MessageFault>
+pub(crate) fn message_of(alloc: Global, bytes: &[u8]) -> Result<Message, MessageFault>
     ensures { IfOk result (λ message. HasSpelling (whole_of message)) }
 {
     match Message::read(alloc, bytes)? {

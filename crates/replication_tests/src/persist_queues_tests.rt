@@ -25,9 +25,20 @@ queue limit 3;push 1,2;pop;push 3,4;get 0;get 1;get 2;get 3 => set,pushed,Some(1
 queue limit 7;push 1,1,1,1,1,1,1,1 => set,the queue of 7 items is full,
 ";
 
+/// What is pending in a full queue stays, and a part of a write is not put after it.
+const FULL: &str = "\
+queue limit 2;push 1,2;push 3;pop;pop;pop => set,pushed,the queue of 2 items is full,Some(1),Some(2),None,
+queue limit 2;push 1;push 2,3;pop;pop => set,pushed,the queue of 2 items is full,Some(1),None,
+";
+
 #[test]
 fn calls_of_a_queue(rt: HostRuntime) -> Result<(), Fail> {
     check_rows(&rt, rt.alloc(), ROWS)
+}
+
+#[test]
+fn a_full_queue_keeps_its_oldest_item(rt: HostRuntime) -> Result<(), Fail> {
+    check_rows(&rt, rt.alloc(), FULL)
 }
 
 /// An item that is nothing but its weight.

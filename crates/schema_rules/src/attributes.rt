@@ -55,10 +55,17 @@ impl Attribute {
 }
 
 /// The attributes of an entry: each type once, and none without values. A copy shares them.
-#[derive(Drop)]
 pub struct Attrs {
     /// Nothing where there was no attribute yet.
     shared: Option<Arc<Weighed>>,
+}
+
+/// A call of its own, so that what drops a list does not ask whether there is an attribute.
+impl Drop for Attrs {
+    #[inline(always)]
+    fn drop(self) {
+        let Attrs { shared: _shared } = self;
+    }
 }
 
 impl Model for Attrs {

@@ -1,6 +1,6 @@
 -- The names of the entries that a stage leaves.
 use Rattle.std.proofs.Common.{◌≡◌, ◌<◌, ℕ, Bool, true, false, cond, nat_eq, nat_lt, List, [], ◌∷◌, Option, Some, None, refl, sym, ap, subst, ◌∙◌, ◌⊎◌, inl, inr, arith}
-use Rattle.std.specs.Prelude.{is_some, option_map}
+use Rattle.std.specs.Prelude.{option_map}
 use Rattle.std.specs.Cmp.Lexicographic.{bytes_decides}
 use Rattle.std.specs.List.{All}
 use Rattle.std.specs.Option.{option_and_then, option_or, unwrap_or}
@@ -16,7 +16,7 @@ use Rattle.sync_model.specs.Copy.{Stage, effected, slot}
 use Rattle.sync_model.proofs.Maps.{entry_at-uuid}
 use Rattle.sync_model.proofs.Taking.{IsKeyed, at-effected, ascends-effected}
 use Rattle.sync_consumer.specs.Committing.{AreNamedApart}
-use Rattle.sync_consumer.specs.Holding.{Names, id_at, is_id, has_path, stays, after_stage, Notes, NotesAll, ArePathsApart, IsFreeOf, IsIndex, IsPathed}
+use Rattle.sync_consumer.specs.Holding.{Names, id_at, is_id, has_path, between, stays, after_stage, HasLeft, Notes, NotesAll, ArePathsApart, IsIndex, IsPathed}
 use Rattle.sync_consumer.specs.Staging.{entry_staged}
 use Rattle.sync_consumer.proofs.Naming.{all_apart}
 
@@ -105,26 +105,26 @@ paths_apart es none pathed path one other has has' = by (entry_at es one) refl (
 after_stays : (held : List Entry) (stage : Stage) (u : ℕ) → ascends held ≡ true → IsKeyed stage → after_stage (stays held stage) stage u ≡ entry_at (effected held stage) u
 after_stays held stage u up keyed = by (slot stage u) ∙ sym (at-effected stage held u up keyed)
   where
-    by : (s : Option (Option Entry)) → unwrap_or s (cond (is_some s) None (entry_at held u)) ≡ unwrap_or s (entry_at held u)
+    by : (s : Option (Option Entry)) → unwrap_or s (between s (entry_at held u)) ≡ unwrap_or s (entry_at held u)
     by None = refl
     by (Some o) = refl
 
-stays_free : (held : List Entry) (stage : Stage) → IsFreeOf (stays held stage) stage
-stays_free held stage u some = ap (λ b. cond b None (entry_at held u)) some
+stays_left : (held : List Entry) (stage : Stage) → HasLeft held (stays held stage) stage
+stays_left held stage u some = refl
 
 module _ (held : List Entry) (stage : Stage) (up : ascends held ≡ true) (keyed : IsKeyed stage) where
   after_is : ◌≡◌ {A = ℕ → Option Entry} (after_stage (stays held stage) stage) (λ u. entry_at (effected held stage) u)
   after_is = λ i u. after_stays held stage u up keyed i
 
   -- the names of what a stage leaves, where no name was there
-  notes_after : (left names : Names) (are_free : Bool) → Notes left (stays held stage) → NotesAll left names stage are_free
+  notes_after : (left names : Names) (are_free : Bool) → Notes left (stays held stage) → NotesAll held left names stage are_free
       → (are_free ≡ true) ⊎ ArePathsApart (λ u. entry_at (effected held stage) u) → Notes names (λ u. entry_at (effected held stage) u)
   notes_after left names are_free notes all how =
       subst (λ (f : ℕ → Option Entry). Notes names f) after_is
-      (all (stays held stage) notes (stays_free held stage) (subst (λ (f : ℕ → Option Entry). (are_free ≡ true) ⊎ ArePathsApart f) (sym after_is) how))
+      (all (stays held stage) notes (stays_left held stage) (subst (λ (f : ℕ → Option Entry). (are_free ≡ true) ⊎ ArePathsApart f) (sym after_is) how))
 
   -- where none was there, no two entries have one name
-  pub none_named_twice : (left names : Names) (are_free : Bool) → Notes left (stays held stage) → NotesAll left names stage are_free → are_free ≡ true
+  pub none_named_twice : (left names : Names) (are_free : Bool) → Notes left (stays held stage) → NotesAll held left names stage are_free → are_free ≡ true
       → same_named (effected held stage) ≡ None
   none_named_twice left names are_free notes all free =
       named_apart_by_paths (effected held stage) (ascends-effected stage held up)
@@ -139,7 +139,7 @@ module _ (held : List Entry) (stage : Stage) (up : ascends held ≡ true) (keyed
 
   -- where no two entries have one name, the names are theirs
   pub index_after : (old left names : Names) (are_free : Bool) → IsIndex old held → ((u : ℕ) → IsPathed (entry_staged stage u)) → Notes left (stays held stage)
-      → NotesAll left names stage are_free → same_named (effected held stage) ≡ None → IsIndex names (effected held stage)
+      → NotesAll held left names stage are_free → same_named (effected held stage) ≡ None → IsIndex names (effected held stage)
   index_after old left names are_free index put notes all none =
       let pathed = pathed_after index.pathed put in
       record {

@@ -1,6 +1,7 @@
 -- What stands at the path keys of names, as names are taken away and noted.
 use Rattle.std.proofs.Common.{◌≡◌, ℕ, Bool, true, false, not, ◌&&◌, cond, nat_eq, List, [], ◌∷◌, length, Option, Some, None, Vec, Global, Bor, refl, sym, ap, subst, ◌∙◌, ◌⊎◌, inl, inr, arith}
 use Rattle.std.specs.Prelude.{bytes_eq, is_some, is_none, option_copied}
+use Rattle.std.specs.Bool.{MatchBool}
 use Rattle.std.specs.BTreeMap.{insert_entry, is_at}
 use Rattle.std.specs.Cmp.{nat_eq_equiv}
 use Rattle.std.specs.BTreeMap.Comparable.{le_lt_trans}
@@ -21,7 +22,7 @@ use Rattle.dn_names.specs.Paths.{path_key}
 use Rattle.entry_tree.specs.declared.entry.Entry.{Entry}
 use Rattle.entry_tree.specs.State.{entry_at}
 use Rattle.sync_model.specs.Copy.{Stage, slot}
-use Rattle.sync_consumer.specs.Holding.{Names, id_at, is_id, has_path, stays, after_stage, Forgets, Notes, NotesAll, SetsId, ArePathsApart, IsFreeOf}
+use Rattle.sync_consumer.specs.Holding.{Names, id_at, is_id, has_path, keeps_name, between, stays, after_stage, Forgets, ForgetsFor, HasLeft, Notes, NotesAll, SetsId, ArePathsApart}
 
 abbrev pub key_cmp : Vec ℕ Global → Vec ℕ Global → Ordering
 key_cmp one other = slice_cmp nat_cmp one.items other.items
@@ -173,38 +174,86 @@ notes_name old new entry_of after e notes none free sets is path u =
     by false off true same = notes path u ∙ ap (has_path path) (ap entry_of (eqb-true u e.uuid same) ∙ none) ∙ sym off
     by false off false other = notes path u
 
--- the names of one identity more are taken away
-pub forgets_more : (held : List Entry) (old new : Names) (c : ℕ × Option Entry) (rest : Stage) → slot rest c.0 ≡ None → Forgets old new (entry_at held c.0) → Notes old (stays held rest) → Notes new (stays held (c ∷ rest))
-forgets_more held old new c rest none gone notes = by (entry_at held c.0) refl gone
+-- ---- names that stay
+
+-- where a change keeps a name, what it puts has the path keys that the entry before it had
+kept_path : (was put : Option Entry) (path : List ℕ) → keeps_name was put ≡ true → has_path path put ≡ has_path path was
+kept_path None put path kept = absurd (false≢true kept)
+kept_path (Some w) None path kept = absurd (false≢true kept)
+kept_path (Some w) (Some e) path kept = ap (λ text. bytes_eq text path) (sym (same_bytes (path_key w.dn) (path_key e.dn) kept))
+
+-- the names of one identity more are taken away, but for one that stays
+pub forgets_more : (held : List Entry) (old new : Names) (c : ℕ × Option Entry) (rest : Stage) → slot rest c.0 ≡ None → ForgetsFor held c old new → Notes old (stays held rest)
+    → Notes new (stays held (c ∷ rest))
+forgets_more held old new c rest none gone notes = by (keeps_name (entry_at held c.0) c.1) refl gone
   where
     was : stays held rest c.0 ≡ entry_at held c.0
-    was = ap (λ (found : Option (Option Entry)). cond (is_some found) None (entry_at held c.0)) none
+    was = ap (λ (found : Option (Option Entry)). between found (entry_at held c.0)) none
 
-    after : (u : ℕ) → stays held (c ∷ rest) u ≡ cond (nat_eq u c.0) None (stays held rest u)
-    after u = each (nat_eq u c.0) where
-      each : (b : Bool) → cond (is_some (cond b (Some c.1) (slot rest u))) None (entry_at held u) ≡ cond b None (stays held rest u)
-      each true = refl
-      each false = refl
+    -- the name stays
+    kept : keeps_name (entry_at held c.0) c.1 ≡ true → (path : List ℕ) (u : ℕ) → has_path path (stays held rest u) ≡ has_path path (stays held (c ∷ rest) u)
+    kept is path u = each (nat_eq u c.0) refl where
+      each : (b : Bool) → nat_eq u c.0 ≡ b → has_path path (stays held rest u) ≡ has_path path (between (cond b (Some c.1) (slot rest u)) (entry_at held u))
+      each true same =
+          let one = eqb-true u c.0 same in
+          ap (λ n. has_path path (stays held rest n)) one
+          ∙ ap (has_path path) was
+          ∙ sym (kept_path (entry_at held c.0) c.1 path is)
+          ∙ ap (λ k. has_path path (cond k c.1 None)) (sym is)
+          ∙ ap (λ n. has_path path (between (Some c.1) (entry_at held n))) (sym one)
+      each false other = refl
 
-    by : (found : Option Entry) → entry_at held c.0 ≡ found → Forgets old new found → Notes new (stays held (c ∷ rest))
-    by None is same =
-        subst (λ (names : Names). Notes names (stays held (c ∷ rest))) (sym same) (untouched old (stays held rest) (stays held (c ∷ rest)) c.0 notes (was ∙ is) after)
-    by (Some e) is sets = forgets old new (stays held rest) (stays held (c ∷ rest)) e c.0 notes (was ∙ is) sets after
+    -- it is taken away
+    after : keeps_name (entry_at held c.0) c.1 ≡ false → (u : ℕ) → stays held (c ∷ rest) u ≡ cond (nat_eq u c.0) None (stays held rest u)
+    after off u = each (nat_eq u c.0) refl where
+      each : (b : Bool) → nat_eq u c.0 ≡ b → between (cond b (Some c.1) (slot rest u)) (entry_at held u) ≡ cond b None (stays held rest u)
+      each true same = ap (λ n. between (Some c.1) (entry_at held n)) (eqb-true u c.0 same) ∙ ap (λ k. cond k c.1 None) off
+      each false other = refl
+
+    left : keeps_name (entry_at held c.0) c.1 ≡ false → (found : Option Entry) → entry_at held c.0 ≡ found → Forgets old new found → Notes new (stays held (c ∷ rest))
+    left off None is same =
+        subst (λ (names : Names). Notes names (stays held (c ∷ rest))) (sym same) (untouched old (stays held rest) (stays held (c ∷ rest)) c.0 notes (was ∙ is) (after off))
+    left off (Some e) is sets = forgets old new (stays held rest) (stays held (c ∷ rest)) e c.0 notes (was ∙ is) sets (after off)
+
+    by : (b : Bool) → keeps_name (entry_at held c.0) c.1 ≡ b → MatchBool b (new ≡ old) (Forgets old new (entry_at held c.0)) → Notes new (stays held (c ∷ rest))
+    by true is same =
+        subst (λ (names : Names). Notes names (stays held (c ∷ rest))) (sym same) (λ path u. notes path u ∙ kept is path u)
+    by false off forgotten = left off (entry_at held c.0) refl forgotten
 
 -- ---- one change
 
--- nothing is put
-pub notes_none : (names : Names) (uuid : ℕ) → NotesAll names names ((uuid, None) ∷ []) true
-notes_none names uuid entry_of notes free how path u = notes path u ∙ ap (has_path path) (by (nat_eq u uuid) refl)
+-- the identity of one change has nothing, where the change does not keep its name
+nothing_left : (held : List Entry) (entry_of : ℕ → Option Entry) (c : ℕ × Option Entry) → keeps_name (entry_at held c.0) c.1 ≡ false → HasLeft held entry_of (c ∷ []) → (u : ℕ) → nat_eq u c.0 ≡ true → entry_of u ≡ None
+nothing_left held entry_of c off left u same =
+    left u (ap (λ b. is_some (cond {A = Option (Option Entry)} b (Some c.1) None)) same)
+    ∙ ap (λ b. between (cond {A = Option (Option Entry)} b (Some c.1) None) (entry_at held u)) same
+    ∙ ap (λ n. between (Some c.1) (entry_at held n)) (eqb-true u c.0 same)
+    ∙ ap (λ k. cond k c.1 None) off
+
+-- a change that keeps the name of its identity notes nothing
+pub notes_kept : (held : List Entry) (names : Names) (c : ℕ × Option Entry) → keeps_name (entry_at held c.0) c.1 ≡ true → NotesAll held names names (c ∷ []) true
+notes_kept held names c kept entry_of notes left how path u = notes path u ∙ ap (has_path path) (by (nat_eq u c.0) refl)
   where
-    by : (c : Bool) → nat_eq u uuid ≡ c → entry_of u ≡ unwrap_or (cond {A = Option (Option Entry)} c (Some None) None) (entry_of u)
-    by true same = free u (ap (λ b. is_some (cond {A = Option (Option Entry)} b (Some None) None)) same)
+    by : (b : Bool) → nat_eq u c.0 ≡ b → entry_of u ≡ unwrap_or (cond {A = Option (Option Entry)} b (Some c.1) None) (entry_of u)
+    by true same =
+        left u (ap (λ b. is_some (cond {A = Option (Option Entry)} b (Some c.1) None)) same)
+        ∙ ap (λ b. between (cond {A = Option (Option Entry)} b (Some c.1) None) (entry_at held u)) same
+        ∙ ap (λ n. between (Some c.1) (entry_at held n)) (eqb-true u c.0 same)
+        ∙ ap (λ k. cond k c.1 None) kept
+    by false other = refl
+
+-- nothing is put
+pub notes_none : (held : List Entry) (names : Names) (uuid : ℕ) → keeps_name (entry_at held uuid) None ≡ false → NotesAll held names names ((uuid, None) ∷ []) true
+notes_none held names uuid off entry_of notes left how path u = notes path u ∙ ap (has_path path) (by (nat_eq u uuid) refl)
+  where
+    by : (b : Bool) → nat_eq u uuid ≡ b → entry_of u ≡ unwrap_or (cond {A = Option (Option Entry)} b (Some None) None) (entry_of u)
+    by true same = nothing_left held entry_of (uuid, None) off left u same
     by false other = refl
 
 -- an entry is put
-pub notes_put : (old new : Names) (e : Entry) (is_free : Bool) → is_free ≡ is_none (id_at old (path_key e.dn)) → SetsId old new (path_key e.dn) (Some e.uuid)
-    → NotesAll old new ((e.uuid, Some e) ∷ []) is_free
-notes_put old new e is_free was sets entry_of notes free how =
+pub notes_put : (held : List Entry) (old new : Names) (e : Entry) (is_free : Bool) → keeps_name (entry_at held e.uuid) (Some e) ≡ false → is_free ≡ is_none (id_at old (path_key e.dn))
+    → SetsId old new (path_key e.dn) (Some e.uuid) → NotesAll held old new ((e.uuid, Some e) ∷ []) is_free
+notes_put held old new e is_free off was sets entry_of notes left how =
     notes_name old new entry_of (after_stage entry_of ((e.uuid, Some e) ∷ [])) e notes none (absent how) sets (λ u. put u (nat_eq u e.uuid))
   where
     after : ℕ → Option Entry
@@ -214,7 +263,7 @@ notes_put old new e is_free was sets entry_of notes free how =
     own = eq-eqb e.uuid e.uuid refl
 
     none : entry_of e.uuid ≡ None
-    none = free e.uuid (ap (λ b. is_some (cond {A = Option (Option Entry)} b (Some (Some e)) None)) own)
+    none = nothing_left held entry_of (e.uuid, Some e) off left e.uuid own
 
     put : (u : ℕ) (c : Bool) → unwrap_or (cond {A = Option (Option Entry)} c (Some (Some e)) None) (entry_of u) ≡ cond c (Some e) (entry_of u)
     put u true = refl
@@ -248,10 +297,10 @@ notes_put old new e is_free was sets entry_of notes free how =
 -- ---- a change more
 
 -- the names of one change are noted after those of the others
-pub notes_more : (old mid new : Names) (c : ℕ × Option Entry) (rest : Stage) (others own : Bool) → slot rest c.0 ≡ None
-    → NotesAll old mid rest others → NotesAll mid new (c ∷ []) own → NotesAll old new (c ∷ rest) (others && own)
-notes_more old mid new c rest others own none first last entry_of notes free how path u =
-    last before (first entry_of notes rest_free (earlier how)) own_free (later how) path u
+pub notes_more : (held : List Entry) (old mid new : Names) (c : ℕ × Option Entry) (rest : Stage) (others own : Bool) → slot rest c.0 ≡ None
+    → NotesAll held old mid rest others → NotesAll held mid new (c ∷ []) own → NotesAll held old new (c ∷ rest) (others && own)
+notes_more held old mid new c rest others own none first last entry_of notes left how path u =
+    last before (first entry_of notes rest_left (earlier how)) own_left (later how) path u
     ∙ ap (has_path path) (same u (nat_eq u c.0))
   where
     before : ℕ → Option Entry
@@ -261,26 +310,38 @@ notes_more old mid new c rest others own none first last entry_of notes free how
     same u true = refl
     same u false = refl
 
-    rest_free : IsFreeOf entry_of rest
-    rest_free u some = free u (by (nat_eq u c.0)) where
-      by : (b : Bool) → is_some (cond b (Some c.1) (slot rest u)) ≡ true
-      by true = refl
-      by false = some
+    -- what the change keeps or not, of an identity of its own
+    own_stays : (u : ℕ) → nat_eq u c.0 ≡ true → entry_of u ≡ between (Some c.1) (entry_at held u)
+    own_stays u is =
+        left u (ap (λ b. is_some (cond b (Some c.1) (slot rest u))) is)
+        ∙ ap (λ b. between (cond b (Some c.1) (slot rest u)) (entry_at held u)) is
 
-    own_free : IsFreeOf before (c ∷ [])
-    own_free u some = by (nat_eq u c.0) refl some where
-      by : (b : Bool) → nat_eq u c.0 ≡ b → is_some (cond {A = Option (Option Entry)} b (Some c.1) None) ≡ true → unwrap_or (slot rest u) (entry_of u) ≡ None
+    rest_left : HasLeft held entry_of rest
+    rest_left u some = by (nat_eq u c.0) refl where
+      by : (b : Bool) → nat_eq u c.0 ≡ b → entry_of u ≡ stays held rest u
+      by true is = absurd (false≢true (sym (ap is_some (ap (slot rest) (eqb-true u c.0 is) ∙ none)) ∙ some))
+      by false off =
+          left u (ap (λ b. is_some (cond b (Some c.1) (slot rest u))) off ∙ some)
+          ∙ ap (λ b. between (cond b (Some c.1) (slot rest u)) (entry_at held u)) off
+
+    own_left : HasLeft held before (c ∷ [])
+    own_left u some = by (nat_eq u c.0) refl some where
+      by : (b : Bool) → nat_eq u c.0 ≡ b → is_some (cond {A = Option (Option Entry)} b (Some c.1) None) ≡ true → unwrap_or (slot rest u) (entry_of u) ≡ between (cond {A = Option (Option Entry)} b (Some c.1) None) (entry_at held u)
       by true is some =
-          let here = eqb-true u c.0 is in
-          ap (λ n. unwrap_or (slot rest n) (entry_of u)) here ∙ ap (λ found. unwrap_or found (entry_of u)) none
-          ∙ free u (ap (λ b. is_some (cond b (Some c.1) (slot rest u))) is)
+          ap (λ found. unwrap_or found (entry_of u)) (ap (slot rest) (eqb-true u c.0 is) ∙ none) ∙ own_stays u is
       by false off some = absurd (false≢true some)
 
     -- an identity with a name before it has it after it
     stays_on : (path : List ℕ) (u : ℕ) → has_path path (before u) ≡ true → has_path path (after_stage entry_of (c ∷ rest) u) ≡ true
     stays_on path u has = by (nat_eq u c.0) refl where
+      put : (k : Bool) → has_path path (cond k c.1 None) ≡ true → has_path path c.1 ≡ true
+      put true is = is
+      put false is = absurd (false≢true is)
+
       by : (b : Bool) → nat_eq u c.0 ≡ b → has_path path (unwrap_or (cond b (Some c.1) (slot rest u)) (entry_of u)) ≡ true
-      by true is = absurd (false≢true (sym (ap (has_path path) (own_free u (ap (λ b. is_some (cond {A = Option (Option Entry)} b (Some c.1) None)) is))) ∙ has))
+      by true is =
+          put (keeps_name (entry_at held u) c.1)
+          (sym (ap (has_path path) (ap (λ found. unwrap_or found (entry_of u)) (ap (slot rest) (eqb-true u c.0 is) ∙ none) ∙ own_stays u is)) ∙ has)
       by false off = has
 
     earlier : ((others && own) ≡ true) ⊎ ArePathsApart (after_stage entry_of (c ∷ rest)) → (others ≡ true) ⊎ ArePathsApart before
@@ -293,5 +354,5 @@ notes_more old mid new c rest others own none first last entry_of notes free how
         inr (λ path one other has has'. far path one other (sym (ap (has_path path) (same one (nat_eq one c.0))) ∙ has) (sym (ap (has_path path) (same other (nat_eq other c.0))) ∙ has'))
 
 -- no changes note nothing
-pub notes_nothing : (names : Names) (others : Bool) → NotesAll names names [] others
-notes_nothing names others entry_of notes free how = notes
+pub notes_nothing : (held : List Entry) (names : Names) (others : Bool) → NotesAll held names names [] others
+notes_nothing held names others entry_of notes left how = notes

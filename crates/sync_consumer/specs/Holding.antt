@@ -1,6 +1,7 @@
 -- Entries that are held, what they weigh, and the identities of their names.
 use Rattle.std.specs.Prelude.{◌≡◌, ◌<◌, ◌^◌, ℕ, Bool, true, false, ◌==◌, cond, is_some, bytes_eq, IfSome, List, Option, Some, None, Vec}
 use Rattle.std.proofs.Common.{Global, ◌⊎◌}
+use Rattle.std.specs.Bool.{MatchBool}
 use Rattle.std.specs.BTreeMap.{is_at}
 use Rattle.std.specs.Cmp.Lexicographic.{slice_cmp}
 use Rattle.std.specs.Map.{keys_of, values_of, lookup}
@@ -75,9 +76,27 @@ abbrev pub Forgets : Names → Names → Option Entry → Type 0
 Forgets old new None = new ≡ old
 Forgets old new (Some e) = SetsId old new (path_key e.dn) None
 
--- the entry that an identity has, where nothing is staged of it
+-- an identity has an entry before a change and after it, and both have names of one path key
+abbrev pub keeps_name : (was put : Option Entry) → Bool
+keeps_name None put = false
+keeps_name (Some was) None = false
+keeps_name (Some was) (Some put) = bytes_eq (path_key was.dn) (path_key put.dn)
+
+-- the name that the identity of the change has is taken away, unless the change keeps it
+abbrev pub ForgetsFor : List Entry → ℕ × Option Entry → Names → Names → Type 0
+ForgetsFor entries change old new =
+    MatchBool (keeps_name (entry_at entries change.0) change.1) (new ≡ old)
+    (Forgets old new (entry_at entries change.0))
+
+-- the entry that an identity had, where nothing is staged of it; else what is staged, where that
+-- keeps the name, or no entry
+abbrev pub between : (put : Option (Option Entry)) → (was : Option Entry) → Option Entry
+between None was = was
+between (Some put) was = cond (keeps_name was put) put None
+
+-- the entries of the names that stay as a stage takes effect
 abbrev pub stays : List Entry → Stage → ℕ → Option Entry
-stays entries stage uuid = cond (is_some (slot stage uuid)) None (entry_at entries uuid)
+stays entries stage uuid = between (slot stage uuid) (entry_at entries uuid)
 
 -- what an identity has after a stage
 abbrev pub after_stage : (ℕ → Option Entry) → Stage → ℕ → Option Entry
@@ -91,16 +110,17 @@ ArePathsApart entry_of =
     → has_path path (entry_of other) ≡ true
     → one ≡ other
 
--- no identity of which something is staged has an entry
-abbrev pub IsFreeOf : (ℕ → Option Entry) → Stage → Type 0
-IsFreeOf entry_of stage = (uuid : ℕ) → is_some (slot stage uuid) ≡ true → entry_of uuid ≡ None
+-- an identity of which something is staged has the entry whose name stays, or none
+abbrev pub HasLeft : List Entry → (ℕ → Option Entry) → Stage → Type 0
+HasLeft entries entry_of stage =
+    (uuid : ℕ) → is_some (slot stage uuid) ≡ true → entry_of uuid ≡ stays entries stage uuid
 
 -- the names of what the stage puts are noted beside those of all others: exactly, where none was
--- there before, or where no two are of one path key after it
-abbrev pub NotesAll : Names → Names → Stage → Bool → Type 0
-NotesAll old new stage are_free =
+-- there before but those that stay, or where no two are of one path key after it
+abbrev pub NotesAll : List Entry → Names → Names → Stage → Bool → Type 0
+NotesAll entries old new stage are_free =
     (entry_of : ℕ → Option Entry)
     → Notes old entry_of
-    → IsFreeOf entry_of stage
+    → HasLeft entries entry_of stage
     → (are_free ≡ true) ⊎ ArePathsApart (after_stage entry_of stage)
     → Notes new (after_stage entry_of stage)

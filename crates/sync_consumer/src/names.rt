@@ -1,15 +1,17 @@
 //! The identities of entries by the path keys of their names.
 
-ghost use Rattle.std.specs.Prelude.{◌≡◌, ◌∷◌, [], ℕ, true, None, Some, is_none, IfOk, OnOk, IsTrue};
+ghost use Rattle.std.specs.Prelude.{◌≡◌, ◌∷◌, [], ℕ, List, true, false, None, Some, is_none, bytes_eq, IfOk, OnOk, IsTrue};
 ghost use Rattle.std.specs.Map.{keys_of};
 ghost use Rattle.dn_names.specs.Paths.{path_key, HasPath};
+ghost use Rattle.entry_tree.specs.declared.entry.Entry.{Entry};
 ghost use Rattle.entry_tree.specs.State.{ascends, entry_at, same_named};
 ghost use Rattle.sync_model.specs.Copy.{effected};
-ghost use Rattle.sync_consumer.specs.Holding.{id_at, stays, Forgets, IsIndex, IsPathed, Notes, NotesAll, SetsId};
+ghost use Rattle.sync_consumer.specs.Holding.{id_at, keeps_name, stays, Forgets, ForgetsFor, IsIndex, IsPathed, Notes, NotesAll, SetsId};
 ghost use Rattle.sync_consumer.specs.Staging.{change_of, changes_in, entry_staged, rises};
 
 use crate::stage::StagedChange;
 use crate::weighed::WeighedEntries;
+use dn_names::Dn;
 use entry_tree::Entry;
 use ldap_ber::NoMemory;
 use shared_map::SharedMap;
@@ -34,11 +36,11 @@ pub(crate) fn names_after(
 {
     let mut after = names.copy()?;
     forget_each(&mut after, held, changes)?;
-    let are_apart = note_each(&mut after, changes)?;
+    let are_apart = note_each(&mut after, held, changes)?;
     Ok((after, are_apart))
 }
 
-/// Takes the names away that the entries have of which a change is.
+/// Takes the names away that the entries have of which a change is, but for those that stay.
 fn forget_each(
     names: &mut Names,
     held: &WeighedEntries,
@@ -51,9 +53,54 @@ fn forget_each(
     let mut left = changes.len();
     while left > 0 {
         left -= 1;
-        forget_at(names, held, changes[left].uuid())?;
+        forget_for(names, held, changes[left])?;
     }
     Ok(())
+}
+
+/// Takes the name away that the identity of the change has, unless the change keeps it.
+fn forget_for(
+    names: &mut Names,
+    held: &WeighedEntries,
+    change: &StagedChange,
+) -> Result<(), NoMemory>
+    ensures { OnOk result (ForgetsFor held.now (change_of change.now) names.old names.new) }
+{
+    if keeps_name(held, change) {
+        return Ok(());
+    }
+    forget_at(names, held, change.uuid())
+}
+
+/// Whether the change puts an entry of the name that its identity has.
+fn keeps_name(held: &WeighedEntries, change: &StagedChange) -> bool
+    ensures value { result
+        ≡ keeps_name (entry_at held.now (change_of change.now).0) (change_of change.now).1 }
+    ensures pathed { IsTrue result → IsPathed (change_of change.now).1 }
+{
+    match change {
+        StagedChange::AddOrModify(entry) => has_name_of(held, entry),
+        StagedChange::Delete(_) => false,
+    }
+}
+
+/// Whether the identity of the entry has an entry of its name.
+fn has_name_of(held: &WeighedEntries, entry: &Entry) -> bool
+    ensures value { result ≡ keeps_name (entry_at held.now entry.now.uuid) (Some entry.now) }
+    ensures pathed { HasPath entry.now.dn }
+{
+    let path = entry.dn.path();
+    match held.get(entry.uuid) {
+        Some(was) => has_path_key(&was.dn, path),
+        None => false,
+    }
+}
+
+/// Whether the name has this path key.
+fn has_path_key(name: &Dn, path: &[u8]) -> bool
+    ensures { result ≡ bytes_eq (path_key name.now) path.now }
+{
+    name.path() == path
 }
 
 /// Takes the name away that the entry of the identity has.
@@ -78,10 +125,15 @@ fn forget(names: &mut Names, entry: &Entry) -> Result<(), NoMemory>
     Ok(())
 }
 
-/// Notes the names of the entries that are put. Whether none of them was there.
-fn note_each(names: &mut Names, changes: &[&StagedChange]) -> Result<bool, NoMemory>
+/// Notes the names of the entries that are put, but for those that stay. Whether none of them was
+/// there.
+fn note_each(
+    names: &mut Names,
+    held: &WeighedEntries,
+    changes: &[&StagedChange],
+) -> Result<bool, NoMemory>
     requires { rises (keys_of (changes_in changes.now)) ≡ true }
-    ensures noted { IfOk result (NotesAll names.old names.new (changes_in changes.now)) }
+    ensures noted { IfOk result (NotesAll held.now names.old names.new (changes_in changes.now)) }
     ensures pathed { OnOk result
         ((uuid : ℕ) → IsPathed (entry_staged (changes_in changes.now) uuid)) }
 {
@@ -89,15 +141,34 @@ fn note_each(names: &mut Names, changes: &[&StagedChange]) -> Result<bool, NoMem
     let mut left = changes.len();
     while left > 0 {
         left -= 1;
-        let is_free = note_change(names, changes[left])?;
+        let is_free = note_for(names, held, changes[left])?;
         are_apart &= is_free;
     }
     Ok(are_apart)
 }
 
+/// Notes the name of the entry that the change puts, if any, unless its identity has it. Whether it
+/// was not there.
+fn note_for(
+    names: &mut Names,
+    held: &WeighedEntries,
+    change: &StagedChange,
+) -> Result<bool, NoMemory>
+    ensures noted { IfOk result
+        (NotesAll held.now names.old names.new (change_of change.now ∷ [])) }
+    ensures pathed { OnOk result (IsPathed (change_of change.now).1) }
+{
+    if keeps_name(held, change) {
+        return Ok(true);
+    }
+    note_change(names, change)
+}
+
 /// Notes the name of the entry that the change puts, if any. Whether it was not there.
 fn note_change(names: &mut Names, change: &StagedChange) -> Result<bool, NoMemory>
-    ensures noted { IfOk result (NotesAll names.old names.new (change_of change.now ∷ [])) }
+    ensures noted { (entries : List Entry)
+        → keeps_name (entry_at entries (change_of change.now).0) (change_of change.now).1 ≡ false
+        → IfOk result (NotesAll entries names.old names.new (change_of change.now ∷ [])) }
     ensures pathed { OnOk result (IsPathed (change_of change.now).1) }
 {
     match change {

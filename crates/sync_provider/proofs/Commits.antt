@@ -1,11 +1,8 @@
 -- A commit by what rejects it.
-use Rattle.std.proofs.Common.{◌≡◌, ℕ, true, false, List, Option, Some, None, refl}
+use Rattle.std.proofs.Common.{◌≡◌, ℕ, List, Option, Some, None, refl}
 use Rattle.std.specs.Prelude.{option_map}
 use Rattle.entry_tree.specs.declared.entry.Entry.{Entry}
 use Rattle.entry_tree.specs.declared.op.Op.{Op}
-use Rattle.entry_tree.specs.Fitting.{fits}
-use Rattle.entry_tree.specs.Sound.{is_commit}
-use Rattle.directory_writes.proofs.Commits.{plain_fits}
 use Rattle.directory_writes.specs.Commits as directory
 use Rattle.directory_writes.specs.Directory.{DirectoryState, judged}
 use Rattle.directory_writes.specs.declared.commit.DirectoryFault.{DirectoryFault}
@@ -14,10 +11,6 @@ use Rattle.sync_provider.specs.Machine.{ProviderState, after_judged, after_commi
 use Rattle.sync_provider.specs.declared.provider.Kind.{Kind}
 use Rattle.sync_provider.specs.declared.provider.Kind.TheVariants.{Root, Replica}
 use Rattle.sync_provider.specs.declared.writing.CommitFault.{CommitFault}
-
--- a client's write fits
-pub asked_fits : (entries : List Entry) (op : Op) → is_commit op ≡ false → fits entries op ≡ true
-asked_fits = plain_fits
 
 -- what holds of a provider, and of it after a write, holds after a commit
 pub commit_case : (P : ProviderState → Type 0) (p : ProviderState) (op : Op) (now : ℕ) (refusal : Option CommitFault)

@@ -2,12 +2,11 @@
 use Rattle.std.proofs.Common.{◌≡◌, ◌≤◌, ℕ, Bool, true, false, cond, List, [], ◌∷◌, length, Option, Some, None, refl, ap, sym, ◌∙◌, arith}
 use Rattle.std.specs.Prelude.{is_some, option_map}
 use Rattle.std.specs.BTreeMap.{insert_entry, is_at}
-use Rattle.std.specs.Map.{keys_of}
 use Rattle.std.specs.Ordering.{nat_cmp, match_ordering}
 use Rattle.std.specs.declared.cmp.Ordering.{Ordering}
 use Rattle.std.specs.declared.cmp.Ordering.TheVariants.{Less, Equal, Greater}
 use Rattle.std.proofs.lemmas.List.{length-map}
-use Rattle.std.proofs.lemmas.Map.Made.{lookup-map_values, keys_of-map_values}
+use Rattle.std.proofs.lemmas.Map.Made.{lookup-map_values}
 use Rattle.entry_tree.specs.declared.op.Write.{Write}
 use Rattle.entry_tree.specs.declared.touched.EntryChange.{EntryChange}
 use Rattle.sync_model.specs.Message.{CookieText, SyncMessage}
@@ -70,9 +69,6 @@ held_opened (e ∷ es) k held = by (nat_cmp k e.0) (held_opened es k held) where
   by Less rest = refl
   by Equal rest = refl
   by Greater rest = ap (λ xs. (e.0, e.1.search) ∷ xs) rest
-
-pub held_keys : (es : Held) → keys_of (searches_of es) ≡ keys_of es
-held_keys es = keys_of-map_values (λ held. held.search) es
 
 pub as_many : (es : Held) (n : ℕ) → length es ≤ n → length (searches_of es) ≤ n
 as_many es n few = let same : length (searches_of es) ≡ length es = length-map es (λ held. (held.0, held.1.search)) in omega (arith, same, few)

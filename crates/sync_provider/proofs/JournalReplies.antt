@@ -95,6 +95,7 @@ module _ (p : ProviderState) (j : JournalState) (has : HasJournal p j) where
       state = ap (λ s. port_state (with_journal s j)) leaves.state ∙ commit_port (Commit puts drops) now (commit_refusal p.kind p.directory puts drops now);
       err = tt;
       number = leaves.number;
+      one = leaves.one;
     };
   }
   commit_answered puts drops now (Err fault) new leaves = record {
@@ -106,6 +107,7 @@ module _ (p : ProviderState) (j : JournalState) (has : HasJournal p j) where
       state = tt;
       err = ap (λ s. port_state (with_journal s j)) leaves.err;
       number = tt;
+      one = tt;
     };
   }
 

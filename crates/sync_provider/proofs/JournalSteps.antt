@@ -6,6 +6,7 @@ use Rattle.std.specs.BTreeMap.{insert_entry, is_at}
 use Rattle.std.specs.Ordering.{nat_cmp}
 use Rattle.std.proofs.lemmas.Bool.{false≢true}
 use Rattle.std.proofs.lemmas.Map.Made.{lookup-map_values}
+use Rattle.std.proofs.lemmas.Option.{none-some}
 use Rattle.entry_tree.specs.declared.op.Write.{Write}
 use Rattle.sync_model.specs.Message.{SyncMessage}
 use Rattle.directory_writes.specs.Directory.{DirectoryState, with_write}
@@ -39,9 +40,6 @@ pub record IsPort (v : JournalledProvider) (p : PortState) : Type 0 where
 
 some_is : {X : Type 0} (x y : X) → Some x ≡ Some y → x ≡ y
 some_is x y e = cc
-
-none_is : {X : Type 0} (x : X) → None ≡ Some x → ⊥
-none_is x e = cc
 
 -- the same search was opened so
 same_opening : (number : ℕ) (s after : SearchState) → IsSame s after → opening_of_search number after ≡ opening_of_search number s
@@ -99,7 +97,7 @@ module _ (v : JournalledProvider) (is : IsJournalled v) (w : Write) where
     where
       by : (found : Option SearchState) → search_at v.state.searches n ≡ found → option_map (informed limit d w) found ≡ Some s
           → s.over ≡ false → HasHandedOut (with_write d w) s (handed_at v.handed n)
-      by None none is_there = absurd (none_is s is_there)
+      by None none is_there = absurd (none-some s is_there)
       by (Some was) found is_there =
           subst (λ x. x.over ≡ false → HasHandedOut (with_write d w) x (handed_at v.handed n)) (some_is (informed limit d w was) s is_there) (matched n was found).counted
 
@@ -315,7 +313,7 @@ module _ (v : JournalledProvider) (is : IsJournalled v) (number handed count : �
   now = handed_at v.handed number
 
   none_begun : (s : SearchState) → None ≡ Some s → s.over ≡ false → HasHandedOut v.state.directory s now
-  none_begun s e = absurd (none_is s e)
+  none_begun s e = absurd (none-some s e)
 
   pub end_goes : IsPort after_end (ended_in (port_state v) number end)
   end_goes = record {

@@ -1,7 +1,7 @@
 -- The journal of a provider as a list: the order of its events, its length, and what an entry adds to it.
 use Rattle.std.proofs.Common.{◌≡◌, ◌≤◌, ℕ, zero, suc, ◌+◌, ◌-◌, Bool, false, cond, List, [], ◌∷◌, ◌++◌, length, map, take, drop, Some, None, refl, ap, sym, ◌∙◌, subst, arith, append_assoc, length-append}
 use Rattle.std.specs.Prelude.{is_some, not, find, slice_get, Result, Ok, Err}
-use Rattle.std.proofs.lemmas.List.{length-map, map-append, length-drop, take-append-le, drop-append-le, take_all, drop_all}
+use Rattle.std.proofs.lemmas.List.{length-map, map-append, length-drop, take-append-drop, take-append-le, drop-append-le, take_all, drop_all}
 use Rattle.entry_tree.specs.declared.op.Write.{Write}
 use Rattle.sync_messages.specs.Request.{request_of}
 use Rattle.sync_messages.specs.declared.fault.SyncFault.{SyncFault}
@@ -10,10 +10,12 @@ use Rattle.directory_writes.specs.Directory.{DirectoryState}
 use Rattle.sync_provider.specs.Accepting.{free_number, numbers_from, answer_to_request, answer_to}
 use Rattle.sync_provider.specs.HandingOut.{has_message, search_at, turn_of_pending}
 use Rattle.sync_provider.specs.Journal.{note_of, journal_from, journal_of, AreInOrder, JournalledProvider, numbered, journal_in, IsJournalled}
-use Rattle.sync_provider.specs.Ports.{Journal, PortState, open_after, open_from, is_open, free_in, answer_by, IsReplied}
+use Rattle.sync_provider.specs.Ports.{Journal, PortState, write_in, writes_in, open_after, open_from, is_open, free_in, answer_by, IsReplied}
 use Rattle.sync_provider.specs.Search.{SearchState, pending}
 use Rattle.sync_provider.specs.declared.journal_note.JournalNote.{JournalNote}
 use Rattle.sync_provider.specs.declared.journal_note.JournalNote.TheVariants as notes
+use Rattle.sync_provider.specs.declared.journal_note.SearchChange.{SearchChange}
+use Rattle.sync_provider.specs.declared.journal_note.SearchChange.TheVariants.{Opened, Closed}
 use Rattle.sync_provider.specs.declared.journal_note.SearchEvent.{SearchEvent}
 use Rattle.sync_provider.specs.declared.searches.SyncSearch.{SyncSearch}
 use Rattle.sync_provider.proofs.Turns.{none_turn}
@@ -104,6 +106,31 @@ journal_length (e ∷ events) k ws =
     let rest : length (journal_from e.writes (drop n ws) events) ≡ length (drop n ws) + length events = journal_length events e.writes (drop n ws) in
     let front : length (map notes.Wrote (take n ws)) ≡ length (take n ws) = length-map (take n ws) notes.Wrote in
     omega (arith, front, rest, parts_length n ws, length-append (map notes.Wrote (take n ws)) (note_of e.change ∷ journal_from e.writes (drop n ws) events))
+
+-- ---- the writes of the journal
+
+writes_append : (one other : Journal) → writes_in (one ++ other) ≡ writes_in one ++ writes_in other
+writes_append [] other = refl
+writes_append (e ∷ one) other = ap (λ rest. write_in e.0 ++ rest) (writes_append one other) ∙ sym (append_assoc (write_in e.0) (writes_in one) (writes_in other))
+
+only_wrote : (ws : List Write) → writes_in (numbered (map notes.Wrote ws)) ≡ ws
+only_wrote [] = refl
+only_wrote (w ∷ ws) = ap (λ rest. w ∷ rest) (only_wrote ws)
+
+no_write : (change : SearchChange) → write_in (note_of change) ≡ []
+no_write (Opened opened) = refl
+no_write (Closed end) = refl
+
+-- they are those that it was made of, wherever the events stand
+pub writes_kept : (events : List SearchEvent) (k : ℕ) (ws : List Write) → writes_in (numbered (journal_from k ws events)) ≡ ws
+writes_kept [] k ws = only_wrote ws
+writes_kept (e ∷ events) k ws =
+    let n : ℕ = e.writes - k in
+    let later : List JournalNote = journal_from e.writes (drop n ws) events in
+    ap writes_in (map-append (λ note. (note, 0)) (map notes.Wrote (take n ws)) (note_of e.change ∷ later))
+    ∙ writes_append (numbered (map notes.Wrote (take n ws))) (numbered (note_of e.change ∷ later))
+    ∙ (λ i. only_wrote (take n ws) i ++ (no_write e.change i ++ writes_kept events e.writes (drop n ws) i))
+    ∙ take-append-drop n ws
 
 -- ---- an entry more of the journal
 

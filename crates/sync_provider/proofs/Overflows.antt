@@ -4,6 +4,7 @@ use Rattle.std.proofs.Common.{◌≡◌, ℕ, ◌+◌, ◌-◌, ◌<◌, Bool, t
 use Rattle.std.specs.Prelude.{Result, Ok, Err, not, ◌&&◌, ◌||◌, drop}
 use Rattle.std.proofs.lemmas.Bool.{lt-ltb, le-ltb}
 use Rattle.std.proofs.lemmas.List.{append-nil}
+use Rattle.std.proofs.Math.Bool.{or-false}
 use Rattle.entry_tree.specs.declared.op.Op.TheVariants.{Commit}
 use Rattle.entry_tree.specs.declared.op.Op.{Op}
 use Rattle.entry_tree.specs.declared.op.Write.{Write}
@@ -43,10 +44,6 @@ itself d = ([], append-nil d.writes)
 pub drop_all : (xs ys : List SyncMessage) → drop (length xs) (xs ++ ys) ≡ ys
 drop_all [] ys = refl
 drop_all (x ∷ xs) ys = drop_all xs ys
-
-or_none : (b : Bool) → (b || false) ≡ b
-or_none true = refl
-or_none false = refl
 
 -- ---- a write
 
@@ -109,7 +106,7 @@ module _ (s0 : SearchState) (limit : ℕ) (d : DirectoryState) (w : Write) (s : 
   over_is = by s.persists s.over refl refl
     where
       by : (p o : Bool) → s.persists ≡ p → s.over ≡ o → over_now ≡ (cond (p && not o) (pushed limit (group_of d s w) s) s).over
-      by false o stays is = ap (λ b. t.over || (b && is_too_much limit d s0 w t.handed)) (sym matches.same.persists ∙ stays) ∙ or_none t.over ∙ matches.over
+      by false o stays is = ap (λ b. t.over || (b && is_too_much limit d s0 w t.handed)) (sym matches.same.persists ∙ stays) ∙ or-false t.over ∙ matches.over
       by true true goes on = ap (λ b. b || (s0.persists && is_too_much limit d s0 w t.handed)) (matches.over ∙ on) ∙ sym on
       by true false goes off = over_by goes off ∙ sym (pushed_over off (group_of d s w))
 
@@ -190,7 +187,7 @@ write_stays : (s0 : SearchState) (p : ProviderState) (t : Tally) (over : Bool) (
 write_stays s0 p t over (Err code) is why = is
 write_stays s0 p t over (Ok write) is (inl on) = ap (λ b. b || (s0.persists && is_too_much p.queue_limit p.directory s0 write t.handed)) (is ∙ on) ∙ sym on
 write_stays s0 p t over (Ok write) is (inr stays) =
-    ap (λ b. t.over || (b && is_too_much p.queue_limit p.directory s0 write t.handed)) stays ∙ or_none t.over ∙ is
+    ap (λ b. t.over || (b && is_too_much p.queue_limit p.directory s0 write t.handed)) stays ∙ or-false t.over ∙ is
 
 commit_stays : (s0 : SearchState) (p : ProviderState) (t : Tally) (over : Bool) (op : Op) (now : ℕ) (refusal : Option CommitFault) → t.over ≡ over
     → (over ≡ true) ⊎ (s0.persists ≡ false) → (after_commit p s0 op now refusal t).over ≡ over

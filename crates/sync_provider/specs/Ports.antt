@@ -1,6 +1,6 @@
 -- What is done through a port of a directory: each reply is the one that a provider of one thread
 -- gives at its place in the directory's journal.
-use Rattle.std.specs.Prelude.{◌≡◌, ◌≢◌, ◌≤◌, ◌↔◌, ℕ, ◌+◌, Bool, true, false, cond, not, ◌||◌, ◌&&◌, nat_eq, if◌then◌else◌, List, [], ◌∷◌, ◌++◌, length, drop, find, Option, Some, None, option_map, is_some, Result, Ok, Err, IfOk, IfErr, IfSome, OnOk, OnErr, IsErrOf, All}
+use Rattle.std.specs.Prelude.{◌≡◌, ◌≢◌, ◌<◌, ◌≤◌, ◌↔◌, ℕ, ◌+◌, ◌^◌, Bool, true, false, cond, not, ◌||◌, ◌&&◌, nat_eq, if◌then◌else◌, List, [], ◌∷◌, ◌++◌, length, drop, find, Option, Some, None, option_map, is_some, Result, Ok, Err, IfOk, IfErr, IfSome, OnOk, OnErr, IsErrOf, All}
 use Rattle.ldap_constants.specs.declared.result_codes.TheConstants.{NO_SUCH_OBJECT, OTHER, PROTOCOL_ERROR}
 use Rattle.dn_names.specs.Names.{TypeAndValue, is_at_or_below}
 use Rattle.entry_tree.specs.declared.entry.Entry.{Entry}
@@ -11,7 +11,7 @@ use Rattle.sync_messages.specs.Request.{request_of}
 use Rattle.sync_messages.specs.declared.fault.SyncFault.{SyncFault}
 use Rattle.sync_messages.specs.declared.request.SyncRequest.{SyncRequest}
 use Rattle.sync_model.specs.Message.{SyncMessage}
-use Rattle.directory_writes.specs.Directory.{DirectoryState, entries_of, judged, with_write, code_of_judged}
+use Rattle.directory_writes.specs.Directory.{DirectoryState, entries_of, judged, with_write, code_of_judged, AreAccepted, CsnsRise}
 use Rattle.sync_provider.specs.Accepting.{Answers, numbers_from, numbered}
 use Rattle.sync_provider.specs.Committing.{commit_refusal, Opposes}
 use Rattle.sync_provider.specs.Comparing.{compare_code}
@@ -186,6 +186,7 @@ pub record CommitReplies
   pub state : OnOk result (new ≡ committed_in p puts drops now)
   pub err : OnErr result (new ≡ p)
   pub number : IfOk result (λ number. number ≡ length new.directory.writes)
+  pub one : IfOk result (λ number. number ≡ length p.directory.writes + 1)
 
 -- ---- questions
 
@@ -200,8 +201,12 @@ pub record CompareReplies
   pub answer : code ≢ OTHER → code ≡ compare_code (entries_of p.directory) dn name value
   pub state : new ≡ p
 
+-- each write was accepted on the entries before it, and has a CSN above those before it
 pub record WritesReplies (p : PortState) (number : ℕ) (new : PortState) : Type 0 where
   pub answer : number ≡ length p.directory.writes
+  pub small : number < 2 ^ 63
+  pub accepted : AreAccepted p.directory.suffix p.directory.history p.directory.writes
+  pub rises : CsnsRise p.directory.sid p.directory.writes
   pub state : new ≡ p
 
 -- ---- searches with content synchronisation

@@ -76,7 +76,8 @@ pub trait Port: Drop {
         ensures replies { IsReplied (state self.old)
             (λ p. DropReplies p search result (state self.new)) };
 
-    /// How many writes were accepted.
+    /// How many writes were accepted. Each was sound, had nothing against it on the entries before
+    /// it, and has a CSN above those before it.
     fn writes(&mut self) -> u64
         ensures home { home self.new ≡ home self.old }
         ensures replies { IsReplied (state self.old)

@@ -1,6 +1,6 @@
 //! A provider: a directory with content synchronisation, and its journal.
 
-ghost use Rattle.std.specs.Prelude.{◌≡◌, ◌≢◌, ◌≤◌, ◌-◌, ◌<◌, ◌^◌, ◌&&◌, nat_le, nat_lt, true, false, length, slice_get, Some, IfOk};
+ghost use Rattle.std.specs.Prelude.{◌≡◌, ◌≢◌, ◌≤◌, ◌-◌, ◌<◌, ◌^◌, ◌&&◌, nat_le, nat_lt, true, false, length, slice_get, None, Some, IfOk};
 ghost use Rattle.std.specs.List.{list_all};
 ghost use Rattle.csn_cookie.specs.Csn as csn_specs;
 ghost use Rattle.directory_writes.specs.Directory as directory;
@@ -10,9 +10,10 @@ ghost use Rattle.entry_tree.specs.Sound.{is_commit, is_sound_op, is_sound_put};
 ghost use Rattle.ldap_constants.specs.declared.result_codes.TheConstants as codes;
 ghost use Rattle.sync_provider.specs.Answering.{WriteLeaves, CommitLeaves, AcceptLeaves, HandOutLeaves, DropLeaves};
 ghost use Rattle.sync_provider.specs.Comparing.{compare_code};
+ghost use Rattle.sync_provider.specs.HandingOut as handing;
 ghost use Rattle.sync_provider.specs.Journal.{port_state, fresh_port, journal_of, IsJournalled};
 ghost use Rattle.sync_provider.specs.Machine as machine;
-ghost use Rattle.sync_provider.specs.Ports.{WriteReplies, CommitReplies, AcceptReplies, HandOutReplies, DropReplies};
+ghost use Rattle.sync_provider.specs.Ports.{HasItsWrites, WriteReplies, CommitReplies, AcceptReplies, HandOutReplies, DropReplies};
 ghost use Rattle.sync_provider.specs.Searching.{reply_to};
 
 use crate::NoMemory;
@@ -172,6 +173,8 @@ impl Provider {
     pub fn hand_out(&mut self, number: u64) -> Handed
         ensures leaves { HandOutLeaves self.old.state number result self.new.state }
         ensures journal { HandOutReplies (port_state self.old) number result (port_state self.new) }
+        ensures gone { handing.is_closing (handing.turn_of result) ≡ true
+            → handing.search_at self.new.state.searches number ≡ None }
     {
         let handed = self.journal.handed(number);
         if self.directory.has_message(number) && !can_count(number, handed) {
@@ -198,6 +201,7 @@ impl Provider {
     pub fn drop_search(&mut self, number: u64) -> bool
         ensures leaves { DropLeaves self.old.state number result self.new.state }
         ensures journal { DropReplies (port_state self.old) number result (port_state self.new) }
+        ensures gone { handing.search_at self.new.state.searches number ≡ None }
     {
         let handed = self.journal.handed(number);
         let over = self.directory.over_at(number, handed);
@@ -227,11 +231,12 @@ impl Provider {
         self.directory.set_queue_limit(limit);
     }
 
-    /// How many entries its journal has.
+    /// How many entries its journal has. The writes among them are those of its directory.
     pub fn journal_len(&self) -> u64
         ensures value { result
             ≡ length (journal_of self.now.state.directory.writes self.now.events) }
         ensures journalled { IsJournalled self.now }
+        ensures writes { HasItsWrites (port_state self.now) }
     {
         self.directory.writes() + self.journal.events().len() as u64
     }
@@ -259,10 +264,15 @@ impl Provider {
         self.directory.suffix()
     }
 
-    /// How many writes were accepted.
+    /// How many writes were accepted. Each was sound, had nothing against it on the entries before
+    /// it, and has a CSN above those before it.
     pub fn writes(&self) -> u64
         ensures value { result ≡ length self.now.state.directory.writes }
         ensures small { result < 2 ^ 63 }
+        ensures accepted { directory.AreAccepted self.now.state.directory.suffix
+            self.now.state.directory.history self.now.state.directory.writes }
+        ensures rises { directory.CsnsRise
+            self.now.state.directory.sid self.now.state.directory.writes }
     {
         self.directory.writes()
     }

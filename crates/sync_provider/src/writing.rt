@@ -77,7 +77,7 @@ impl SyncDirectory {
     }
 
     /// The code of a client's write.
-    #[tactic(auto, using(crate::proofs::Commits::asked_fits))]
+    #[tactic(auto, using(directory_writes::proofs::Commits::plain_fits))]
     fn take_write(&mut self, op: Op, now: u64) -> Result<u32, NoMemory>
         requires sound { is_sound_op op ≡ true }
         requires asked { is_commit op ≡ false }

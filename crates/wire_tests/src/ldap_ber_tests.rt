@@ -310,7 +310,7 @@ fn refusal(bytes: &[u8], call: Call) -> Result<Option<BerFault>, BerFault> {
 }
 
 /// Sequences, what is asked of the element after the first one, and what refuses it.
-const REFUSED: [(&[u8], Call, BerKind, usize); 19] = [
+const REFUSED: [(&[u8], Call, BerKind, usize); 17] = [
     // no element, a tag alone, a length cut, a body cut
     (b"\x30\x03\x02\x01\x05", Call::Next, BerKind::Short, 5),
     (b"\x30\x04\x02\x01\x05\x04", Call::Next, BerKind::Short, 5),
@@ -333,13 +333,7 @@ const REFUSED: [(&[u8], Call, BerKind, usize); 19] = [
         BerKind::Short,
         13,
     ),
-    // an indefinite length, five length octets, the reserved first length octet
-    (
-        b"\x30\x07\x02\x01\x05\x24\x80\0\0",
-        Call::Next,
-        BerKind::Indefinite,
-        5,
-    ),
+    // five length octets, the reserved first length octet
     (
         b"\x30\x0a\x02\x01\x05\x04\x85\0\0\0\0\0",
         Call::Next,
@@ -365,15 +359,9 @@ const REFUSED: [(&[u8], Call, BerKind, usize); 19] = [
         BerKind::WrongTag,
         5,
     ),
-    // another tag, and LG 5.10: the constructed form of an octet string
+    // another tag
     (
         b"\x30\x06\x02\x01\x05\x0a\x01\x05",
-        Call::Octets,
-        BerKind::WrongTag,
-        5,
-    ),
-    (
-        b"\x30\x11\x02\x01\x05\x24\x0c\x04\x04\x01\x23\x45\x67\x04\x04\x89\xab\xcd\xef",
         Call::Octets,
         BerKind::WrongTag,
         5,
@@ -422,11 +410,37 @@ const REFUSED: [(&[u8], Call, BerKind, usize); 19] = [
 
 #[test]
 fn refusals(rt: HostRuntime) {
-    for (bytes, call, kind, at) in &REFUSED {
+    assert_refused(&rt, &REFUSED);
+}
+
+/// Forms that LDAP leaves out (RFC 4511, section 5.1): an indefinite length, and, as LG 5.10 has
+/// it, the constructed form of an octet string.
+const OTHER_FORMS: [(&[u8], Call, BerKind, usize); 2] = [
+    (
+        b"\x30\x07\x02\x01\x05\x24\x80\0\0",
+        Call::Next,
+        BerKind::Indefinite,
+        5,
+    ),
+    (
+        b"\x30\x11\x02\x01\x05\x24\x0c\x04\x04\x01\x23\x45\x67\x04\x04\x89\xab\xcd\xef",
+        Call::Octets,
+        BerKind::WrongTag,
+        5,
+    ),
+];
+
+#[test]
+fn an_indefinite_length_and_a_constructed_string_are_refused(rt: HostRuntime) {
+    assert_refused(&rt, &OTHER_FORMS);
+}
+
+fn assert_refused(rt: &impl Abort, rows: &[(&[u8], Call, BerKind, usize)]) {
+    for (bytes, call, kind, at) in rows {
         let fault = BerFault {
             kind: *kind,
             at: *at,
         };
-        assert_same_of(&rt, bytes, &refusal(bytes, *call), &Ok(Some(fault)));
+        assert_same_of(rt, bytes, &refusal(bytes, *call), &Ok(Some(fault)));
     }
 }

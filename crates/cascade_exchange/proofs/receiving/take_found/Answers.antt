@@ -8,4 +8,4 @@ pub returns-in_ok-faulted-in-None-clause-does : goal.returns-in_ok-faulted-in-No
 returns-in_ok-faulted-in-None-clause-does c =
     let node = c.args.consumer_node.now in
     garbled c.args.out.now.lineage c.args.provider.now (closed c.args.provider.now node.search) node (emptied node (copy_of node)) (option_map whole_of c.args.found) _ _ (ap (option_map whole_of) c.in-None.is)
-    refl (rw c.as_slice.ensures at c.in_ok-faulted-in-None.ensures)
+    refl (rw c.as_slice.ensures at c.in_ok-faulted-in-None.ensures.line)

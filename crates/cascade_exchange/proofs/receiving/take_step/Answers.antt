@@ -16,7 +16,7 @@ returns-in_default-clause-does c =
     let after = agreement_of c.args.provider.now c.take_next.new.consumer_node c.args.out.now.lineage in
     let whole = takes c.args.left pair in
     took_none whole c.args.left pair after c.args.out.now c.args.out.now c.take_next.new.out _ false c.requires (begins whole c.args.out.now)
-    (next_none pair after (taking pair) c.args.out.now c.take_next.new.out c.in_ok-goes_on.field-0 c.in_default.is c.in_ok-goes_on.ensures.does) refl (rw c.as_slice.ensures at c.in_ok-nothing.ensures)
+    (next_none pair after (taking pair) c.args.out.now c.take_next.new.out c.in_ok-goes_on.field-0 c.in_default.is c.in_ok-goes_on.ensures.does) refl (rw c.as_slice.ensures at c.in_ok-nothing.ensures.line)
 
 pub returns-then-goes_on-clause-does : goal.returns-then-goes_on-clause-does
 returns-then-goes_on-clause-does c =

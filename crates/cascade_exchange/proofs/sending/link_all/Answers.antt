@@ -31,7 +31,7 @@ returns-then-not-branch-clause-does c =
     let whole = sent c.args.count (agreement_of c.args.provider.now c.args.consumer_node.now lin) in
     sent_none whole c.loop-left.left (passed c.loop-left.linked.count c.loop-left.linked.ended (agreement_of c.args.provider.now c.loop-left.consumer_node lin))
     (passed c.link_next.new.linked.count c.link_next.new.linked.ended (agreement_of c.args.provider.now c.link_next.new.consumer_node lin)) _ _ _ _ c.loop-left-test.true c.loop-left.invariant.goes
-    (rw c.if-not-branch.true at (c.in_ok-link_next.ensures.does lin)) (rw c.as_slice.ensures at c.in_ok-nothing.ensures)
+    (rw c.if-not-branch.true at (c.in_ok-link_next.ensures.does lin)) (rw c.as_slice.ensures at c.in_ok-nothing.ensures.line)
 
 pub loop-left-preserved : goal.loop-left-preserved
 loop-left-preserved c =

@@ -20,5 +20,5 @@ loop-left-preserved c =
     record {
       within = omega (arith, within);
       notes = forgets_from c.args.changes.now k c.loop-left.left change (omega arith) (omega (arith, within)) c.index-changes-left.is c.requires.ordered
-          c.args.held.now c.loop-left.names c.forget_at.new.names (rw c.uuid.ensures at c.in_ok-forget_at.ensures) c.loop-left.invariant.notes;
+          c.args.held.now c.loop-left.names c.forget_for.new.names c.in_ok-forget_for.ensures c.loop-left.invariant.notes;
     }

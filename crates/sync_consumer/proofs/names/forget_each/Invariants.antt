@@ -3,7 +3,7 @@ use Rattle.sync_consumer.specs.Holding.{stays, Notes}
 use Rattle.sync_consumer.specs.Staging.{changes_in}
 use Rattle.sync_consumer.proofs.names.forget_each.Given as goal
 
--- the names of which a change from this one on is are taken away
+-- the names of which a change from this one on is are taken away, but for those that stay
 abbrev pub invariant-loop-left : goal.invariant-loop-left
 invariant-loop-left l = record {
   within : l.left ≤ length l.changes;

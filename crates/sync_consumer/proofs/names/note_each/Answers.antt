@@ -11,7 +11,7 @@ use Rattle.sync_consumer.proofs.names.note_each.Goals as goal
 pub loop-left-init : goal.loop-left-init
 loop-left-init c = record {
   within = omega arith;
-  noted = subst (λ (s : Stage). NotesAll c.args.names.now c.args.names.now s true) (sym (none_from c.args.changes.now)) (notes_nothing c.args.names.now true);
+  noted = subst (λ (s : Stage). NotesAll c.args.held.now c.args.names.now c.args.names.now s true) (sym (none_from c.args.changes.now)) (notes_nothing c.args.held.now c.args.names.now true);
   pathed = λ uuid. subst (λ (s : Stage). IsPathed (entry_staged s uuid)) (sym (none_from c.args.changes.now)) tt;
 }
 
@@ -23,7 +23,7 @@ loop-left-preserved c =
     record {
       within = omega (arith, within);
       noted = notes_from c.args.changes.now k c.loop-left.left change (omega arith) (omega (arith, within)) c.index-changes-left.is c.requires
-          c.args.names.now c.loop-left.names c.note_change.new.names c.loop-left.are_apart c.in_ok-is_free.is_free c.loop-left.invariant.noted c.in_ok-is_free.ensures.noted;
+          c.args.held.now c.args.names.now c.loop-left.names c.note_for.new.names c.loop-left.are_apart c.in_ok-is_free.is_free c.loop-left.invariant.noted c.in_ok-is_free.ensures.noted;
       pathed = pathed_from c.args.changes.now k c.loop-left.left change (omega arith) (omega (arith, within)) c.index-changes-left.is
           c.loop-left.invariant.pathed c.in_ok-is_free.ensures.pathed;
     }
@@ -31,4 +31,4 @@ loop-left-preserved c =
 pub returns-clause-noted : goal.returns-clause-noted
 returns-clause-noted c =
     let none : c.loop-left.left ≡ 0 = omega arith in
-    subst (λ n. NotesAll c.args.names.now c.loop-left.names (changes_in (drop n c.args.changes.now)) c.loop-left.are_apart) none c.loop-left.invariant.noted
+    subst (λ n. NotesAll c.args.held.now c.args.names.now c.loop-left.names (changes_in (drop n c.args.changes.now)) c.loop-left.are_apart) none c.loop-left.invariant.noted

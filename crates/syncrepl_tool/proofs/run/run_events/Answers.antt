@@ -29,11 +29,6 @@ loop-event-preserved g c =
     let reads = rw c.in-Ok-Some.field-0-is at c.in-Ok-Some.ensures.reads in
     go_on c.loop-event.invariant _ _ c.read_event.new.script c.step.new.self _ _ _ reads c.in-Ok.ensures.steps (rw c.as_slice.ensures at c.if-not-write_whole.ensures.whole) c.write_whole.ensures.later
 
-pub loop-event-preserved-else-not-write_whole : goal.loop-event-preserved-else-not-write_whole
-loop-event-preserved-else-not-write_whole g c =
-    let reads = rw c.in-Ok-Some.field-0-is at c.in-Ok-Some.ensures.reads in
-    go_on c.loop-event.invariant _ _ c.read_event.new.script c.step.new.self _ _ _ reads c.in-Ok.ensures.steps (rw c.as_slice.ensures at c.if-not-write_whole.ensures.whole) c.write_whole.ensures.later
-
 pub returns-in-Err-step-clause-prefix : goal.returns-in-Err-step-clause-prefix
 returns-in-Err-step-clause-prefix g c = prefix_so_far c.loop-event.invariant
 

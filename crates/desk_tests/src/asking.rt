@@ -1,0 +1,116 @@
+//! What a port is asked, in words. Where memory runs out, and where a call is answered as no test
+//! wants it, there is no answer.
+ghost use Rattle.std.specs.Prelude.{◌≡◌};
+
+use dn_names::Dn;
+use entry_tree::{Scope, Spec, read_op};
+use ldap_ber::{Octets, OctetsList};
+use ldap_filter::Filter;
+use schema_rules::{Change, RawAttribute, RawList};
+use std::alloc::Global;
+use sync_provider::{Accepted, Handed, PlainSearch, Port, Reply, SearchReply, SyncSearch};
+
+/// Adds `dc=x` where the name is empty, else a unit below it.
+pub(crate) fn add<P: Port>(alloc: Global, port: &mut P, unit: &str) -> Option<Reply>
+    ensures { P.home port.new ≡ P.home port.old }
+{
+    let change = addition(alloc, unit)?;
+    let op = read_op(alloc, &change);
+    discard(change);
+    match op {
+        Ok(op) => Some(port.write(op, 0)),
+        Err(_) => None,
+    }
+}
+
+fn addition(alloc: Global, unit: &str) -> Option<Change> {
+    if unit.is_empty() {
+        return added(alloc, "dc=x", "objectClass=organization,dcObject o=X dc=x");
+    }
+    let name = format!(in alloc; "ou={unit},dc=x").ok()?;
+    let attributes = format!(in alloc; "objectClass=organizationalUnit ou={unit}").ok()?;
+    added(alloc, &name, &attributes)
+}
+
+fn added(alloc: Global, name: &str, attributes: &str) -> Option<Change> {
+    let name = octets(alloc, name)?;
+    let mut list = RawList::new(alloc);
+    for word in attributes.split(' ') {
+        list.push(attribute(alloc, word)?).ok()?;
+    }
+    Some(Change::Add(name, list))
+}
+
+/// `type=value,value`.
+fn attribute(alloc: Global, text: &str) -> Option<RawAttribute> {
+    let (name, values) = text.split_once('=').unwrap_or((text, ""));
+    let mut list = OctetsList::new(alloc);
+    for value in values.split(',') {
+        list.push(octets(alloc, value)?).ok()?;
+    }
+    Some(RawAttribute {
+        name: octets(alloc, name)?,
+        values: list,
+    })
+}
+
+fn octets(alloc: Global, text: &str) -> Option<Octets> {
+    Octets::from_slice(alloc, text.as_bytes()).ok()
+}
+
+/// How many entries a plain search of `dc=x` finds.
+pub(crate) fn count<P: Port>(alloc: Global, port: &mut P, scope: Scope) -> Option<usize>
+    ensures { P.home port.new ≡ P.home port.old }
+{
+    let ask = PlainSearch {
+        spec: spec(alloc, scope)?,
+        size_limit: 0,
+    };
+    let reply = port.search(&ask);
+    discard(ask);
+    let count = match &reply {
+        SearchReply::Found(found) => Some(found.list().len()),
+        SearchReply::Over(_) | SearchReply::NoSuchBase | SearchReply::NoMemory => None,
+    };
+    discard(reply);
+    count
+}
+
+fn spec(alloc: Global, scope: Scope) -> Option<Spec> {
+    Some(Spec {
+        base: Dn::parse(alloc, b"dc=x").ok()?,
+        scope,
+        filter: Filter::read_text(alloc, b"(objectClass=*)").ok()?,
+    })
+}
+
+/// Opens a search that goes on after its refresh (refreshAndPersist), without a cookie.
+pub(crate) fn follow<P: Port>(alloc: Global, port: &mut P) -> Option<Accepted>
+    ensures { P.home port.new ≡ P.home port.old }
+{
+    let control = octets(alloc, "\x30\x03\x0a\x01\x03")?;
+    Some(port.accept(SyncSearch {
+        id: 7,
+        spec: spec(alloc, Scope::Sub)?,
+        control,
+    }))
+}
+
+/// `m` for a message, `e` for an end, `-` for nothing, `?` for no such search.
+pub(crate) fn next<P: Port>(port: &mut P, search: u64) -> Option<char>
+    ensures { P.home port.new ≡ P.home port.old }
+{
+    let handed = port.hand_out(search);
+    let letter = match &handed {
+        Handed::Message(_) => Some('m'),
+        Handed::Ended(_, _) => Some('e'),
+        Handed::Nothing => Some('-'),
+        Handed::NoSuchSearch => Some('?'),
+        Handed::NoMemory => None,
+    };
+    discard(handed);
+    letter
+}
+
+/// Drops a value through its bound, so that no proof goes through the cases of its type.
+pub(crate) fn discard<T: Drop>(_value: T) {}

@@ -1,0 +1,9 @@
+//! Tests of a directory that threads share, by its desks.
+#![tactic(auto)]
+
+#[cfg(test)]
+mod asking;
+#[cfg(test)]
+mod passing;
+#[cfg(test)]
+mod shared_directory_tests;

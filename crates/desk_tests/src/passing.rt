@@ -1,0 +1,61 @@
+//! Passes of a directory: dealt, and put together again.
+ghost use Rattle.std.specs.Prelude.{◌≡◌, ◌+◌, ◌≤◌, length, IfSome, OnSome};
+ghost use Rattle.turn_cell.specs.Journals.{Every};
+ghost use Rattle.turn_cell.specs.Passes.{cell_id};
+ghost use Rattle.shared_directory.specs.Passes.{IsPassOf};
+
+use shared_directory::{DirectoryPass, SharedDirectory};
+use std::alloc::Global;
+use sync_provider::Provider;
+
+pub(crate) type Pair = (DirectoryPass, DirectoryPass);
+
+/// A directory that is shared, with as many passes.
+pub(crate) fn share(
+    alloc: Global,
+    provider: Provider,
+    seats: u32,
+) -> Option<(SharedDirectory, Vec<DirectoryPass>)>
+    requires { (1 ≤ seats) × (seats ≤ 1024) }
+    ensures count { IfSome result (λ made. length made.1.items ≡ seats) }
+    ensures passes { IfSome result (λ made.
+        Every (λ pass. IsPassOf (cell_id made.0.cell) pass) made.1.items) }
+{
+    match SharedDirectory::new(alloc, provider, seats) {
+        Ok(made) => Some(made),
+        Err(_) => None,
+    }
+}
+
+/// Takes the last two passes.
+pub(crate) fn last_two(directory: &SharedDirectory, passes: &mut Vec<DirectoryPass>) -> Pair
+    requires count { 2 ≤ length passes.old.items }
+    requires passes { Every (λ pass. IsPassOf (cell_id directory.now.cell) pass) passes.old.items }
+    ensures count { length passes.new.items + 2 ≡ length passes.old.items }
+    ensures passes { Every (λ pass. IsPassOf (cell_id directory.now.cell) pass) passes.new.items }
+    ensures pair { IsPassOf (cell_id directory.now.cell) result.0
+        × IsPassOf (cell_id directory.now.cell) result.1 }
+{
+    let _ = directory;
+    let second = passes.pop().unwrap();
+    let first = passes.pop().unwrap();
+    (first, second)
+}
+
+/// Puts a pass at the end. There is none where memory runs out.
+pub(crate) fn put_back(
+    directory: &SharedDirectory,
+    passes: &mut Vec<DirectoryPass>,
+    pass: DirectoryPass,
+) -> Option<()>
+    requires passes { Every (λ pass. IsPassOf (cell_id directory.now.cell) pass) passes.old.items }
+    requires pass { IsPassOf (cell_id directory.now.cell) pass }
+    ensures { OnSome result
+        (Every (λ pass. IsPassOf (cell_id directory.now.cell) pass) passes.new.items) }
+{
+    let _ = directory;
+    let Ok(()) = passes.push(pass) else {
+        return None;
+    };
+    Some(())
+}

@@ -1,0 +1,5 @@
+pub mod Streams
+pub mod Ends
+pub mod Cutting
+pub mod CutEnds
+pub mod Writers

@@ -1,0 +1,7 @@
+pub mod Acts
+pub mod Binding
+pub mod Cancelling
+pub mod Cuts
+pub mod Incoming
+pub mod Requests
+pub mod Shown

@@ -1,0 +1,370 @@
+//! What messages ask for, who is bound by a bind, what a Cancel names, and which controls are not
+//! known. The bytes are by hand from the rules of RFC 4511, sections 4 and 5.1, and of RFC 3909,
+//! section 2.1; the codes are those of RFC 4511, section 4.2.2 and appendix A.2, and of RFC 4513,
+//! section 5.1.
+use crate::assertions::{assert_same, assert_same_of, discard};
+use crate::ldap_messages_tests::message_of;
+use dn_names::Dn;
+use ldap_ber::{NoMemory, Octets};
+use ldap_messages::{Authentication, Control, ControlList, Message, MessageFault};
+use ldap_session::{
+    Access, AskedSearch, Request, bind_code, binds_as, cancels, has_unknown_critical, may_write,
+    request_of, target_of,
+};
+use schema_rules::Change;
+use std::alloc::Global;
+use std::process::Abort;
+use std::test::Fail;
+
+// A message and a request are dropped by `discard`, in the function that reads them and before that
+// can return with a fault.
+
+/// What the message that all of the bytes are asks for.
+fn request_in(alloc: Global, bytes: &[u8]) -> Result<Request, MessageFault> {
+    let Message { op, controls, .. } = message_of(alloc, bytes)?;
+    discard(controls);
+    Ok(request_of(op))
+}
+
+fn text_of(octets: &Octets) -> &str {
+    str::from_utf8(octets.as_slice()).unwrap_or("?")
+}
+
+fn change_name(change: &Change) -> &'static str {
+    match change {
+        Change::Add(_, _) => "add",
+        Change::Delete(_) => "delete",
+        Change::Modify(_, _) => "modify",
+        Change::Rename(_, _, _, _) => "rename",
+    }
+}
+
+fn bind_reported(
+    alloc: Global,
+    version: u8,
+    name: &Octets,
+    authentication: &Authentication,
+) -> Result<String, Fail> {
+    let (kind, given) = match authentication {
+        Authentication::Simple(password) => ("simple", password),
+        Authentication::Sasl(body) => ("sasl", body),
+    };
+    let (name, given) = (text_of(name), given.as_slice());
+    Ok(format!(in alloc; "bind {version} {name} {kind} {given:?}")?)
+}
+
+fn search_reported(alloc: Global, search: &AskedSearch) -> Result<String, Fail> {
+    let filter = search.filter.write_text(alloc)?;
+    let mut text = format!(in alloc;
+        "search {} {:?} {} {} {}",
+        text_of(&search.base),
+        search.scope,
+        search.size_limit,
+        search.types_only,
+        text_of(&filter)
+    )?;
+    for selector in search.selectors.list() {
+        text.push_str(" ")?;
+        text.push_str(text_of(selector))?;
+    }
+    Ok(text)
+}
+
+fn extended_reported(alloc: Global, name: &Octets, value: &Option<Octets>) -> Result<String, Fail> {
+    let value = match value {
+        Some(value) => text_of(value),
+        None => "none",
+    };
+    Ok(format!(in alloc; "extended {} {value}", text_of(name))?)
+}
+
+fn reported(alloc: Global, request: &Request) -> Result<String, Fail> {
+    match request {
+        Request::Bind(version, name, authentication) => {
+            bind_reported(alloc, *version, name, authentication)
+        }
+        Request::Unbind => Ok(String::from_str(alloc, "unbind")?),
+        Request::Write(change) => Ok(String::from_str(alloc, change_name(change))?),
+        Request::Compare(entry, name, value) => {
+            let (entry, name, value) = (text_of(entry), text_of(name), text_of(value));
+            Ok(format!(in alloc; "compare {entry} {name} {value}")?)
+        }
+        Request::Search(search) => search_reported(alloc, search),
+        Request::Abandon(target) => Ok(format!(in alloc; "abandon {target}")?),
+        Request::Extended(name, value) => extended_reported(alloc, name, value),
+        Request::Response => Ok(String::from_str(alloc, "response")?),
+    }
+}
+
+/// What the message that all of the bytes are asks for, as text.
+fn asked(alloc: Global, bytes: &[u8]) -> Result<String, Fail> {
+    let request = request_in(alloc, bytes)?;
+    let text = reported(alloc, &request);
+    discard(request);
+    text
+}
+
+/// A search below `ou=a` at one level with each limit, for types alone, of `cn` and the operational
+/// attributes, which dereferences aliases always.
+const SEARCH: &[u8] = b"0\x27\x02\x01\x01c\x22\x04\x04ou=a\x0a\x01\x01\x0a\x01\x03\x02\x01\
+    \x05\x02\x01\x06\x01\x01\xff\x87\x02cn0\x07\x04\x02cn\x04\x01+";
+
+/// The removal of `dc=x`.
+const DELETE: &[u8] = b"0\x09\x02\x01\x01J\x04dc=x";
+
+/// Requests, and what they ask for.
+const REQUESTS: [(&[u8], &str); 13] = [
+    (
+        b"0\x0c\x02\x01\x01`\x07\x02\x01\x03\x04\0\x80\0",
+        "bind 3  simple []",
+    ),
+    (
+        b"0\x11\x02\x01\x01`\x0c\x02\x01\x02\x04\x04cn=a\x80\x01a",
+        "bind 2 cn=a simple [97]",
+    ),
+    (
+        b"0\x0f\x02\x01\x01`\x0a\x02\x01\x03\x04\0\xa3\x03\x04\x01A",
+        "bind 3  sasl [4, 1, 65]",
+    ),
+    (b"0\x05\x02\x01\x02B\0", "unbind"),
+    (b"0\x0d\x02\x01\x01h\x08\x04\x04dc=x0\0", "add"),
+    (DELETE, "delete"),
+    (b"0\x0d\x02\x01\x01f\x08\x04\x04dc=x0\0", "modify"),
+    (
+        b"0\x14\x02\x01\x01l\x0f\x04\x04dc=x\x04\x04ou=a\x01\x01\xff",
+        "rename",
+    ),
+    (
+        b"0\x13\x02\x01\x01n\x0e\x04\x04dc=x0\x06\x04\x01o\x04\x01x",
+        "compare dc=x o x",
+    ),
+    (SEARCH, "search ou=a One 5 true (cn=*) cn +"),
+    (b"0\x06\x02\x01\x02P\x01\x05", "abandon 5"),
+    (b"0\x0a\x02\x01\x01w\x05\x80\x031.2", "extended 1.2 none"),
+    (
+        b"0\x0d\x02\x01\x01w\x08\x80\x031.2\x81\x01v",
+        "extended 1.2 v",
+    ),
+];
+
+/// What only a server sends.
+const RESPONSES: [&[u8]; 11] = [
+    b"0\x0c\x02\x01\x01a\x07\x0a\x01\0\x04\0\x04\0",
+    b"0\x09\x02\x01\x01d\x04\x04\00\0",
+    b"0\x0c\x02\x01\x01e\x07\x0a\x01\0\x04\0\x04\0",
+    b"0\x0c\x02\x01\x01g\x07\x0a\x01\0\x04\0\x04\0",
+    b"0\x0c\x02\x01\x01i\x07\x0a\x01\0\x04\0\x04\0",
+    b"0\x0c\x02\x01\x01k\x07\x0a\x01\0\x04\0\x04\0",
+    b"0\x0c\x02\x01\x01m\x07\x0a\x01\0\x04\0\x04\0",
+    b"0\x0c\x02\x01\x01o\x07\x0a\x01\0\x04\0\x04\0",
+    b"0\x08\x02\x01\x01s\x03\x04\x01a",
+    b"0\x0c\x02\x01\x01x\x07\x0a\x01\0\x04\0\x04\0",
+    b"0\x05\x02\x01\x01y\0",
+];
+
+fn assert_asked(rt: &impl Abort, alloc: Global, bytes: &[u8], wanted: &str) -> Result<(), Fail> {
+    let found = asked(alloc, bytes)?;
+    assert_same_of(rt, bytes, &found.as_str(), &wanted);
+    Ok(())
+}
+
+#[test]
+fn requests_by_their_kinds(rt: HostRuntime) -> Result<(), Fail> {
+    for (bytes, wanted) in &REQUESTS {
+        assert_asked(&rt, rt.alloc(), bytes, wanted)?;
+    }
+    for bytes in &RESPONSES {
+        assert_asked(&rt, rt.alloc(), bytes, "response")?;
+    }
+    Ok(())
+}
+
+/// A simple bind, its version, name and password; its code, and whether the session is then bound
+/// as the configured name.
+type Bind = (u8, &'static str, &'static str, u32, bool);
+
+fn assert_binds(
+    rt: &impl Abort,
+    alloc: Global,
+    access: &Access,
+    binds: &[Bind],
+) -> Result<(), NoMemory> {
+    for (version, name, password, code, bound) in binds {
+        let row = *name;
+        let name = Octets::from_slice(alloc, row.as_bytes())?;
+        let password = Octets::from_slice(alloc, password.as_bytes())?;
+        let authentication = Authentication::Simple(password);
+        let found = bind_code(alloc, access, *version, &name, &authentication)?;
+        assert_same(rt, row, &found, code);
+        assert_same(rt, row, &binds_as(found, &authentication), bound);
+    }
+    Ok(())
+}
+
+/// Binds where `cn=admin,dc=x` is configured, with the password `secret`.
+const NAMED: [Bind; 13] = [
+    (3, "", "", 0, false),
+    (3, "cn=admin,dc=x", "", 53, false),
+    (3, "cn", "", 53, false),
+    (3, "cn", "secret", 34, false),
+    (3, "cn=admin,dc=x", "secret", 0, true),
+    (3, "CN = Admin , DC = X", "secret", 0, true),
+    (3, "cn=admin,dc=x", "Secret", 49, false),
+    (3, "cn=admin,dc=x", "secret ", 49, false),
+    (3, "cn=other,dc=x", "secret", 49, false),
+    (3, "", "secret", 49, false),
+    (2, "cn=admin,dc=x", "secret", 2, false),
+    (4, "cn=admin,dc=x", "secret", 2, false),
+    (1, "", "", 2, false),
+];
+
+/// Binds where no name is configured.
+const FREE: [Bind; 5] = [
+    (3, "", "", 0, false),
+    (3, "cn=admin,dc=x", "", 53, false),
+    (3, "cn", "secret", 34, false),
+    (3, "cn=admin,dc=x", "secret", 49, false),
+    (2, "", "", 2, false),
+];
+
+/// Binds where the empty name is configured, with the password `secret`, and where a name is
+/// configured with an empty password.
+const EMPTY_NAME: [Bind; 2] = [(3, "", "secret", 0, true), (3, "", "", 0, false)];
+
+const EMPTY_PASSWORD: [Bind; 2] = [
+    (3, "cn=admin,dc=x", "", 53, false),
+    (3, "cn=admin,dc=x", "secret", 49, false),
+];
+
+fn named(alloc: Global, name: &[u8], password: &[u8]) -> Result<Access, Fail> {
+    let name = Dn::parse(alloc, name)?;
+    Ok(Access::Named(name, Octets::from_slice(alloc, password)?))
+}
+
+#[test]
+fn simple_binds(rt: HostRuntime) -> Result<(), Fail> {
+    let alloc = rt.alloc();
+    assert_binds(&rt, alloc, &Access::Free, &FREE)?;
+    let access = named(alloc, b"cn=admin,dc=x", b"secret")?;
+    assert_binds(&rt, alloc, &access, &NAMED)?;
+    let access = named(alloc, b"", b"secret")?;
+    assert_binds(&rt, alloc, &access, &EMPTY_NAME)?;
+    let access = named(alloc, b"cn=admin,dc=x", b"")?;
+    assert_binds(&rt, alloc, &access, &EMPTY_PASSWORD)?;
+    Ok(())
+}
+
+#[test]
+fn other_binds(rt: HostRuntime) -> Result<(), Fail> {
+    let access = named(rt.alloc(), b"cn=admin,dc=x", b"secret")?;
+    let name = Octets::from_slice(rt.alloc(), b"cn=admin,dc=x")?;
+    let body = Octets::from_slice(rt.alloc(), b"\x04\x05PLAIN")?;
+    let authentication = Authentication::Sasl(body);
+    let code = bind_code(rt.alloc(), &access, 3, &name, &authentication)?;
+    assert_same(&rt, "sasl", &code, &7);
+    let code = bind_code(rt.alloc(), &access, 2, &name, &authentication)?;
+    assert_same(&rt, "sasl of version 2", &code, &2);
+    assert_same(&rt, "sasl", &binds_as(0, &authentication), &false);
+    Ok(())
+}
+
+#[test]
+fn writers(rt: HostRuntime) -> Result<(), Fail> {
+    let access = named(rt.alloc(), b"cn=admin,dc=x", b"secret")?;
+    assert_same(&rt, "named, bound", &may_write(&access, true), &true);
+    assert_same(&rt, "named", &may_write(&access, false), &false);
+    assert_same(&rt, "free, bound", &may_write(&Access::Free, true), &true);
+    assert_same(&rt, "free", &may_write(&Access::Free, false), &true);
+    Ok(())
+}
+
+/// Names of extended operations, and whether they are Cancel.
+const NAMES: [(&[u8], bool); 5] = [
+    (b"1.3.6.1.1.8", true),
+    (b"1.3.6.1.1.80", false),
+    (b"1.3.6.1.1", false),
+    (b"1.3.6.1.4.1.1466.20037", false),
+    (b"", false),
+];
+
+/// Values of Cancel, and the message ID that they name.
+const TARGETS: [(&[u8], Option<i64>); 13] = [
+    (b"0\x03\x02\x01\x05", Some(5)),
+    (b"0\x03\x02\x01\0", Some(0)),
+    (b"0\x84\0\0\0\x04\x02\x02\0\x80", Some(128)),
+    (b"0\x06\x02\x04\x7f\xff\xff\xff", Some(2_147_483_647)),
+    (b"0\x07\x02\x05\0\x80\0\0\0", None),
+    (b"0\x03\x02\x01\xff", None),
+    // an unknown element after the last known one
+    (b"0\x06\x02\x01\x05\x04\x01a", Some(5)),
+    (b"0\x03\x02\x01\x05\0", None),
+    (b"0\0", None),
+    (b"\x02\x01\x05", None),
+    (b"1\x03\x02\x01\x05", None),
+    (b"0\x80\x02\x01\x05\0\0", None),
+    (b"", None),
+];
+
+#[test]
+fn cancels_and_their_targets(rt: HostRuntime) -> Result<(), Fail> {
+    for (name, wanted) in &NAMES {
+        let octets = Octets::from_slice(rt.alloc(), name)?;
+        assert_same_of(&rt, name, &cancels(&octets), wanted);
+    }
+    for (value, wanted) in &TARGETS {
+        let octets = Octets::from_slice(rt.alloc(), value)?;
+        assert_same_of(&rt, value, &target_of(&Some(octets))?, wanted);
+    }
+    assert_same(&rt, "no value", &target_of(&None)?, &None);
+    Ok(())
+}
+
+const MANAGE_DSA_IT: &[u8] = b"2.16.840.1.113730.3.4.2";
+
+const SYNC_REQUEST: &[u8] = b"1.3.6.1.4.1.4203.1.9.1.1";
+
+/// A request, its controls and whether they are critical, and whether one is that is not known.
+type Controlled = (&'static [u8], &'static [(&'static [u8], bool)], bool);
+
+const CONTROLLED: [Controlled; 11] = [
+    (DELETE, &[], false),
+    (DELETE, &[(MANAGE_DSA_IT, true)], false),
+    (DELETE, &[(b"1.2", false)], false),
+    (DELETE, &[(b"1.2", true)], true),
+    (DELETE, &[(SYNC_REQUEST, true)], true),
+    (DELETE, &[(SYNC_REQUEST, false)], false),
+    (SEARCH, &[(SYNC_REQUEST, true)], false),
+    (SEARCH, &[(MANAGE_DSA_IT, true)], false),
+    (SEARCH, &[(SYNC_REQUEST, true), (b"1.2", true)], true),
+    (SEARCH, &[(b"1.2", false), (SYNC_REQUEST, true)], false),
+    (SEARCH, &[(b"1.3.6.1.4.1.4203.1.9.1.2", true)], true),
+];
+
+fn controls_of(alloc: Global, parts: &[(&[u8], bool)]) -> Result<ControlList, NoMemory> {
+    let mut controls = ControlList::new(alloc);
+    for (name, critical) in parts {
+        controls.push(Control {
+            name: Octets::from_slice(alloc, name)?,
+            critical: *critical,
+            value: None,
+        })?;
+    }
+    Ok(controls)
+}
+
+fn is_refused(alloc: Global, bytes: &[u8], controls: &[Control]) -> Result<bool, MessageFault> {
+    let request = request_in(alloc, bytes)?;
+    let is_refused = has_unknown_critical(&request, controls);
+    discard(request);
+    Ok(is_refused)
+}
+
+#[test]
+fn critical_controls(rt: HostRuntime) -> Result<(), Fail> {
+    for (bytes, parts, wanted) in &CONTROLLED {
+        let controls = controls_of(rt.alloc(), parts)?;
+        let found = is_refused(rt.alloc(), bytes, controls.list())?;
+        assert_same_of(&rt, bytes, &found, wanted);
+    }
+    Ok(())
+}
