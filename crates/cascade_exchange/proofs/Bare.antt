@@ -1,11 +1,9 @@
 -- Ends of a refresh that come without a cookie, and what a copy makes of all other messages.
 use Rattle.std.proofs.Common.{◌≡◌, ℕ, Bool, true, false, cond, Option, Some, None, List, [], ◌∷◌, refl, ap, sym, subst, ◌∙◌}
-use Rattle.std.specs.Prelude.{⊤, ℤ, Result, Ok, Err, pos, not, ◌&&◌, ◌||◌, ◌==◌, is_none, find}
+use Rattle.std.specs.Prelude.{ℤ, Result, Ok, Err, pos, not, ◌&&◌, ◌||◌, ◌==◌, is_none}
 use Rattle.std.specs.Ordering.{int_eq}
-use Rattle.entry_tree.specs.declared.entry.Entry.{Entry}
 use Rattle.ldap_constants.specs.declared.result_codes.TheConstants.{SUCCESS}
 use Rattle.ldap_messages.specs.declared.message.Message.{Message}
-use Rattle.ldap_messages.specs.declared.protocol.Protocol.{Protocol}
 use Rattle.ldap_messages.specs.declared.protocol.Protocol.TheVariants as op
 use Rattle.ldap_messages.specs.Operation.{Operation}
 use Rattle.ldap_messages.specs.Operation.{Operation as operation}
@@ -17,11 +15,12 @@ use Rattle.sync_messages.specs.declared.state.State.TheVariants as state
 use Rattle.sync_messages.specs.declared.state.SyncState.{SyncState}
 use Rattle.sync_model.specs.Message.{CookieText, SyncMessage}
 use Rattle.sync_model.specs.Message.SyncMessage.{AddOrModify, Delete, Present, IdSet, NewCookie, RefreshDelete, RefreshPresent, Done, Ignored}
-use Rattle.sync_model.specs.Copy.{Copy, SyncSession, Answer as answer, Fault, staged, all_dropped, is_known, refused, goes_on, with_cookie, refreshed, over, named_unless, taken_names, ends_phase, persists_on, taken_info, taken_done, taken_in, taken_by, taken}
+use Rattle.sync_model.specs.Copy.{Copy, SyncSession, staged, all_dropped, refused, with_cookie, refreshed, over, taken_names, ends_phase, taken_done, taken_in, taken_by, taken}
 use Rattle.sync_model.specs.Copy.Fault.{OutOfPlace}
-use Rattle.sync_model.specs.Within.{puts_entry, limit_fault, refused_by, taken_within}
+use Rattle.sync_model.specs.Within.{puts_entry, limit_fault, taken_within}
+use Rattle.sync_model.proofs.Bare.{Agrees, either_agrees, with_cookie_agrees, names_agree, refreshed_agrees, info_agrees, limits_agree}
 use Rattle.sync_wire.specs.Decoding as wire
-use Rattle.sync_wire.specs.Refusals.{and_then, on_ok, Fails}
+use Rattle.sync_wire.specs.Refusals.{and_then, on_ok, DecodeFails}
 use Rattle.sync_wire.specs.Values.{sync_state}
 use Rattle.sync_wire.specs.WireEntry.{checked_uuid, entry_of}
 use Rattle.sync_wire.specs.declared.fault.DecodeFault.{DecodeFault}
@@ -123,55 +122,13 @@ pub failed_not_bare : (m : Message) (found : DecodeFault) → on_ok wire.decoded
 failed_not_bare m found is = ap says_bare (message_said false m) ∙ by_failed (wire.said false m) found is
 
 -- the same of two of the faults
-pub value_not_bare : (m : Message) (found : DecodeFault) → found ≡ decoding.BadValue → Fails found (on_ok wire.decoded_of (wire.said false m)) → says_bare (whole_said false (whole_of m)) ≡ false
-value_not_bare m found is fails = failed_not_bare m decoding.BadValue (subst (λ f. Fails f (on_ok wire.decoded_of (wire.said false m))) is fails)
+pub value_not_bare : (m : Message) (found : DecodeFault) → found ≡ decoding.BadValue → DecodeFails found (on_ok wire.decoded_of (wire.said false m)) → says_bare (whole_said false (whole_of m)) ≡ false
+value_not_bare m found is fails = failed_not_bare m decoding.BadValue (subst (λ f. DecodeFails f (on_ok wire.decoded_of (wire.said false m))) is fails)
 
-pub uuid_not_bare : (m : Message) (found : DecodeFault) (one other : ℕ) → found ≡ decoding.UuidDiffers one other → Fails found (on_ok wire.decoded_of (wire.said false m)) → says_bare (whole_said false (whole_of m)) ≡ false
-uuid_not_bare m found one other is fails = failed_not_bare m (decoding.UuidDiffers one other) (subst (λ f. Fails f (on_ok wire.decoded_of (wire.said false m))) is fails)
+pub uuid_not_bare : (m : Message) (found : DecodeFault) (one other : ℕ) → found ≡ decoding.UuidDiffers one other → DecodeFails found (on_ok wire.decoded_of (wire.said false m)) → says_bare (whole_said false (whole_of m)) ≡ false
+uuid_not_bare m found one other is fails = failed_not_bare m (decoding.UuidDiffers one other) (subst (λ f. DecodeFails f (on_ok wire.decoded_of (wire.said false m))) is fails)
 
 -- ---- what a copy makes of it
-
--- what is staged, and what takes effect with a cookie, was no such end, and what takes effect without one was
-abbrev pub Agrees : Bool → answer → Type 0
-Agrees bare answer.Staged = bare ≡ false
-Agrees bare (answer.Stored commit) = bare ≡ false
-Agrees bare (answer.Copied commit) = bare ≡ true
-Agrees bare (answer.Over code) = ⊤
-Agrees bare (answer.Refused fault) = ⊤
-
-either_agrees : (bare b : Bool) (one other : Copy × answer) → Agrees bare one.1 → Agrees bare other.1 → Agrees bare (cond b one other).1
-either_agrees bare true one other h k = h
-either_agrees bare false one other h k = k
-
-with_cookie_agrees : (copy : Copy) (session : SyncSession) (cookie : Option CookieText) → Agrees false (with_cookie copy session cookie).1
-with_cookie_agrees copy session None = refl
-with_cookie_agrees copy session (Some cookie) = either_agrees false session.persisting _ (goes_on copy session) refl refl
-
-named_agrees : (copy : Copy) (session : SyncSession) (uuids : List ℕ) (unknown : Option ℕ) → Agrees false (named_unless unknown copy session uuids).1
-named_agrees copy session uuids None = refl
-named_agrees copy session uuids (Some uuid) = tt
-
-names_agree : (copy : Copy) (session : SyncSession) (uuids : List ℕ) → Agrees false (taken_names copy session uuids).1
-names_agree copy session uuids =
-    let unknown : Option ℕ = find (λ uuid. not (is_known copy.held session.stage uuid)) uuids in
-    either_agrees false session.persisting (refused copy OutOfPlace) (named_unless unknown copy session uuids) tt (named_agrees copy session uuids unknown)
-
-refreshed_agrees : (copy : Copy) (session : SyncSession) (cookie : Option CookieText) (next : Option SyncSession) (b : Bool) → b ≡ true → Agrees (is_none cookie && b) (refreshed copy session cookie next).1
-refreshed_agrees copy session None next b is = is
-refreshed_agrees copy session (Some cookie) next b is = refl
-
-ended_agrees : (copy : Copy) (session : SyncSession) (cookie : Option CookieText) (next : Option SyncSession) → Agrees (is_none cookie) (refreshed copy session cookie next).1
-ended_agrees copy session None next = refl
-ended_agrees copy session (Some cookie) next = refl
-
-info_agrees : (copy : Copy) (session : SyncSession) (deletes done : Bool) (cookie : Option CookieText) → Agrees (done && is_none cookie) (taken_info copy session deletes done cookie).1
-info_agrees copy session deletes true cookie =
-    let now : SyncSession = ends_phase copy.held session deletes in
-    either_agrees (is_none cookie) (session.persisting || ((true && not session.persists) || (not deletes && session.ended))) (refused copy OutOfPlace)
-    (refreshed copy now cookie (Some (persists_on now))) tt (ended_agrees copy now cookie (Some (persists_on now)))
-info_agrees copy session deletes false cookie =
-    let now : SyncSession = ends_phase copy.held session deletes in
-    either_agrees false (session.persisting || ((false && not session.persists) || (not deletes && session.ended))) (refused copy OutOfPlace) (goes_on copy now) tt refl
 
 done_agrees : (copy : Copy) (session : SyncSession) (control : Option (Bool × Option CookieText)) (b : Bool) → b ≡ true → Agrees (is_bare control && b) (taken_done copy session control).1
 done_agrees copy session None b is = tt
@@ -202,10 +159,7 @@ by_agrees None id copy message = tt
 by_agrees (Some session) id copy message =
     either_agrees (ends_bare message) (id == session.id) (taken_in copy session message) (refused copy OutOfPlace) (in_agrees copy session message) tt
 
-limits_agree : (bare : Bool) (copy : Copy) (fault : Option Fault) (outcome : Copy × answer) → Agrees bare outcome.1 → Agrees bare (refused_by fault copy outcome).1
-limits_agree bare copy None outcome h = h
-limits_agree bare copy (Some fault) outcome h = tt
-
+-- what comes of a message says whether it ends a refresh without a cookie
 pub bare_answer : (id : ℕ) (copy : Copy) (message : SyncMessage) → Agrees (ends_bare message) (taken_within id copy message).1
 bare_answer id copy message =
     limits_agree (ends_bare message) copy (limit_fault (puts_entry message) (taken id copy message).0 (taken id copy message).1) (taken id copy message) (by_agrees copy.session id copy message)

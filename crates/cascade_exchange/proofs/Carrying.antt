@@ -1,10 +1,9 @@
 -- No part of an event writes to the provider, and the stages that it reports lead from what the consumer held to what it holds.
 use Rattle.std.proofs.Common.{◌≡◌, ℕ, Bool, true, false, cond, Option, Some, None, List, [], ◌∷◌, ◌++◌, length, refl, ap, sym, subst, ◌∙◌}
-use Rattle.std.specs.Prelude.{Result, Ok, Err, ◌&&◌, ◌==◌, not, pos, codes}
+use Rattle.std.specs.Prelude.{Result, Ok, Err, ◌==◌, not, pos, codes}
 use Rattle.std.specs.Ordering.{int_eq}
 use Rattle.std.proofs.lemmas.Bool.{false≢true}
 use Rattle.std.proofs.lemmas.List.Concat.{flat_map-append, flat_map-cons}
-use Rattle.directory_writes.specs.Directory.{DirectoryState}
 use Rattle.entry_tree.specs.Effects.{committed}
 use Rattle.entry_tree.specs.Fitting.{may_be_held}
 use Rattle.entry_tree.specs.Selection.{Search, search_of}
@@ -17,36 +16,35 @@ use Rattle.ldap_messages.specs.Whole.{Whole}
 use Rattle.ldap_parts.specs.declared.control.Control.{Control}
 use Rattle.sync_messages.specs.declared.request.Mode.{Mode}
 use Rattle.sync_model.specs.Message.{SyncMessage}
-use Rattle.sync_model.specs.Copy.{Commit, Copy, SyncSession, Fault, Answer as answer, over, refused, taken}
-use Rattle.sync_model.specs.Copy.Fault.{OutOfPlace, StageFull}
-use Rattle.sync_model.specs.Keeping.{Keeps, IsEffected}
-use Rattle.sync_model.specs.Within.{is_crowded, puts_entry, against, limit_fault, refused_by, taken_within}
+use Rattle.sync_model.specs.Copy.{Commit, Copy, SyncSession, Answer as answer, over, refused}
+use Rattle.sync_model.specs.Copy.Fault.{OutOfPlace}
+use Rattle.sync_model.specs.Keeping.{Keeps}
+use Rattle.sync_model.specs.Within.{limit_fault, refused_by, taken_within}
 use Rattle.sync_model.proofs.Keeping.{taking_keeps}
+use Rattle.sync_model.proofs.Bare.{Agrees}
 use Rattle.sync_wire.specs.Requesting.{persists}
 use Rattle.sync_wire.specs.declared.fault.DecodeFault.{DecodeFault}
-use Rattle.sync_consumer.specs.Committing.{stage_in, IsKept}
-use Rattle.sync_consumer.specs.Holding.{MayHold}
+use Rattle.sync_consumer.specs.Committing.{stage_in, IsReadyOn}
 use Rattle.sync_consumer.specs.Taking.{without_search}
-use Rattle.sync_consumer.proofs.Fits.{AnswerFits, Brings, Says, taking_fits, says_operation}
+use Rattle.sync_consumer.proofs.Fits.{AnswerFits, Says, taking_fits, says_operation}
 use Rattle.sync_consumer.proofs.Naming.{held_allowed}
-use Rattle.sync_consumer.proofs.Effecting.{after_held}
-use Rattle.sync_consumer.proofs.Upholding.{idle_kept}
+use Rattle.sync_consumer.proofs.Upholding.{idle_kept, message_held}
 use Rattle.sync_provider.specs.declared.searches.Accepted.{Accepted}
 use Rattle.sync_provider.specs.declared.searches.Accepted.TheVariants as accepted
 use Rattle.cascade_nodes.specs.Commits.{with_stages, AreHeldAfter}
 use Rattle.cascade_exchange.specs.declared.exchange.Exchange.{Exchange}
 use Rattle.cascade_exchange.specs.declared.exchange.Exchange.TheVariants as goes
-use Rattle.cascade_exchange.specs.Exchange.{Agreement, ExchangeOutcome, part_of, fits, name_of, copy_of, with_copy, handed, linked, sends, emptied, given_up, with_received, storing, stored_reported, taken_as, takes, idle, asking, end_with, refused_copy, opened_by, opens, with_text, holding, given, wanted, respecs}
+use Rattle.cascade_exchange.specs.Exchange.{Agreement, ExchangeOutcome, part_of, fits, name_of, copy_of, handed, linked, sends, given_up, with_received, storing, stored_reported, taken_as, takes, idle, asking, refused_copy, opened_by, opens, holding, given, wanted, respecs}
 use Rattle.cascade_exchange.specs.Reception.{Came, operation_said, whole_said, came_of, refused_for, received_as, received_by, received_of, received_next, decoded, received, ends_bare, says_bare}
 use Rattle.cascade_exchange.specs.Reception.{Came as came}
 use Rattle.cascade_report.specs.ReportLines.{StoredStage, ReportLine, stage_of, stages_in, stages_of}
 use Rattle.cascade_report.specs.ReportLines.{ReportLine as reported}
 use Rattle.cascade_exchange.proofs.EachPart.{LeavesIn, AnyMode, SmallSteps, then_leaves, sent_leaves, takes_leave, cut_leaves, idle_leaves, opens_leave, settles_leave, given_leaves}
-use Rattle.cascade_exchange.proofs.Bare.{Agrees, bare_answer, whole_bare}
+use Rattle.cascade_exchange.proofs.Bare.{bare_answer, whole_bare}
 
 -- a copy that holds what it may, with a stage that is ready to take effect
 abbrev pub IsTidy : Copy → Type 0
-IsTidy copy = IsKept copy.held (stage_in copy.session)
+IsTidy copy = IsReadyOn copy.held (stage_in copy.session)
 
 -- ---- what is decoded
 
@@ -71,30 +69,6 @@ still_itself copy tidy = record { tidy = tidy; held = refl }
 
 quit : (copy : Copy) → IsTidy copy → IsStill copy (without_search copy)
 quit copy tidy = record { tidy = idle_kept copy.held (stage_in copy.session) tidy; held = refl }
-
--- the entries after a message may be held
-held_effected : (before after : Copy) (commit : Commit) → IsEffected before after commit → against after.held ≡ None → MayHold before.held → MayHold after.held
-held_effected before after commit is none held = after_held before.held after.held is.stage held.0 (ap (λ es. against es) (sym is.held) ∙ none) is.held
-
-nothing_against : (crowded : Bool) (found : Option Fault) → cond crowded (Some StageFull) found ≡ None → found ≡ None
-nothing_against true found none = let never : ⊥ = cc in absurd never
-nothing_against false found none = none
-
-answer_held : (puts : Bool) (before after : Copy) (given' : answer) → Keeps before after given' → limit_fault puts after given' ≡ None → MayHold before.held → MayHold after.held
-answer_held puts before after answer.Staged keeps none held = subst (λ (es : List Entry). MayHold es) (sym keeps.held) held
-answer_held puts before after (answer.Stored commit) keeps none held = held_effected before after commit keeps.0 (nothing_against (puts && is_crowded commit.puts) (against after.held) none) held
-answer_held puts before after (answer.Copied commit) keeps none held = held_effected before after commit keeps.0 (nothing_against (puts && is_crowded commit.puts) (against after.held) none) held
-answer_held puts before after (answer.Over code) keeps none held = subst (λ (es : List Entry). MayHold es) (sym (ap (λ (c : Copy). c.held) keeps)) held
-answer_held puts before after (answer.Refused found) keeps none held = subst (λ (es : List Entry). MayHold es) (sym (ap (λ (c : Copy). c.held) keeps)) held
-
-limits_held : (puts : Bool) (before : Copy) (found : Option Fault) (outcome : Copy × answer) → limit_fault puts outcome.0 outcome.1 ≡ found
-    → Keeps before (refused_by found before outcome).0 (refused_by found before outcome).1 → MayHold before.held → MayHold (refused_by found before outcome).0.held
-limits_held puts before None outcome is keeps held = answer_held puts before outcome.0 outcome.1 keeps is held
-limits_held puts before (Some found) outcome is keeps held = held
-
-message_held : (id : ℕ) (copy : Copy) (message : SyncMessage) → MayHold copy.held → MayHold (taken_within id copy message).0.held
-message_held id copy message held =
-    limits_held (puts_entry message) copy (limit_fault (puts_entry message) (taken id copy message).0 (taken id copy message).1) (taken id copy message) refl (taking_keeps id copy message) held
 
 by_answer : (bare : Bool) (copy after : Copy) (given' : answer) → bare ≡ false → Agrees bare given' → Keeps copy after given' → AnswerFits copy.held after.held given' → IsTidy copy → IsTidy after → IsDecoded copy after (came_of given')
 by_answer bare copy after answer.Staged none agrees keeps fits' tidy now = record { tidy = now; held = keeps.held }
@@ -168,6 +142,7 @@ pub record Carries (before after : Copy) (stages : List StoredStage) : Type 0 wh
 pub record IsCarried (before after : Agreement) (lines : List ReportLine) : Type 0 where
   pub copy : IsTidy before.consumer_node.consumer.copy → Carries before.consumer_node.consumer.copy after.consumer_node.consumer.copy (stages_of lines)
 
+-- a part that is done leaves of a tidy copy a tidy one, with its stages in effect
 abbrev pub CarriedIn : Agreement → ExchangeOutcome → Type 0
 CarriedIn before outcome = LeavesIn IsCarried before outcome
 
@@ -283,11 +258,13 @@ holding_carried p cookie = quiet p _ (reported.Holds (name_of p) cookie) refl (�
 wanted_carried : (search : Search) (p : Agreement) → CarriedIn p (wanted search p)
 wanted_carried search p = quiet p _ (reported.Holds (name_of p) None) refl (λ tidy. record { tidy = idle_kept p.consumer_node.consumer.copy.held (stage_in p.consumer_node.consumer.copy.session) tidy; held = refl })
 
+-- so does another wish
 pub respecs_carried : (search : Search) (p : Agreement) → CarriedIn p (respecs search p)
 respecs_carried search p = then_leaves IsCarried AnyMode steps_carry p (idle p) (wanted search) (idle_leaves IsCarried AnyMode steps_carry p) (wanted_carried search)
 
 -- ---- all parts
 
+-- so does each exchange
 pub part_carried : (what : Exchange) (p : Agreement) → CarriedIn p (part_of what p)
 part_carried (goes.Open mode) p = opens_leave IsCarried AnyMode steps_carry mode tt p
 part_carried (goes.Send count) p = sent_leaves IsCarried AnyMode steps_carry count p

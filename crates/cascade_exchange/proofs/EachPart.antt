@@ -5,8 +5,8 @@ use Rattle.ldap_messages.specs.Whole.{message_octets}
 use Rattle.sync_messages.specs.declared.request.Mode.{Mode}
 use Rattle.sync_messages.specs.declared.request.Mode.TheVariants.{RefreshOnly}
 use Rattle.sync_model.specs.Copy.{Copy}
-use Rattle.sync_provider.specs.HandingOut.{Turn}
-use Rattle.sync_provider.specs.HandingOut.Turn.{Hands, Closes, Waits, Unknown}
+use Rattle.sync_provider.specs.HandingOut.{HandOut}
+use Rattle.sync_provider.specs.HandingOut.HandOut.{Hands, Closes, Waits, Unknown}
 use Rattle.sync_provider.specs.declared.searches.Accepted.{Accepted}
 use Rattle.cascade_script.specs.declared.fault.Cause.TheVariants.{LaterCookie}
 use Rattle.cascade_exchange.specs.Cookies.{is_later}
@@ -88,7 +88,7 @@ module _ (Leaves : Agreement → Agreement → List ReportLine → Type 0) (Asks
       by true = steps.sends pair search message
       by false = tt
 
-  sending_leaves : (pair : Agreement) (turn : Turn) → LeavesSending pair (sending_by pair turn)
+  sending_leaves : (pair : Agreement) (turn : HandOut) → LeavesSending pair (sending_by pair turn)
   sending_leaves pair (Hands whole) = sends_leave pair pair.consumer_node.search (message_octets whole)
   sending_leaves pair (Closes code whole) = sends_leave pair None (message_octets whole)
   sending_leaves pair Waits = tt

@@ -10,7 +10,7 @@ use Rattle.sync_messages.specs.Request.{request_of, request_octets}
 use Rattle.sync_messages.specs.declared.request.Mode.{Mode}
 use Rattle.sync_messages.specs.declared.request.Mode.TheVariants.{RefreshOnly}
 use Rattle.sync_wire.specs.Requesting.{persists}
-use Rattle.sync_consumer.specs.Taking.{Following, asked_of, request_of as asks, taken_of}
+use Rattle.sync_consumer.specs.Taking.{ConsumerState, asked_of, request_of as asks, taken_of}
 use Rattle.sync_model.specs.Copy.{Copy}
 use Rattle.sync_provider.specs.Accepting as accepting
 use Rattle.sync_provider.specs.Accepting.{start_of_read, persists_of_read}
@@ -31,19 +31,19 @@ use Rattle.cascade_exchange.proofs.Decoding.{received_reported}
 use Rattle.cascade_exchange.proofs.Doing.{reported_one, refused_first, then_at}
 
 -- the copy after a message, whatever is reported of it
-pub taken_copy : (c after : Following) (m : Message) (t : Taken) → after.spec ≡ c.spec → after.reload ≡ c.reload → (after.copy, t) ≡ taken_of c.copy m
+pub taken_copy : (c after : ConsumerState) (m : Message) (t : Taken) → after.spec ≡ c.spec → after.reload ≡ c.reload → (after.copy, t) ≡ taken_of c.copy m
     → after ≡ record c { copy = (received_of c.copy (Some (whole_of m))).0 }
 taken_copy c after m t spec reload is =
     let copy : after.copy ≡ (received_of c.copy (Some (whole_of m))).0 = ap (λ (x : Copy × Taken). x.0) is ∙ sym (ap (λ (x : Copy × Came). x.0) (received_reported c.copy m)) in
     λ i. record { spec = spec i; reload = reload i; copy = copy i }
 
 -- the value of the control of its request is read again as what it asks
-pub asked_value : (f : Following) (mode : Mode) (m : Message) (value : List ℕ) → whole_of m ≡ asks f message_id mode → value ≡ first_value m.controls
+pub asked_value : (f : ConsumerState) (mode : Mode) (m : Message) (value : List ℕ) → whole_of m ≡ asks f message_id mode → value ≡ first_value m.controls
     → request_of (request_octets (asked_of f mode)) ≡ Ok (asked_of f mode) → request_of value ≡ Ok (asked_of f mode)
 asked_value f mode m value whole is again = ap request_of (is ∙ ap (λ (w : Whole). first_value w.1.1) whole) ∙ again
 
 -- a search that is refused ends with the code, in a SearchResultDone
-pub refuses : (f : ConsumerNode) (after : Following) (m : Message) (code : ℕ) (old new : Report) → whole_of m ≡ end_with code → after ≡ record f.consumer { copy = (received_of f.consumer.copy (Some (whole_of m))).0 }
+pub refuses : (f : ConsumerNode) (after : ConsumerState) (m : Message) (code : ℕ) (old new : Report) → whole_of m ≡ end_with code → after ≡ record f.consumer { copy = (received_of f.consumer.copy (Some (whole_of m))).0 }
     → ((persists : Bool) → new ≡ said old (Refused f.name persists code ∷ [])) → Refuses f code old (record f { consumer = after }) new (Ok (code == E_SYNC_REFRESH_REQUIRED))
 refuses f after m code old new same is line =
     let copy : after ≡ record f.consumer { copy = refused_copy f.consumer.copy code } = is ∙ ap (λ w. record f.consumer { copy = (received_of f.consumer.copy (Some w)).0 }) same in
@@ -51,7 +51,7 @@ refuses f after m code old new same is line =
 
 -- a search that is opened, with the number of writes that it is opened at
 pub opens_idle : (lin : Lineage) → (mode : Mode) (p p' : ProviderState) (f f1 : ConsumerNode) (search : Search) (control : List ℕ) (number writes : ℕ) (old new : Report) → f1 ≡ with_copy f (asking (persists mode) f.consumer.copy) → search ≡ f1.consumer.spec → request_of control ≡ Ok (asked_of f.consumer mode)
-    → accepting.Answers (accepted.Opened number writes) (answer_to p search control) → p' ≡ after_accepted p search control (accepted.Opened number writes) → new ≡ said old (Opened f1.name (persists mode) writes ∷ [])
+    → accepting.AnswersAccept (accepted.Opened number writes) (answer_to p search control) → p' ≡ after_accepted p search control (accepted.Opened number writes) → new ≡ said old (Opened f1.name (persists mode) writes ∷ [])
     → Opens mode (agreement_of p f lin) old (agreement_of p' (record f1 { search = Some number }) lin) new (Ok false)
 opens_idle lin mode p p' f f1 search control number writes old new asked' wanted value answer after line =
     let spec : search ≡ f.consumer.spec = wanted ∙ ap (λ (g : ConsumerNode). g.consumer.spec) asked' in
@@ -70,7 +70,7 @@ opens_idle lin mode p p' f f1 search control number writes old new asked' wanted
 
 -- a search that is refused
 pub refused_idle : (lin : Lineage) → (mode : Mode) (p p' : ProviderState) (f f1 f2 : ConsumerNode) (search : Search) (control : List ℕ) (code : ℕ) (old new : Report) (again : Bool) → f1 ≡ with_copy f (asking (persists mode) f.consumer.copy) → search ≡ f1.consumer.spec → request_of control ≡ Ok (asked_of f.consumer mode)
-    → accepting.Answers (accepted.Refused code) (answer_to p search control) → p' ≡ after_accepted p search control (accepted.Refused code) → Refuses f1 code old f2 new (Ok again)
+    → accepting.AnswersAccept (accepted.Refused code) (answer_to p search control) → p' ≡ after_accepted p search control (accepted.Refused code) → Refuses f1 code old f2 new (Ok again)
     → Opens mode (agreement_of p f lin) old (agreement_of p' f2 lin) new (Ok again)
 refused_idle lin mode p p' f f1 f2 search control code old new again asked' wanted value answer after h =
     let spec : search ≡ f.consumer.spec = wanted ∙ ap (λ (g : ConsumerNode). g.consumer.spec) asked' in
@@ -85,7 +85,7 @@ refused_idle lin mode p p' f f1 f2 search control code old new again asked' want
 
 -- the same by what came of the refusal; out of memory says nothing
 pub refused_as : (lin : Lineage) → (mode : Mode) (p p' : ProviderState) (f f1 f2 : ConsumerNode) (search : Search) (control : List ℕ) (code : ℕ) (old new : Report) (result : Result Bool Cause) → f1 ≡ with_copy f (asking (persists mode) f.consumer.copy) → search ≡ f1.consumer.spec
-    → request_of control ≡ Ok (asked_of f.consumer mode) → accepting.Answers (accepted.Refused code) (answer_to p search control) → p' ≡ after_accepted p search control (accepted.Refused code) → Refuses f1 code old f2 new result
+    → request_of control ≡ Ok (asked_of f.consumer mode) → accepting.AnswersAccept (accepted.Refused code) (answer_to p search control) → p' ≡ after_accepted p search control (accepted.Refused code) → Refuses f1 code old f2 new result
     → Opens mode (agreement_of p f lin) old (agreement_of p' f2 lin) new result
 refused_as lin mode p p' f f1 f2 search control code old new (Ok again) asked' wanted value answer after h = refused_idle lin mode p p' f f1 f2 search control code old new again asked' wanted value answer after h
 refused_as lin mode p p' f f1 f2 search control code old new (Err BadCommand) asked' wanted value answer after h = absurd h

@@ -1,13 +1,12 @@
 -- Messages that go into the link before they count as handed out.
-use Rattle.std.proofs.Common.{◌≡◌, ◌+◌, ◌<◌, ◌≤◌, ℕ, zero, suc, ℤ, Bool, true, false, cond, Option, Some, None, List, [], ◌∷◌, ◌++◌, drop, refl, ap, sym, subst, ◌∙◌, arith}
+use Rattle.std.proofs.Common.{◌≡◌, ◌+◌, ◌<◌, ℕ, zero, suc, ℤ, Bool, true, false, cond, Option, Some, None, List, [], ◌∷◌, ◌++◌, refl, ap, sym, subst, ◌∙◌, arith}
 use Rattle.std.specs.Prelude.{Ok, Err}
 use Rattle.ldap_messages.specs.Whole.{Whole, message_octets}
-use Rattle.sync_model.specs.Message.{SyncMessage}
-use Rattle.sync_provider.specs.HandingOut.{Turn, turn_of_pending, turn_of_found, turn_of_place, search_at, turn_at, turn_at_place, without_first, handed_on, after_turn}
-use Rattle.sync_provider.specs.HandingOut.Turn.{Hands, Closes, Unknown}
+use Rattle.sync_provider.specs.HandingOut.{HandOut, search_at, turn_at, turn_at_place, after_turn}
+use Rattle.sync_provider.specs.HandingOut.HandOut.{Hands, Closes}
 use Rattle.sync_provider.specs.Machine.{ProviderState}
-use Rattle.sync_provider.specs.Search.{SearchState, pending}
-use Rattle.directory_writes.proofs.Keyed.{put_on-same}
+use Rattle.sync_provider.proofs.ClosedAgain.{closed_on}
+use Rattle.sync_provider.proofs.Nearer.{first_place, nearer}
 use Rattle.cascade_script.specs.declared.fault.Cause.{Cause}
 use Rattle.cascade_script.specs.declared.fault.Cause.TheVariants.{BadCommand, UnknownNode, NameTaken, BadRecord, LimitReached, OutsideSuffix, LaterCookie, Circle, NoMemory}
 use Rattle.cascade_nodes.specs.declared.node.ConsumerNode.{ConsumerNode}
@@ -19,44 +18,7 @@ use Rattle.cascade_exchange.specs.Exchange.Sending.{Rests, Overflows}
 use Rattle.cascade_exchange.specs.Going.{GoesOn}
 use Rattle.cascade_exchange.specs.Parts.{Does, KeepsOthers, SendsOne, Links}
 use Rattle.cascade_exchange.specs.Passing.{handed_times, passed, IsAhead, OnlyLinks}
-use Rattle.cascade_exchange.proofs.Others.{closed_on}
 use Rattle.cascade_exchange.proofs.Sendings.{sends_one, full}
-
--- ---- what a search has pending, by its places
-
-first_place : (es : List (ℕ × SearchState)) (number : ℕ) → turn_at_place es number 0 ≡ turn_at es number
-first_place es number = by (search_at es number)
-  where
-    by : (found : Option SearchState) → turn_of_place 0 found ≡ turn_of_found found
-    by None = refl
-    by (Some s) = refl
-
-abbrev remade : SearchState → Bool → List SyncMessage → List SyncMessage → SearchState
-remade s over rest due = record s { over = over; rest = rest; due = due }
-
--- once the first message is handed out, those after it stand one place nearer
-one_past : (s : SearchState) (whole : Whole) (place : ℕ) → turn_of_pending s.id (pending s) ≡ Hands whole
-    → turn_of_pending (without_first s).id (drop place (pending (without_first s))) ≡ turn_of_pending s.id (drop (suc place) (pending s))
-one_past s whole place hands = by s.over s.rest s.due hands
-  where
-    by : (over : Bool) (rest due : List SyncMessage) → turn_of_pending s.id (pending (remade s over rest due)) ≡ Hands whole
-        → turn_of_pending (without_first (remade s over rest due)).id (drop place (pending (without_first (remade s over rest due)))) ≡ turn_of_pending s.id (drop (suc place) (pending (remade s over rest due)))
-    by true rest due hands = let never : ⊥ = cc in absurd never
-    by false [] [] hands = let never : ⊥ = cc in absurd never
-    by false [] (message ∷ due) hands = refl
-    by false (message ∷ rest) due hands = refl
-
-nearer : (es : List (ℕ × SearchState)) (number place : ℕ) (whole : Whole) → turn_at es number ≡ Hands whole → turn_at_place (after_turn es number (turn_at es number)) number place ≡ turn_at_place es number (suc place)
-nearer es number place whole hands = by (search_at es number) refl
-  where
-    by : (found : Option SearchState) → search_at es number ≡ found → turn_at_place (after_turn es number (turn_at es number)) number place ≡ turn_at_place es number (suc place)
-    by None at = let unknown : Unknown ≡ Hands whole = sym (ap turn_of_found at) ∙ hands in let never : ⊥ = cc in absurd never
-    by (Some s) at =
-        ap (λ turn. turn_at_place (after_turn es number turn) number place) hands
-        ∙ ap (λ found. turn_at_place (handed_on es number found) number place) at
-        ∙ ap (turn_of_place place) (put_on-same es number (without_first s) s at)
-        ∙ one_past s whole place (sym (ap turn_of_found at) ∙ hands)
-        ∙ sym (ap (turn_of_place (suc place)) at)
 
 -- ---- what is pending once n messages are handed out
 
@@ -191,7 +153,7 @@ links_last_over lin p f f2 n number code whole old new after cause ahead at clos
     (over_as (agreement_of v f lin) None (message_octets whole) old new after f2 cause h)
 
 -- nothing is pending: the search waits, or is not open, or none was asked for, or it ended
-pub links_none : (lin : Lineage) (p : ProviderState) (f : ConsumerNode) (n number : ℕ) (turn : Turn) (text : Report) → IsAhead p f.search n false → f.search ≡ Some number → turn_at_place p.searches number n ≡ turn
+pub links_none : (lin : Lineage) (p : ProviderState) (f : ConsumerNode) (n number : ℕ) (turn : HandOut) (text : Report) → IsAhead p f.search n false → f.search ≡ Some number → turn_at_place p.searches number n ≡ turn
     → ((pair : Agreement) → sending_by pair turn ≡ Rests)
     → SendsOne (passed n false (agreement_of p f lin)) (sending (passed n false (agreement_of p f lin))) text (passed n false (agreement_of p f lin)) text (Ok false)
 links_none lin p f n number turn text ahead at is rests =

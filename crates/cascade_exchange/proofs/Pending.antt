@@ -1,14 +1,15 @@
 -- What a search has pending, which is sent and taken to its end.
-use Rattle.std.proofs.Common.{◌≡◌, ◌<◌, ◌≤◌, ℕ, zero, suc, Bool, true, false, Option, Some, None, List, [], ◌∷◌, ◌++◌, length, refl, ap, sym, subst, ◌∙◌, inl, inr, arith}
+use Rattle.std.proofs.Common.{◌≡◌, ◌<◌, ◌≤◌, ℕ, zero, suc, Bool, true, false, Option, Some, None, List, [], ◌∷◌, length, refl, ap, sym, subst, ◌∙◌, inl, inr, arith}
 use Rattle.std.proofs.lemmas.Bool.{cases_Bool}
 use Rattle.std.specs.Prelude.{Ok, Err}
 use Rattle.ldap_messages.specs.Whole.{Whole, message_octets}
 use Rattle.sync_model.specs.Copy.{Copy}
 use Rattle.sync_model.specs.Message.{SyncMessage}
-use Rattle.sync_provider.specs.HandingOut.{Turn, turn_of_message, turn_of_pending, turn_of_found, search_at, turn_at, without_first, handed_on, after_turn}
-use Rattle.sync_provider.specs.HandingOut.Turn.{Hands, Closes, Waits, Unknown}
+use Rattle.sync_provider.specs.HandingOut.{HandOut, turn_of_message, turn_of_pending, turn_of_found, search_at, turn_at, without_first, handed_on, after_turn}
+use Rattle.sync_provider.specs.HandingOut.HandOut.{Hands, Closes, Waits, Unknown}
 use Rattle.sync_provider.specs.Machine.{ProviderState}
-use Rattle.sync_provider.specs.Search.{SearchState, busy_end, pending}
+use Rattle.sync_provider.specs.Search.{SearchState, pending}
+use Rattle.sync_provider.proofs.Nearer.{one_less}
 use Rattle.directory_writes.proofs.Keyed.{put_on-same}
 use Rattle.cascade_script.specs.declared.fault.Cause.{Cause}
 use Rattle.cascade_script.specs.declared.fault.Cause.TheVariants.{BadCommand, UnknownNode, NameTaken, BadRecord, LimitReached, OutsideSuffix, LaterCookie, Circle, NoMemory}
@@ -43,35 +44,6 @@ sends_less : (p : Agreement) (search : Option ℕ) (message : List ℕ) (n : ℕ
 sends_less p search message n some less =
     elim (cases_Bool (fits p.consumer_node message)) [ inl room ↦ rw room less | inr full ↦ rw full some ]
 
-abbrev no_messages : List SyncMessage
-no_messages = []
-
--- a search that goes on after its first message has one less pending
-abbrev remade : SearchState → Bool → List SyncMessage → List SyncMessage → SearchState
-remade s over rest due = record s { over = over; rest = rest; due = due }
-
-pub one_less : (s : SearchState) (first : SyncMessage) (rest : List SyncMessage) (whole : Whole) → pending s ≡ first ∷ rest → turn_of_message s.id first ≡ Hands whole
-    → length (pending (without_first s)) ≡ length rest
-one_less s first rest whole waits hands = by s.over s.rest s.due waits
-  where
-    busy : busy_end ∷ [] ≡ first ∷ rest → turn_of_message s.id busy_end ≡ Hands whole
-    busy e = let same : busy_end ≡ first = cc in ap (turn_of_message s.id) same ∙ hands
-
-    ends : turn_of_message s.id busy_end ≡ Hands whole → ⊥
-    ends e = cc
-
-    none : no_messages ≡ first ∷ rest → ⊥
-    none e = cc
-
-    beyond : (message : SyncMessage) (later : List SyncMessage) → message ∷ later ≡ first ∷ rest → later ≡ rest
-    beyond message later e = cc
-
-    by : (over : Bool) (r d : List SyncMessage) → pending (remade s over r d) ≡ first ∷ rest → length (pending (without_first (remade s over r d))) ≡ length rest
-    by true r d e = absurd (ends (busy e))
-    by false [] [] e = absurd (none e)
-    by false [] (message ∷ d) e = ap length (beyond message d e)
-    by false (message ∷ r) d e = ap length (beyond message (r ++ d) e)
-
 -- the search that was handed a message has one less pending
 left_after : (lin : Lineage) → (p : ProviderState) (f : ConsumerNode) (search : Option ℕ) (number : ℕ) (s : SearchState) (first : SyncMessage) (rest : List SyncMessage) (whole : Whole) → search ≡ Some number
     → search_at p.searches number ≡ Some s → pending s ≡ first ∷ rest → turn_at p.searches number ≡ Hands whole → left_to_send (agreement_of (handed p search) f lin) search ≡ length rest
@@ -82,7 +54,7 @@ left_after lin p f search number s first rest whole at found waits turn =
     ∙ ap pending_count (put_on-same p.searches number (without_first s) s found)
     ∙ one_less s first rest whole waits (sym (ap (turn_of_pending s.id) waits) ∙ sym (ap turn_of_found found) ∙ turn)
 
-by_turn : (p : Agreement) (number : ℕ) (s : SearchState) (first : SyncMessage) (rest : List SyncMessage) (turn : Turn) → p.consumer_node.search ≡ Some number → search_at p.provider.searches number ≡ Some s
+by_turn : (p : Agreement) (number : ℕ) (s : SearchState) (first : SyncMessage) (rest : List SyncMessage) (turn : HandOut) → p.consumer_node.search ≡ Some number → search_at p.provider.searches number ≡ Some s
     → pending s ≡ first ∷ rest → turn_at p.provider.searches number ≡ turn → LeavesLess (suc (length rest)) (sending_by p turn)
 by_turn p number s first rest (Hands whole) at found waits is =
     let message : List ℕ = message_octets whole in

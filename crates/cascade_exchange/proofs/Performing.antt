@@ -15,7 +15,7 @@ use Rattle.cascade_script.specs.declared.fault.Cause.{Cause}
 use Rattle.cascade_script.specs.declared.fault.Cause.TheVariants.{BadCommand, UnknownNode, NameTaken, BadRecord, LimitReached, OutsideSuffix, LaterCookie, Circle, NoMemory}
 use Rattle.cascade_exchange.specs.Exchange.{Agreement, ExchangeOutcome, closed, is_stepwise}
 use Rattle.cascade_report.specs.Report.{Report}
-use Rattle.cascade_exchange.specs.Parts.{Does, Performs, KeepsOthers, IsKept, AreKept, BringsBack, IsUntouched, opened_since, with_kept, search_back, consumer_back}
+use Rattle.cascade_exchange.specs.Parts.{Does, Performs, KeepsOthers, IsKeptSearch, IsKeptIfAny, BringsBack, IsUntouched, opened_since, with_kept, search_back, consumer_back}
 use Rattle.cascade_exchange.proofs.Others.{only_searches}
 use Rattle.cascade_report.specs.ReportLines.{lines_text, stages_of}
 use Rattle.cascade_exchange.specs.declared.exchange.Exchange.{Exchange}
@@ -52,7 +52,7 @@ searches_stay p p1 None search1 others same = others
 searches_stay p p1 (Some number) search1 others same = same
 
 -- a search that is kept is back where the one that is open now is closed
-kept_back : (p q : ProviderState) (kept : KeptSearch) → IsKept p (Some kept.number) kept → q ≡ closed p (Some kept.number) → with_kept q kept ≡ p
+kept_back : (p q : ProviderState) (kept : KeptSearch) → IsKeptSearch p (Some kept.number) kept → q ≡ closed p (Some kept.number) → with_kept q kept ≡ p
 kept_back p q kept is same =
     let own : kept.search ≡ search_at p.searches kept.number = ap (λ m. m.search) is.value in
     ap (λ r. with_kept r kept) same
@@ -60,17 +60,17 @@ kept_back p q kept is same =
     ∙ ap (λ es. record p { searches = es }) is.back
 
 -- the provider comes back with the search that is kept, or where none is kept
-provider_comes_back : (p p1 : ProviderState) (search search1 : Option ℕ) (kept : Option KeptSearch) → AreKept p search kept → closed p1 search1 ≡ closed p search → IsUntouched kept search p p1
+provider_comes_back : (p p1 : ProviderState) (search search1 : Option ℕ) (kept : Option KeptSearch) → IsKeptIfAny p search kept → closed p1 search1 ≡ closed p search → IsUntouched kept search p p1
     → search_back kept search search1 p1 ≡ p
 provider_comes_back p p1 search search1 None are others same = searches_stay p p1 search search1 others (same refl)
 provider_comes_back p p1 search search1 (Some kept) are others same =
-    kept_back p (closed p1 search1) kept (subst (λ s. IsKept p s kept) are.own are) (others ∙ ap (closed p) are.own)
+    kept_back p (closed p1 search1) kept (subst (λ s. IsKeptSearch p s kept) are.own are) (others ∙ ap (closed p) are.own)
 
-no_write_since : (p p1 : ProviderState) (search search1 : Option ℕ) (kept : Option KeptSearch) → AreKept p search kept → closed p1 search1 ≡ closed p search → IfSome kept (HasNoWriteSince p1.directory)
+no_write_since : (p p1 : ProviderState) (search search1 : Option ℕ) (kept : Option KeptSearch) → IsKeptIfAny p search kept → closed p1 search1 ≡ closed p search → IfSome kept (HasNoWriteSince p1.directory)
 no_write_since p p1 search search1 None are others = tt
 no_write_since p p1 search search1 (Some kept) are others = no_write_came p p1.directory kept kept.number are.value (only_searches p p1 search search1 others).directory
 
-kept_ours : (p : ProviderState) (search : Option ℕ) (kept : Option KeptSearch) → AreKept p search kept → IfSome kept (λ own. IfSome own.search IsOurs)
+kept_ours : (p : ProviderState) (search : Option ℕ) (kept : Option KeptSearch) → IsKeptIfAny p search kept → IfSome kept (λ own. IfSome own.search IsOurs)
 kept_ours p search None are = tt
 kept_ours p search (Some kept) are = are.ours
 
@@ -79,7 +79,7 @@ pub still_unwritten : (d e : DirectoryState) (kept : KeptSearch) → HasNoWriteS
 still_unwritten d e kept none same = subst (λ d. HasNoWriteSince d kept) (sym same) none
 
 -- what is kept of a search
-pub keeps_search : (p : ProviderState) (search : Option ℕ) (number : ℕ) (kept : KeptSearch) → search ≡ Some number → kept ≡ snapshot_of p number → ComesBack p.searches number → IfSome kept.search IsOurs → IsKept p search kept
+pub keeps_search : (p : ProviderState) (search : Option ℕ) (number : ℕ) (kept : KeptSearch) → search ≡ Some number → kept ≡ snapshot_of p number → ComesBack p.searches number → IfSome kept.search IsOurs → IsKeptSearch p search kept
 keeps_search p search number kept is value back ours =
     let own : kept.number ≡ number = ap (λ m. m.number) value in
     record {
@@ -90,7 +90,7 @@ keeps_search p search number kept is value back ours =
     }
 
 -- a snapshot brings back what it was made of
-pub brings_back : (p p1 : ProviderState) (f f1 : ConsumerNode) (before : Snapshot) → before.search ≡ f.search → AreKept p f.search before.own → KeepsOthers p f p1 f1 → IsUntouched before.own f.search p p1
+pub brings_back : (p p1 : ProviderState) (f f1 : ConsumerNode) (before : Snapshot) → before.search ≡ f.search → IsKeptIfAny p f.search before.own → KeepsOthers p f p1 f1 → IsUntouched before.own f.search p p1
     → consumer_back before.consumer_node f1 ≡ f → BringsBack p f p1 f1 before
 brings_back p p1 f f1 before search are others untouched same = record {
   no_write = no_write_since p p1 f.search f1.search before.own are others;
@@ -111,14 +111,14 @@ still_consumer f f1 (Some was) kept same = kept
 
 -- an exchange in steps, by what is kept before it and what it leaves
 pub stepwise_back : (what : Exchange) (p p1 : ProviderState) (f f1 : ConsumerNode) (own : Option KeptSearch) (before after : Snapshot) → before.search ≡ f.search → IfSome before.consumer_node (λ was. was ≡ f) → is_some before.consumer_node ≡ is_stepwise what
-    → after ≡ record before { own = own } → AreKept p f.search own → KeepsOthers p f p1 f1 → (is_stepwise what ≡ true → IsUntouched own f.search p p1) → is_stepwise what ≡ true → BringsBack p f p1 f1 after
+    → after ≡ record before { own = own } → IsKeptIfAny p f.search own → KeepsOthers p f p1 f1 → (is_stepwise what ≡ true → IsUntouched own f.search p p1) → is_stepwise what ≡ true → BringsBack p f p1 f1 after
 stepwise_back what p p1 f f1 own before after search same steps is are others untouched stepwise =
     subst (BringsBack p f p1 f1) (sym is)
     (brings_back p p1 f f1 (record before { own = own }) search are others (untouched stepwise) (kept_consumer f f1 before.consumer_node same (steps ∙ stepwise)))
 
 -- a refused one, whether it is done in steps or not
 pub refused_back : (what : Exchange) (p p1 : ProviderState) (f f1 : ConsumerNode) (own : Option KeptSearch) (before after : Snapshot) → before.search ≡ f.search → IfSome before.consumer_node (λ was. was ≡ f) → is_some before.consumer_node ≡ is_stepwise what
-    → after ≡ record before { own = own } → AreKept p f.search own → KeepsOthers p f p1 f1 → (is_stepwise what ≡ true → IsUntouched own f.search p p1) → (is_stepwise what ≡ false → p1 ≡ p) → (is_stepwise what ≡ false → f1 ≡ f)
+    → after ≡ record before { own = own } → IsKeptIfAny p f.search own → KeepsOthers p f p1 f1 → (is_stepwise what ≡ true → IsUntouched own f.search p p1) → (is_stepwise what ≡ false → p1 ≡ p) → (is_stepwise what ≡ false → f1 ≡ f)
     → BringsBack p f p1 f1 after
 refused_back what p p1 f f1 own before after search same steps is are others untouched still still' = by (is_stepwise what) refl
   where
@@ -141,8 +141,8 @@ owes_nothing kept search p p1 needed none = by search (needed none)
     by (Some number) is = let never : ⊥ = cc in absurd never
 
 -- what is kept of the search that a consumer has still
-pub kept_same : (p : ProviderState) (search now : Option ℕ) (kept is : Option KeptSearch) → now ≡ search → is ≡ kept → AreKept p now kept → AreKept p search is
-kept_same p search now kept is same put are = subst (AreKept p search) (sym put) (subst (λ s. AreKept p s kept) same are)
+pub kept_same : (p : ProviderState) (search now : Option ℕ) (kept is : Option KeptSearch) → now ≡ search → is ≡ kept → IsKeptIfAny p now kept → IsKeptIfAny p search is
+kept_same p search now kept is same put are = subst (IsKeptIfAny p search) (sym put) (subst (λ s. IsKeptIfAny p s kept) same are)
 
 -- where a search was to be kept, nothing is owed
 pub dropped_untouched : (p p1 : ProviderState) (search now : Option ℕ) (kept is : Option KeptSearch) → now ≡ search → is ≡ kept → (kept ≡ None → now ≡ None) → IsUntouched is search p p1

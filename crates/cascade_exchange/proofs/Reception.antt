@@ -5,7 +5,7 @@ use Rattle.ldap_messages.specs.declared.message.Message.{Message}
 use Rattle.ldap_messages.specs.Whole.{Whole, whole_of}
 use Rattle.sync_consumer.specs.declared.consumer.Taken.{Taken}
 use Rattle.sync_consumer.specs.declared.consumer.Taken.TheVariants as taken
-use Rattle.sync_consumer.specs.Taking.{Following, taken_of, without_search}
+use Rattle.sync_consumer.specs.Taking.{ConsumerState, taken_of, without_search}
 use Rattle.sync_model.specs.Copy.{Copy}
 use Rattle.sync_consumer.specs.declared.commit.Commit as answered_by
 use Rattle.sync_provider.specs.Machine.{ProviderState}
@@ -72,20 +72,20 @@ nothing_there lin p f text none = (ap (taken_from (agreement_of p f lin)) none, 
 -- ---- a message that was taken
 
 -- the consumer keeps what it wants
-same_following : (c after : Following) → after.spec ≡ c.spec → after.reload ≡ c.reload → record c { copy = after.copy } ≡ after
+same_following : (c after : ConsumerState) → after.spec ≡ c.spec → after.reload ≡ c.reload → record c { copy = after.copy } ≡ after
 same_following c after spec reload = λ i. record { spec = sym spec i; reload = sym reload i; copy = after.copy }
 
-came_as : (lin : Lineage) → (p : ProviderState) (f : ConsumerNode) (after : Following) (m : Message) (t : Taken) → (after.copy, t) ≡ taken_of f.consumer.copy m
+came_as : (lin : Lineage) → (p : ProviderState) (f : ConsumerNode) (after : ConsumerState) (m : Message) (t : Taken) → (after.copy, t) ≡ taken_of f.consumer.copy m
     → taken_as (agreement_of p f lin) f.link (received_by f.consumer.copy.session f.consumer.copy (whole_of m)).0 (received_by f.consumer.copy.session f.consumer.copy (whole_of m)).1
     ≡ taken_as (agreement_of p f lin) f.link after.copy (came_reported t)
 came_as lin p f after m t is =
     ap (λ (x : Copy × Came). taken_as (agreement_of p f lin) f.link x.0 x.1) (received_reported f.consumer.copy m ∙ ap (λ (y : Copy × Taken). (y.0, came_reported y.1)) (sym is))
 
-abbrev Receives : Lineage → ProviderState → ConsumerNode → Following → Message → Report → Report → Type 0
+abbrev Receives : Lineage → ProviderState → ConsumerNode → ConsumerState → Message → Report → Report → Type 0
 Receives lin p f after m old new = Received (agreement_of p f lin) (received_of f.consumer.copy (Some (whole_of m))) old (agreement_of p (record f { consumer = after }) lin) new (Ok tt)
 
 -- a message that was staged gives the line `taken`
-pub receives_staged : (lin : Lineage) → (p : ProviderState) (f : ConsumerNode) (after : Following) (m : Message) (old new : Report) → after.spec ≡ f.consumer.spec → after.reload ≡ f.consumer.reload
+pub receives_staged : (lin : Lineage) → (p : ProviderState) (f : ConsumerNode) (after : ConsumerState) (m : Message) (old new : Report) → after.spec ≡ f.consumer.spec → after.reload ≡ f.consumer.reload
     → (after.copy, taken.Staged) ≡ taken_of f.consumer.copy m → new ≡ said old (reported.Taken f.name ∷ []) → Receives lin p f after m old new
 receives_staged lin p f after m old new spec reload is line = (
   reported.Taken f.name,
@@ -94,7 +94,7 @@ receives_staged lin p f after m old new spec reload is line = (
 )
 
 -- a message that ends a refresh without a cookie gives the line `taken`
-pub receives_copied : (lin : Lineage) → (p : ProviderState) (f : ConsumerNode) (after : Following) (m : Message) (commit : _) (old new : Report) → after.spec ≡ f.consumer.spec → after.reload ≡ f.consumer.reload
+pub receives_copied : (lin : Lineage) → (p : ProviderState) (f : ConsumerNode) (after : ConsumerState) (m : Message) (commit : _) (old new : Report) → after.spec ≡ f.consumer.spec → after.reload ≡ f.consumer.reload
     → (after.copy, taken.Copied commit) ≡ taken_of f.consumer.copy m → new ≡ said old (reported.Taken f.name ∷ []) → Receives lin p f after m old new
 receives_copied lin p f after m commit old new spec reload is line = (
   reported.Taken f.name,
@@ -103,7 +103,7 @@ receives_copied lin p f after m commit old new spec reload is line = (
 )
 
 -- a message that puts the stage into effect gives the line `stored`
-pub receives_stored : (lin : Lineage) → (p : ProviderState) (f : ConsumerNode) (after : Following) (m : Message) (commit : answered_by.Commit) (old new : Report) → after.spec ≡ f.consumer.spec → after.reload ≡ f.consumer.reload
+pub receives_stored : (lin : Lineage) → (p : ProviderState) (f : ConsumerNode) (after : ConsumerState) (m : Message) (commit : answered_by.Commit) (old new : Report) → after.spec ≡ f.consumer.spec → after.reload ≡ f.consumer.reload
     → (after.copy, taken.Stored commit) ≡ taken_of f.consumer.copy m → new ≡ said old (stored_reported (agreement_of p (record f { consumer = after }) lin) after.copy (commit_reported commit) ∷ []) → Receives lin p f after m old new
 receives_stored lin p f after m commit old new spec reload is line = (
   stored_reported (agreement_of p (record f { consumer = after }) lin) after.copy (commit_reported commit),
@@ -113,7 +113,7 @@ receives_stored lin p f after m commit old new spec reload is line = (
 )
 
 -- the end of a search gives the line `ended`
-pub receives_over : (lin : Lineage) → (p : ProviderState) (f : ConsumerNode) (after : Following) (m : Message) (code : _) (old new : Report) → after.spec ≡ f.consumer.spec → after.reload ≡ f.consumer.reload
+pub receives_over : (lin : Lineage) → (p : ProviderState) (f : ConsumerNode) (after : ConsumerState) (m : Message) (code : _) (old new : Report) → after.spec ≡ f.consumer.spec → after.reload ≡ f.consumer.reload
     → (after.copy, taken.Over code) ≡ taken_of f.consumer.copy m → new ≡ said old (reported.Ended f.name code ∷ []) → Receives lin p f after m old new
 receives_over lin p f after m code old new spec reload is line = (
   reported.Ended f.name code,
@@ -122,13 +122,13 @@ receives_over lin p f after m code old new spec reload is line = (
 )
 
 -- a message that is refused gives the line `fault`
-pub receives_fault : (lin : Lineage) → (p p1 : ProviderState) (f f1 : ConsumerNode) (after : Following) (m : Message) (fault : _) (old new : Report) → after.spec ≡ f.consumer.spec → after.reload ≡ f.consumer.reload
+pub receives_fault : (lin : Lineage) → (p p1 : ProviderState) (f f1 : ConsumerNode) (after : ConsumerState) (m : Message) (fault : _) (old new : Report) → after.spec ≡ f.consumer.spec → after.reload ≡ f.consumer.reload
     → (after.copy, taken.Fault fault) ≡ taken_of f.consumer.copy m → agreement_of p1 f1 lin ≡ given_up (agreement_of p (record f { consumer = after }) lin) after.copy
     → new ≡ said old (reported.Faulted f.name (peer_name fault) ∷ []) → Received (agreement_of p f lin) (received_of f.consumer.copy (Some (whole_of m))) old (agreement_of p1 f1 lin) new (Ok tt)
 receives_fault lin p p1 f f1 after m fault old new spec reload is up line = (
   reported.Faulted f.name (peer_name fault),
   came_as lin p f after m (taken.Fault fault) is
-      ∙ ap (λ (c : Following). (record { provider = closed p f.search; consumer_node = record f { consumer = record c { copy = without_search after.copy }; link = []; search = None }; lineage = lin }, reported.Faulted f.name (peer_name fault))) (same_following f.consumer after spec reload)
+      ∙ ap (λ (c : ConsumerState). (record { provider = closed p f.search; consumer_node = record f { consumer = record c { copy = without_search after.copy }; link = []; search = None }; lineage = lin }, reported.Faulted f.name (peer_name fault))) (same_following f.consumer after spec reload)
       ∙ ap (λ q. (q, reported.Faulted f.name (peer_name fault))) (sym up),
   line,
 )

@@ -3,8 +3,8 @@ use Rattle.std.proofs.Common.{◌≡◌, ℕ, true, false, Option, Some, None, L
 use Rattle.std.specs.Prelude.{Ok, Err}
 use Rattle.ldap_messages.specs.declared.message.Message.{Message}
 use Rattle.ldap_messages.specs.Whole.{Whole, whole_of, message_octets}
-use Rattle.sync_provider.specs.HandingOut.{Turn}
-use Rattle.sync_provider.specs.HandingOut.Turn.{Hands, Closes, Waits, Unknown}
+use Rattle.sync_provider.specs.HandingOut.{HandOut}
+use Rattle.sync_provider.specs.HandingOut.HandOut.{Hands, Closes, Waits, Unknown}
 use Rattle.sync_provider.specs.Machine.{ProviderState}
 use Rattle.cascade_script.specs.declared.fault.Cause.{Cause}
 use Rattle.cascade_script.specs.declared.fault.Cause.TheVariants.{BadCommand, UnknownNode, NameTaken, BadRecord, LimitReached, OutsideSuffix, LaterCookie, Circle, NoMemory}
@@ -17,7 +17,7 @@ use Rattle.cascade_exchange.specs.Parts.{HandsOut, SendsOne, Links, search_after
 use Rattle.cascade_report.specs.ReportLines.ReportLine.{Sent}
 
 -- the pair after a turn of the search
-abbrev After : Lineage → ProviderState → ConsumerNode → Turn → Agreement
+abbrev After : Lineage → ProviderState → ConsumerNode → HandOut → Agreement
 After lin p f turn = record { provider = handed p f.search; consumer_node = record f { search = search_after f.search turn }; lineage = lin }
 
 -- ---- one message
@@ -44,7 +44,7 @@ sent_as lin p p1 f f1 f2 search message old new out link' =
     )
 
 -- a message that is handed out and put into the link is sent
-pub sends_one : (lin : Lineage) → (p p1 : ProviderState) (f f1 f2 : ConsumerNode) (turn : Turn) (whole : Whole) (old new : Report) → agreement_of p1 f1 lin ≡ After lin p f turn → whole_in turn ≡ Some whole
+pub sends_one : (lin : Lineage) → (p p1 : ProviderState) (f f1 f2 : ConsumerNode) (turn : HandOut) (whole : Whole) (old new : Report) → agreement_of p1 f1 lin ≡ After lin p f turn → whole_in turn ≡ Some whole
     → Links f1 (message_octets whole) old f2 new (Ok tt) → SendsOne (agreement_of p f lin) (sending_by (agreement_of p f lin) turn) old (agreement_of p1 f2 lin) new (Ok true)
 sends_one lin p p1 f f1 f2 (Hands w) whole old new out is link' =
     let same : w ≡ whole = cc in
@@ -55,7 +55,7 @@ sends_one lin p p1 f f1 f2 (Closes code w) whole old new out is link' =
 sends_one lin p p1 f f1 f2 Waits whole old new out is link' = cc
 sends_one lin p p1 f f1 f2 Unknown whole old new out is link' = cc
 
-rests : (lin : Lineage) → (p p1 : ProviderState) (f f1 : ConsumerNode) (turn : Turn) (text : Report) → agreement_of p1 f1 lin ≡ agreement_of p f lin → whole_in turn ≡ None → SendsOne (agreement_of p f lin) (sending_by (agreement_of p f lin) turn) text (agreement_of p1 f1 lin) text (Ok false)
+rests : (lin : Lineage) → (p p1 : ProviderState) (f f1 : ConsumerNode) (turn : HandOut) (text : Report) → agreement_of p1 f1 lin ≡ agreement_of p f lin → whole_in turn ≡ None → SendsOne (agreement_of p f lin) (sending_by (agreement_of p f lin) turn) text (agreement_of p1 f1 lin) text (Ok false)
 rests lin p p1 f f1 (Hands w) text out is = cc
 rests lin p p1 f f1 (Closes code w) text out is = cc
 rests lin p p1 f f1 Waits text out is = (refl, out, refl)
@@ -74,7 +74,7 @@ full_as lin p p1 f f1 search message old text after f2 (LaterCookie held given) 
 full_as lin p p1 f f1 search message old text after f2 Circle out h = (full (agreement_of p f lin) search message (sym (ap (λ (q : Agreement). fits q.consumer_node message) out) ∙ h.0), h.1)
 full_as lin p p1 f f1 search message old text after f2 NoMemory out h = tt
 
-overflows : (lin : Lineage) → (p p1 : ProviderState) (f f1 f2 : ConsumerNode) (turn : Turn) (whole : Whole) (old text : Report) (after : Agreement) (cause : Cause) → agreement_of p1 f1 lin ≡ After lin p f turn → whole_in turn ≡ Some whole
+overflows : (lin : Lineage) → (p p1 : ProviderState) (f f1 f2 : ConsumerNode) (turn : HandOut) (whole : Whole) (old text : Report) (after : Agreement) (cause : Cause) → agreement_of p1 f1 lin ≡ After lin p f turn → whole_in turn ≡ Some whole
     → Links f1 (message_octets whole) old f2 text (Err cause) → SendsOne (agreement_of p f lin) (sending_by (agreement_of p f lin) turn) old after text (Err cause)
 overflows lin p p1 f f1 f2 (Hands w) whole old text after cause out is h =
     let same : w ≡ whole = cc in

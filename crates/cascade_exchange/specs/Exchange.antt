@@ -18,8 +18,8 @@ use Rattle.sync_wire.specs.Requesting.{persists}
 use Rattle.sync_wire.specs.Sending as wire
 use Rattle.directory_writes.specs.Starting.{start_at, asked_prefix}
 use Rattle.directory_writes.specs.Directory.{DirectoryState, csns}
-use Rattle.sync_provider.specs.HandingOut.{Turn, turn_at, search_at}
-use Rattle.sync_provider.specs.HandingOut.Turn.{Hands, Closes, Waits, Unknown}
+use Rattle.sync_provider.specs.HandingOut.{HandOut, turn_at, search_at}
+use Rattle.sync_provider.specs.HandingOut.HandOut.{Hands, Closes, Waits, Unknown}
 use Rattle.sync_provider.specs.Machine.{ProviderState, handed_out, dropped}
 use Rattle.sync_provider.specs.Search.{SearchState, pending}
 use Rattle.sync_provider.specs.declared.searches.Accepted.{Accepted}
@@ -82,7 +82,7 @@ pub data Sending : Type 0 where
   Overflows : Sending
 
 -- what the search of this number hands out next
-abbrev pub turn_of : ProviderState → Option ℕ → Turn
+abbrev pub turn_of : ProviderState → Option ℕ → HandOut
 turn_of p None = Unknown
 turn_of p (Some number) = turn_at p.searches number
 
@@ -108,7 +108,7 @@ sends pair search message =
     else Overflows
 
 -- a message is sent in its canonical spelling; with the last one the search is closed
-abbrev pub sending_by : Agreement → Turn → Sending
+abbrev pub sending_by : Agreement → HandOut → Sending
 sending_by pair (Hands whole) = sends pair pair.consumer_node.search (message_octets whole)
 sending_by pair (Closes code whole) = sends pair None (message_octets whole)
 sending_by pair Waits = Rests

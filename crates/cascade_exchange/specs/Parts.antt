@@ -7,8 +7,8 @@ use Rattle.cascade_script.specs.declared.fault.Cause.TheVariants.{LaterCookie, L
 use Rattle.ldap_messages.specs.Whole.{Whole, whole_of}
 use Rattle.ldap_messages.specs.declared.message.Message.{Message}
 use Rattle.sync_model.specs.Copy.{Copy}
-use Rattle.sync_provider.specs.HandingOut.{Turn}
-use Rattle.sync_provider.specs.HandingOut.Turn.{Hands, Closes, Waits, Unknown}
+use Rattle.sync_provider.specs.HandingOut.{HandOut}
+use Rattle.sync_provider.specs.HandingOut.HandOut.{Hands, Closes, Waits, Unknown}
 use Rattle.ldap_parts.specs.declared.control.Control.{Control}
 use Rattle.cascade_nodes.specs.declared.node.ConsumerNode.{ConsumerNode}
 use Rattle.cascade_exchange.specs.declared.exchange.Snapshot.{Snapshot}
@@ -57,15 +57,15 @@ KeepsOthers before consumer_node after consumer_after =
 -- ---- a moment that is kept
 
 -- how a search of a provider stood: what is closed and put back leaves the provider as it was
-pub record IsKept (p : ProviderState) (search : Option ℕ) (kept : KeptSearch) : Type 0 where
+pub record IsKeptSearch (p : ProviderState) (search : Option ℕ) (kept : KeptSearch) : Type 0 where
   pub value : kept ≡ snapshot_of p kept.number
   pub own : search ≡ Some kept.number
   pub ours : IfSome kept.search IsOurs
   pub back : ComesBack p.searches kept.number
 
 -- where that is kept
-abbrev pub AreKept : ProviderState → Option ℕ → Option KeptSearch → Type 0
-AreKept p search kept = IfSome kept (IsKept p search)
+abbrev pub IsKeptIfAny : ProviderState → Option ℕ → Option KeptSearch → Type 0
+IsKeptIfAny p search kept = IfSome kept (IsKeptSearch p search)
 
 -- the search that a consumer opened since, where it had none
 abbrev pub opened_since : (before now : Option ℕ) → Option ℕ
@@ -117,18 +117,18 @@ SendsOne before found old after new (Err cause) =
     (found ≡ Overflows) × (cause ≡ LimitReached most_link)
 
 -- the search of this number after its turn
-abbrev pub search_after : Option ℕ → Turn → Option ℕ
+abbrev pub search_after : Option ℕ → HandOut → Option ℕ
 search_after search (Closes code message) = None
 search_after search _ = search
 
-abbrev pub whole_in : Turn → Option Whole
+abbrev pub whole_in : HandOut → Option Whole
 whole_in (Hands message) = Some message
 whole_in (Closes code message) = Some message
 whole_in Waits = None
 whole_in Unknown = None
 
 -- a message that is handed out, which one answers where there is one
-abbrev pub HandsOut : Agreement → Turn → Agreement → Result (Option Message) Cause → Type 0
+abbrev pub HandsOut : Agreement → HandOut → Agreement → Result (Option Message) Cause → Type 0
 HandsOut before turn after (Ok (Some message)) =
     (after ≡ record before {
       provider = handed before.provider before.consumer_node.search;
@@ -228,11 +228,11 @@ Refuses before code old after new (Err NoMemory) = Unit {0}
 Refuses before code old after new (Err cause) = ⊥
 
 -- the same of a consumer node that is given this text for its cookie
-abbrev pub Gives : ConsumerNode → List ℕ → ConsumerNode → Result (Unit {0}) Cause → Type 0
-Gives before text after (Ok done) =
+abbrev pub GivesCookie : ConsumerNode → List ℕ → ConsumerNode → Result (Unit {0}) Cause → Type 0
+GivesCookie before text after (Ok done) =
     (is_later before.consumer.copy.cookie text ≡ false) × (after ≡ with_text before (Some text))
-Gives before text after (Err NoMemory) = Unit {0}
-Gives before text after (Err cause) =
+GivesCookie before text after (Err NoMemory) = Unit {0}
+GivesCookie before text after (Err cause) =
     (is_later before.consumer.copy.cookie text ≡ true)
     × (cause ≡ LaterCookie before.consumer.copy.cookie text)
 

@@ -6,8 +6,7 @@ ghost use Rattle.sync_wire.specs.Decoding.{control_said};
 ghost use Rattle.cascade_exchange.specs.Reception as spec;
 ghost use Rattle.cascade_exchange.specs.Reception.{says_bare, whole_said};
 
-use crate::dropping::discard;
-use ldap_ber::NoMemory;
+use ldap_ber::{NoMemory, discard};
 use ldap_constants::SUCCESS;
 use ldap_messages::{Message, Protocol};
 use std::alloc::{AllocError, Global};

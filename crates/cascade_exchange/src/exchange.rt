@@ -5,12 +5,11 @@ ghost use Rattle.cascade_exchange.specs.Exchange.{agreement_of, part_of};
 ghost use Rattle.cascade_exchange.specs.Exchange.{is_stepwise, moves_searches};
 ghost use Rattle.cascade_nodes.specs.Ours.{IsOurs};
 ghost use Rattle.cascade_exchange.specs.Parts as parts;
-ghost use Rattle.cascade_exchange.specs.Parts.{AreKept, BringsBack, IsUntouched, KeepsOthers, Performs};
+ghost use Rattle.cascade_exchange.specs.Parts.{IsKeptIfAny, BringsBack, IsUntouched, KeepsOthers, Performs};
 ghost use Rattle.cascade_exchange.specs.Parts.{consumer_back, opened_since, provider_back, search_back};
 
 use crate::cookies::{give, lose};
 use crate::cutting::{close, cut};
-use crate::dropping::discard;
 use crate::opening::{cut_if_busy, open_search};
 use crate::receiving::take;
 use crate::sending::send;
@@ -20,7 +19,7 @@ use cascade_nodes::{ConsumerNode, ProviderNode, ScriptProvider};
 use cascade_report::{Report, StoredStage};
 use cascade_script::Cause;
 use entry_tree::Spec;
-use ldap_ber::{NoMemory, Octets};
+use ldap_ber::{NoMemory, Octets, discard};
 use std::alloc::Global;
 use sync_messages::Mode;
 use sync_provider::SearchSnapshot;
@@ -30,9 +29,9 @@ use sync_provider::SearchSnapshot;
 pub enum Exchange {
     /// A search that ends with its refresh, or goes on after it, is opened.
     Open(Mode),
-    /// So many messages of the search go into the link.
+    /// This many messages of the search go into the link.
     Send(u64),
-    /// So many messages are taken from the link.
+    /// This many messages are taken from the link.
     Take(u64),
     /// The search, and what the link holds, is dropped.
     Cut,
@@ -97,8 +96,8 @@ impl Exchange {
             out.old (agreement_of provider.new consumer_node.new out.old.lineage) out.new result }
         ensures provider { KeepsOthers
             provider.old consumer_node.old provider.new consumer_node.new }
-        ensures kept { AreKept provider.old consumer_node.old.search kept.old
-            → AreKept provider.old consumer_node.old.search kept.new }
+        ensures kept { IsKeptIfAny provider.old consumer_node.old.search kept.old
+            → IsKeptIfAny provider.old consumer_node.old.search kept.new }
         ensures untouched { is_stepwise self ≡ true
             → IsUntouched kept.new consumer_node.old.search provider.old provider.new }
         ensures provider_err { is_stepwise self ≡ false
@@ -145,7 +144,7 @@ impl Snapshot {
     ) -> Result<Snapshot, NoMemory>
         ensures search { IfOk result (λ before. before.search ≡ consumer_node.now.search) }
         ensures own { IfOk result (λ before.
-            AreKept provider.now consumer_node.now.search before.own) }
+            IsKeptIfAny provider.now consumer_node.now.search before.own) }
         ensures needed { IfOk result (λ before. moves_searches exchange.now ≡ true
             → before.own ≡ None → consumer_node.now.search ≡ None) }
         ensures consumer_node { IfOk result (λ before.
@@ -221,7 +220,7 @@ fn search_before(
     provider: &ScriptProvider,
     search: Option<u64>,
 ) -> Result<Option<SearchSnapshot>, NoMemory>
-    ensures kept { IfOk result (AreKept provider.now search) }
+    ensures kept { IfOk result (IsKeptIfAny provider.now search) }
     ensures needed { IfOk result (λ kept. moves_searches exchange.now ≡ true
         → kept ≡ None → search ≡ None) }
 {
@@ -237,13 +236,13 @@ pub(crate) fn kept_search(
     provider: &ScriptProvider,
     search: Option<u64>,
 ) -> Result<Option<SearchSnapshot>, NoMemory>
-    ensures kept { IfOk result (AreKept provider.now search) }
+    ensures kept { IfOk result (IsKeptIfAny provider.now search) }
     ensures needed { IfOk result (λ kept. kept ≡ None → search ≡ None) }
 {
     let Some(number) = search else {
         return Ok(None);
     };
-    Ok(Some(provider.open_search(number)?))
+    Ok(Some(provider.search_snapshot(number)?))
 }
 
 /// How a consumer stands, where such an exchange is done in steps.

@@ -4,7 +4,6 @@
 
 mod cookies;
 mod cutting;
-mod dropping;
 mod ending;
 mod exchange;
 mod opening;

@@ -11,11 +11,10 @@ ghost use Rattle.cascade_exchange.specs.Parts.{Does, KeepsOthers, Opens, Refuses
 ghost use Rattle.cascade_exchange.specs.Parts.{first_value};
 
 use crate::cutting::{cut, is_busy};
-use crate::dropping::discard;
 use cascade_nodes::{ConsumerNode, MESSAGE_ID, ScriptProvider, copy_wanted};
 use cascade_report::{Digested, Report};
 use cascade_script::Cause;
-use ldap_ber::{NoMemory, Octets};
+use ldap_ber::{NoMemory, Octets, discard};
 use ldap_constants::E_SYNC_REFRESH_REQUIRED;
 use ldap_messages::Message;
 use std::alloc::{AllocError, Global};

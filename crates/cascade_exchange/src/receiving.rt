@@ -5,20 +5,19 @@ ghost use Rattle.cascade_exchange.specs.Exchange as spec;
 ghost use Rattle.cascade_exchange.specs.Reception as decoding;
 ghost use Rattle.cascade_exchange.specs.Exchange.{agreement_of};
 ghost use Rattle.sync_consumer.specs.Taking.{AreFit};
-ghost use Rattle.cascade_exchange.specs.Parts.{AreKept, Does, IsUntouched, KeepsOthers, TakesOne};
+ghost use Rattle.cascade_exchange.specs.Parts.{IsKeptIfAny, Does, IsUntouched, KeepsOthers, TakesOne};
 ghost use Rattle.cascade_exchange.specs.Parts.{ReceivedSoFar, TakesNext, TakesSoFar, TakesStep};
 ghost use Rattle.cascade_report.specs.Report.{said};
 ghost use Rattle.cascade_report.specs.ReportLines.{commit_reported, ReportLine as reported};
 
 use crate::cutting::drop_all;
-use crate::dropping::discard;
 use crate::ending::ends_bare;
 use crate::exchange::kept_search;
 use crate::taking::{BAD_MESSAGE, OUT_OF_PLACE, fault_name, stored_number};
 use cascade_nodes::{ConsumerNode, ScriptProvider};
 use cascade_report::Report;
 use cascade_script::Cause;
-use ldap_ber::NoMemory;
+use ldap_ber::{NoMemory, discard};
 use ldap_messages::{Message, MessageFault};
 use std::alloc::{AllocError, Global};
 use std::mem;
@@ -39,8 +38,8 @@ pub fn take(
         (spec.takes count (agreement_of provider.old consumer_node.old out.old.lineage))
         out.old (agreement_of provider.new consumer_node.new out.old.lineage) out.new result }
     ensures provider { KeepsOthers provider.old consumer_node.old provider.new consumer_node.new }
-    ensures kept { AreKept provider.old consumer_node.old.search kept.old
-        → AreKept provider.old consumer_node.old.search kept.new }
+    ensures kept { IsKeptIfAny provider.old consumer_node.old.search kept.old
+        → IsKeptIfAny provider.old consumer_node.old.search kept.new }
     ensures untouched { IsUntouched kept.new consumer_node.old.search provider.old provider.new }
 {
     if take_some(alloc, provider, consumer_node, count, out)? {

@@ -8,10 +8,10 @@ ghost use Rattle.cascade_exchange.specs.Parts.{Does, HandsOut, KeepsOthers, Link
 ghost use Rattle.cascade_exchange.specs.Parts.{SendsOne};
 ghost use Rattle.cascade_exchange.specs.Passing.{passed, IsAhead, LinksAll, OnlyLinks};
 
-use crate::dropping::discard;
 use cascade_nodes::{ConsumerNode, ScriptProvider};
 use cascade_report::Report;
 use cascade_script::Cause;
+use ldap_ber::discard;
 use ldap_messages::Message;
 use std::alloc::Global;
 use sync_provider::Handed;

@@ -5,12 +5,12 @@ ghost use Rattle.cascade_exchange.specs.Exchange as spec;
 ghost use Rattle.cascade_exchange.specs.Exchange.{agreement_of};
 ghost use Rattle.cascade_exchange.specs.Parts.{Does, KeepsOthers};
 
-use crate::dropping::discard;
 use crate::opening::cut_if_busy;
 use cascade_nodes::{ConsumerNode, ScriptProvider};
 use cascade_report::Report;
 use cascade_script::Cause;
 use entry_tree::Spec;
+use ldap_ber::discard;
 
 /// A busy consumer is cut, and wants this from now on. After a refusal both are as before.
 pub fn want(

@@ -1,15 +1,14 @@
 -- A consumer that is brought up to its provider holds what it wants of all the provider's writes.
-use Rattle.std.proofs.Common.{◌≡◌, ◌+◌, ◌<◌, ◌≤◌, ℕ, zero, suc, Bool, true, false, cond, Option, Some, None, List, [], ◌∷◌, ◌++◌, length, map, take, refl, ap, sym, ◌∙◌, inl, inr, arith, subst}
+use Rattle.std.proofs.Common.{◌≡◌, ◌+◌, ◌<◌, ◌≤◌, ℕ, zero, suc, Bool, true, false, cond, Option, Some, None, List, [], ◌∷◌, ◌++◌, length, map, refl, ap, sym, ◌∙◌, inl, inr, arith, subst}
 use Rattle.std.specs.Prelude.{◌⊎◌, ◌&&◌, Ok, Err, is_some, option_map}
 use Rattle.std.proofs.Math.Seq.{take-length}
 use Rattle.std.proofs.lemmas.Bool.{false≢true, true≢false}
 use Rattle.std.proofs.lemmas.List.Sums.{fold-append}
 use Rattle.std.proofs.lemmas.List.{nil_from_length}
+use Rattle.std.proofs.lemmas.Option.{none-some}
 use Rattle.ldap_messages.specs.Whole.{message_octets}
-use Rattle.csn_cookie.specs.Cookie.{cookie_text}
 use Rattle.csn_cookie.specs.Csn.{start}
-use Rattle.csn_cookie.specs.declared.cookie.Cookie.{Cookie}
-use Rattle.directory_writes.specs.Directory.{cookie_at, entries_after, last_csn}
+use Rattle.directory_writes.specs.Directory.{entries_after}
 use Rattle.directory_writes.proofs.Promised.{content_at}
 use Rattle.dn_names.specs.Names.{TypeAndValue}
 use Rattle.entry_tree.specs.Selection.{select}
@@ -20,8 +19,8 @@ use Rattle.sync_model.specs.Message.{SyncMessage}
 use Rattle.sync_model.specs.Stream.{SyncOperation, content_after, later}
 use Rattle.sync_model.proofs.Histories.{ascends-state_of}
 use Rattle.sync_consumer.specs.Taking.{is_persisting}
-use Rattle.sync_provider.specs.HandingOut.{Turn, turn_of_pending, turn_of_found, search_at}
-use Rattle.sync_provider.specs.HandingOut.Turn.{Hands, Closes, Waits, Unknown}
+use Rattle.sync_provider.specs.HandingOut.{HandOut, turn_of_pending, turn_of_found, search_at}
+use Rattle.sync_provider.specs.HandingOut.HandOut.{Hands, Closes, Waits, Unknown}
 use Rattle.sync_provider.specs.Law.{Delivers}
 use Rattle.sync_provider.specs.Machine.{ProviderState}
 use Rattle.sync_provider.specs.Search.{SearchState, pending}
@@ -30,7 +29,7 @@ use Rattle.sync_provider.proofs.Whereabouts.{InRefresh, AtWhole, InGroup}
 use Rattle.cascade_nodes.specs.declared.node.ConsumerNode.{ConsumerNode}
 use Rattle.cascade_nodes.proofs.Fed.{HasRoom, HasPending, IsAtRest}
 use Rattle.cascade_world.specs.Exchange.{Agreement, agreement_of, ExchangeOutcome, after_lines, and_then, copy_of, name_of, Sending, Sends, Rests, Overflows, turn_of, handed, linked, fits, sending_by, sending, taking, taken_as, taken_from, taken_before, taken_some, pending_count, left_to_send, ran_before, ran_some, runs, drains, follows_on, opens_anew, refreshes, catches_up, settled_reported}
-use Rattle.cascade_laws.specs.Headline.{Opening, Known, with_sent, known_after, session_over, octets_of, busy}
+use Rattle.cascade_laws.specs.Headline.{Opening, Known, with_sent, known_after, session_over, sent_octets, busy}
 use Rattle.cascade_world.specs.Reception.{Came, received}
 use Rattle.cascade_world.specs.Reception.{Came as came}
 use Rattle.cascade_world.specs.Origins.{Lineage}
@@ -40,7 +39,7 @@ use Rattle.cascade_laws.proofs.Composing.{IsKeptIn, known_by_lines, kept-still, 
 use Rattle.cascade_laws.proofs.Feeding.{IsSource, GoesOn, IsGoing, IsFed, Frame, IsKept}
 use Rattle.cascade_laws.proofs.FedOpening.{OpenedIn, opens_anew_opens}
 use Rattle.cascade_laws.proofs.FedSending.{own_sent, GoingSent, going_sent}
-use Rattle.cascade_laws.proofs.FedTaking.{IsTaken, GoingTaken, going_taken}
+use Rattle.cascade_laws.proofs.FedTaking.{IsTaken, GoingTaken, going_taken, cookies_are_texts}
 use Rattle.sync_provider.proofs.Past as past
 use Rattle.cascade_exchange.proofs.Pending.{Left, LeavesLess, leaves_less}
 use Rattle.cascade_exchange.proofs.Owns.{room_after}
@@ -61,7 +60,7 @@ pub record IsDrained (pair : Agreement) : Type 0 where
   pub link : pair.consumer_node.link ≡ []
   pub none : Left pair ≡ 0
 
-map_none : (link : List SyncMessage) → map octets_of link ≡ [] → link ≡ []
+map_none : (link : List SyncMessage) → map sent_octets link ≡ [] → link ≡ []
 map_none [] same = refl
 map_none (m ∷ link) same = let never : ⊥ = cc in absurd never
 
@@ -103,9 +102,6 @@ module _ (lin : Lineage) (number : ℕ) (suffix : Name) (p : ProviderState) (f :
   abbrev operation : SyncOperation
   operation = session_over number f.consumer.spec writes opening
 
-  texts : (count : ℕ) → (cookie : Cookie) × (operation.cookies count ≡ cookie_text cookie)
-  texts count = (cookie_at number number (last_csn (start number) (take count writes)), refl)
-
   none_ahead : goes.session.ahead ≡ []
   none_ahead = (all_taken lin number p f opening entries goes drained).1
 
@@ -119,14 +115,14 @@ module _ (lin : Lineage) (number : ℕ) (suffix : Name) (p : ProviderState) (f :
   whole_is is =
       is.content
       ∙ past.none_left operation (λ n. ascends-state_of number writes n) (λ n. (source.good n).within)
-      (λ n. (source.good n).sent) texts opening.writes goes.session.count is.more is.number (sym is.beyond ∙ none_ahead)
+      (λ n. (source.good n).sent) (cookies_are_texts number f.consumer.spec writes opening) opening.writes goes.session.count is.more is.number (sym is.beyond ∙ none_ahead)
       ∙ ap (content_after operation) (is.sum ∙ goes.session.upto)
       ∙ content_of_all number p f
 
   group_is : InGroup operation opening.writes goes.session.count entries f.consumer.copy goes.session.ahead → ⊥
   group_is is =
       past.group_filled operation (λ n. ascends-state_of number writes n) (λ n. (source.good n).within)
-      (λ n. (source.good n).sent) texts opening.writes goes.session.count entries f.consumer.copy
+      (λ n. (source.good n).sent) (cookies_are_texts number f.consumer.spec writes opening) opening.writes goes.session.count entries f.consumer.copy
       (subst (InGroup operation opening.writes goes.session.count entries f.consumer.copy) none_ahead is)
 
   pub up_to_date : entries ≡ all_content number p f
@@ -152,7 +148,7 @@ drained_lines : (lines : List ReportLine) (outcome : ExchangeOutcome) → Draine
 drained_lines lines (Ok next) drained = drained
 drained_lines lines (Err cause) drained = tt
 
-idle_turn : (pair : Agreement) (turn : Turn) → sending_by pair turn ≡ Rests → IsIdle turn
+idle_turn : (pair : Agreement) (turn : HandOut) → sending_by pair turn ≡ Rests → IsIdle turn
 idle_turn pair (Hands whole) is = by (fits pair.consumer_node (message_octets whole)) is
   where
     by : (room : Bool) → cond room (Sends (agreement_of (handed pair.provider pair.consumer_node.search) (linked pair.consumer_node pair.consumer_node.search (message_octets whole)) pair.lineage) (message_octets whole)) Overflows ≡ Rests → ⊥
@@ -186,7 +182,7 @@ LinksOne pair (Sends after message) = after.consumer_node.link ≡ pair.consumer
 LinksOne pair Rests = Unit {0}
 LinksOne pair Overflows = Unit {0}
 
-links_one : (pair : Agreement) (turn : Turn) → LinksOne pair (sending_by pair turn)
+links_one : (pair : Agreement) (turn : HandOut) → LinksOne pair (sending_by pair turn)
 links_one pair (Hands whole) = by (fits pair.consumer_node (message_octets whole))
   where
     by : (room : Bool) → LinksOne pair (cond room (Sends (agreement_of (handed pair.provider pair.consumer_node.search) (linked pair.consumer_node pair.consumer_node.search (message_octets whole)) pair.lineage) (message_octets whole)) Overflows)
@@ -297,9 +293,6 @@ catches_sent number suffix pair known source fed is after message sends' = by is
         let never : ⊥ = cc in
         absurd never
 
-none_some : (next : Agreement × ReportLine) → None ≡ Some next → ⊥
-none_some next same = cc
-
 -- and one is taken
 catches_taken : (number : ℕ) (suffix : Name) (pair : Agreement) (known : Known) → IsSource number suffix pair.provider → IsFed number pair.provider pair.consumer_node known → Catches number pair.provider pair.consumer_node known
     → (after : Agreement) (line : ReportLine) → taking pair ≡ Some (after, line)
@@ -345,7 +338,7 @@ catches_taken number suffix pair known source fed is after line takes' = by is.s
         now (inr rest) = inr (rest.0, content rest.1)
     by (inr rest) =
         let none : taking pair ≡ None = ap (taken_from pair) rest.0.link in
-        absurd (none_some (after, line) (sym none ∙ takes'))
+        absurd (none-some (after, line) (sym none ∙ takes'))
 
 -- what was reported of more lines
 known_on : (number : ℕ) (p : ProviderState) (f : ConsumerNode) (name other : List ℕ) (known : Known) (lines more : List ReportLine) → other ≡ name

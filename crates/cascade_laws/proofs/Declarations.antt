@@ -4,6 +4,7 @@ use Rattle.std.specs.Prelude.{count_by, is_some, map, option_map, slice_get}
 use Rattle.std.specs.Str.{bytes_eq}
 use Rattle.dn_names.specs.Names.{TypeAndValue}
 use Rattle.entry_tree.specs.Selection.{Search}
+use Rattle.entry_tree.proofs.NameKeys.{same_bytes}
 use Rattle.sync_provider.specs.declared.provider.Kind.{Kind}
 use Rattle.sync_provider.specs.declared.provider.Kind.TheVariants.{Root, Replica}
 use Rattle.cascade_nodes.specs.declared.node.ProviderNode.{ProviderNode}
@@ -16,16 +17,17 @@ use Rattle.cascade_world.specs.ReportLines.{ReportLine}
 use Rattle.cascade_world.specs.World.{WorldState, is_provider_node, provider_node_named, new_provider_node, with_root, declare_root, new_consumer_node, with_consumer, with_replica, is_offered, declare_consumer_node}
 use Rattle.cascade_laws.proofs.Exchanges.{After}
 use Rattle.cascade_laws.proofs.Feeding.{IsFed, Promises, RestIsFed, FreshIsSource}
-use Rattle.cascade_world.proofs.Finding.{find-more, IsChanged, found_after, provider_nodes_by, consumer_nodes_by, provider_node_pushed, consumer_node_pushed, IsNew, is_new}
+use Rattle.cascade_world.proofs.Finding.{IsChanged, found_after, provider_nodes_by, consumer_nodes_by, provider_node_pushed, consumer_node_pushed, IsNew, is_new}
 use Rattle.cascade_world.proofs.Found as lookup
 use Rattle.cascade_laws.proofs.Growing.{count_more, AllBecome, grows_itself, sources_changed, rooted_grown, committers_changed, committers_but}
 use Rattle.cascade_laws.proofs.Ordered.{AsksOf, time_still, consumers_still, strangers_still, consumers_asked, strangers_asked, provider_nodes_declared, provider_node_kept}
 use Rattle.cascade_laws.proofs.Rooting.{nothing_written}
 use Rattle.cascade_laws.proofs.Saying.{IsLeft, left_for_new}
-use Rattle.cascade_world.proofs.SameNames.{itself, same_name}
+use Rattle.cascade_world.proofs.SameNames.{itself}
 use Rattle.cascade_world.proofs.Climbing.{Climbs, Avoids, AllClimb, all_climb_rerouted, found_above}
 use Rattle.cascade_world.proofs.Owning.{owned_provider_node, owned_consumer_node}
 use Rattle.cascade_world.proofs.Traced.{AreReported}
+use Rattle.cascade_world.proofs.Lists.{find-more}
 use Rattle.cascade_laws.proofs.Tracking.{noted, HasCommitted, AreSources, AreNumbered, IsConsumerNode, AreConsumerNodes, AllApart, IsManned, AreManned, Feeds, Tracks}
 
 -- ---- a new name
@@ -35,7 +37,7 @@ other_provider_node : (state : WorldState) (name n : List ℕ) (s : ProviderNode
 other_provider_node state name n s new e = by (bytes_eq n name) refl
   where
     by : (b : Bool) → bytes_eq n name ≡ b → bytes_eq n name ≡ false
-    by true hit = let bad : None ≡ Some s = sym new.provider_node ∙ ap (provider_nodes_by state.provider_nodes) (sym (same_name n name hit)) ∙ e in let never : ⊥ = cc in absurd never
+    by true hit = let bad : None ≡ Some s = sym new.provider_node ∙ ap (provider_nodes_by state.provider_nodes) (sym (same_bytes n name hit)) ∙ e in let never : ⊥ = cc in absurd never
     by false miss = miss
 
 -- ---- the number of a node

@@ -12,7 +12,7 @@ use Rattle.cascade_nodes.specs.declared.node.ConsumerNode.{ConsumerNode}
 use Rattle.cascade_laws.specs.Headline.{is_declaration, IsShown, LinesAreRight}
 use Rattle.cascade_script.specs.Orders.{Order}
 use Rattle.cascade_script.specs.Orders.{Order as asks}
-use Rattle.cascade_script.specs.Reader.{Reader}
+use Rattle.cascade_script.specs.Reader.{ScriptReader}
 use Rattle.cascade_world.specs.ReportLines.{ReportLine}
 use Rattle.cascade_world.specs.ReportLines.ReportLine.{Clocked, Shown}
 use Rattle.cascade_laws.specs.Run.{Runs}
@@ -35,7 +35,7 @@ use Rattle.cascade_laws.proofs.Tracking.{Tracks}
 use Rattle.cascade_laws.proofs.Written.{write_after, log_after, queue_after}
 
 -- what is known of providers and of what they feed their consumers
-pub record Known : Type 0 where
+pub record OrderKnown : Type 0 where
   pub rest : RestIsFed
   pub fresh : FreshIsSource
   pub writes : WritesAreKept
@@ -49,10 +49,10 @@ pub record Known : Type 0 where
   pub lasts : PromisesLast
   pub selected : SelectedCanBeServed
 
-exchanging : Known → exchanges.Known
+exchanging : OrderKnown → exchanges.PartsKnown
 exchanging known = record { lasts = known.lasts; selected = known.selected; commits = known.commits }
 
-pointing : Known → Pointing
+pointing : OrderKnown → Pointing
 pointing known = record { known = exchanging known; parts = known.parts; rests = known.rests; idles = known.idles }
 
 -- ---- the clock
@@ -105,7 +105,7 @@ show_after before said state name entries e is =
 
 -- ---- each order
 
-step_after : Known → (before : List Order) (said : List ReportLine) (state : WorldState) (order : Order) → AreReported state said → Tracks before said state → After before said order (step state order)
+step_after : OrderKnown → (before : List Order) (said : List ReportLine) (state : WorldState) (order : Order) → AreReported state said → Tracks before said state → After before said order (step state order)
 step_after known before said state (asks.Provider name suffix) reported is = provider_after known.fresh before said state name suffix is
 step_after known before said state (asks.Consumer name source search reload) reported is = consumer_after known.rest before said state name source search reload reported is
 step_after known before said state (asks.Replica name source search reload) reported is = replica_after known.fresh known.rest before said state name source search reload reported is
@@ -134,7 +134,7 @@ pub record HasRun (before : List Order) (said : List ReportLine) (orders : List 
   pub right : LinesAreRight before said orders report
   pub tracked : Tracks (before ++ orders) (said ++ all_lines report) end
 
-run_tracked : Known → (before : List Order) (said : List ReportLine) (state : WorldState) (reader : Reader) (orders : List Order) (report : List (List ReportLine)) (end : WorldState) (rest : Reader)
+run_tracked : OrderKnown → (before : List Order) (said : List ReportLine) (state : WorldState) (reader : ScriptReader) (orders : List Order) (report : List (List ReportLine)) (end : WorldState) (rest : ScriptReader)
     → AreReported state said → Tracks before said state → Runs state reader orders report end rest → HasRun before said orders report end
 run_tracked known before said state reader [] [] end rest reported is r =
     record { right = tt; tracked = subst (Tracks (before ++ []) (said ++ [])) r.0 (rw (append-nil before, append-nil said) is) }
@@ -174,6 +174,6 @@ start_tracked = record {
     none_there e = cc
 
 -- a run from no nodes
-pub runs_tracked_by : Known → (reader : Reader) (orders : List Order) (report : List (List ReportLine)) (end : WorldState) (rest : Reader) → Runs no_nodes reader orders report end rest → HasRun [] [] orders report end
+pub runs_tracked_by : OrderKnown → (reader : ScriptReader) (orders : List Order) (report : List (List ReportLine)) (end : WorldState) (rest : ScriptReader) → Runs no_nodes reader orders report end rest → HasRun [] [] orders report end
 runs_tracked_by known reader orders report end rest r =
     run_tracked known [] [] no_nodes reader orders report end rest (record { apart = tt; of_nodes = tt; reported = tt }) start_tracked r

@@ -10,6 +10,7 @@ use Rattle.dn_names.specs.Names.{TypeAndValue}
 use Rattle.entry_tree.specs.Selection.{Search, select}
 use Rattle.entry_tree.specs.declared.entry.Entry.{Entry}
 use Rattle.entry_tree.specs.declared.op.Write.{Write}
+use Rattle.entry_tree.proofs.NameKeys.{same_bytes}
 use Rattle.directory_writes.specs.Directory.{DirectoryState, entries_after}
 use Rattle.directory_writes.proofs.Promised.{IsPromised, PromisesLast}
 use Rattle.cascade_nodes.specs.declared.node.ProviderNode.{ProviderNode}
@@ -27,13 +28,14 @@ use Rattle.cascade_world.specs.World.{WorldState, with_provider, with_consumer_n
 use Rattle.cascade_exchange.proofs.Exchanging.{Alters, Keeps}
 use Rattle.cascade_exchange.proofs.Owns.{OwnsNew}
 use Rattle.cascade_laws.proofs.Feeding.{IsSource, IsFed, Promises, Frame, frame_of, IsRightOf, LineIsRightOf, LinesAreRightOf, KeepsOthers, known_then, IsKept, IsRespecced}
-use Rattle.cascade_world.proofs.Finding.{IsChanged, found_after, found_still, provider_nodes_by, provider_node_name, consumer_nodes_by, consumer_node_name, provider_changed, consumer_node_changed, length-first_changed}
+use Rattle.cascade_world.proofs.Finding.{IsChanged, found_after, found_still, provider_nodes_by, provider_node_name, consumer_nodes_by, consumer_node_name, provider_changed, consumer_node_changed}
 use Rattle.cascade_laws.proofs.Growing.{Grows, AllBecome, AllBeen, become_changed, been_changed, source_now, sources_changed, numbered_grown, manned_grown, rooted_grown, promises_grown, fed_by, consumer_node_still, committer_still, IsSameProviderNode, committer_same}
 use Rattle.cascade_laws.proofs.Rooting.{origin_rooted}
 use Rattle.cascade_laws.proofs.Saying.{left_by_other, time_reported, clock_more, stored_more}
-use Rattle.cascade_world.proofs.SameNames.{itself, other_way, same_name}
+use Rattle.cascade_world.proofs.SameNames.{itself, other_way}
 use Rattle.cascade_world.proofs.Climbing.{all_climb_same}
 use Rattle.cascade_world.proofs.Owning.{owned_done}
+use Rattle.cascade_world.proofs.Lists.{length-first_changed}
 use Rattle.cascade_laws.proofs.Tracking.{IsCommitter, AreCommitters, AreCommittersBut, IsConsumerNode, AreConsumerNodes, AllApart, IsRooted, AreRooted, Feeds}
 
 flipped : (f g : ConsumerNode) → AreApart f g → AreApart g f
@@ -285,7 +287,7 @@ module _ (lasts : PromisesLast) (wants : Search → Search) (said : List ReportL
       let promised = promises_grown lasts state.provider_nodes next g.consumer.spec (known_of g.name said) been was.promised in
       elim (cases_Bool (bytes_eq g.source f.source)) [
         | inl hit ↦
-            let alike : g.source ≡ f.source = same_name g.source f.source hit in
+            let alike : g.source ≡ f.source = same_bytes g.source f.source hit in
             record {
               provider_node = now;
               there = ap (provider_nodes_by next) alike ∙ changed.here;
@@ -317,7 +319,7 @@ module _ (lasts : PromisesLast) (wants : Search → Search) (said : List ReportL
   sources_same n =
       elim (cases_Bool (bytes_eq n f.name)) [
         | inl hit ↦
-            let alike : n ≡ f.name = same_name n f.name hit in
+            let alike : n ≡ f.name = same_bytes n f.name hit in
             let was : consumer_nodes_by state.consumer_nodes n ≡ Some f = ap (consumer_nodes_by state.consumer_nodes) alike ∙ e in
             let new : consumer_nodes_by next' n ≡ Some after.consumer_node = ap (consumer_nodes_by next') alike ∙ changed'.here in
             ap (option_map (λ (g : ConsumerNode). g.source)) new ∙ ap Some keeps.source ∙ sym (ap (option_map (λ (g : ConsumerNode). g.source)) was)

@@ -20,7 +20,7 @@ use Rattle.cascade_laws.specs.Headline.{Following, following, followed, known_of
 use Rattle.cascade_script.specs.Orders.{Order}
 use Rattle.cascade_script.specs.Orders.{Order as asks}
 use Rattle.cascade_world.specs.ReportLines.{ReportLine, stages_of}
-use Rattle.cascade_world.specs.World.{WorldState, Step, provider_node_named, with_pair, commits_in, commits_of, with_lines, with_outcome, lineage_of, exchange}
+use Rattle.cascade_world.specs.World.{WorldState, StepOutcome, provider_node_named, with_pair, commits_in, commits_of, with_lines, with_outcome, lineage_of, exchange}
 use Rattle.cascade_laws.proofs.Exchanged.{IsDone, done_kept, pair_feeds, pair_commits, pair_changed, pair_becomes, pair_followed}
 use Rattle.cascade_exchange.proofs.Exchanging.{Alters, AltersIn, as_before, sent_keeps, takes_keeps, cut_keeps, idle_keeps, opens_keeps, settles_keeps, lost_keeps, given_keeps}
 use Rattle.cascade_exchange.proofs.Silence.{sent_silent, takes_silent, cut_silent, idle_silent, opens_silent, settles_silent}
@@ -37,12 +37,12 @@ use Rattle.cascade_world.proofs.Owning.{room_of}
 use Rattle.cascade_laws.proofs.Tracking.{AreCommitters, Feeds, Tracks}
 
 -- what a step leaves and reports
-abbrev pub After : List Order → List ReportLine → Order → Step → Type 0
+abbrev pub After : List Order → List ReportLine → Order → StepOutcome → Type 0
 After before said order (Err cause) = Unit {0}
 After before said order (Ok next) = Tracks (before ++ order ∷ []) (said ++ next.1) next.0 × EachReportsRight before order said next.1
 
 -- what is known of a provider and its consumer
-pub record Known : Type 0 where
+pub record PartsKnown : Type 0 where
   pub lasts : PromisesLast
   pub selected : SelectedCanBeServed
   pub commits : CommitsAreKept
@@ -59,11 +59,11 @@ pub record IsThrough (before : List Order) (order : Order) (said lines : List Re
   pub changed : IsChanged (consumer_nodes_by state.consumer_nodes) (consumer_nodes_by done.consumer_nodes) f.name g
   pub right : EachReportsRight before order said lines
 
-abbrev pub ThroughIn : List Order → Order → List ReportLine → WorldState → ConsumerNode → ConsumerNode → Step → Type 0
+abbrev pub ThroughIn : List Order → Order → List ReportLine → WorldState → ConsumerNode → ConsumerNode → StepOutcome → Type 0
 ThroughIn before order said state f g (Ok next) = IsThrough before order said next.1 state next.0 f g
 ThroughIn before order said state f g (Err cause) = Unit {0}
 
-pub outcome_through : Known → (wants : Search → Search) (before : List Order) (order : Order) (said : List ReportLine) (state : WorldState) (f : ConsumerNode) (r : ProviderNode) (after : Agreement) (lines : List ReportLine) → GivenLines order lines
+pub outcome_through : PartsKnown → (wants : Search → Search) (before : List Order) (order : Order) (said : List ReportLine) (state : WorldState) (f : ConsumerNode) (r : ProviderNode) (after : Agreement) (lines : List ReportLine) → GivenLines order lines
     → consumer_nodes_by state.consumer_nodes f.name ≡ Some f → provider_nodes_by state.provider_nodes f.source ≡ Some r
     → IsDone r.provider.directory.history r.provider.directory.suffix (agreement_of r.provider f (lineage_of state r)) after lines (known_of f.name said) → Alters wants (agreement_of r.provider f (lineage_of state r)) after lines
     → Tracks before said state → ThroughIn before order said state f after.consumer_node (with_outcome state (Ok (after, lines)))
@@ -191,7 +191,7 @@ exchange_keeps (goes.Give text) pair same = given_keeps text pair
 exchange_keeps goes.Idle pair same = idle_keeps pair
 exchange_keeps (goes.Want spec) pair same = absurd same
 
-outcome_after : Known → PartsAreKept → (before : List Order) (order : Order) (said : List ReportLine) (state : WorldState) (f : ConsumerNode) (r : ProviderNode) (exchange : Exchange) (outcome : ExchangeOutcome) → WantsTheSame exchange → IsCalm order
+outcome_after : PartsKnown → PartsAreKept → (before : List Order) (order : Order) (said : List ReportLine) (state : WorldState) (f : ConsumerNode) (r : ProviderNode) (exchange : Exchange) (outcome : ExchangeOutcome) → WantsTheSame exchange → IsCalm order
     → GivenIn order outcome → consumer_nodes_by state.consumer_nodes f.name ≡ Some f → provider_nodes_by state.provider_nodes f.source ≡ Some r → part_of exchange (agreement_of r.provider f (lineage_of state r)) ≡ outcome
     → AltersIn as_before (agreement_of r.provider f (lineage_of state r)) outcome → Tracks before said state → After before said order (with_outcome state outcome)
 outcome_after known parts before order said state f r exchange (Err cause) same calm gives e e' p keeps is = tt
@@ -220,7 +220,7 @@ outcome_after known parts before order said state f r exchange (Ok next) same ca
         ap (λ s. Some (following s f.consumer.spec f.consumer.reload)) (sym keeps.source) ∙ ap (λ s. Some (following g.source s f.consumer.reload)) (sym keeps.spec)
         ∙ ap (λ b. Some (following g.source g.consumer.spec b)) (sym keeps.reload)
 
-    by : (step' : Step) → ThroughIn before order said state f g step' → After before said order step'
+    by : (step' : StepOutcome) → ThroughIn before order said state f g step' → After before said order step'
     by (Err cause) through = tt
     by (Ok last) through = (
       record {
@@ -233,7 +233,7 @@ outcome_after known parts before order said state f r exchange (Ok next) same ca
       through.right,
     )
 
-pub exchange_after : Known → PartsAreKept → (before : List Order) (said : List ReportLine) (state : WorldState) (name : List ℕ) (what : Exchange) → WantsTheSame what → Tracks before said state
+pub exchange_after : PartsKnown → PartsAreKept → (before : List Order) (said : List ReportLine) (state : WorldState) (name : List ℕ) (what : Exchange) → WantsTheSame what → Tracks before said state
     → After before said (asked_by name what) (exchange state name (part_of what))
 exchange_after known parts before said state name what same is =
     lookup.exchanged (λ n. After before said (asked_by n what)) (λ n cause. tt) state name (part_of what) (λ f r e there.

@@ -21,6 +21,7 @@ use Rattle.cascade_world.specs.ReportLines.{ReportLine as reported}
 use Rattle.cascade_laws.proofs.Composing.{IsKeptIn, Keeps, promises-still, kept-still, kept-reported}
 use Rattle.cascade_laws.proofs.Feeding.{IsSource, IsFed, IsKept}
 use Rattle.cascade_laws.proofs.Sharing.{others-none, others-changed}
+use Rattle.sync_model.proofs.Refresh.{none_from_false}
 
 abbrev Name : Type 0
 Name = List (List TypeAndValue)
@@ -130,10 +131,6 @@ idle_keeps number suffix pair known source fed room = by (is_busy pair.consumer_
 
 -- ---- a consumer that is not busy is at rest
 
-option_none : {X : Type 0} (found : Option X) → is_some found ≡ false → found ≡ None
-option_none None h = refl
-option_none (Some x) h = let never : ⊥ = cc in absurd never
-
 link_none : {X : Type 0} (link : List X) → not (length link == 0) ≡ false → link ≡ []
 link_none [] h = refl
 link_none (x ∷ link) h = by (length (x ∷ link) == 0) refl h
@@ -146,4 +143,4 @@ pub idle_rests : (f : ConsumerNode) → is_busy f ≡ false → IsAtRest f
 idle_rests f idle =
     let parts = or_parts (is_some f.search || is_some f.consumer.copy.session) (not (length f.link == 0)) idle in
     let both = or_parts (is_some f.search) (is_some f.consumer.copy.session) parts.0 in
-    record { search = option_none f.search both.0; session = option_none f.consumer.copy.session both.1; link = link_none f.link parts.1 }
+    record { search = none_from_false f.search both.0; session = none_from_false f.consumer.copy.session both.1; link = link_none f.link parts.1 }

@@ -20,7 +20,7 @@ use Rattle.sync_messages.specs.declared.request.Mode.{Mode}
 use Rattle.sync_messages.specs.declared.request.Mode.TheVariants.{RefreshOnly}
 use Rattle.sync_messages.specs.declared.request.SyncRequest.{SyncRequest}
 use Rattle.sync_model.specs.Incremental.{number_of}
-use Rattle.sync_model.specs.Law.{Begins}
+use Rattle.sync_model.specs.Law.{MayBegin}
 use Rattle.sync_model.specs.Message.{SyncMessage}
 use Rattle.sync_model.specs.Stream.{SyncOperation, Start, later}
 use Rattle.sync_model.proofs.NextMessages.{prefix_some, none_later}
@@ -39,7 +39,7 @@ use Rattle.cascade_nodes.proofs.Fed.{HasRoom, IsAtRest, number_free}
 use Rattle.cascade_exchange.proofs.Owns.{room_after, owns-still, owns-opened}
 use Rattle.cascade_world.specs.Cookies.{held_cookie}
 use Rattle.cascade_world.specs.Exchange.{Agreement, ExchangeOutcome, agreement_of, copy_of, with_copy, name_of, is_busy, given_up, after_lines, and_then, idle, asking, request_from, start_of, answer_of, is_required, refused_copy, opened_by, opened_idle, opens, asked_again, opens_anew}
-use Rattle.cascade_laws.specs.Headline.{Opening, Known, known_after, IsServed, IsUnserved, BeginsFrom, session_over, stream_over}
+use Rattle.cascade_laws.specs.Headline.{Opening, Known, known_after, IsServedCookie, IsUnserved, BeginsFrom, session_over, stream_over}
 use Rattle.cascade_world.specs.Opening.{message_id, answer_to_request, with_opened}
 use Rattle.cascade_world.specs.Origins.{Lineage}
 use Rattle.cascade_world.specs.ReportLines.{ReportLine}
@@ -95,9 +95,9 @@ module _ (lin : Lineage) (number : ℕ) (suffix : Name) (p : ProviderState) (f :
   all_taken : take count writes ≡ writes
   all_taken = ap (λ n. take n writes) counted ∙ take-length writes
 
-  begins : Begins operation start count known.entries
+  begins : MayBegin operation start count known.entries
   begins =
-      subst (λ n. Begins operation start n known.entries) (sym counted)
+      subst (λ n. MayBegin operation start n known.entries) (sym counted)
       (start_begins p.directory number (sids_of number suffix p source) (histories_of number suffix p source) source.rises persists f.consumer.spec known.entries fed.ascending f.consumer.copy.cookie fed.promised)
 
   from : BeginsFrom number (take count writes) known.cookie (number_of start)
@@ -159,7 +159,7 @@ module _ (lin : Lineage) (number : ℕ) (suffix : Name) (p : ProviderState) (f :
   own_opening : known_after f.name known (reported.Opened f.name persists count) ≡ record known { opening = Some opened }
   own_opening = ap (λ same. cond same (record known { opening = Some opened }) known) ((bytes_eq-Decides f.name f.name).1 refl)
 
-  pub opened_kept : search_at p.searches at ≡ None → IsServed f.consumer.reload number writes known.cookie
+  pub opened_kept : search_at p.searches at ≡ None → IsServedCookie f.consumer.reload number writes known.cookie
       → IsKept number suffix (agreement_of p f lin) (agreement_of after (with_search f persists at) lin) (reported.Opened f.name persists count ∷ []) known
   opened_kept free served = record {
     source = source-searches number suffix p (insert_entry nat_cmp p.searches at (opening p.directory message_id f.consumer.spec start persists)) (distinct-opened p.searches at (opening p.directory message_id f.consumer.spec start persists) free source.apart) source;

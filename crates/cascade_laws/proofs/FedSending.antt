@@ -18,7 +18,7 @@ use Rattle.sync_model.proofs.Incremental.{refresh_sent}
 use Rattle.sync_model.proofs.Groups.{heads, tails}
 use Rattle.sync_wire.specs.Sending as wire
 use Rattle.sync_provider.specs.HandingOut.{turn_of_message, turn_of_pending, turn_of_found, turn_at, after_turn}
-use Rattle.sync_provider.specs.HandingOut.Turn.{Hands, Closes}
+use Rattle.sync_provider.specs.HandingOut.HandOut.{Hands, Closes}
 use Rattle.sync_provider.specs.Law.{Delivers}
 use Rattle.sync_provider.specs.Machine.{ProviderState}
 use Rattle.sync_provider.specs.Search.{whole_walk, busy_end}
@@ -28,7 +28,7 @@ use Rattle.cascade_nodes.specs.declared.node.ConsumerNode.{ConsumerNode}
 use Rattle.cascade_nodes.proofs.Fed.{waits, cut_waits, IsPending, HasPending, IsAtRest, IsAfter, turn_is, handed_out, closed_then}
 use Rattle.cascade_exchange.proofs.Owns.{owns-changed}
 use Rattle.cascade_world.specs.Exchange.{Agreement, agreement_of, Sending, Sends, Rests, Overflows, turn_of, handed, linked, fits, sends, sending_by, sending, name_of}
-use Rattle.cascade_laws.specs.Headline.{Opening, Known, with_sent, known_after, BeginsFrom, session_over, refresh_over, stream_over, octets_of, busy, Follows, ReportsChange, IsNextOf}
+use Rattle.cascade_laws.specs.Headline.{Opening, Known, with_sent, known_after, BeginsFrom, session_over, refresh_over, stream_over, sent_octets, busy, Follows, ReportsChange, IsNextOf}
 use Rattle.cascade_world.specs.Opening.{message_id}
 use Rattle.cascade_world.specs.Origins.{Lineage}
 use Rattle.cascade_world.specs.ReportLines.{ReportLine as reported}
@@ -48,7 +48,7 @@ own_sent name message known = ap (λ same. cond same (record known { opening = o
 
 sent_goes : (number : ℕ) (p : ProviderState) (searches : Searches) (f : ConsumerNode) (own : Option ℕ) (opening : Opening) (entries : List Entry) (first : SyncMessage) (rest : List SyncMessage)
     (goes : GoesOn number p f opening entries) → goes.session.pending ≡ first ∷ rest → HasPending searches f.consumer.spec opening.persists goes.session.cut own rest
-    → GoesOn number (with_searches p searches) (linked f own (octets_of first)) (with_sent (octets_of first) opening) entries
+    → GoesOn number (with_searches p searches) (linked f own (sent_octets first)) (with_sent (sent_octets first) opening) entries
 sent_goes number p searches f own opening entries first rest goes some has = record {
   session = record {
     count = goes.session.count;
@@ -64,11 +64,11 @@ sent_goes number p searches f own opening entries first rest goes some has = rec
     pending = rest;
     left = subst (λ ms. Delivers goes.session.cut ms goes.session.ahead) (sym (moved goes.session.linked rest goes.session.pending first some)) goes.session.left;
     reported =
-        ap (λ ms. ms ++ octets_of first ∷ []) goes.session.reported
-        ∙ sym (map-append octets_of (goes.session.taken ++ goes.session.linked) (first ∷ []))
-        ∙ ap (map octets_of) (append_assoc goes.session.taken goes.session.linked (first ∷ []));
+        ap (λ ms. ms ++ sent_octets first ∷ []) goes.session.reported
+        ∙ sym (map-append sent_octets (goes.session.taken ++ goes.session.linked) (first ∷ []))
+        ∙ ap (map sent_octets) (append_assoc goes.session.taken goes.session.linked (first ∷ []));
   };
-  link = ap (λ link. link ++ octets_of first ∷ []) goes.link ∙ sym (map-append octets_of goes.session.linked (first ∷ []));
+  link = ap (λ link. link ++ sent_octets first ∷ []) goes.link ∙ sym (map-append sent_octets goes.session.linked (first ∷ []));
   search = has;
   place = goes.place;
 }
@@ -164,7 +164,7 @@ module _ (lin : Lineage) (number : ℕ) (suffix : Name) (p : ProviderState) (f :
           }
       by (inr end) = inl end.2
 
-  next_is : IsNextOf number f.consumer.spec writes opening (octets_of first)
+  next_is : IsNextOf number f.consumer.spec writes opening (sent_octets first)
   next_is = record {
     start = goes.session.start;
     begins = goes.session.from;
@@ -188,32 +188,32 @@ module _ (lin : Lineage) (number : ℕ) (suffix : Name) (p : ProviderState) (f :
 
   module _ (known : Known) (latest : known.opening ≡ Some opening) (held : known.entries ≡ entries) (source : IsSource number suffix p) (fed : IsFed number p f known) where
     linked_is : (later : Searches) (at : ℕ) (own : Option ℕ) → f.search ≡ Some at → IsAfter p.searches later f.consumer.spec opening.persists goes.session.cut at own rest
-        → IsLinked known (agreement_of (with_searches p later) (linked f own (octets_of first)) lin) (octets_of first)
+        → IsLinked known (agreement_of (with_searches p later) (linked f own (sent_octets first)) lin) (sent_octets first)
     linked_is later at own is now = record {
       kept = record {
         source = source-searches number suffix p later now.apart source;
-        fed = subst (IsFed number (with_searches p later) (linked f own (octets_of first))) (sym (own_sent f.name (octets_of first) known)) (record {
+        fed = subst (IsFed number (with_searches p later) (linked f own (sent_octets first))) (sym (own_sent f.name (sent_octets first) known)) (record {
           held = fed.held;
           ascending = fed.ascending;
           cookie = fed.cookie;
           promised = fed.promised;
           below = fed.below;
           state = inr (record {
-            opening = with_sent (octets_of first) opening;
-            latest = ap (option_map (with_sent (octets_of first))) latest;
-            goes = subst (GoesOn number (with_searches p later) (linked f own (octets_of first)) (with_sent (octets_of first) opening)) (sym held) goes';
+            opening = with_sent (sent_octets first) opening;
+            latest = ap (option_map (with_sent (sent_octets first))) latest;
+            goes = subst (GoesOn number (with_searches p later) (linked f own (sent_octets first)) (with_sent (sent_octets first) opening)) (sym held) goes';
           });
         });
         right = ((refl, record { opening = opening; latest = latest; next = next_is }), tt);
         same = refl;
-        others = others-changed lin number p later f (linked f own (octets_of first)) at is now.elsewhere now.only;
-        owns = owns-changed lin p later f (linked f own (octets_of first)) at is now.elsewhere now.here;
-        elsewhere = subst (KeepsPromises number f.consumer.spec known) (sym (own_sent f.name (octets_of first) known)) (promises-still number f.consumer.spec known);
+        others = others-changed lin number p later f (linked f own (sent_octets first)) at is now.elsewhere now.only;
+        owns = owns-changed lin p later f (linked f own (sent_octets first)) at is now.elsewhere now.here;
+        elsewhere = subst (KeepsPromises number f.consumer.spec known) (sym (own_sent f.name (sent_octets first) known)) (promises-still number f.consumer.spec known);
       };
       now = goes';
     }
       where
-        goes' : GoesOn number (with_searches p later) (linked f own (octets_of first)) (with_sent (octets_of first) opening) entries
+        goes' : GoesOn number (with_searches p later) (linked f own (sent_octets first)) (with_sent (sent_octets first) opening) entries
         goes' = sent_goes number p later f own opening entries first rest goes some now.has
 
     abbrev pub IsSentOut : Sending → Type 0
@@ -223,21 +223,21 @@ module _ (lin : Lineage) (number : ℕ) (suffix : Name) (p : ProviderState) (f :
 
     -- a message is sent where the link has room for it
     sends_kept : (at : ℕ) (own : Option ℕ) → f.search ≡ Some at → IsAfter p.searches (after_turn p.searches at (turn_at p.searches at)) f.consumer.spec opening.persists goes.session.cut at own rest
-        → IsSentOut (sends (agreement_of p f lin) own (octets_of first))
-    sends_kept at own is now = by (fits f (octets_of first))
+        → IsSentOut (sends (agreement_of p f lin) own (sent_octets first))
+    sends_kept at own is now = by (fits f (sent_octets first))
       where
         after : Option ℕ → Agreement
-        after ours = agreement_of (handed p ours) (linked f own (octets_of first)) lin
+        after ours = agreement_of (handed p ours) (linked f own (sent_octets first)) lin
 
-        by : (room : Bool) → IsSentOut (cond room (Sends (after f.search) (octets_of first)) Overflows)
-        by true = subst (λ ours. IsLinked known (after ours) (octets_of first)) (sym is) (linked_is (after_turn p.searches at (turn_at p.searches at)) at own is now)
+        by : (room : Bool) → IsSentOut (cond room (Sends (after f.search) (sent_octets first)) Overflows)
+        by true = subst (λ ours. IsLinked known (after ours) (sent_octets first)) (sym is) (linked_is (after_turn p.searches at (turn_at p.searches at)) at own is now)
         by false = tt
 
     goes_out : (at : ℕ) → f.search ≡ Some at → turn_at p.searches at ≡ Hands (wire.sent message_id first)
         → IsAfter p.searches (after_turn p.searches at (turn_at p.searches at)) f.consumer.spec opening.persists goes.session.cut at (Some at) rest → IsSentOut (sending_by (agreement_of p f lin) (turn_at p.searches at))
     goes_out at is turn now =
         subst (λ t. IsSentOut (sending_by (agreement_of p f lin) t)) (sym turn)
-        (subst (λ own. IsSentOut (sends (agreement_of p f lin) own (octets_of first))) (sym is) (sends_kept at (Some at) is now))
+        (subst (λ own. IsSentOut (sends (agreement_of p f lin) own (sent_octets first))) (sym is) (sends_kept at (Some at) is now))
 
     comes_last : (at : ℕ) (code : ℕ) → f.search ≡ Some at → turn_at p.searches at ≡ Closes (pos code) (wire.sent message_id first)
         → IsAfter p.searches (after_turn p.searches at (turn_at p.searches at)) f.consumer.spec opening.persists goes.session.cut at None rest → IsSentOut (sending_by (agreement_of p f lin) (turn_at p.searches at))

@@ -17,7 +17,7 @@ use Rattle.directory_writes.proofs.LastCsns.{prefix_upto}
 use Rattle.directory_writes.proofs.Promised.{IsPromised, content_at}
 use Rattle.dn_names.specs.Names.{TypeAndValue}
 use Rattle.entry_tree.specs.History.{state_of}
-use Rattle.entry_tree.specs.Selection.{is_selected, select}
+use Rattle.entry_tree.specs.Selection.{is_selected, select, Search}
 use Rattle.entry_tree.specs.State.{ascends}
 use Rattle.entry_tree.specs.declared.entry.Entry.{Entry}
 use Rattle.entry_tree.specs.declared.op.Write.{Write}
@@ -25,12 +25,13 @@ use Rattle.entry_tree.proofs.Directory.{ascends_filter}
 use Rattle.sync_model.specs.Copy.{Copy, SyncSession, Answer, refused, taken, taken_by, taken_in, taken_done, over}
 use Rattle.sync_model.specs.Copy.Fault.{OutOfPlace}
 use Rattle.sync_model.specs.Copy.Answer.{Staged, Stored, Over}
-use Rattle.sync_model.specs.Law.{Ascending, IsWithin}
+use Rattle.sync_model.specs.Law.{Ascending, IsWithinLimits}
 use Rattle.sync_model.specs.Message.{SyncMessage}
 use Rattle.sync_model.specs.Stream.{SyncOperation, content_after}
 use Rattle.sync_model.specs.Within.{limit_fault, refused_by, taken_within}
 use Rattle.sync_model.proofs.Histories.{ascends-state_of}
 use Rattle.sync_model.proofs.Groups.{heads, tails}
+use Rattle.sync_model.proofs.Bare.{Agrees}
 use Rattle.sync_wire.specs.CanBeSent.{CanBeSent}
 use Rattle.sync_wire.proofs.OfSearch.{IsOfSearch}
 use Rattle.sync_provider.specs.Law.{Delivers}
@@ -43,9 +44,9 @@ use Rattle.cascade_nodes.proofs.Fed.{waits, cut_waits, IsAtRest, own_over}
 use Rattle.cascade_exchange.proofs.Owns.{owns-still}
 use Rattle.cascade_world.specs.Cookies.{held_cookie}
 use Rattle.cascade_world.specs.Exchange.{Agreement, agreement_of, copy_of, with_copy, number_of_cookie, stored_number, storing, taken_as, taken_from, taking}
-use Rattle.cascade_laws.specs.Headline.{Opening, Known, known_after, NamesPrefix, session_over, stream_over, octets_of, busy}
+use Rattle.cascade_laws.specs.Headline.{Opening, Known, known_after, NamesPrefix, session_over, stream_over, sent_octets, busy}
 use Rattle.cascade_world.specs.Reception.{Came, came_of, received, ends_bare}
-use Rattle.cascade_exchange.proofs.Bare.{Agrees, bare_answer}
+use Rattle.cascade_exchange.proofs.Bare.{bare_answer}
 use Rattle.cascade_world.specs.Origins.{Lineage}
 use Rattle.cascade_world.specs.ReportLines.{Storing, ReportLine}
 use Rattle.cascade_world.specs.ReportLines.{ReportLine as reported}
@@ -61,6 +62,10 @@ Name = List (List TypeAndValue)
 
 abbrev cookie_of_number : ℕ → List Write → ℕ → Cookie
 cookie_of_number number writes count = cookie_at number number (last_csn (start number) (take count writes))
+
+-- each cookie of a search is the text of one
+pub cookies_are_texts : (number : ℕ) (spec : Search) (writes : List Write) (opening : Opening) (count : ℕ) → (cookie : Cookie) × ((session_over number spec writes opening).cookies count ≡ cookie_text cookie)
+cookies_are_texts number spec writes opening count = (cookie_of_number number writes count, refl)
 
 -- it is read again
 cookie_read : (number : ℕ) (suffix : Name) (p : ProviderState) (count : ℕ) → IsSource number suffix p
@@ -161,14 +166,14 @@ module _ (lin : Lineage) (number : ℕ) (suffix : Name) (p : ProviderState) (f :
   ascending : Ascending operation
   ascending count = ascends-state_of number writes count
 
-  within : (count : ℕ) → IsWithin (operation.states count)
+  within : (count : ℕ) → IsWithinLimits (operation.states count)
   within count = (source.good count).within
 
   sent : (count : ℕ) → All CanBeSent (operation.states count)
   sent count = (source.good count).sent
 
   texts : (count : ℕ) → (cookie : Cookie) × (operation.cookies count ≡ cookie_text cookie)
-  texts count = (cookie_of_number number writes count, refl)
+  texts = cookies_are_texts number f.consumer.spec writes opening
 
   abbrev held : Copy
   held = copy_of f
@@ -186,7 +191,7 @@ module _ (lin : Lineage) (number : ℕ) (suffix : Name) (p : ProviderState) (f :
     outcome = taken_within 1 held m
 
     abbrev left : List (List ℕ)
-    left = map octets_of rest
+    left = map sent_octets rest
 
     abbrev after : Copy → ConsumerNode
     after copy = record (with_copy f copy) { link = left }
@@ -198,7 +203,7 @@ module _ (lin : Lineage) (number : ℕ) (suffix : Name) (p : ProviderState) (f :
     has_session = where_session operation goes.session.start opening.writes goes.session.count known.entries held goes.session.taken goes.session.ahead goes.place
 
     -- the bytes are decoded as the message
-    decoded_is : IsOfSearch m → ends_bare m ≡ false → received held (octets_of m) ≡ (outcome.0, came_of outcome.1)
+    decoded_is : IsOfSearch m → ends_bare m ≡ false → received held (sent_octets m) ≡ (outcome.0, came_of outcome.1)
     decoded_is can cookied = received_sent held has_session.session m has_session.runs has_session.id can cookied
 
     -- what comes of it reports whether it ends a refresh without a cookie
@@ -214,8 +219,8 @@ module _ (lin : Lineage) (number : ℕ) (suffix : Name) (p : ProviderState) (f :
       more_taken : (goes.session.taken ++ m ∷ []) ++ is.beyond ≡ stream_over number f.consumer.spec writes opening goes.session.start goes.session.count
       more_taken = append_assoc goes.session.taken (m ∷ []) is.beyond ∙ ap (λ ms. goes.session.taken ++ ms) (sym is.next) ∙ goes.session.whole
 
-      reported_still : opening.sent ≡ map octets_of ((goes.session.taken ++ m ∷ []) ++ rest)
-      reported_still = goes.session.reported ∙ ap (λ ms. map octets_of (goes.session.taken ++ ms)) first ∙ ap (map octets_of) (sym (append_assoc goes.session.taken (m ∷ []) rest))
+      reported_still : opening.sent ≡ map sent_octets ((goes.session.taken ++ m ∷ []) ++ rest)
+      reported_still = goes.session.reported ∙ ap (λ ms. map sent_octets (goes.session.taken ++ ms)) first ∙ ap (map sent_octets) (sym (append_assoc goes.session.taken (m ∷ []) rest))
 
       -- the search goes on from there
       goes_now : (copy : Copy) (entries : List Entry) → IsWhere operation goes.session.start opening.writes goes.session.count entries copy (goes.session.taken ++ m ∷ []) is.beyond → GoesOn number p (after copy) opening entries
@@ -335,7 +340,7 @@ module _ (lin : Lineage) (number : ℕ) (suffix : Name) (p : ProviderState) (f :
             by true here = absurd (true≢false (sym (goes.session.lasts here) ∙ over.ends))
 
         rests : IsOver operation ascending within sent texts goes.session.start opening.writes goes.session.count is.beyond outcome.0 → IsAtRest (after outcome.0)
-        rests over = record { search = own_over p.searches f.search p f opening.persists goes.session.cut goes.session.pending none.1 (ap (λ b. waits b goes.session.cut) over.ends) goes.search; session = over.session; link = ap (map octets_of) none.0 }
+        rests over = record { search = own_over p.searches f.search p f opening.persists goes.session.cut goes.session.pending none.1 (ap (λ b. waits b goes.session.cut) over.ends) goes.search; session = over.session; link = ap (map sent_octets) none.0 }
           where
             none : (rest ≡ []) × (goes.session.pending ≡ [])
             none = none_left rest goes.session.pending (subst (λ cut. Delivers cut (rest ++ goes.session.pending) is.beyond) (no_more over) is.left ∙ over.none)
@@ -386,7 +391,7 @@ module _ (lin : Lineage) (number : ℕ) (suffix : Name) (p : ProviderState) (f :
             known_is : known_after f.name known line ≡ then_known
             known_is = own_stored f.name known stored
 
-      first_is : IsTaken (taken_as (agreement_of p f lin) left (received held (octets_of m)).0 (received held (octets_of m)).1).0 (taken_as (agreement_of p f lin) left (received held (octets_of m)).0 (received held (octets_of m)).1).1
+      first_is : IsTaken (taken_as (agreement_of p f lin) left (received held (sent_octets m)).0 (received held (sent_octets m)).1).0 (taken_as (agreement_of p f lin) left (received held (sent_octets m)).0 (received held (sent_octets m)).1).1
       first_is = subst (λ (h : Copy × Came). Is h.0 h.1) (sym (decoded_is takes.can (cookied takes.comes))) (by takes.comes)
         where
           cookied : StagesOne operation ascending within sent texts goes.session.start opening.writes goes.session.count known.entries held (goes.session.taken ++ m ∷ []) is.beyond outcome
@@ -415,7 +420,7 @@ module _ (lin : Lineage) (number : ℕ) (suffix : Name) (p : ProviderState) (f :
       rests_now = record {
         search = own_over p.searches f.search p f opening.persists goes.session.cut goes.session.pending none.1 (ap (waits opening.persists) is.over_is ∙ cut_waits opening.persists) goes.search;
         session = refl;
-        link = ap (map octets_of) none.0;
+        link = ap (map sent_octets) none.0;
       }
         where
           none : (rest ≡ []) × (goes.session.pending ≡ [])
@@ -443,16 +448,16 @@ module _ (lin : Lineage) (number : ℕ) (suffix : Name) (p : ProviderState) (f :
         still = refl;
       }
 
-      busy_is : IsTaken (taken_as (agreement_of p f lin) left (received held (octets_of m)).0 (received held (octets_of m)).1).0 (taken_as (agreement_of p f lin) left (received held (octets_of m)).0 (received held (octets_of m)).1).1
+      busy_is : IsTaken (taken_as (agreement_of p f lin) left (received held (sent_octets m)).0 (received held (sent_octets m)).1).0 (taken_as (agreement_of p f lin) left (received held (sent_octets m)).0 (received held (sent_octets m)).1).1
       busy_is =
           subst (λ (h : Copy × Came). Is h.0 h.1) (sym (decoded_is (subst IsOfSearch (sym is.message) (inr (refl, refl))) (ap ends_bare is.message)))
           (subst (λ (o : Copy × Answer). Is o.0 (came_of o.1)) (sym outcome_is) ended_is)
 
-    pub one_taken : IsTaken (taken_as (agreement_of p f lin) left (received held (octets_of m)).0 (received held (octets_of m)).1).0 (taken_as (agreement_of p f lin) left (received held (octets_of m)).0 (received held (octets_of m)).1).1
+    pub one_taken : IsTaken (taken_as (agreement_of p f lin) left (received held (sent_octets m)).0 (received held (sent_octets m)).1).0 (taken_as (agreement_of p f lin) left (received held (sent_octets m)).0 (received held (sent_octets m)).1).1
     one_taken = by (first_left goes.session.cut goes.session.ahead m (rest ++ goes.session.pending) remains)
       where
         by : IsFirst goes.session.cut goes.session.ahead m (rest ++ goes.session.pending) ⊎ IsBusy goes.session.cut m (rest ++ goes.session.pending)
-            → IsTaken (taken_as (agreement_of p f lin) left (received held (octets_of m)).0 (received held (octets_of m)).1).0 (taken_as (agreement_of p f lin) left (received held (octets_of m)).0 (received held (octets_of m)).1).1
+            → IsTaken (taken_as (agreement_of p f lin) left (received held (sent_octets m)).0 (received held (sent_octets m)).1).0 (taken_as (agreement_of p f lin) left (received held (sent_octets m)).0 (received held (sent_octets m)).1).1
         by (inl is) = first_is is
         by (inr is) = busy_is is
 
@@ -470,8 +475,8 @@ going_taken lin number suffix p f known opening latest source fed goes = by goes
     Good link = GoingTaken lin number suffix p f known opening latest source fed goes (taken_from (agreement_of p f lin) link)
 
     by : (linked : List SyncMessage) → goes.session.linked ≡ linked → Good f.link
-    by [] none = subst Good (sym (goes.link ∙ ap (map octets_of) none)) (goes.link ∙ ap (map octets_of) none)
-    by (m ∷ rest) some = subst Good (sym (goes.link ∙ ap (map octets_of) some)) (one_taken lin number suffix p f known opening latest source fed goes m rest some)
+    by [] none = subst Good (sym (goes.link ∙ ap (map sent_octets) none)) (goes.link ∙ ap (map sent_octets) none)
+    by (m ∷ rest) some = subst Good (sym (goes.link ∙ ap (map sent_octets) some)) (one_taken lin number suffix p f known opening latest source fed goes m rest some)
 
 pub taking_kept : (number : ℕ) (suffix : Name) (pair : Agreement) (known : Known) → IsSource number suffix pair.provider → IsFed number pair.provider pair.consumer_node known
     → TakingKept number suffix pair known (taking pair)

@@ -40,7 +40,7 @@ use Rattle.cascade_nodes.proofs.Fed.{HasPending, IsAtRest, AreApart, HasRoom}
 use Rattle.cascade_world.specs.Cookies.{held_cookie}
 use Rattle.cascade_world.specs.Directory.{logged_directory, wrote_change}
 use Rattle.cascade_world.specs.Exchange.{Agreement, part_of, idle, respecs}
-use Rattle.cascade_laws.specs.Headline.{Opening, Known, nothing_known, known_after, IsUnserved, IsOpenedAt, NamesPrefix, BeginsFrom, session_over, stream_over, octets_of, IsNextOf}
+use Rattle.cascade_laws.specs.Headline.{Opening, Known, nothing_known, known_after, IsUnserved, IsOpenedAt, NamesPrefix, BeginsFrom, session_over, stream_over, sent_octets, IsNextOf}
 use Rattle.cascade_world.specs.Origins.{Lineage, origin_of}
 use Rattle.cascade_world.specs.ReportLines.{Storing, ReportLine}
 use Rattle.cascade_world.specs.ReportLines.ReportLine.{Opened, Refused, Sent, Stored, Ended, Faulted, Settled, Clocked, Shown}
@@ -78,13 +78,13 @@ pub record IsUnderWay (number : ℕ) (search : Search) (writes : List Write) (op
   pub linked : List SyncMessage
   pub pending : List SyncMessage
   pub left : Delivers cut (linked ++ pending) ahead
-  pub reported : opening.sent ≡ map octets_of (taken ++ linked)
+  pub reported : opening.sent ≡ map sent_octets (taken ++ linked)
 
 -- a search of that opening goes on between the provider and the consumer: the link, the open search and what is held
 -- are as far as it is
 pub record GoesOn (number : ℕ) (p : ProviderState) (f : ConsumerNode) (opening : Opening) (entries : List Entry) : Type 0 where
   pub session : IsUnderWay number f.consumer.spec p.directory.writes opening
-  pub link : f.link ≡ map octets_of session.linked
+  pub link : f.link ≡ map sent_octets session.linked
   pub search : HasPending p.searches f.consumer.spec opening.persists session.cut f.search session.pending
   pub place : IsWhere (session_over number f.consumer.spec p.directory.writes opening) session.start opening.writes session.count entries f.consumer.copy session.taken session.ahead
 

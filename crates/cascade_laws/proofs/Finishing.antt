@@ -1,13 +1,13 @@
 -- What holds of the nodes once an event has committed what took effect in it.
-use Rattle.std.proofs.Common.{◌≡◌, ℕ, Bool, true, false, Option, Some, None, List, [], ◌++◌, take, refl, ap, sym, subst, ◌∙◌, inl, inr, append-nil}
+use Rattle.std.proofs.Common.{◌≡◌, ℕ, Bool, true, false, Option, Some, None, List, ◌++◌, take, refl, ap, sym, subst, ◌∙◌, inl, inr}
 use Rattle.std.proofs.lemmas.Bool.{cases_Bool}
 use Rattle.std.specs.Prelude.{Result, Ok, Err, is_some}
 use Rattle.std.specs.Str.{bytes_eq}
 use Rattle.entry_tree.specs.Selection.{Search}
+use Rattle.entry_tree.proofs.NameKeys.{same_bytes}
 use Rattle.sync_wire.proofs.Servable.{CanBeServed, SelectedCanBeServed}
 use Rattle.directory_writes.specs.Directory.{entries_after}
 use Rattle.directory_writes.proofs.Promised.{PromisesLast}
-use Rattle.sync_provider.specs.Machine.{ProviderState}
 use Rattle.sync_provider.specs.declared.provider.Kind.{Kind}
 use Rattle.sync_provider.specs.declared.provider.Kind.TheVariants.{Root, Replica}
 use Rattle.cascade_script.specs.declared.fault.Cause.{Cause}
@@ -17,13 +17,13 @@ use Rattle.cascade_world.specs.Commits.{commits_all}
 use Rattle.cascade_laws.specs.Headline.{known_of}
 use Rattle.cascade_world.specs.ReportLines.{ReportLine, stages_of}
 use Rattle.cascade_world.specs.World.{WorldState, with_provider_node, with_own, commits_in}
-use Rattle.cascade_laws.proofs.Feeding.{Frame, LinesAreRightOf, KeepsAll, IsSource, CommitsAreKept}
+use Rattle.cascade_laws.proofs.Feeding.{Frame, LinesAreRightOf, CommitsAreKept}
 use Rattle.cascade_world.proofs.Finding.{IsChanged, provider_nodes_by, provider_node_name, provider_node_changed, consumer_nodes_by}
 use Rattle.cascade_laws.proofs.Growing.{AllBecome, become_itself, become_changed, grows_kept, feeds_changed, committers_changed}
 use Rattle.cascade_laws.proofs.Noting.{IsCommitting, CommittingIn, lines_commit}
 use Rattle.cascade_laws.proofs.Ordered.{AllStill, all_still, still_changed}
-use Rattle.cascade_world.proofs.SameNames.{same_name}
 use Rattle.cascade_laws.proofs.Tracking.{HasCommitted, CommittedBy, AreCommitters, AreCommittersBut, IsManned, Feeds}
+use Rattle.cascade_laws.proofs.Sources.{still_kept}
 
 pub record IsFinished (said : List ReportLine) (mid done : WorldState) : Type 0 where
   pub feeds : Feeds said done
@@ -37,10 +37,6 @@ pub record IsFinished (said : List ReportLine) (mid done : WorldState) : Type 0 
 abbrev pub FinishedIn : List ReportLine → WorldState → Result WorldState Cause → Type 0
 FinishedIn said mid (Ok done) = IsFinished said mid done
 FinishedIn said mid (Err cause) = Unit {0}
-
--- a provider as it is
-keeps_itself : (p : ProviderState) → IsSource p.directory.history p.directory.suffix p → KeepsAll p.directory.history p.directory.suffix p p
-keeps_itself p source = record { source = source; fed = λ g known fed. fed; opens = λ at s found. (s, found); kind = refl; later = []; grown = sym (append-nil p.directory.writes) }
 
 -- what a node with a consumer is
 replica_is : (kind : Kind) → IsManned kind true → kind ≡ Replica
@@ -56,7 +52,7 @@ module _ (lasts : PromisesLast) (kept : CommitsAreKept) (selected : SelectedCanB
     feeds = feeds;
     commits =
         λ n s found. elim (cases_Bool (bytes_eq n name)) [
-          | inl hit ↦ let bad : None ≡ Some s = sym none ∙ ap (provider_nodes_by mid.provider_nodes) (sym (same_name n name hit)) ∙ found in let never : ⊥ = cc in absurd never
+          | inl hit ↦ let bad : None ≡ Some s = sym none ∙ ap (provider_nodes_by mid.provider_nodes) (sym (same_bytes n name hit)) ∙ found in let never : ⊥ = cc in absurd never
           | inr miss ↦ but n s found miss
         ];
     provider_nodes = all_still (provider_nodes_by mid.provider_nodes);
@@ -111,4 +107,4 @@ module _ (lasts : PromisesLast) (kept : CommitsAreKept) (selected : SelectedCanB
       let has' : HasCommitted d.history said name own.notes d.writes = subst (λ n. HasCommitted d.history said n own.notes d.writes) (sym here) has in
       with_own_finished own (commits_all mid.clock search own (stages_of lines)) there replica
       (lines_commit kept selected d.history d.suffix own.provider replica name mid.clock search from frame good named wants lines said own (clock ∙ is.clock) right
-      (record { named = sym here; keeps = keeps_itself own.provider (is.sources name own was); has = has' }))
+      (record { named = sym here; keeps = still_kept own.provider.directory.history own.provider.directory.suffix own.provider (is.sources name own was); has = has' }))

@@ -13,8 +13,8 @@ use Rattle.sync_model.specs.Copy.{Copy}
 use Rattle.sync_wire.specs.Requesting.{persists}
 use Rattle.directory_writes.specs.Directory.{DirectoryState}
 use Rattle.sync_provider.specs.Accepting.{free_number, refused_or_opened, numbered, request_code}
-use Rattle.sync_provider.specs.HandingOut.{Turn}
-use Rattle.sync_provider.specs.HandingOut.Turn.{Hands, Closes, Waits, Unknown}
+use Rattle.sync_provider.specs.HandingOut.{HandOut}
+use Rattle.sync_provider.specs.HandingOut.HandOut.{Hands, Closes, Waits, Unknown}
 use Rattle.sync_provider.specs.declared.searches.Accepted.{Accepted}
 use Rattle.sync_provider.specs.declared.searches.Accepted.TheVariants as accepted
 use Rattle.cascade_world.specs.Cookies.{is_later}
@@ -27,26 +27,26 @@ use Rattle.cascade_world.specs.ReportLines.{ReportLine as reported}
 use Rattle.cascade_laws.specs.Reports.{IsAnswer, IsSending, IsTaking, IsAtMost, AreUpTo, ArePassed, IsOpening}
 
 -- a part that is done leaves the consumer's name, and reports such lines
-abbrev pub Gives : List ℕ → (List ReportLine → Type 0) → ExchangeOutcome → Type 0
-Gives name P (Ok next) = (next.0.consumer_node.name ≡ name) × P next.1
-Gives name P (Err cause) = Unit {0}
+abbrev pub PartGives : List ℕ → (List ReportLine → Type 0) → ExchangeOutcome → Type 0
+PartGives name P (Ok next) = (next.0.consumer_node.name ≡ name) × P next.1
+PartGives name P (Err cause) = Unit {0}
 
 -- what a part gives to each consumer
 abbrev pub GivesAll : (List ℕ → List ReportLine → Type 0) → (Agreement → ExchangeOutcome) → Type 0
-GivesAll P part = (name : List ℕ) (pair : Agreement) → pair.consumer_node.name ≡ name → Gives name (P name) (part pair)
+GivesAll P part = (name : List ℕ) (pair : Agreement) → pair.consumer_node.name ≡ name → PartGives name (P name) (part pair)
 
 -- ---- one part after another
 
-gives_lines : (name : List ℕ) (Q R : List ReportLine → Type 0) (lines : List ReportLine) (outcome : ExchangeOutcome) → ((more : List ReportLine) → Q more → R (lines ++ more)) → Gives name Q outcome → Gives name R (after_lines lines outcome)
+gives_lines : (name : List ℕ) (Q R : List ReportLine → Type 0) (lines : List ReportLine) (outcome : ExchangeOutcome) → ((more : List ReportLine) → Q more → R (lines ++ more)) → PartGives name Q outcome → PartGives name R (after_lines lines outcome)
 gives_lines name Q R lines (Ok next) joins h = (h.0, joins next.1 h.1)
 gives_lines name Q R lines (Err cause) joins h = tt
 
-gives_then : (name : List ℕ) (P Q R : List ReportLine → Type 0) (first : ExchangeOutcome) (next : Agreement → ExchangeOutcome) → ((lines more : List ReportLine) → P lines → Q more → R (lines ++ more)) → Gives name P first
-    → ((after : Agreement) → after.consumer_node.name ≡ name → Gives name Q (next after)) → Gives name R (and_then first next)
+gives_then : (name : List ℕ) (P Q R : List ReportLine → Type 0) (first : ExchangeOutcome) (next : Agreement → ExchangeOutcome) → ((lines more : List ReportLine) → P lines → Q more → R (lines ++ more)) → PartGives name P first
+    → ((after : Agreement) → after.consumer_node.name ≡ name → PartGives name Q (next after)) → PartGives name R (and_then first next)
 gives_then name P Q R (Ok after) next joins h k = gives_lines name Q R after.1 (next after.0) (λ more. joins after.1 more h.1) (k after.0 h.0)
 gives_then name P Q R (Err cause) next joins h k = tt
 
-gives_if : (name : List ℕ) (P : List ReportLine → Type 0) (b : Bool) (one other : ExchangeOutcome) → Gives name P one → Gives name P other → Gives name P (cond b one other)
+gives_if : (name : List ℕ) (P : List ReportLine → Type 0) (b : Bool) (one other : ExchangeOutcome) → PartGives name P one → PartGives name P other → PartGives name P (cond b one other)
 gives_if name P true one other h k = h
 gives_if name P false one other h k = k
 
@@ -79,7 +79,7 @@ sends_next pair search message =
       | inr full ↦ rw full tt
     ]
 
-sending_by_next : (pair : Agreement) (turn : Turn) → NextIn pair (sending_by pair turn)
+sending_by_next : (pair : Agreement) (turn : HandOut) → NextIn pair (sending_by pair turn)
 sending_by_next pair (Hands whole) = sends_next pair pair.consumer_node.search _
 sending_by_next pair (Closes code whole) = sends_next pair None _
 sending_by_next pair Waits = tt
@@ -92,7 +92,7 @@ pub sent_gives : (count : ℕ) → GivesAll (λ name. AreUpTo count name (IsSend
 sent_gives zero name pair same = (same, up_to_none name (IsSending name))
 sent_gives (suc count) name pair same = by (sent_gives count) (sending pair) (sending_next pair)
   where
-    by : GivesAll (λ n. AreUpTo count n (IsSending n)) (sent count) → (found : Sending) → NextIn pair found → Gives name (AreUpTo (suc count) name (IsSending name)) (sent_before (λ after. sent count after) pair found)
+    by : GivesAll (λ n. AreUpTo count n (IsSending n)) (sent count) → (found : Sending) → NextIn pair found → PartGives name (AreUpTo (suc count) name (IsSending name)) (sent_before (λ after. sent count after) pair found)
     by gives (Sends after message) next =
         gives_lines name (AreUpTo count name (IsSending name)) (AreUpTo (suc count) name (IsSending name)) (reported.Sent (name_of pair) message ∷ []) (sent count after)
         (λ more. up_to_more count name (IsSending name) (reported.Sent (name_of pair) message) more same) (gives name after (next.name ∙ same))
@@ -242,7 +242,7 @@ record IsAsking (name : List ℕ) (lines : List ReportLine) : Type 0 where
 again_gives : GivesAll IsAsking asked_again
 again_gives name pair same = by (answer_of RefreshOnly pair) (answer_comes RefreshOnly pair)
   where
-    twice : (code : ℕ) → Gives name (IsAsking name) (and_then (opened_by RefreshOnly pair (accepted.Refused code)) (opened_idle RefreshOnly))
+    twice : (code : ℕ) → PartGives name (IsAsking name) (and_then (opened_by RefreshOnly pair (accepted.Refused code)) (opened_idle RefreshOnly))
     twice code =
         gives_then name (λ lines. lines ≡ reported.Refused name false code ∷ []) (IsAnswered name) (IsAsking name) (opened_by RefreshOnly pair (accepted.Refused code)) (opened_idle RefreshOnly)
         (λ lines more is one. record {
@@ -257,7 +257,7 @@ again_gives name pair same = by (answer_of RefreshOnly pair) (answer_comes Refre
         (same, ap (λ n. reported.Refused n false code ∷ []) same) (λ after here. idly_gives RefreshOnly name after here)
 
     by_code : (code : ℕ) (required : Bool) → (code == E_SYNC_REFRESH_REQUIRED) ≡ required
-        → Gives name (IsAsking name) (cond required (and_then (opened_by RefreshOnly pair (accepted.Refused code)) (opened_idle RefreshOnly)) (opened_by RefreshOnly pair (accepted.Refused code)))
+        → PartGives name (IsAsking name) (cond required (and_then (opened_by RefreshOnly pair (accepted.Refused code)) (opened_idle RefreshOnly)) (opened_by RefreshOnly pair (accepted.Refused code)))
     by_code code true is = twice code
     by_code code false is = (
       same,
@@ -273,7 +273,7 @@ again_gives name pair same = by (answer_of RefreshOnly pair) (answer_comes Refre
     )
 
     by : (answer : Accepted) → Comes answer
-        → Gives name (IsAsking name) (cond (is_required answer) (and_then (opened_by RefreshOnly pair answer) (opened_idle RefreshOnly)) (opened_by RefreshOnly pair answer))
+        → PartGives name (IsAsking name) (cond (is_required answer) (and_then (opened_by RefreshOnly pair answer) (opened_idle RefreshOnly)) (opened_by RefreshOnly pair answer))
     by (accepted.Opened number writes) comes = (
       same,
       record { first = []; code = 0; refuses = inl refl; answer = reported.Opened (name_of pair) false writes; answers = same; final = λ none. tt; whole = refl },
@@ -303,7 +303,7 @@ ran_gives : (count : ℕ) → GivesAll ArePassed (ran_some count)
 ran_gives zero name pair same = (same, tt)
 ran_gives (suc count) name pair same = by (ran_gives count) (sending pair) (sending_next pair)
   where
-    by : GivesAll ArePassed (ran_some count) → (found : Sending) → NextIn pair found → Gives name (ArePassed name) (ran_before (λ after. ran_some count after) pair found)
+    by : GivesAll ArePassed (ran_some count) → (found : Sending) → NextIn pair found → PartGives name (ArePassed name) (ran_before (λ after. ran_some count after) pair found)
     by gives (Sends after message) next =
         let one = last_taken name after message pair.consumer_node.link (next.name ∙ same) next.link in
         gives_lines name (ArePassed name) (ArePassed name) (reported.Sent (name_of pair) message ∷ (taken_some 1 [] after).1) (ran_some count (taken_some 1 [] after).0)

@@ -9,6 +9,7 @@ use Rattle.dn_names.specs.Names.{TypeAndValue}
 use Rattle.entry_tree.specs.Selection.{Search, select}
 use Rattle.entry_tree.specs.declared.entry.Entry.{Entry}
 use Rattle.entry_tree.specs.declared.op.Write.{Write}
+use Rattle.entry_tree.proofs.NameKeys.{same_bytes}
 use Rattle.directory_writes.specs.Directory.{DirectoryState, entries_after}
 use Rattle.directory_writes.proofs.Promised.{PromisesLast}
 use Rattle.sync_provider.specs.Machine.{ProviderState}
@@ -25,7 +26,6 @@ use Rattle.cascade_world.specs.World.{WorldState, provider_node_named}
 use Rattle.cascade_laws.proofs.Feeding.{IsSource, IsFed, Promises, KeepsAll}
 use Rattle.cascade_world.proofs.Finding.{IsChanged, found_after, provider_nodes_by, same_provider_node, consumer_nodes_by}
 use Rattle.cascade_laws.proofs.Saying.{IsLeft, known_still, stored_still, commits_still, clock_reported}
-use Rattle.cascade_world.proofs.SameNames.{same_name}
 use Rattle.cascade_world.proofs.Owning.{owned_changed}
 use Rattle.cascade_laws.proofs.Tracking.{HasCommitted, CommittedBy, IsCommitter, AreCommitters, AreCommittersBut, AreSources, AreNumbered, noted, IsConsumerNode, IsManned, AreManned, IsRooted, AreRooted, Feeds}
 
@@ -84,7 +84,7 @@ pub become_changed : (old new : List ℕ → Option ProviderNode) (name : List �
 become_changed old new name r s e changed grows other x e' =
     elim (cases_Bool (bytes_eq other name)) [
       | inl hit ↦
-          let same : other ≡ name = same_name other name hit in
+          let same : other ≡ name = same_bytes other name hit in
           let both : Some r ≡ Some x = sym e ∙ ap old (sym same) ∙ e' in
           let is : r ≡ x = cc in
           record { now = s; there = ap new same ∙ changed.here; grows = subst (λ y. Grows y s) is grows }
@@ -204,7 +204,7 @@ consumer_node_left lasts said nodes provider_nodes next name r s f e changed gro
     let promised = promises_grown lasts provider_nodes next f.consumer.spec known (been_changed (provider_nodes_by provider_nodes) (provider_nodes_by next) name r s e changed grows) is.promised in
     elim (cases_Bool (bytes_eq f.source name)) [
       | inl hit ↦
-          let same : f.source ≡ name = same_name f.source name hit in
+          let same : f.source ≡ name = same_bytes f.source name hit in
           let fed = kept.fed f known (fed_by said nodes provider_nodes name r f e same is) in
           record {
             provider_node = s;

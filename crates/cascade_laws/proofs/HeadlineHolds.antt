@@ -4,7 +4,7 @@ use Rattle.sync_wire.proofs.Servable.{selected_can_be_served}
 use Rattle.directory_writes.proofs.Promised.{promises_last}
 use Rattle.cascade_laws.specs.Headline.{LinesAreRight}
 use Rattle.cascade_script.specs.Orders.{Order}
-use Rattle.cascade_script.specs.Reader.{Reader}
+use Rattle.cascade_script.specs.Reader.{ScriptReader}
 use Rattle.cascade_world.specs.ReportLines.{ReportLine}
 use Rattle.cascade_world.specs.Trace.{all_lines}
 use Rattle.cascade_laws.specs.Run.{Runs, AreHeld}
@@ -16,7 +16,7 @@ use Rattle.cascade_laws.proofs.Sources.{rest_is_fed, rests_are_fed, fresh_is_sou
 use Rattle.cascade_laws.proofs.Reporting.{copies_held}
 
 -- a run from no nodes, with what is known of providers and consumers
-runs_tracked : (reader : Reader) (orders : List Order) (report : List (List ReportLine)) (end : WorldState) (rest : Reader) → Runs no_nodes reader orders report end rest → HasRun [] [] orders report end
+runs_tracked : (reader : ScriptReader) (orders : List Order) (report : List (List ReportLine)) (end : WorldState) (rest : ScriptReader) → Runs no_nodes reader orders report end rest → HasRun [] [] orders report end
 runs_tracked = runs_tracked_by (record {
   rest = rest_is_fed;
   fresh = fresh_is_source;
@@ -33,9 +33,9 @@ runs_tracked = runs_tracked_by (record {
 })
 
 -- each line of a run from no nodes is right
-pub runs_lines_right : (reader : Reader) (orders : List Order) (report : List (List ReportLine)) (end : WorldState) (rest : Reader) → Runs no_nodes reader orders report end rest → LinesAreRight [] [] orders report
+pub runs_lines_right : (reader : ScriptReader) (orders : List Order) (report : List (List ReportLine)) (end : WorldState) (rest : ScriptReader) → Runs no_nodes reader orders report end rest → LinesAreRight [] [] orders report
 runs_lines_right reader orders report end rest r = (runs_tracked reader orders report end rest r).right
 
 -- what the lines of a run from no nodes report last of each consumer is what it holds
-pub runs_held : (reader : Reader) (orders : List Order) (report : List (List ReportLine)) (end : WorldState) (rest : Reader) → Runs no_nodes reader orders report end rest → AreHeld (all_lines report) end
+pub runs_held : (reader : ScriptReader) (orders : List Order) (report : List (List ReportLine)) (end : WorldState) (rest : ScriptReader) → Runs no_nodes reader orders report end rest → AreHeld (all_lines report) end
 runs_held reader orders report end rest r = copies_held orders (all_lines report) end (runs_tracked reader orders report end rest r).tracked

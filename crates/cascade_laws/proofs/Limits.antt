@@ -1,7 +1,7 @@
 -- A script that passes a limit is not read to its end.
 use Rattle.std.proofs.Common.{◌≡◌, None, List, [], ◌∷◌, ap, sym, ◌∙◌}
 use Rattle.cascade_script.specs.Orders.{Order}
-use Rattle.cascade_script.specs.Reader.{Reader, next_in}
+use Rattle.cascade_script.specs.Reader.{ScriptReader, next_in}
 use Rattle.cascade_script.specs.Reader.Next.{Ended, Got}
 use Rattle.cascade_script.proofs.KeptLimits.{next_keeps, keeps_as}
 use Rattle.cascade_world.specs.ReportLines.{ReportLine}
@@ -9,7 +9,7 @@ use Rattle.cascade_laws.specs.Run.{Runs}
 use Rattle.cascade_world.specs.World.{WorldState}
 
 -- what is left by a run that is read to its end had no limit at its beginning
-pub runs_limit : (state : WorldState) (reader : Reader) (orders : List Order) (report : List (List ReportLine)) (end : WorldState) (rest : Reader)
+pub runs_limit : (state : WorldState) (reader : ScriptReader) (orders : List Order) (report : List (List ReportLine)) (end : WorldState) (rest : ScriptReader)
     → Runs state reader orders report end rest → next_in rest ≡ Ended → reader.limit ≡ None
 runs_limit state reader [] [] end rest r ended =
     keeps_as reader.limit (next_in reader) Ended (ap next_in r.1 ∙ ended) (next_keeps reader.limit reader.read reader.lines)

@@ -3,6 +3,7 @@ use Rattle.std.proofs.Common.{◌≡◌, ℕ, Bool, true, false, Option, Some, N
 use Rattle.std.specs.Str.{bytes_eq}
 use Rattle.dn_names.specs.Names.{TypeAndValue}
 use Rattle.entry_tree.specs.declared.op.Write.{Write}
+use Rattle.entry_tree.proofs.NameKeys.{same_bytes}
 use Rattle.sync_provider.specs.declared.provider.Kind.{Kind}
 use Rattle.sync_provider.specs.declared.provider.Kind.TheVariants.{Root, Replica}
 use Rattle.cascade_nodes.specs.declared.node.ProviderNode.{ProviderNode}
@@ -14,7 +15,7 @@ use Rattle.cascade_world.specs.World.{WorldState}
 use Rattle.cascade_laws.proofs.Accepted.{time_from-push, accepted_from-push, Untouched, with_accepted-untouched, declared-push, follows-push}
 use Rattle.cascade_world.proofs.Finding.{IsChanged, found_after, provider_nodes_by, consumer_nodes_by}
 use Rattle.cascade_laws.proofs.Growing.{count_same}
-use Rattle.cascade_world.proofs.SameNames.{same_name, other_way}
+use Rattle.cascade_world.proofs.SameNames.{other_way}
 use Rattle.cascade_laws.proofs.Tracking.{IsRoot, IsReplica, IsOfKind, IsProviderNode, AreProviderNodes, AreConsumers, AreStrangers, ByOrders}
 
 -- ---- one provider node
@@ -164,7 +165,7 @@ pub strangers_asked : (before : List Order) (order : Order) (consumer_nodes next
 strangers_asked before order consumer_nodes next name g asks' changed is n none = by (bytes_eq n name) refl
   where
     by : (b : Bool) → bytes_eq n name ≡ b → follows_now (before ++ order ∷ []) n ≡ None
-    by true hit = let bad : None ≡ Some g = sym none ∙ ap (consumer_nodes_by next) (same_name n name hit) ∙ changed.here in let never : ⊥ = cc in absurd never
+    by true hit = let bad : None ≡ Some g = sym none ∙ ap (consumer_nodes_by next) (same_bytes n name hit) ∙ changed.here in let never : ⊥ = cc in absurd never
     by false miss = follows-push before order n ∙ asks'.others n (follows_now before n) (other_way n name miss) ∙ is n (sym (changed.others n miss) ∙ none)
 
 pub orders_asked : (before : List Order) (order : Order) (state new : WorldState) (name : List ℕ) (f g : ConsumerNode) → IsQuiet order → AsksOf order name

@@ -1,12 +1,12 @@
 -- The end of a search that is refused is taken at once: the search is over, and the entries stay.
-use Rattle.std.proofs.Common.{◌≡◌, ℕ, Bool, true, false, cond, None, refl, ap, sym, ◌∙◌, eq-eqb, eqb-true, subst}
+use Rattle.std.proofs.Common.{◌≡◌, ℕ, Bool, true, false, cond, None, refl, ap, sym, ◌∙◌, eqb-true, subst}
 use Rattle.std.specs.Prelude.{pos, not, ◌==◌}
 use Rattle.std.specs.Ordering.{int_eq}
-use Rattle.std.proofs.lemmas.Bool.Decides.{Decides-int_eq}
 use Rattle.ldap_constants.specs.declared.result_codes.TheConstants.{SUCCESS, E_SYNC_REFRESH_REQUIRED}
 use Rattle.sync_model.specs.Copy.{Copy, Answer, over, refused}
 use Rattle.sync_model.specs.Copy.Fault.{OutOfPlace}
 use Rattle.sync_model.specs.Within.{limit_fault, refused_by}
+use Rattle.sync_model.proofs.ResultCodes.{same_codes}
 use Rattle.cascade_world.specs.Exchange.{asking, refused_copy}
 
 -- the entries are those of before, no search runs, and the cookie is lost where it was refused
@@ -15,28 +15,12 @@ pub record IsOver (before : Copy) (lost : Bool) (copy : Copy) : Type 0 where
   pub session : copy.session ≡ None
   pub cookie : copy.cookie ≡ cond lost None before.cookie
 
-same_test : (code number : ℕ) → int_eq (pos code) (pos number) ≡ (code == number)
-same_test code number = by (code == number) refl (int_eq (pos code) (pos number)) refl
-  where
-    by : (b : Bool) → (code == number) ≡ b → (c : Bool) → int_eq (pos code) (pos number) ≡ c → c ≡ b
-    by true hit true is = refl
-    by false miss false is = refl
-    by true hit false is =
-        let yes' : int_eq (pos code) (pos number) ≡ true = (Decides-int_eq (pos code) (pos number)).1 (ap pos (eqb-true code number hit)) in
-        let never : false ≡ true = sym is ∙ yes' in
-        cc
-    by false miss true is =
-        let same : pos code ≡ pos number = (Decides-int_eq (pos code) (pos number)).0 is in
-        let equal : code ≡ number = cc in
-        let never : false ≡ true = sym miss ∙ eq-eqb code number equal in
-        cc
-
 -- where the search would have persisted, each end is that of the search
 stay_over : (copy : Copy) (code : ℕ) → IsOver copy (code == E_SYNC_REFRESH_REQUIRED) (refused_copy (asking true copy) code)
-stay_over copy code = record { held = refl; session = refl; cookie = ap (λ b. cond b None copy.cookie) (same_test code E_SYNC_REFRESH_REQUIRED) }
+stay_over copy code = record { held = refl; session = refl; cookie = ap (λ b. cond b None copy.cookie) (same_codes code E_SYNC_REFRESH_REQUIRED) }
 
 once_over : (copy : Copy) (code : ℕ) → IsOver copy (code == E_SYNC_REFRESH_REQUIRED) (refused_copy (asking false copy) code)
-once_over copy code = by (code == SUCCESS) refl (same_test code SUCCESS) (same_test code E_SYNC_REFRESH_REQUIRED)
+once_over copy code = by (code == SUCCESS) refl (same_codes code SUCCESS) (same_codes code E_SYNC_REFRESH_REQUIRED)
   where
     outcome : Bool → Copy × Answer
     outcome fails = cond fails (over (asking false copy) (pos code)) (refused (asking false copy) OutOfPlace)

@@ -5,6 +5,7 @@ use Rattle.std.specs.Prelude.{Ok, Err, option_map}
 use Rattle.std.specs.Str.{bytes_eq}
 use Rattle.dn_names.specs.Names.{is_at_or_below}
 use Rattle.entry_tree.specs.Selection.{Search}
+use Rattle.entry_tree.proofs.NameKeys.{same_bytes}
 use Rattle.cascade_exchange.specs.declared.exchange.Exchange.TheVariants as goes
 use Rattle.cascade_nodes.specs.declared.node.ProviderNode.{ProviderNode}
 use Rattle.cascade_nodes.specs.declared.node.ConsumerNode.{ConsumerNode}
@@ -15,20 +16,21 @@ use Rattle.cascade_world.specs.Nodes.{source_of}
 use Rattle.cascade_script.specs.Orders.{Order}
 use Rattle.cascade_script.specs.Orders.{Order as asks}
 use Rattle.cascade_world.specs.ReportLines.{ReportLine}
-use Rattle.cascade_world.specs.World.{WorldState, Step, is_consumer_node, provider_node_named, consumer_node_named, with_outcome, lineage_of, between, exchange_of, exchange, is_offered, is_fed, pointed, pointed_after, repoint, respec}
+use Rattle.cascade_world.specs.World.{WorldState, StepOutcome, is_consumer_node, provider_node_named, consumer_node_named, with_outcome, lineage_of, between, exchange_of, exchange, is_offered, is_fed, pointed, pointed_after, repoint, respec}
 use Rattle.cascade_laws.proofs.Exchanged.{done_kept, done_respecced}
-use Rattle.cascade_laws.proofs.Exchanges.{After, Known, ThroughIn, outcome_through}
+use Rattle.cascade_laws.proofs.Exchanges.{After, PartsKnown, ThroughIn, outcome_through}
 use Rattle.cascade_exchange.proofs.Exchanging.{Alters, AltersIn, as_before, idle_keeps, respecs_alters}
 use Rattle.cascade_exchange.proofs.Silence.{idle_silent}
 use Rattle.cascade_laws.proofs.Feeding.{IsKept, IsRespecced, PartsAreKept, RespecsAreKept, IdlesRest, RestsAreFed}
-use Rattle.cascade_world.proofs.Finding.{IsChanged, found_after, found_still, provider_nodes_by, consumer_nodes_by, pointed_changed, length-first_changed}
+use Rattle.cascade_world.proofs.Finding.{IsChanged, found_after, found_still, provider_nodes_by, consumer_nodes_by, pointed_changed}
 use Rattle.cascade_world.proofs.Found as lookup
 use Rattle.cascade_laws.proofs.Growing.{HasBecome, been_itself, manned_grown, fed_by}
 use Rattle.cascade_laws.proofs.Ordered.{IsQuiet, orders_asked}
 use Rattle.cascade_laws.proofs.Reporting.{GivenIn, silent_given}
-use Rattle.cascade_world.proofs.SameNames.{itself, same_name, pointed_at}
+use Rattle.cascade_world.proofs.SameNames.{itself, pointed_at}
 use Rattle.cascade_world.proofs.Climbing.{AllClimb, climbs_same, all_climb_rerouted, few_above, unfed}
 use Rattle.cascade_world.proofs.Owning.{owned_pointed, room_of}
+use Rattle.cascade_world.proofs.Lists.{length-first_changed}
 use Rattle.cascade_laws.proofs.Tracking.{IsConsumerNode, AllApart, Feeds, Tracks}
 
 -- what a step that ends so is
@@ -105,7 +107,7 @@ module _ (fed : RestsAreFed) (said : List ReportLine) (state : WorldState) (name
 -- ---- repointing
 
 pub record Pointing : Type 0 where
-  pub known : Known
+  pub known : PartsKnown
   pub parts : PartsAreKept
   pub rests : RestsAreFed
   pub idles : IdlesRest
@@ -122,7 +124,7 @@ module _ (p : Pointing) (before : List Order) (said : List ReportLine) (state : 
   pair = agreement_of r.provider f (lineage_of state r)
 
   -- once it is idle
-  through_pointed : (after : Agreement) (lines : List ReportLine) → Alters as_before pair after lines → IsAtRest after.consumer_node → (next : Step) → next ≡ with_outcome state (Ok (after, lines))
+  through_pointed : (after : Agreement) (lines : List ReportLine) → Alters as_before pair after lines → IsAtRest after.consumer_node → (next : StepOutcome) → next ≡ with_outcome state (Ok (after, lines))
       → ThroughIn before order said state f after.consumer_node next → After before said order (pointed_after f.name source next)
   through_pointed after lines keeps rest (Err cause) same through = tt
   through_pointed after lines keeps rest (Ok next) same through = (
@@ -153,7 +155,7 @@ module _ (p : Pointing) (before : List Order) (said : List ReportLine) (state : 
       sources n =
           elim (cases_Bool (bytes_eq n f.name)) [
             | inl hit ↦
-                let alike : n ≡ f.name = same_name n f.name hit in
+                let alike : n ≡ f.name = same_bytes n f.name hit in
                 let was : consumer_nodes_by state.consumer_nodes n ≡ Some f = ap (consumer_nodes_by state.consumer_nodes) alike ∙ e in
                 let new : consumer_nodes_by done.consumer_nodes n ≡ Some g = ap (consumer_nodes_by done.consumer_nodes) alike ∙ through.changed.here in
                 ap (option_map (λ (h : ConsumerNode). h.source)) new ∙ ap Some keeps.source ∙ sym (ap (option_map (λ (h : ConsumerNode). h.source)) was)
@@ -209,7 +211,7 @@ given_respec search pair =
       | inr free ↦ rw free ((refl, refl), tt)
     ]
 
-module _ (known : Known) (kept : RespecsAreKept) (before : List Order) (said : List ReportLine) (state : WorldState) (search : Search) (f : ConsumerNode) (r : ProviderNode) (e : consumer_nodes_by state.consumer_nodes f.name ≡ Some f)
+module _ (known : PartsKnown) (kept : RespecsAreKept) (before : List Order) (said : List ReportLine) (state : WorldState) (search : Search) (f : ConsumerNode) (r : ProviderNode) (e : consumer_nodes_by state.consumer_nodes f.name ≡ Some f)
     (e' : provider_nodes_by state.provider_nodes f.source ≡ Some r) (offered : is_offered search r ≡ true) (is : Tracks before said state) where
   abbrev wish : Order
   wish = asks.Respec f.name search
@@ -217,7 +219,7 @@ module _ (known : Known) (kept : RespecsAreKept) (before : List Order) (said : L
   abbrev two : Agreement
   two = agreement_of r.provider f (lineage_of state r)
 
-  through_respecced : (after : Agreement) (lines : List ReportLine) → Alters (λ s. search) two after lines → (next : Step) → ThroughIn before wish said state f after.consumer_node next → After before said wish next
+  through_respecced : (after : Agreement) (lines : List ReportLine) → Alters (λ s. search) two after lines → (next : StepOutcome) → ThroughIn before wish said state f after.consumer_node next → After before said wish next
   through_respecced after lines keeps (Err cause) through = tt
   through_respecced after lines keeps (Ok next) through = (
     record {
@@ -258,6 +260,6 @@ module _ (known : Known) (kept : RespecsAreKept) (before : List Order) (said : L
       (outcome_respecced (respecs search two) refl (respecs_alters search two) (given_respec search two))
 
 -- a consumer that wants something else
-pub respec_after : Known → RespecsAreKept → (before : List Order) (said : List ReportLine) (state : WorldState) (name : List ℕ) (search : Search) → Tracks before said state → After before said (asks.Respec name search) (respec state name search)
+pub respec_after : PartsKnown → RespecsAreKept → (before : List Order) (said : List ReportLine) (state : WorldState) (name : List ℕ) (search : Search) → Tracks before said state → After before said (asks.Respec name search) (respec state name search)
 respec_after known kept before said state name search is =
     lookup.respecced (λ n. After before said (asks.Respec n search)) (λ n cause. tt) state name search (λ f r e there inside. respecced known kept before said state search f r e there inside is)

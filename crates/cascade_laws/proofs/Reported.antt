@@ -7,21 +7,21 @@ use Rattle.sync_provider.specs.Machine.{ProviderState, log_limited, queue_limite
 use Rattle.cascade_script.specs.declared.fault.Cause.{Cause}
 use Rattle.cascade_script.specs.Orders.{Order}
 use Rattle.cascade_script.specs.Orders.{Order as asks}
-use Rattle.cascade_script.specs.Reader.{Reader}
+use Rattle.cascade_script.specs.Reader.{ScriptReader}
 use Rattle.cascade_world.specs.Exchange.{Agreement, ExchangeOutcome, agreement_of, sent, takes, cut, idle, opens, settles, lost, given, respecs}
 use Rattle.cascade_world.specs.ReportLines.{ReportLine, stages_of}
 use Rattle.cascade_world.specs.ReportLines.{ReportLine as reported}
-use Rattle.cascade_world.specs.World.{WorldState, Step, no_nodes, provider_node_named, consumer_node_named, declare_root, new_consumer_node, with_consumer, with_replica, declare_consumer, declare_replica, write_to, limited, limit_log, limit_queue, with_pair, commits_of, with_lines, with_outcome, lineage_of, exchange, pointed_after, repoint, respec, shown_of, show_of, step}
+use Rattle.cascade_world.specs.World.{WorldState, StepOutcome, no_nodes, provider_node_named, consumer_node_named, declare_root, new_consumer_node, with_consumer, with_replica, declare_consumer, declare_replica, write_to, limited, limit_log, limit_queue, with_pair, commits_of, with_lines, with_outcome, lineage_of, exchange, pointed_after, repoint, respec, shown_of, show_of, step}
 use Rattle.cascade_world.proofs.Found as lookup
 use Rattle.cascade_laws.specs.Headline.{EachReportsRight, LinesAreRight}
 use Rattle.cascade_laws.specs.Reports.{IsSending, IsTaking, IsAtMost, AreUpTo, IsOpening, IsReportOf, AreReportsOf}
 use Rattle.cascade_laws.specs.Run.{Runs}
 use Rattle.cascade_laws.proofs.Answered.{settling_right}
-use Rattle.cascade_laws.proofs.Gives.{Gives, GivesAll, HasSettled, IsCutting, IsHolding, IsRespeccing, sent_gives, takes_gives, cut_gives, idle_gives, opens_gives, settles_gives, lost_gives, given_gives, respecs_gives}
+use Rattle.cascade_laws.proofs.Gives.{PartGives, GivesAll, HasSettled, IsCutting, IsHolding, IsRespeccing, sent_gives, takes_gives, cut_gives, idle_gives, opens_gives, settles_gives, lost_gives, given_gives, respecs_gives}
 use Rattle.cascade_laws.proofs.HeadlineHolds.{runs_lines_right}
 
 -- a step that is done reports such lines
-abbrev Reports : (List ReportLine → Type 0) → Step → Type 0
+abbrev Reports : (List ReportLine → Type 0) → StepOutcome → Type 0
 Reports P (Ok next) = P next.1
 Reports P (Err cause) = Unit {0}
 
@@ -42,7 +42,7 @@ lines_report : (P : List ReportLine → Type 0) (lines : List ReportLine) (commi
 lines_report P lines (Ok state) h = h
 lines_report P lines (Err cause) h = tt
 
-outcome_reports : (P : List ReportLine → Type 0) (state : WorldState) (name : List ℕ) (outcome : ExchangeOutcome) → Gives name P outcome → Reports P (with_outcome state outcome)
+outcome_reports : (P : List ReportLine → Type 0) (state : WorldState) (name : List ℕ) (outcome : ExchangeOutcome) → PartGives name P outcome → Reports P (with_outcome state outcome)
 outcome_reports P state name (Ok next) h = lines_report P next.1 (commits_of (with_pair state next.0) next.0.consumer_node (stages_of next.1)) h.1
 outcome_reports P state name (Err cause) h = tt
 
@@ -51,7 +51,7 @@ exchange_reports P state name part gives =
     lookup.exchanged (λ n. Reports (P n)) (λ n cause. tt) state name part (λ f r e there.
     let pair = agreement_of r.provider f (lineage_of state r) in outcome_reports (P f.name) state f.name (part pair) (gives f.name pair refl))
 
-pointed_reports : (P : List ReportLine → Type 0) (name source : List ℕ) (done : Step) → Reports P done → Reports P (pointed_after name source done)
+pointed_reports : (P : List ReportLine → Type 0) (name source : List ℕ) (done : StepOutcome) → Reports P done → Reports P (pointed_after name source done)
 pointed_reports P name source (Ok next) h = h
 pointed_reports P name source (Err cause) h = tt
 
@@ -64,11 +64,11 @@ IsShowing name lines = (entries : List Entry) × (lines ≡ reported.Shown name 
 abbrev IsReportIfRight : Order → List ReportLine → Type 0
 IsReportIfRight order lines = (before : List Order) (said : List ReportLine) → EachReportsRight before order said lines → IsReportOf order lines
 
-anyhow : (P : List ReportLine → Type 0) (order : Order) (done : Step) → ((lines : List ReportLine) → P lines → IsReportOf order lines) → Reports P done → Reports (IsReportIfRight order) done
+anyhow : (P : List ReportLine → Type 0) (order : Order) (done : StepOutcome) → ((lines : List ReportLine) → P lines → IsReportOf order lines) → Reports P done → Reports (IsReportIfRight order) done
 anyhow P order (Ok next) turns h = λ before said right. turns next.1 h
 anyhow P order (Err cause) turns h = tt
 
-settled_reports : (name : List ℕ) (done : Step) → Reports (HasSettled name) done → Reports (IsReportIfRight (asks.Settle name)) done
+settled_reports : (name : List ℕ) (done : StepOutcome) → Reports (HasSettled name) done → Reports (IsReportIfRight (asks.Settle name)) done
 settled_reports name (Ok next) h = λ before said right. settling_right before name said next.1 h right
 settled_reports name (Err cause) h = tt
 
@@ -112,7 +112,7 @@ order_reports state (asks.Show name) =
 
 -- ---- runs
 
-reported_by : (before : List Order) (said : List ReportLine) (state : WorldState) (reader : Reader) (orders : List Order) (report : List (List ReportLine)) (end : WorldState) (rest : Reader)
+reported_by : (before : List Order) (said : List ReportLine) (state : WorldState) (reader : ScriptReader) (orders : List Order) (report : List (List ReportLine)) (end : WorldState) (rest : ScriptReader)
     → Runs state reader orders report end rest → LinesAreRight before said orders report → AreReportsOf orders report
 reported_by before said state reader [] [] end rest r right = tt
 reported_by before said state reader [] (t ∷ report) end rest r right = absurd r
@@ -122,5 +122,5 @@ reported_by before said state reader (o ∷ orders) (t ∷ report) end rest r ri
     (one before said right.0, reported_by (before ++ o ∷ []) (said ++ t) r.2 r.1 orders report end rest r.5 right.1)
 
 -- each order of a run from no nodes gives its lines
-pub runs_reported : (reader : Reader) (orders : List Order) (report : List (List ReportLine)) (end : WorldState) (rest : Reader) → Runs no_nodes reader orders report end rest → AreReportsOf orders report
+pub runs_reported : (reader : ScriptReader) (orders : List Order) (report : List (List ReportLine)) (end : WorldState) (rest : ScriptReader) → Runs no_nodes reader orders report end rest → AreReportsOf orders report
 runs_reported reader orders report end rest r = reported_by [] [] no_nodes reader orders report end rest r (runs_lines_right reader orders report end rest r)

@@ -10,7 +10,7 @@ use Rattle.cascade_nodes.specs.declared.node.ProviderNode.{ProviderNode}
 use Rattle.cascade_nodes.specs.declared.node.ConsumerNode.{ConsumerNode}
 use Rattle.cascade_report.specs.declared.notes.Origin.{Origin}
 use Rattle.cascade_world.specs.Exchange.{ExchangeOutcome, agreement_of}
-use Rattle.cascade_laws.specs.Headline.{AreAccepted, IsConsumer, known_of, reported_origin, IsOrigin, IsOfRoot, IsUnserved, IsAskedFor, IsOpenedAt, IsPrefixSelected, OfCookie, IsOfStream, IsSettled, IsGiven, IsShown, ReportsRight, EachReportsRight}
+use Rattle.cascade_laws.specs.Headline.{AreWritesOf, IsConsumer, known_of, reported_origin, IsOrigin, IsOfRoot, IsUnserved, IsAskedFor, IsOpenedAt, IsPrefixSelected, OfCookie, IsOfStream, IsSettled, IsGiven, IsShown, ReportsRight, EachReportsRight}
 use Rattle.cascade_laws.specs.Run.{AreHeld}
 use Rattle.cascade_script.specs.Orders.{Order}
 use Rattle.cascade_world.specs.Origins.{origin_of}
@@ -31,12 +31,12 @@ use Rattle.cascade_laws.proofs.Tracking.{Tracks}
 
 -- its accepted writes and their origins, for whoever wants what the consumer of this frame wants
 pub record Serves (before : List Order) (said : List ReportLine) (number : ℕ) (frame : Frame) : Type 0 where
-  pub accepted : AreAccepted before said frame.source number frame.writes
+  pub accepted : AreWritesOf before said frame.source number frame.writes
   pub origins : (n : ℕ) → IsOrigin before said frame.source frame.spec n (origin_of frame.kind frame.lineage frame.spec n)
   pub roots : (n : ℕ) → n ≤ length frame.writes
       → IfSome (origin_of frame.kind frame.lineage frame.spec n) (IsOfRoot before frame.spec (select frame.spec (entries_after number (take n frame.writes))))
 
-accepted_still : (before : List Order) (said lines : List ReportLine) (name : List ℕ) (number : ℕ) (writes : List Write) → IsLeft name lines → AreAccepted before said name number writes → AreAccepted before (said ++ lines) name number writes
+accepted_still : (before : List Order) (said lines : List ReportLine) (name : List ℕ) (number : ℕ) (writes : List Write) → IsLeft name lines → AreWritesOf before said name number writes → AreWritesOf before (said ++ lines) name number writes
 accepted_still before said lines name number writes left (inl is) = inl is
 accepted_still before said lines name number writes left (inr is) =
     let same = stored_still name said lines left in

@@ -14,20 +14,18 @@ use Rattle.sync_provider.specs.declared.provider.Kind.TheVariants.{Root, Replica
 use Rattle.cascade_nodes.specs.declared.node.ProviderNode.{ProviderNode}
 use Rattle.cascade_nodes.specs.declared.node.ConsumerNode.{ConsumerNode}
 use Rattle.cascade_report.specs.declared.notes.Origin.{Origin}
-use Rattle.cascade_laws.specs.Headline.{following, LeadsUp, AreAccepted, reported_origin, IsOrigin, IsOfRoot, stored_of}
+use Rattle.cascade_laws.specs.Headline.{following, LeadsUp, AreWritesOf, reported_origin, IsOrigin, IsOfRoot, stored_of}
 use Rattle.cascade_script.specs.Orders.{Order}
 use Rattle.cascade_world.specs.Origins.{CommitOrigin, prefix_of, passed_on, origin_of}
 use Rattle.cascade_world.specs.ReportLines.{Storing, ReportLine}
 use Rattle.cascade_world.specs.World.{WorldState, top_of, lineage_of}
 use Rattle.cascade_world.proofs.Finding.{provider_nodes_by, provider_node_name, consumer_nodes_by}
-use Rattle.cascade_world.proofs.Climbing.{Climbs, found_above, none_above, few_above, top_is}
+use Rattle.cascade_world.proofs.Climbing.{Climbs, found_above, few_above, top_is}
 use Rattle.cascade_laws.proofs.Tracking.{IsRoot, IsOfKind, AreConsumers, AreStrangers, ByOrders, noted, CommittedBy, AreCommitters, AreConsumerNodes, IsManned, AreManned, IsRooted, AreRooted, Feeds}
+use Rattle.sync_model.proofs.Refresh.{none_from_false}
+use Rattle.sync_model.proofs.Limits.{option_map-none}
 
 -- ---- the root at the top
-
-nobody : (found : Option ConsumerNode) → is_some found ≡ false → found ≡ None
-nobody None h = refl
-nobody (Some f) h = let never : true ≡ false = h in cc
 
 record IsSomebody (found : Option ConsumerNode) : Type 0 where
   consumer_node : ConsumerNode
@@ -52,7 +50,7 @@ root_here provider_nodes name r found none e manned = record { provider_node = r
 top_root : (said : List ReportLine) (state : WorldState) → AreManned state.provider_nodes state.consumer_nodes → AreConsumerNodes said state.nodes state.provider_nodes state.consumer_nodes → (path : List (List ℕ)) (name top : List ℕ) (r : ProviderNode)
     → provider_nodes_by state.provider_nodes name ≡ Some r → Climbs state.consumer_nodes name path top → IsRootAt state.provider_nodes top
 top_root said state manned fed [] name top r e c =
-    subst (IsRootAt state.provider_nodes) (sym c.0) (root_here state.provider_nodes name r (consumer_nodes_by state.consumer_nodes name) (none_above (consumer_nodes_by state.consumer_nodes name) c.1) e (manned name r e))
+    subst (IsRootAt state.provider_nodes) (sym c.0) (root_here state.provider_nodes name r (consumer_nodes_by state.consumer_nodes name) (option_map-none (λ (f : ConsumerNode). f.source) (consumer_nodes_by state.consumer_nodes name) c.1) e (manned name r e))
 top_root said state manned fed (next ∷ path) name top r e c =
     let is = found_above (consumer_nodes_by state.consumer_nodes name) next c.0 in
     let f = fed name is.consumer_node is.there in
@@ -67,7 +65,7 @@ own_top : (state : WorldState) (name : List ℕ) → consumer_nodes_by state.con
 own_top state name none = top_at state name [] name (refl, ap (option_map (λ (f : ConsumerNode). f.source)) none)
 
 leads_up : (before : List Order) (consumer_nodes : List ConsumerNode) → AreConsumers before consumer_nodes → AreStrangers before consumer_nodes → (path : List (List ℕ)) (name top : List ℕ) → Climbs consumer_nodes name path top → LeadsUp before name path top
-leads_up before consumer_nodes consumers strangers [] name top c = (c.0, strangers name (none_above (consumer_nodes_by consumer_nodes name) c.1))
+leads_up before consumer_nodes consumers strangers [] name top c = (c.0, strangers name (option_map-none (λ (f : ConsumerNode). f.source) (consumer_nodes_by consumer_nodes name) c.1))
 leads_up before consumer_nodes consumers strangers (next ∷ path) name top c =
     let is = found_above (consumer_nodes_by consumer_nodes name) next c.0 in
     let f = is.consumer_node in
@@ -136,7 +134,7 @@ origin_rooted said state name r search n feeds commits e low = by r.provider.kin
     by : (kind : Kind) → r.provider.kind ≡ kind → (n : ℕ) → n ≤ length writes → IsManned kind (is_some (consumer_nodes_by state.consumer_nodes name)) → CommittedBy said r kind
         → IfSome (origin_of kind (lineage_of state r) search n) (IsRooted provider_nodes search (select search (entries_after number (take n writes))))
     by Root is n low manned committed =
-        let top : top_of state r.name ≡ name = ap (top_of state) (sym named) ∙ own_top state name (nobody (consumer_nodes_by state.consumer_nodes name) manned) in
+        let top : top_of state r.name ≡ name = ap (top_of state) (sym named) ∙ own_top state name (none_from_false (consumer_nodes_by state.consumer_nodes name) manned) in
         record { provider_node = r; there = ap (provider_nodes_by provider_nodes) top ∙ e; root = is; prefix = low; exactly = refl }
     by Replica is zero low manned committed =
         let way = feeds.climbs r.name in
@@ -168,7 +166,7 @@ origin_is before said state name r search n orders feeds commits e = by r.provid
 
     by : (kind : Kind) (n : ℕ) → IsManned kind (is_some (consumer_nodes_by state.consumer_nodes name)) → IsOfKind before r.name r.provider.directory kind → CommittedBy said r kind → IsOrigin before said name search n (origin_of kind (lineage_of state r) search n)
     by Root n manned is committed =
-        let top : top_of state r.name ≡ name = ap (top_of state) (sym named) ∙ own_top state name (nobody (consumer_nodes_by state.consumer_nodes name) manned) in
+        let top : top_of state r.name ≡ name = ap (top_of state) (sym named) ∙ own_top state name (none_from_false (consumer_nodes_by state.consumer_nodes name) manned) in
         let root : IsRoot before name r.provider.directory.history r.provider.directory.suffix r.provider.directory.writes =
         subst (λ x. IsRoot before x r.provider.directory.history r.provider.directory.suffix r.provider.directory.writes) (sym named) is in
         inl record { history = r.provider.directory.history; suffix = r.provider.directory.suffix; later = root.later; declared = root.declared; own = ap (λ t. prefix_of t n) top }
@@ -197,11 +195,11 @@ origin_is before said state name r search n orders feeds commits e = by r.provid
 -- ---- as the headline says it
 
 pub accepted_at : (before : List Order) (said : List ReportLine) (state : WorldState) (name : List ℕ) (r : ProviderNode) → ByOrders before state → AreCommitters said state.provider_nodes → provider_nodes_by state.provider_nodes name ≡ Some r
-    → AreAccepted before said name r.provider.directory.history r.provider.directory.writes
+    → AreWritesOf before said name r.provider.directory.history r.provider.directory.writes
 accepted_at before said state name r orders commits e =
-    subst (λ x. AreAccepted before said x r.provider.directory.history r.provider.directory.writes) (sym (provider_node_name state.provider_nodes name r e)) (by r.provider.kind (orders.provider_nodes name r e) (commits name r e))
+    subst (λ x. AreWritesOf before said x r.provider.directory.history r.provider.directory.writes) (sym (provider_node_name state.provider_nodes name r e)) (by r.provider.kind (orders.provider_nodes name r e) (commits name r e))
   where
-    by : (kind : Kind) → IsOfKind before r.name r.provider.directory kind → CommittedBy said r kind → AreAccepted before said r.name r.provider.directory.history r.provider.directory.writes
+    by : (kind : Kind) → IsOfKind before r.name r.provider.directory kind → CommittedBy said r kind → AreWritesOf before said r.name r.provider.directory.history r.provider.directory.writes
     by Root is committed = inl record { suffix = r.provider.directory.suffix; later = is.later; declared = is.declared; accepted = is.accepted }
     by Replica is committed =
         inr record {

@@ -6,13 +6,13 @@ use Rattle.std.proofs.lemmas.List.Sums.{fold-append}
 use Rattle.std.specs.List.{fold}
 use Rattle.std.specs.Str.{bytes_eq}
 use Rattle.entry_tree.specs.declared.entry.Entry.{Entry}
+use Rattle.entry_tree.proofs.NameKeys.{same_bytes}
 use Rattle.cascade_laws.specs.Headline.{Known, nothing_known, known_after, known_of, Committed, committed_after, commits_reported, stored_by, stored_of}
 use Rattle.cascade_world.specs.ReportLines.{ReportLine}
 use Rattle.cascade_world.specs.ReportLines.ReportLine.{Wrote, Opened, Refused, Sent, Taken, Stored, Ended, Faulted, Cut, Nothing, Settled, Holds, Clocked, Shown}
 use Rattle.cascade_world.specs.Trace.{name_in}
 use Rattle.cascade_world.specs.World.{WorldState, has_node}
 use Rattle.cascade_exchange.proofs.Exchanging.{EachOwn}
-use Rattle.cascade_world.proofs.SameNames.{same_name}
 use Rattle.cascade_world.proofs.Traced.{IsOfNode, AreOfNodes}
 
 -- ---- one line
@@ -81,7 +81,7 @@ left_by_other name other (line ∷ lines) apart own =
 new_is_other : (name other : List ℕ) (state : WorldState) → has_node name state ≡ false → has_node other state ≡ true → bytes_eq other name ≡ false
 new_is_other name other state new there =
     elim (cases_Bool (bytes_eq other name)) [
-      | inl hit ↦ let bad : has_node name state ≡ true = ap (λ n. has_node n state) (sym (same_name other name hit)) ∙ there in let worse : false ≡ true = sym new ∙ bad in cc
+      | inl hit ↦ let bad : has_node name state ≡ true = ap (λ n. has_node n state) (sym (same_bytes other name hit)) ∙ there in let worse : false ≡ true = sym new ∙ bad in cc
       | inr so ↦ so
     ]
 

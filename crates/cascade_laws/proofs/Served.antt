@@ -18,9 +18,10 @@ use Rattle.session_log.specs.Log.{covers}
 use Rattle.sync_messages.specs.declared.request.SyncRequest.{SyncRequest}
 use Rattle.sync_messages.specs.declared.request.Mode.{Mode}
 use Rattle.sync_model.specs.Incremental.{number_of}
-use Rattle.sync_model.specs.Law.{Begins, IsContentWithin}
+use Rattle.sync_model.specs.Law.{MayBegin, IsContentWithin}
 use Rattle.sync_model.specs.Stream.{SyncOperation}
 use Rattle.sync_model.specs.Stream.Start.{DeletePhase, PresentPhase}
+use Rattle.sync_model.proofs.Incremental.{number_of-phase}
 use Rattle.directory_writes.specs.Starting.{is_ours, prefix_of, asked_prefix, start_at}
 use Rattle.sync_provider.specs.Accepting.{has_cookie, refused_or_opened, numbered, free_number}
 use Rattle.directory_writes.specs.Directory.{DirectoryState, CsnsRise, last_csn, last_csn_of, csns}
@@ -31,7 +32,7 @@ use Rattle.sync_provider.specs.declared.searches.Accepted.TheVariants as accepte
 use Rattle.directory_writes.proofs.Csns.{upto_csn}
 use Rattle.directory_writes.proofs.Promised.{IsContent, IsPromised}
 use Rattle.cascade_world.specs.Cookies.{held_cookie, is_of_node, is_not_before, goes_beyond}
-use Rattle.cascade_laws.specs.Headline.{IsServable, IsServed, IsUnserved, BeginsFrom}
+use Rattle.cascade_laws.specs.Headline.{IsServable, IsServedCookie, IsUnserved, BeginsFrom}
 use Rattle.cascade_world.specs.Opening.{answer_to_request}
 
 not_both : (b : Bool) → not b ≡ true → b ≡ true → ⊥
@@ -40,7 +41,7 @@ not_both false n y = cc
 
 -- what an opening, or a refusal, says of a cookie: a search is refused with e-syncRefreshRequired alone
 abbrev pub Says : ℕ → List Write → Bool → Accepted → Option (List ℕ) → Type 0
-Says number writes reload (accepted.Opened at count) cookie = IsServed reload number writes cookie
+Says number writes reload (accepted.Opened at count) cookie = IsServedCookie reload number writes cookie
 Says number writes reload (accepted.Refused code) cookie = (code ≡ E_SYNC_REFRESH_REQUIRED) × IsUnserved reload number writes cookie
 Says number writes reload accepted.NoMemory cookie = ⊥
 
@@ -97,12 +98,12 @@ module _ (d : DirectoryState) (number : ℕ) (sid : d.sid ≡ number) (history :
         λ serves. not_both (is_some (asked_prefix d (Some text))) both.0 (servable_ours text serves),
       )
 
-  kept_served : (cookie : Option (List ℕ)) (reload : Bool) → is_lost cookie reload ≡ false → IsServed reload number d.writes cookie
+  kept_served : (cookie : Option (List ℕ)) (reload : Bool) → is_lost cookie reload ≡ false → IsServedCookie reload number d.writes cookie
   kept_served None reload h = tt
   kept_served (Some text) reload h = by (is_blank text) refl (asked_prefix d (Some text)) refl reload h
     where
       by : (blank : Bool) → is_blank text ≡ blank → (found : Option ℕ) → asked_prefix d (Some text) ≡ found → (r : Bool) → (not blank && (not (is_some found) && not r)) ≡ false
-          → IsServed r number d.writes (Some text)
+          → IsServedCookie r number d.writes (Some text)
       by true blank found is r h = inr (inl (is_blank-blank text blank))
       by false blank (Some n) is r h = inr (inr (prefix_servable text (Some n) is refl))
       by false blank None is true h = inl refl
@@ -134,16 +135,12 @@ module _ (d : DirectoryState) (number : ℕ) (sid : d.sid ≡ number) (history :
 
   -- ---- the prefix that it begins from
 
-  by_log : (b : Bool) (n : ℕ) → number_of (cond b (DeletePhase n) (PresentPhase n)) ≡ Some n
-  by_log true n = refl
-  by_log false n = refl
-
   from_cookie : (text : List ℕ) (cookie : Cookie) → cookie_of_text text ≡ Some cookie → (b : Bool) → is_ours d cookie ≡ b
       → asked_prefix d (Some text) ≡ cond b (Some (upto (csns d.writes) cookie.csn)) None
       → BeginsFrom number d.writes (Some text) (number_of (start_at d (cond b (Some (upto (csns d.writes) cookie.csn)) None)))
   unfolding ours_servable
   from_cookie text cookie read true ours is =
-      subst (BeginsFrom number d.writes (Some text)) (sym (by_log (covers (upto (csns d.writes) cookie.csn) d.log) (upto (csns d.writes) cookie.csn)))
+      subst (BeginsFrom number d.writes (Some text)) (sym (number_of-phase (covers (upto (csns d.writes) cookie.csn) d.log) (upto (csns d.writes) cookie.csn)))
       (record { serves = ours_servable text cookie read ours; counted = refl })
   from_cookie text cookie read false ours is = λ serves. let there = servable_ours text serves in let bad : true ≡ false = sym there ∙ ap is_some is in let never : ⊥ = cc in never
 
@@ -169,24 +166,24 @@ module _ (d : DirectoryState) (number : ℕ) (sid : d.sid ≡ number) (history :
       same = is.same;
     }
 
-    by_covers : (b : Bool) (least : ℕ) → IsContentWithin operation least (length d.writes) entries → Begins operation (cond b (DeletePhase least) (PresentPhase least)) (length d.writes) entries
+    by_covers : (b : Bool) (least : ℕ) → IsContentWithin operation least (length d.writes) entries → MayBegin operation (cond b (DeletePhase least) (PresentPhase least)) (length d.writes) entries
     by_covers true least is = is
     by_covers false least is = is
 
     by_ours : (cookie : Cookie) → (cookie.history ≡ number → IsContent number search d.writes entries cookie.csn) → (b : Bool) → is_ours d cookie ≡ b
-        → Begins operation (start_at d (cond b (Some (upto (csns d.writes) cookie.csn)) None)) (length d.writes) entries
+        → MayBegin operation (start_at d (cond b (Some (upto (csns d.writes) cookie.csn)) None)) (length d.writes) entries
     by_ours cookie promised true ours =
         let parts = and_parts (cookie.history == d.history) (is_upto cookie.csn (last_csn_of d)) ours in
         by_covers (covers (upto (csns d.writes) cookie.csn) d.log) (upto (csns d.writes) cookie.csn)
         (content_within cookie.csn (promised (eqb-true cookie.history d.history parts.0 ∙ history)))
     by_ours cookie promised false ours = ascending
 
-    by_read : (read : Option Cookie) → IsPromised number search d.writes entries read → Begins operation (start_at d (prefix_of d read)) (length d.writes) entries
+    by_read : (read : Option Cookie) → IsPromised number search d.writes entries read → MayBegin operation (start_at d (prefix_of d read)) (length d.writes) entries
     by_read None promised = ascending
     by_read (Some cookie) promised = by_ours cookie promised (is_ours d cookie) refl
 
     pub start_begins : (cookie : Option (List ℕ)) → IsPromised number search d.writes entries (held_cookie cookie)
-        → Begins operation (start_at d (asked_prefix d cookie)) (length d.writes) entries
+        → MayBegin operation (start_at d (asked_prefix d cookie)) (length d.writes) entries
     start_begins None promised = ascending
     start_begins (Some text) promised = by_read (cookie_of_text text) promised
 

@@ -9,11 +9,11 @@ use Rattle.ldap_constants.specs.declared.result_codes.TheConstants.{ADMIN_LIMIT_
 use Rattle.csn_cookie.specs.Csn.{IsCsn, start, is_before}
 use Rattle.csn_cookie.specs.CsnMaker.{greatest_count}
 use Rattle.dn_names.specs.Names.{TypeAndValue, is_at_or_below}
-use Rattle.directory_laws.specs.Accepted.{IsWellFormed, IsAccepted, WereAccepted}
+use Rattle.directory_laws.specs.Accepted.{IsWellFormed, IsAcceptedFromClient, WereAccepted}
 use Rattle.directory_laws.proofs.Histories.{WereAccepted-push, sent-state_of}
 use Rattle.directory_laws.proofs.ReadWrites.{gives-change}
 use Rattle.directory_laws.proofs.Csns.{IsCsn-start, IsCsn-next_csn}
-use Rattle.directory_laws.proofs.States.{IsWithin-state_of}
+use Rattle.directory_laws.proofs.States.{IsWithinLimits-state_of}
 use Rattle.directory_writes.specs.Commits as commits
 use Rattle.directory_writes.specs.Directory.{DirectoryState, entries_after, entries_of, last_csn, has_room, judged, judged_at, csn_of_next_write, with_write, with_log_limit, most_writes, most_writes_weight}
 use Rattle.directory_writes.specs.Weights.{kept_weight, op_weight}
@@ -35,9 +35,9 @@ use Rattle.entry_tree.specs.declared.entry.Entry.{Entry}
 use Rattle.entry_tree.specs.declared.op.Op.{Op}
 use Rattle.entry_tree.specs.declared.op.Op.TheVariants.{Commit}
 use Rattle.entry_tree.specs.declared.op.Write.{Write}
-use Rattle.sync_consumer.specs.Taking.{Following}
+use Rattle.sync_consumer.specs.Taking.{ConsumerState}
 use Rattle.sync_model.specs.Incremental.{number_of}
-use Rattle.sync_model.specs.Law.{IsWithin}
+use Rattle.sync_model.specs.Law.{IsWithinLimits}
 use Rattle.sync_model.specs.Message.{SyncMessage}
 use Rattle.sync_model.specs.Stream.{SyncOperation, group, later}
 use Rattle.sync_model.proofs.NextMessages.{HasNext}
@@ -56,6 +56,7 @@ use Rattle.sync_provider.proofs.Growing.{informed_at, stream_more}
 use Rattle.sync_provider.proofs.Informed.{pending_over, IsSame, informed_same, informed_ends, delivers_longer, informed_delivers}
 use Rattle.sync_provider.proofs.Longer.{new, stream_same, place_longer, place_grows}
 use Rattle.sync_provider.proofs.Whereabouts.{IsWhere}
+use Rattle.sync_provider.proofs.Alone.{or_none}
 use Rattle.cascade_nodes.specs.declared.node.ConsumerNode.{ConsumerNode}
 use Rattle.cascade_nodes.proofs.Fed.{waits, IsPending, HasPending, IsAtRest}
 use Rattle.cascade_world.specs.Cookies.{held_cookie}
@@ -79,13 +80,13 @@ rest_is_fed number p f search link session held cookie below = record {
 -- one that is at rest may be fed by any
 pub rests_are_fed : RestsAreFed
 rests_are_fed number other p q f g known fed rest same promised below = record {
-  held = ap (λ (c : Following). c.copy.held) same ∙ fed.held;
+  held = ap (λ (c : ConsumerState). c.copy.held) same ∙ fed.held;
   ascending = fed.ascending;
-  cookie = ap (λ (c : Following). c.copy.cookie) same ∙ fed.cookie;
+  cookie = ap (λ (c : ConsumerState). c.copy.cookie) same ∙ fed.cookie;
   promised =
-      subst (λ (c : Following). IsPromised other c.spec q.directory.writes known.entries (held_cookie c.copy.cookie)) (sym same)
+      subst (λ (c : ConsumerState). IsPromised other c.spec q.directory.writes known.entries (held_cookie c.copy.cookie)) (sym same)
       (subst (λ text. IsPromised other f.consumer.spec q.directory.writes known.entries (held_cookie text)) (sym fed.cookie) promised);
-  below = ap (λ (c : Following). is_at_or_below c.spec.base q.directory.suffix) same ∙ below;
+  below = ap (λ (c : ConsumerState). is_at_or_below c.spec.base q.directory.suffix) same ∙ below;
   state = inl rest;
 }
 
@@ -110,14 +111,14 @@ fresh_is_source number suffix kind first small = record {
     none_ranged (suc count) = IsCsn-start number (omega (arith, small))
 
     none_good : (count : ℕ) → CanBeServed (state_of number [] count)
-    none_good count = record { sent = sent-state_of suffix number [] count none_accepted; within = IsWithin-state_of suffix number [] none_accepted (omega arith) count }
+    none_good count = record { sent = sent-state_of suffix number [] count none_accepted; within = IsWithinLimits-state_of suffix number [] none_accepted (omega arith) count }
 
 -- a write that is accepted next: its CSN is in range and above the others, and what it leaves can be served; at a root
 -- nothing rejected it
 pub record IsNext (number : ℕ) (suffix : Name) (kind : Kind) (writes : List Write) (w : Write) : Type 0 where
   pub ranged : IsCsn w.csn
   pub good : CanBeServed (entries_after number (writes ++ w ∷ []))
-  pub accepted : kind ≡ Root → IsAccepted suffix (state_of number writes (length writes)) w
+  pub accepted : kind ≡ Root → IsAcceptedFromClient suffix (state_of number writes (length writes)) w
   pub later : is_before (last_csn (start number) writes) w.csn ≡ true
   pub room : length writes < 1000000
 
@@ -330,7 +331,7 @@ judged_ranged number suffix p op now w source is =
 
 judged_next : (number : ℕ) (suffix : Name) (p : ProviderState) (op : Op) (now : ℕ) (w : Write) → IsSource number suffix p → judged p.directory op now ≡ Ok w
     → CanBeServed (entries_after number (p.directory.writes ++ w ∷ []))
-    → (p.kind ≡ Root → IsAccepted suffix (state_of number p.directory.writes (length p.directory.writes)) w) → IsNext number suffix p.kind p.directory.writes w
+    → (p.kind ≡ Root → IsAcceptedFromClient suffix (state_of number p.directory.writes (length p.directory.writes)) w) → IsNext number suffix p.kind p.directory.writes w
 judged_next number suffix p op now w source is good accepted =
     let judged' = judged_ranged number suffix p op now w source is in
     record {
@@ -349,7 +350,7 @@ asked_next number suffix p op now w source root formed sound is =
     (subst CanBeServed whole
     (record {
       sent = sent-state_of suffix number (writes ++ w ∷ []) (length (writes ++ w ∷ [])) were;
-      within = IsWithin-state_of suffix number (writes ++ w ∷ []) were (omega (arith, length-append writes (w ∷ []), source.few)) (length (writes ++ w ∷ []));
+      within = IsWithinLimits-state_of suffix number (writes ++ w ∷ []) were (omega (arith, length-append writes (w ∷ []), source.few)) (length (writes ++ w ∷ []));
     }))
     (λ kind. accepted)
   where
@@ -359,7 +360,7 @@ asked_next number suffix p op now w source root formed sound is =
     judged' : IsJudged (logged_directory number suffix writes p.directory.log) op now w × IsCsn w.csn
     judged' = judged_ranged number suffix p op now w source is
 
-    accepted : IsAccepted suffix (state_of number writes (length writes)) w
+    accepted : IsAcceptedFromClient suffix (state_of number writes (length writes)) w
     accepted = record {
       formed = subst IsWellFormed (sym judged'.0.same) formed;
       sound = ap is_sound_op judged'.0.same ∙ sound;
@@ -377,7 +378,7 @@ asked_next number suffix p op now w source root formed sound is =
     whole = ap (entries_after number) (take-length (writes ++ w ∷ []))
 
 -- a change that is refused changes nothing
-still_kept : (number : ℕ) (suffix : Name) (p : ProviderState) → IsSource number suffix p → KeepsAll number suffix p p
+pub still_kept : (number : ℕ) (suffix : Name) (p : ProviderState) → IsSource number suffix p → KeepsAll number suffix p p
 still_kept number suffix p source =
     record { source = source; fed = λ g known fed. fed; opens = λ at s found. (s, found); kind = refl; later = []; grown = sym (append-nil p.directory.writes) }
 
@@ -426,14 +427,10 @@ log_limits false true spent = tt
 log_limits false false true = tt
 log_limits false false false = tt
 
-or_none : (found : Option DirectoryFault) → option_or found None ≡ found
-or_none None = refl
-or_none (Some x) = refl
-
 abbrev doubled : ℕ × ℕ → DirectoryFault
 doubled pair = cause.DuplicateName pair.0 pair.1
 
-within_none : (entries : List Entry) → IsWithin entries → commits.held_refusal entries ≡ None
+within_none : (entries : List Entry) → IsWithinLimits entries → commits.held_refusal entries ≡ None
 within_none entries within =
     ap (λ b. cond b (Some (cause.LimitReached most_entries)) (cond (nat_lt most_weight (total_weight entries)) (Some (cause.LimitReached most_weight)) (option_map doubled (same_named entries))))
     (le-ltb most_entries (length entries) within.few)

@@ -179,8 +179,8 @@ pub record AreOfReplica
       → entries_after history (take (at + 1) writes) ≡ stored.entries
 
 -- these are the accepted writes of the provider of that name
-abbrev pub AreAccepted : List Order → List ReportLine → List ℕ → ℕ → List Write → Type 0
-AreAccepted before said provider history writes =
+abbrev pub AreWritesOf : List Order → List ReportLine → List ℕ → ℕ → List Write → Type 0
+AreWritesOf before said provider history writes =
     AreOfRoot before provider history writes ⊎ AreOfReplica before said provider history writes
 
 -- ---- what was reported before
@@ -247,9 +247,9 @@ pub record IsServable (text : List ℕ) (history : ℕ) (writes : List Write) : 
 
 -- no cookie is in the way of a refresh: none or a blank one is held, or it can be served, or
 -- it may be left aside
-abbrev pub IsServed : Bool → ℕ → List Write → Option (List ℕ) → Type 0
-IsServed reload history writes None = Unit {0}
-IsServed reload history writes (Some text) =
+abbrev pub IsServedCookie : Bool → ℕ → List Write → Option (List ℕ) → Type 0
+IsServedCookie reload history writes None = Unit {0}
+IsServedCookie reload history writes (Some text) =
     (reload ≡ true) ⊎ (IsBlank text ⊎ IsServable text history writes)
 
 -- a cookie is: it is not blank, it can't be served, and it may not be left aside
@@ -291,8 +291,8 @@ stream_over history search writes opening start count =
     stream operation start opening.writes (whole_walk operation start opening.writes) count
 
 -- the bytes that a message is sent as
-abbrev pub octets_of : SyncMessage → List ℕ
-octets_of message = message_octets (sent message_id message)
+abbrev pub sent_octets : SyncMessage → List ℕ
+sent_octets message = message_octets (sent message_id message)
 
 -- the end with busy, where the provider could not keep what was to be sent
 abbrev pub busy : SyncMessage
@@ -304,9 +304,9 @@ Follows persists all earlier message =
     ((rest : List SyncMessage) × (earlier ++ message ∷ rest ≡ all))
     ⊎ ((rest : List SyncMessage) × (earlier ++ rest ≡ all) × (message ≡ busy) × (persists ≡ true))
 
--- the message that follows these, which begin with the refresh of a search that was opened after so
--- many writes, is one of those that the write after `number` writes reports; and it is about one
--- identity, whose entry this write changed in what is selected
+-- the message that follows these, which begin with the refresh of a search that was opened at
+-- this number of writes, is one of those that the write after `number` writes reports; and it is
+-- about one identity, whose entry this write changed in what is selected
 pub record ReportsChange
     (operation : SyncOperation) (refresh : List SyncMessage) (opened most : ℕ)
     (earlier : List SyncMessage) (message : SyncMessage) : Type 0 where
@@ -389,7 +389,7 @@ pub record IsPrefixSelected
   pub follows : IsConsumer before consumer provider search reload
   pub history : ℕ
   pub writes : List Write
-  pub accepted : AreAccepted before said provider history writes
+  pub accepted : AreWritesOf before said provider history writes
   pub prefix : stored.number ≤ length writes
   pub opening : Opening
   pub latest : (known_of consumer said).opening ≡ Some opening
@@ -416,7 +416,7 @@ pub record OfCookie
   pub follows : IsConsumer before consumer provider search reload
   pub history : ℕ
   pub writes : List Write
-  pub accepted : AreAccepted before said provider history writes
+  pub accepted : AreWritesOf before said provider history writes
   pub says : Says reload history writes (known_of consumer said).cookie
 
 -- all that was sent since an opening, this message too, is a prefix of the messages of a search
@@ -432,9 +432,9 @@ pub record IsNextOf
   pub count : ℕ
   pub upto : opening.writes + count ≤ length writes
   pub earlier : List SyncMessage
-  pub before : opening.sent ≡ map octets_of earlier
+  pub before : opening.sent ≡ map sent_octets earlier
   pub message : SyncMessage
-  pub spelled : octets ≡ octets_of message
+  pub spelled : octets ≡ sent_octets message
   pub place :
       Follows opening.persists
       (stream_over history search writes opening start count) earlier message
@@ -458,7 +458,7 @@ pub record IsOfStream
   pub follows : IsConsumer before consumer provider search reload
   pub history : ℕ
   pub writes : List Write
-  pub accepted : AreAccepted before said provider history writes
+  pub accepted : AreWritesOf before said provider history writes
   pub opening : Opening
   pub latest : (known_of consumer said).opening ≡ Some opening
   pub next : IsNextOf history search writes opening octets
@@ -473,7 +473,7 @@ pub record IsSettled
   pub follows : IsConsumer before consumer provider search reload
   pub history : ℕ
   pub writes : List Write
-  pub accepted : AreAccepted before said provider history writes
+  pub accepted : AreWritesOf before said provider history writes
   pub all : n ≡ length writes
   pub exactly : (known_of consumer said).entries ≡ select search (entries_after history writes)
 
@@ -483,7 +483,7 @@ pub record IsDirectoryShown
     (entries : List Entry) : Type 0 where
   pub history : ℕ
   pub writes : List Write
-  pub accepted : AreAccepted before said name history writes
+  pub accepted : AreWritesOf before said name history writes
   pub exactly : entries ≡ entries_after history writes
 
 -- and of a consumer: the entries that its last `stored` line reported
@@ -522,7 +522,7 @@ IsAskedFor _ persists = persists ≡ false
 -- cookie is in the way
 abbrev pub IsOpenedAt : ℕ → Bool → ℕ → List Write → Option (List ℕ) → Type 0
 IsOpenedAt n reload history writes cookie =
-    (n ≡ length writes) × IsServed reload history writes cookie
+    (n ≡ length writes) × IsServedCookie reload history writes cookie
 
 -- a search is refused with e-syncRefreshRequired, exactly where the cookie is in its way; a
 -- search that is over before its consumer knows was ended with busy; and no message is

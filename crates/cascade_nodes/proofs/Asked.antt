@@ -19,8 +19,8 @@ use Rattle.sync_messages.specs.declared.request.SyncRequest.{SyncRequest}
 use Rattle.sync_model.specs.Message.{SyncMessage}
 use Rattle.sync_model.specs.Message.SyncMessage.{AddOrModify, Delete, Present, IdSet, NewCookie, RefreshDelete, RefreshPresent, Done, Ignored}
 use Rattle.sync_provider.specs.Accepting as accepting
-use Rattle.sync_provider.specs.HandingOut.{Turn, turn_of_message, turn_of_pending, turn_of_found, turn_of_place, turn_at, turn_at_place, turn_of, search_at, without_first, closed, handed_on, after_turn, after_answer}
-use Rattle.sync_provider.specs.HandingOut.Turn.{Hands, Closes, Waits, Unknown}
+use Rattle.sync_provider.specs.HandingOut.{HandOut, turn_of_message, turn_of_pending, turn_of_found, turn_of_place, turn_at, turn_at_place, turn_of, search_at, without_first, closed, handed_on, after_turn, after_a_turn}
+use Rattle.sync_provider.specs.HandingOut.HandOut.{Hands, Closes, Waits, Unknown}
 use Rattle.sync_provider.specs.Machine.{ProviderState, each_informed, searches_after, judged_by, wrote, after_commit, committed, committed_each}
 use Rattle.sync_provider.specs.Queueing.{overflowed, queued, pushed, informed, is_full, group_of, is_queueing}
 use Rattle.sync_provider.specs.Placing.{put_back}
@@ -42,8 +42,8 @@ by_request : (p : ProviderState) (ask : SyncSearch) (request : Result SyncReques
 by_request p ask (Err fault) = refl
 by_request p ask (Ok request) = refl
 
-pub answered : (p : ProviderState) (ask : SyncSearch) (answer : Accepted) → accepting.Answers answer (accepting.answer_to p.directory p.searches ask) → accepting.Answers answer (answer_to p (search_of ask.spec) ask.control)
-answered p ask answer h = subst (accepting.Answers answer) (by_request p ask (request_of ask.control)) h
+pub answered : (p : ProviderState) (ask : SyncSearch) (answer : Accepted) → accepting.AnswersAccept answer (accepting.answer_to p.directory p.searches ask) → accepting.AnswersAccept answer (answer_to p (search_of ask.spec) ask.control)
+answered p ask answer h = subst (accepting.AnswersAccept answer) (by_request p ask (request_of ask.control)) h
 
 pub accepted_ours : (p : ProviderState) (ask : SyncSearch) (answer : Accepted) → ask.id ≡ message_id → AreOurs p.searches → AreOurs (accepting.after_answer p.directory p.searches ask answer)
 accepted_ours p ask (accepted.Opened number writes) id ours = each-opened IsOurs p.searches number _ ours id
@@ -137,13 +137,13 @@ on_ours es number None at ours = ours
 on_ours es number (Some s) at ours = each-put_on IsOurs es number (without_first s) ours (first_ours s s.rest s.due (each-at IsOurs es number s ours at))
 
 -- the searches after a turn
-pub after_ours : (es : List (ℕ × SearchState)) (number : ℕ) (turn : Turn) → AreOurs es → AreOurs (after_turn es number turn)
+pub after_ours : (es : List (ℕ × SearchState)) (number : ℕ) (turn : HandOut) → AreOurs es → AreOurs (after_turn es number turn)
 after_ours es number (Hands message) ours = on_ours es number (search_at es number) refl ours
 after_ours es number (Closes code message) ours = each-closed IsOurs es number ours
 after_ours es number Waits ours = ours
 after_ours es number Unknown ours = ours
 
-pub turn_ours : (es : List (ℕ × SearchState)) (number : ℕ) (turn : Option Turn) → AreOurs es → AreOurs (after_answer es number turn)
+pub turn_ours : (es : List (ℕ × SearchState)) (number : ℕ) (turn : Option HandOut) → AreOurs es → AreOurs (after_a_turn es number turn)
 turn_ours es number None ours = ours
 turn_ours es number (Some turn) ours = after_ours es number turn ours
 
@@ -152,7 +152,7 @@ dropped_ours es number ours = each-closed IsOurs es number ours
 
 -- ---- spellings
 
-abbrev IsSpelledTurn : Turn → Type 0
+abbrev IsSpelledTurn : HandOut → Type 0
 IsSpelledTurn (Hands message) = HasSpelling message
 IsSpelledTurn (Closes code message) = HasSpelling message
 IsSpelledTurn Waits = Unit {0}
@@ -182,7 +182,7 @@ of_found es number (Some s) at ours =
 turn_spelled : (es : List (ℕ × SearchState)) (number : ℕ) → AreOurs es → IsSpelledTurn (turn_at es number)
 turn_spelled es number ours = of_found es number (search_at es number) refl ours
 
-spelled_as : (turn : Turn) (found : Handed) → IsSpelledTurn turn → IfSome (turn_of found) (λ there. there ≡ turn) → IsSpelled found
+spelled_as : (turn : HandOut) (found : Handed) → IsSpelledTurn turn → IfSome (turn_of found) (λ there. there ≡ turn) → IsSpelled found
 spelled_as turn (handed.Message message) has is = subst IsSpelledTurn (sym is) has
 spelled_as turn (handed.Ended code message) has is = subst IsSpelledTurn (sym is) has
 spelled_as turn handed.Nothing has is = tt

@@ -18,7 +18,7 @@ use Rattle.entry_tree.specs.History.{identity}
 use Rattle.entry_tree.specs.Selection.{Search}
 use Rattle.entry_tree.specs.declared.entry.Entry.{Entry}
 use Rattle.entry_tree.specs.declared.op.Op.TheVariants.{Commit}
-use Rattle.sync_provider.specs.Committing.{Opposes, fault_of}
+use Rattle.sync_provider.specs.Committing.{RejectsCommit, fault_of}
 use Rattle.sync_provider.specs.Committing as committing
 use Rattle.sync_provider.specs.Machine as machine
 use Rattle.sync_provider.specs.Machine.{ProviderState, after_commit, committed_each, refusal_of_each}
@@ -33,6 +33,7 @@ use Rattle.cascade_nodes.specs.declared.node.ProviderNode.{ProviderNode}
 use Rattle.cascade_report.specs.Origins.{CommitOrigin}
 use Rattle.cascade_report.specs.ReportLines.{StoredStage}
 use Rattle.cascade_nodes.specs.Commits.{note_of, commit_of, with_stage, limit_in, limit_of, with_commits, commits_by, commits_all, with_stages, AreHeldAfter, CanCommit, IsLimit, IsCauseOf, Leaves}
+use Rattle.sync_model.proofs.Limits.{option_map-none}
 
 -- the notes that were put at the end are taken away again
 pub noted : {A : Type 0} (xs ys : List A) → take (length xs) (xs ++ ys) ≡ xs
@@ -134,10 +135,6 @@ refusal_of : (now : ℕ) (provider_node : ProviderNode) (stages : List StoredSta
     → refusal_of_each provider_node.provider commits now ≡ option_map (λ limit. fault.LimitReached limit) (limit_of now provider_node.provider stages)
 refusal_of now provider_node stages commits can same = ap (λ cs. refusal_of_each provider_node.provider cs now) same ∙ (writes_of now provider_node stages can).refusal
 
-no_limit : (limit : Option ℕ) → option_map (λ number. fault.LimitReached number) limit ≡ None → limit ≡ None
-no_limit None is = refl
-no_limit (Some number) is = let never : ⊥ = cc in absurd never
-
 one_limit : (limit : Option ℕ) (number : ℕ) → option_map (λ n. fault.LimitReached n) limit ≡ Some (fault.LimitReached number) → limit ≡ Some number
 one_limit None number is = let never : ⊥ = cc in absurd never
 one_limit (Some other) number is = cc
@@ -146,7 +143,7 @@ pub all_committed : (now : ℕ) (wants : Search) (provider_node after : Provider
     → notes ≡ map (note_of wants) stages → refusal_of_each provider_node.provider commits now ≡ None → after.name ≡ provider_node.name → after.provider ≡ committed_each provider_node.provider commits now
     → after.notes ≡ provider_node.notes ++ notes → commits_all now wants provider_node stages ≡ Ok after
 all_committed now wants provider_node after stages commits notes can same noted none named done kept =
-    let none' : limit_of now provider_node.provider stages ≡ None = no_limit (limit_of now provider_node.provider stages) (sym (refusal_of now provider_node stages commits can same) ∙ none) in
+    let none' : limit_of now provider_node.provider stages ≡ None = option_map-none (λ (number : ℕ). fault.LimitReached number) (limit_of now provider_node.provider stages) (sym (refusal_of now provider_node stages commits can same) ∙ none) in
     let name' : provider_node.name ≡ after.name = sym named in
     let provider' : fold (with_stage now) provider_node.provider stages ≡ after.provider =
     sym (done ∙ ap (λ cs. committed_each provider_node.provider cs now) same ∙ (writes_of now provider_node stages can).same none') in
@@ -154,10 +151,10 @@ all_committed now wants provider_node after stages commits notes can same noted 
     ap (commits_by now wants provider_node stages) none' ∙ λ i. Ok (record { name = name' i; provider = provider' i; notes = notes' i })
 
 pub none_committed : (now : ℕ) (wants : Search) (provider_node : ProviderNode) (stages : List StoredStage) (commits : List StagedCommit) (found : CommitFault) (reported : Cause) → CanCommit provider_node stages → commits ≡ map commit_of stages
-    → Opposes (refusal_of_each provider_node.provider commits now) found → IsCauseOf found reported → Leaves (commits_all now wants provider_node stages) provider_node (Err reported)
+    → RejectsCommit (refusal_of_each provider_node.provider commits now) found → IsCauseOf found reported → Leaves (commits_all now wants provider_node stages) provider_node (Err reported)
 none_committed now wants provider_node stages commits found reported can same opposed is = by found opposed is
   where
-    by : (given : CommitFault) → Opposes (refusal_of_each provider_node.provider commits now) given → IsCauseOf given reported → Leaves (commits_all now wants provider_node stages) provider_node (Err reported)
+    by : (given : CommitFault) → RejectsCommit (refusal_of_each provider_node.provider commits now) given → IsCauseOf given reported → Leaves (commits_all now wants provider_node stages) provider_node (Err reported)
     by (fault.LimitReached number) against reports =
         let limit = one_limit (limit_of now provider_node.provider stages) number (sym (refusal_of now provider_node stages commits can same) ∙ against) in
         subst (λ c. Leaves (commits_all now wants provider_node stages) provider_node (Err c)) (sym reports) (ap (commits_by now wants provider_node stages) limit)
@@ -166,14 +163,14 @@ none_committed now wants provider_node stages commits found reported can same op
     by fault.NoMemory against reports = subst (λ c. Leaves (commits_all now wants provider_node stages) provider_node (Err c)) (sym reports) tt
 
 pub only_a_limit : (now : ℕ) (provider_node : ProviderNode) (stages : List StoredStage) (commits : List StagedCommit) (found : CommitFault) → CanCommit provider_node stages → commits ≡ map commit_of stages
-    → Opposes (refusal_of_each provider_node.provider commits now) found → IsLimit found
+    → RejectsCommit (refusal_of_each provider_node.provider commits now) found → IsLimit found
 only_a_limit now provider_node stages commits found can same = by found
   where
     never : (limit : Option ℕ) (given : CommitFault) → option_map (λ number. fault.LimitReached number) limit ≡ Some given → IsLimit given
     never None given is = let bad : ⊥ = cc in absurd bad
     never (Some number) given is = let one : fault.LimitReached number ≡ given = cc in subst IsLimit one tt
 
-    by : (given : CommitFault) → Opposes (refusal_of_each provider_node.provider commits now) given → IsLimit given
+    by : (given : CommitFault) → RejectsCommit (refusal_of_each provider_node.provider commits now) given → IsLimit given
     by (fault.LimitReached number) against = tt
     by (fault.DuplicateName one other) against = never (limit_of now provider_node.provider stages) (fault.DuplicateName one other) (sym (refusal_of now provider_node stages commits can same) ∙ against)
     by fault.NotAReplica against = never (limit_of now provider_node.provider stages) fault.NotAReplica (sym (refusal_of now provider_node stages commits can same) ∙ against)
@@ -191,6 +188,7 @@ pub record HasCommitted (before : ProviderNode) (stages : List StoredStage) (aft
   pub kind : after.provider.kind ≡ before.provider.kind
   pub entries : CanCommit before stages → entries_of after.provider.directory ≡ with_stages (entries_of before.provider.directory) stages
 
+-- commits that are made leave a replica with the stages in effect
 pub has_committed : (now : ℕ) (wants : Search) (own after : ProviderNode) (stages : List StoredStage) → commits_all now wants own stages ≡ Ok after → HasCommitted own stages after
 has_committed now wants own after stages = by (limit_of now own.provider stages) refl
   where
@@ -200,5 +198,6 @@ has_committed now wants own after stages = by (limit_of now own.provider stages)
         subst (HasCommitted own stages) same (record { name = refl; kind = same_kind now stages own.provider; entries = λ can. (writes_of now own stages can).entries is })
     by (Some limit) is done = let never : ⊥ = cc in absurd never
 
+-- and its name
 pub committed_name : (now : ℕ) (wants : Search) (own after : ProviderNode) (stages : List StoredStage) → commits_all now wants own stages ≡ Ok after → after.name ≡ own.name
 committed_name now wants own after stages is = (has_committed now wants own after stages is).name

@@ -10,9 +10,9 @@ use Rattle.sync_wire.specs.Sending as wire
 use Rattle.directory_writes.proofs.Distinct.{AreDistinct, closed-same, distinct-closed, distinct-put_on}
 use Rattle.directory_writes.proofs.Keyed.{put_on, put_on-same}
 use Rattle.sync_provider.specs.Accepting.{is_free, numbers_from, free_number}
-use Rattle.sync_provider.specs.HandingOut.{search_at, Turn, turn_of_message, turn_of_pending, turn_of_found, turn_at, without_first, handed_on, after_turn}
+use Rattle.sync_provider.specs.HandingOut.{search_at, HandOut, turn_of_message, turn_of_pending, turn_of_found, turn_at, without_first, handed_on, after_turn}
 use Rattle.sync_provider.specs.HandingOut as handing
-use Rattle.sync_provider.specs.HandingOut.Turn.{Hands}
+use Rattle.sync_provider.specs.HandingOut.HandOut.{Hands}
 use Rattle.sync_provider.specs.Machine.{ProviderState}
 use Rattle.sync_provider.specs.Search.{SearchState, pending}
 use Rattle.sync_provider.proofs.Advanced.{Searches, IsAdvanced, advanced_is}
@@ -106,7 +106,7 @@ handed_out searches spec mode at messages rest first has some is more apart = re
     now = advanced_is has.search rest first has.over (has.same ∙ some)
 
 -- after the last message the search is closed, and the other searches are as before
-pub closed_then : (searches : Searches) (spec : Search) (mode cut : Bool) (at : ℕ) (turn : Turn) (rest : List SyncMessage) → turn_at searches at ≡ turn → after_turn searches at turn ≡ handing.closed searches at → rest ≡ []
+pub closed_then : (searches : Searches) (spec : Search) (mode cut : Bool) (at : ℕ) (turn : HandOut) (rest : List SyncMessage) → turn_at searches at ≡ turn → after_turn searches at turn ≡ handing.closed searches at → rest ≡ []
     → waits mode cut ≡ false → AreDistinct searches → IsAfter searches (after_turn searches at (turn_at searches at)) spec mode cut at None rest
 closed_then searches spec mode cut at turn rest is goes none ends apart = record {
   has = (none, ends);

@@ -11,7 +11,7 @@ most_link = 67108864
 abbrev pub link_size : List (List ℕ) → ℕ
 link_size link = sum_by length link
 
--- why a message does not go into a link that would hold n bytes then: they are too many; want
+-- why a message does not go into a link that would hold n bytes then: they are too many; out
 -- of memory says nothing
 abbrev pub RefusesLink : ℕ → Cause → Type 0
 RefusesLink size NoMemory = Unit {0}

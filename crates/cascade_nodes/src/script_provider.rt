@@ -94,7 +94,8 @@ impl ScriptProvider {
         self.provider.writes()
     }
 
-    /// The entries after all writes, in ascending order of identity.
+    /// The entries after all writes, in ascending order of identity. It is `NoMemory` where memory
+    /// runs out.
     pub fn entries(&self) -> Result<Vec<&Entry>, NoMemory>
         ensures { IfOk result (λ list.
             map (λ e. e.now) list.items ≡ directory.entries_of self.now.directory) }
@@ -123,7 +124,8 @@ impl ScriptProvider {
 
     /// Adds one write for each of these commits where the clock shows `now`, in microseconds from
     /// the first moment of 1970 on, all of them or none. The answer is the number of accepted
-    /// writes after them, or the first cause that rejects one of them.
+    /// writes after them, or the first cause that rejects one of them. It is `LimitReached`,
+    /// `DuplicateName`, `NotAReplica` or `NoMemory`, and the provider is as before then.
     #[tactic(auto, using(crate::proofs::Asked::each_committed_ours))]
     pub fn commit_each(&mut self, commits: Vec<StagedCommit>, now: u64) -> Result<u64, CommitFault>
         requires sound { list_all (λ commit. list_all is_sound_put commit.puts) commits.items
@@ -152,7 +154,8 @@ impl ScriptProvider {
     /// it.
     #[tactic(auto, using(crate::proofs::Asked::answered, crate::proofs::Asked::accepted_state, crate::proofs::Asked::accepted_ours))]
     pub fn accept(&mut self, wanted: Spec, control: Octets) -> Accepted
-        ensures answer { accepting.Answers result (answer_to self.old (search_of wanted) control) }
+        ensures answer { accepting.AnswersAccept result
+            (answer_to self.old (search_of wanted) control) }
         ensures state { self.new ≡ after_accepted self.old (search_of wanted) control result }
     {
         let ask = SyncSearch {
@@ -198,12 +201,12 @@ impl ScriptProvider {
     /// The search with this number as it stands now, for a later return to this moment. It is
     /// `NoMemory` where memory runs out.
     #[tactic(auto, using(crate::proofs::Asked::ours_then))]
-    pub fn open_search(&self, number: u64) -> Result<SearchSnapshot, NoMemory>
+    pub fn search_snapshot(&self, number: u64) -> Result<SearchSnapshot, NoMemory>
         ensures value { IfOk result (λ snapshot. snapshot ≡ snapshot_of self.now number) }
         ensures back { ComesBack self.now.searches number }
         ensures ours { IfOk result (λ snapshot. IfSome snapshot.search IsOurs) }
     {
-        self.provider.open_search(number)
+        self.provider.search_snapshot(number)
     }
 
     /// Returns a search to an earlier moment, since which no write came. It takes no memory.

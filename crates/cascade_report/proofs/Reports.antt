@@ -11,6 +11,7 @@ reported old new line none is =
     let stages : old.stages ≡ old.stages ++ stages_of (line ∷ []) = sym (append-nil old.stages) ∙ ap (λ s. old.stages ++ s) (sym (append-nil (stages_in line) ∙ none)) in
     is ∙ λ i. record { lineage = old.lineage; text = text i; stages = stages i }
 
+-- a report to which no line is added is as before
 pub said-none : (t : Report) → said t [] ≡ t
 said-none t = λ i. record { lineage = t.lineage; text = append-nil t.text i; stages = append-nil t.stages i }
 

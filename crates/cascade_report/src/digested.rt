@@ -38,10 +38,10 @@ pub struct Digested {
 impl Model for Digested {
     ghost use Rattle.std.specs.Coded.{codes};
     ghost use Rattle.entry_tree.specs.FilterCode.{tree_code};
-    ghost use Rattle.sync_consumer.specs.Taking.{Following};
+    ghost use Rattle.sync_consumer.specs.Taking.{ConsumerState};
     ghost use Rattle.cascade_report.specs.Digests.{HasDigested};
 
-    ghost Value = { Following };
+    ghost Value = { ConsumerState };
 
     ghost coded = { Prim.hlevel (codes, tree_code) };
 
@@ -81,6 +81,7 @@ impl Digested {
     /// The digest of the text of its entries, of which those that stayed since it was last asked
     /// for, up to the first that did not, cost nothing. It is the one part of an event that goes
     /// through the others, and stands apart from what calls it, so that a profile shows its cost.
+    /// It is `NoMemory` where memory runs out.
     #[inline(never)]
     #[tactic(auto, using(crate::proofs::Digests::all_digested, crate::proofs::Digests::digest_is, crate::proofs::Digests::same_digested))]
     pub fn digest(&mut self) -> Result<[u8; 32], NoMemory>

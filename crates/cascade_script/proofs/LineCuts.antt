@@ -8,7 +8,7 @@ use Rattle.std.proofs.Math.Seq.{take-append-add, drop-append-add}
 use Rattle.std.specs.Str.Lines.{lines, strip_carriage_return}
 use Rattle.ldif_text.specs.Field.{cut}
 use Rattle.ldif_text.proofs.TextLines.{next-some, next-none}
-use Rattle.cascade_script.specs.Lines.{IsCut}
+use Rattle.cascade_script.specs.Lines.{IsCutAt}
 use Rattle.cascade_script.specs.Reader.{body_of, after_body}
 use Rattle.cascade_script.specs.Words.{is_empty}
 
@@ -45,7 +45,7 @@ lines-first first_part other e =
     next-some whole first_part other 0 (length first_part + 1) filled (sym (ap (λ x. x.0) e)) (sym (ap (λ x. x.1) e)) (omega arith) in
     from_start ∙ ap (λ t. strip_carriage_return first_part ∷ lines t) (drop-line first_part other)
 
-IsCut-first_part : (first_part rest : List ℕ) → ((other : List ℕ) → lines (first_part ++ 10 ∷ other) ≡ strip_carriage_return first_part ∷ lines other) → IsCut (first_part ++ 10 ∷ rest) (length first_part + 1)
+IsCut-first_part : (first_part rest : List ℕ) → ((other : List ℕ) → lines (first_part ++ 10 ∷ other) ≡ strip_carriage_return first_part ∷ lines other) → IsCutAt (first_part ++ 10 ∷ rest) (length first_part + 1)
 IsCut-first_part first_part rest is = record {
   parts = λ n.
       let line : lines (take (length first_part + 1) (first_part ++ 10 ∷ rest)) ≡ strip_carriage_return first_part ∷ [] =
@@ -57,11 +57,11 @@ IsCut-first_part first_part rest is = record {
 is_first : (text rest : List ℕ) → (cut 10 text).1 ≡ Some rest → (other : List ℕ) → lines ((cut 10 text).0 ++ 10 ∷ other) ≡ strip_carriage_return (cut 10 text).0 ∷ lines other
 is_first text rest e other = lines-first (cut 10 text).0 other (cut-others 10 text rest other e)
 
-pub IsCut-line : (text line rest : List ℕ) → line ≡ (cut 10 text).0 → Some rest ≡ (cut 10 text).1 → IsCut text (length line + 1)
+pub IsCut-line : (text line rest : List ℕ) → line ≡ (cut 10 text).0 → Some rest ≡ (cut 10 text).1 → IsCutAt text (length line + 1)
 IsCut-line text line rest first_part back =
     let e = sym back in
-    subst (λ l. IsCut text (length l + 1)) (sym first_part)
-    (subst (λ t. IsCut t (length (cut 10 text).0 + 1)) (sym (cut-whole 10 text rest e)) (IsCut-first_part (cut 10 text).0 rest (is_first text rest e)))
+    subst (λ l. IsCutAt text (length l + 1)) (sym first_part)
+    (subst (λ t. IsCutAt t (length (cut 10 text).0 + 1)) (sym (cut-whole 10 text rest e)) (IsCut-first_part (cut 10 text).0 rest (is_first text rest e)))
 
 -- it is one line
 pub one-line : (text line rest : List ℕ) → line ≡ (cut 10 text).0 → Some rest ≡ (cut 10 text).1 → length (lines (take (length line + 1) text)) ≡ 1
@@ -83,7 +83,7 @@ one-last text l back =
     ap (λ t. length (lines t)) (take_all (length text) text (omega arith)) ∙ ap length last ∙ ap (λ t. suc (length (lines t))) (drop_all (length text) text (omega arith))
 
 -- a cut of what follows a cut
-pub IsCut-more : (text : List ℕ) (at more : ℕ) → IsCut text at → IsCut (drop at text) more → IsCut text (at + more)
+pub IsCut-more : (text : List ℕ) (at more : ℕ) → IsCutAt text at → IsCutAt (drop at text) more → IsCutAt text (at + more)
 IsCut-more text at more c d = record {
   parts = λ n.
       let s : at + more + n ≡ at + (more + n) = omega arith in
@@ -92,7 +92,7 @@ IsCut-more text at more c d = record {
 }
 
 -- the lines of a text are those before a cut and those after it
-pub lines-parts : (text : List ℕ) (at : ℕ) → IsCut text at → lines text ≡ lines (take at text) ++ lines (drop at text)
+pub lines-parts : (text : List ℕ) (at : ℕ) → IsCutAt text at → lines text ≡ lines (take at text) ++ lines (drop at text)
 lines-parts text at c =
     let whole : take (at + length text) text ≡ text = take_all (at + length text) text (omega arith) in
     let rest : take (length text) (drop at text) ≡ drop at text = take_all (length text) (drop at text) (omega (arith, length-drop at text)) in
@@ -113,7 +113,7 @@ some_lines text l = by_cut (cut 10 text).1 refl
 
 -- ---- n first lines
 
-pub more_lines : (text : List ℕ) (at count : ℕ) → IsCut text at → at < length text → length (lines (take at text)) ≡ count
+pub more_lines : (text : List ℕ) (at count : ℕ) → IsCutAt text at → at < length text → length (lines (take at text)) ≡ count
     → (lines (take at text) ≡ take count (lines text)) × (nat_lt count (length (lines text)) ≡ true)
 more_lines text at count c l n =
     let parts = lines-parts text at c in
@@ -124,7 +124,7 @@ more_lines text at count c l n =
 -- ---- a record's lines
 
 -- one more line that is not empty
-body_of-next : (text line : List ℕ) (rest : List (List ℕ)) (at more : ℕ) → IsCut text at → IsCut (drop at text) more → length (lines (take more (drop at text))) ≡ 1
+body_of-next : (text line : List ℕ) (rest : List (List ℕ)) (at more : ℕ) → IsCutAt text at → IsCutAt (drop at text) more → length (lines (take more (drop at text))) ≡ 1
     → lines (drop at text) ≡ line ∷ rest → (lines (take (at + more) text) ≡ lines (take at text) ++ line ∷ []) × (lines (drop (at + more) text) ≡ rest)
 body_of-next text line rest at more c d one is =
     let here = drop at text in
@@ -141,7 +141,7 @@ pub filled_line : (line : List ℕ) → 0 < length line → is_empty line ≡ fa
 filled_line [] l = absurd (omega arith)
 filled_line (b ∷ line) l = refl
 
-pub body-more : (text line : List ℕ) (rest : List (List ℕ)) (at more : ℕ) → IsCut text at → IsCut (drop at text) more → length (lines (take more (drop at text))) ≡ 1
+pub body-more : (text line : List ℕ) (rest : List (List ℕ)) (at more : ℕ) → IsCutAt text at → IsCutAt (drop at text) more → length (lines (take more (drop at text))) ≡ 1
     → lines (drop at text) ≡ line ∷ rest → is_empty line ≡ false
     → body_of (lines text) ≡ lines (take at text) ++ body_of (lines (drop at text)) → body_of (lines text) ≡ lines (take (at + more) text) ++ body_of (lines (drop (at + more) text))
 body-more text line rest at more c d one is filled so_far =
@@ -149,7 +149,7 @@ body-more text line rest at more c d one is filled so_far =
     let here : body_of (lines (drop at text)) ≡ line ∷ body_of rest = ap body_of is ∙ rw filled refl in
     rw (next.0, next.1) (so_far ∙ ap (λ t. lines (take at text) ++ t) here ∙ sym (append_assoc (lines (take at text)) (line ∷ []) (body_of rest)))
 
-pub after-more : (text line : List ℕ) (rest : List (List ℕ)) (at more : ℕ) → IsCut text at → IsCut (drop at text) more → length (lines (take more (drop at text))) ≡ 1
+pub after-more : (text line : List ℕ) (rest : List (List ℕ)) (at more : ℕ) → IsCutAt text at → IsCutAt (drop at text) more → length (lines (take more (drop at text))) ≡ 1
     → lines (drop at text) ≡ line ∷ rest → is_empty line ≡ false
     → after_body (lines (drop at text)) ≡ after_body (lines (drop (at + more) text))
 after-more text line rest at more c d one is filled =

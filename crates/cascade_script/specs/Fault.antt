@@ -15,8 +15,8 @@ IsBadCommand line at NoMemory read = Unit {0}
 IsBadCommand line at _ read = ⊥
 
 -- the fault is that of the line
-abbrev pub Fails : {Y : Type 0} → ℕ → ScriptFault → Option Y → Type 0
-Fails line fault read = IsBadCommand line fault.line fault.cause read
+abbrev pub ScriptFails : {Y : Type 0} → ℕ → ScriptFault → Option Y → Type 0
+ScriptFails line fault read = IsBadCommand line fault.line fault.cause read
 
 -- out of memory says nothing, and any other cause is that of the answer, at that line
 abbrev pub RefusedAt : {Y : Type 0} → ℕ → ℕ → Cause → Result Y Cause → Type 0

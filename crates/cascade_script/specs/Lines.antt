@@ -10,7 +10,7 @@ text_lines text = lines text
 
 -- n first bytes end where a line does: the lines of the text to any byte after are
 -- those of the two parts
-pub record IsCut (text : List ℕ) (at : ℕ) : Type 0 where
+pub record IsCutAt (text : List ℕ) (at : ℕ) : Type 0 where
   pub parts :
       (n : ℕ) → lines (take (at + n) text) ≡ lines (take at text) ++ lines (take n (drop at text))
 

@@ -19,13 +19,13 @@ use Rattle.cascade_script.specs.Orders.Order.{Write}
 use Rattle.cascade_script.specs.Words.{is_empty}
 
 -- the lines that are left, how many were read, and the limit that a line after them passes
-pub record Reader : Type 0 where
+pub record ScriptReader : Type 0 where
   pub lines : List (List ℕ)
   pub read : ℕ
   pub limit : Option ℕ
 
 -- a script at its beginning
-abbrev pub reader_of : List ℕ → Reader
+abbrev pub reader_of : List ℕ → ScriptReader
 reader_of text = record { lines = script_lines text; read = 0; limit = limit_passed text }
 
 -- what stands next: the end, a refusal, or an order with the number of its line and
@@ -33,7 +33,7 @@ reader_of text = record { lines = script_lines text; read = 0; limit = limit_pas
 pub data Next : Type 0 where
   Ended : Next
   Refused : ScriptFault → Next
-  Got : ℕ → Order → Reader → Next
+  Got : ℕ → Order → ScriptReader → Next
 
 -- after the last line: the end, or a line that passes a limit
 abbrev pub beyond : ℕ → Option ℕ → Next
@@ -60,13 +60,13 @@ record_fault command (ldif.BadBase64 line) = fault_at line BadRecord
 record_fault command (ldif.BadChange line) = fault_at line BadRecord
 record_fault command ldif.NoMemory = fault_at command NoMemory
 
-abbrev pub of_record : ℕ → List ℕ → Reader → Result (Option Found) LdifFault → Next
+abbrev pub of_record : ℕ → List ℕ → ScriptReader → Result (Option Found) LdifFault → Next
 of_record command name rest (Ok None) = Refused (fault_at command BadRecord)
 of_record command name rest (Ok (Some found)) = Got command (Write name found.change) rest
 of_record command name rest (Err fault) = Refused (record_fault command fault)
 
 -- the record of these lines, which come after the command
-abbrev pub read_record : ℕ → List ℕ → List (List ℕ) → Reader → Next
+abbrev pub read_record : ℕ → List ℕ → List (List ℕ) → ScriptReader → Next
 read_record command name body rest =
     of_record command name rest
     (next_record
@@ -79,7 +79,7 @@ limit_before limit (line ∷ lines) = None
 
 -- a record is whole where an empty line or the script's end stands after it, and not where a line
 -- that passes a limit does
-abbrev pub whole_record : Option ℕ → ℕ → List ℕ → List (List ℕ) → Reader → Next
+abbrev pub whole_record : Option ℕ → ℕ → List ℕ → List (List ℕ) → ScriptReader → Next
 whole_record None command name body rest = read_record command name body rest
 whole_record (Some limit) command name body rest = beyond (command + length body) (Some limit)
 
@@ -113,7 +113,7 @@ next_from limit read (line ∷ lines) =
     else next_of limit (read + 1) (saying line) lines)
 
 -- what stands next in a script
-abbrev pub next_in : Reader → Next
+abbrev pub next_in : ScriptReader → Next
 next_in reader = next_from reader.limit reader.read reader.lines
 
 -- ---- the answers of reading
@@ -124,7 +124,7 @@ IsRefusalOf next line NoMemory = Unit {0}
 IsRefusalOf next line cause = next ≡ Refused (fault_at line cause)
 
 -- what reading an event answers, and the reader that it leaves
-abbrev pub Reads : Reader → Reader → Result (Option Event) ScriptFault → Type 0
+abbrev pub Reads : ScriptReader → ScriptReader → Result (Option Event) ScriptFault → Type 0
 Reads old new (Ok None) = (next_in old ≡ Ended) × (new ≡ old)
 Reads old new (Ok (Some event)) = next_in old ≡ Got event.line (order_of event.command) new
 Reads old new (Err fault) = IsRefusalOf (next_in old) fault.line fault.cause

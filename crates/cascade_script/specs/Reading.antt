@@ -10,7 +10,7 @@ use Rattle.cascade_script.specs.declared.event.Event.{Event}
 use Rattle.cascade_script.specs.declared.fault.ScriptFault.{ScriptFault}
 use Rattle.cascade_script.specs.Orders.{order_of}
 use Rattle.cascade_script.specs.Orders.Order.{Write}
-use Rattle.cascade_script.specs.Reader.{Reader, Next, IsRefusalOf, of_record}
+use Rattle.cascade_script.specs.Reader.{ScriptReader, Next, IsRefusalOf, of_record}
 use Rattle.cascade_script.specs.Reader.Next.{Ended, Got}
 
 -- the lines from a place on
@@ -23,7 +23,7 @@ pub record IsPlace (bytes : List ℕ) (place : Cursor) : Type 0 where
   pub counted : place.number ≤ place.at
 
 -- the reader at a place
-abbrev pub reader_at : List ℕ → Option ℕ → Cursor → Reader
+abbrev pub reader_at : List ℕ → Option ℕ → Cursor → ScriptReader
 reader_at bytes limit place =
     record { lines = left_at bytes place; read = place.number; limit = limit }
 
@@ -46,8 +46,8 @@ ReadsEvent bytes limit (Err fault) next = IsRefusalOf next fault.line fault.caus
 -- whatever rest of the script
 abbrev pub ReadsRecord : ℕ → Result Change ScriptFault → Result (Option Found) LdifFault → Type 0
 ReadsRecord command (Ok change) read =
-    (name : List ℕ) (rest : Reader)
+    (name : List ℕ) (rest : ScriptReader)
     → of_record command name rest read ≡ Got command (Write name change) rest
 ReadsRecord command (Err fault) read =
-    (name : List ℕ) (rest : Reader)
+    (name : List ℕ) (rest : ScriptReader)
     → IsRefusalOf (of_record command name rest read) fault.line fault.cause

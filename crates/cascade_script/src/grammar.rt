@@ -2,7 +2,7 @@
 ghost use Rattle.std.specs.Prelude.{◌≡◌, Some};
 ghost use Rattle.entry_tree.specs.Selection.{search_of};
 ghost use Rattle.ldap_ber.specs.Gives.{Gives};
-ghost use Rattle.cascade_script.specs.Fault.{Fails};
+ghost use Rattle.cascade_script.specs.Fault.{ScriptFails};
 ghost use Rattle.cascade_script.specs.Grammar as spec;
 ghost use Rattle.cascade_script.specs.Grammar.{saying_of};
 ghost use Rattle.cascade_script.specs.Words.{greatest_number};
@@ -34,7 +34,7 @@ pub enum Heading {
 /// What a line says.
 #[tactic(auto, unfolding(crate::specs::Grammar::saying))]
 pub fn heading_of(alloc: Global, text: &[u8], line: u64) -> Result<Heading, ScriptFault>
-    ensures { Gives (Fails line) (λ saying. Some (saying_of saying)) result (spec.saying text.now) }
+    ensures { Gives (ScriptFails line) (λ saying. Some (saying_of saying)) result (spec.saying text.now) }
 {
     let (word, rest) = until_mark(text, b' ', line)?;
     said_by(alloc, word, rest, line)
@@ -42,7 +42,7 @@ pub fn heading_of(alloc: Global, text: &[u8], line: u64) -> Result<Heading, Scri
 
 /// What a line says that begins with this word.
 fn said_by(alloc: Global, word: &[u8], rest: &[u8], line: u64) -> Result<Heading, ScriptFault>
-    ensures { Gives (Fails line) (λ saying. Some (saying_of saying)) result
+    ensures { Gives (ScriptFails line) (λ saying. Some (saying_of saying)) result
         (spec.said_by spec.keywords word.now rest.now) }
 {
     if word == b"provider".as_slice() {
@@ -77,7 +77,7 @@ fn said_of_search(
     rest: &[u8],
     line: u64,
 ) -> Result<Heading, ScriptFault>
-    ensures { Gives (Fails line) (λ saying. Some (saying_of saying)) result
+    ensures { Gives (ScriptFails line) (λ saying. Some (saying_of saying)) result
         (spec.said_by spec.search_keywords word.now rest.now) }
 {
     if word == b"open".as_slice() {
@@ -106,7 +106,7 @@ fn said_of_holding(
     rest: &[u8],
     line: u64,
 ) -> Result<Heading, ScriptFault>
-    ensures { Gives (Fails line) (λ saying. Some (saying_of saying)) result
+    ensures { Gives (ScriptFails line) (λ saying. Some (saying_of saying)) result
         (spec.said_by spec.holding_keywords word.now rest.now) }
 {
     if word == b"cookie".as_slice() {
@@ -130,7 +130,7 @@ fn said_of_holding(
 /// `P "SUFFIX"`.
 #[tactic(auto, unfolding(crate::specs::Grammar::provider_line))]
 fn provider_line(alloc: Global, text: &[u8], line: u64) -> Result<Heading, ScriptFault>
-    ensures { Gives (Fails line) (λ saying. Some (saying_of saying)) result
+    ensures { Gives (ScriptFails line) (λ saying. Some (saying_of saying)) result
         (spec.provider_line text.now) }
 {
     let (name, rest) = named(alloc, text, line)?;
@@ -152,7 +152,7 @@ struct Wanting<'a> {
 /// `C from P SCOPE "BASE" "FILTER"`, and what stands after it.
 #[tactic(auto, unfolding(crate::specs::Grammar::following))]
 fn following(alloc: Global, text: &[u8], line: u64) -> Result<Wanting<'_>, ScriptFault>
-    ensures { Gives (Fails line)
+    ensures { Gives (ScriptFails line)
         (λ x. Some ((x.name, x.source), (search_of x.spec, x.rest.now))) result
         (spec.following text.now) }
 {
@@ -171,7 +171,7 @@ fn following(alloc: Global, text: &[u8], line: u64) -> Result<Wanting<'_>, Scrip
 /// Whether ` reload` stands before the end of the line.
 #[tactic(auto, unfolding(crate::specs::Grammar::reload_at))]
 fn reload_at(rest: &[u8], line: u64) -> Result<bool, ScriptFault>
-    ensures { Gives (Fails line) (λ x. Some x) result (spec.reload_at rest.now) }
+    ensures { Gives (ScriptFails line) (λ x. Some x) result (spec.reload_at rest.now) }
 {
     if rest == b" reload".as_slice() {
         return Ok(true);
@@ -182,7 +182,7 @@ fn reload_at(rest: &[u8], line: u64) -> Result<bool, ScriptFault>
 
 #[tactic(auto, unfolding(crate::specs::Grammar::consumer_line))]
 fn consumer_line(alloc: Global, text: &[u8], line: u64) -> Result<Heading, ScriptFault>
-    ensures { Gives (Fails line) (λ saying. Some (saying_of saying)) result
+    ensures { Gives (ScriptFails line) (λ saying. Some (saying_of saying)) result
         (spec.consumer_line text.now) }
 {
     let found = following(alloc, text, line)?;
@@ -193,7 +193,7 @@ fn consumer_line(alloc: Global, text: &[u8], line: u64) -> Result<Heading, Scrip
 
 #[tactic(auto, unfolding(crate::specs::Grammar::replica_line))]
 fn replica_line(alloc: Global, text: &[u8], line: u64) -> Result<Heading, ScriptFault>
-    ensures { Gives (Fails line) (λ saying. Some (saying_of saying)) result
+    ensures { Gives (ScriptFails line) (λ saying. Some (saying_of saying)) result
         (spec.replica_line text.now) }
 {
     let found = following(alloc, text, line)?;
@@ -204,7 +204,7 @@ fn replica_line(alloc: Global, text: &[u8], line: u64) -> Result<Heading, Script
 
 #[tactic(auto, unfolding(crate::specs::Grammar::clock_line))]
 fn clock_line(text: &[u8], line: u64) -> Result<Heading, ScriptFault>
-    ensures { Gives (Fails line) (λ saying. Some (saying_of saying)) result
+    ensures { Gives (ScriptFails line) (λ saying. Some (saying_of saying)) result
         (spec.clock_line text.now) }
 {
     let time = number(text, MOST_TIME, line)?;
@@ -213,7 +213,7 @@ fn clock_line(text: &[u8], line: u64) -> Result<Heading, ScriptFault>
 
 #[tactic(auto, unfolding(crate::specs::Grammar::write_line))]
 fn write_line(alloc: Global, text: &[u8], line: u64) -> Result<Heading, ScriptFault>
-    ensures { Gives (Fails line) (λ saying. Some (saying_of saying)) result
+    ensures { Gives (ScriptFails line) (λ saying. Some (saying_of saying)) result
         (spec.write_line text.now) }
 {
     Ok(Heading::Writes(node_name(alloc, text, line)?))
@@ -221,7 +221,7 @@ fn write_line(alloc: Global, text: &[u8], line: u64) -> Result<Heading, ScriptFa
 
 #[tactic(auto, unfolding(crate::specs::Grammar::settle_line))]
 fn settle_line(alloc: Global, text: &[u8], line: u64) -> Result<Heading, ScriptFault>
-    ensures { Gives (Fails line) (λ saying. Some (saying_of saying)) result
+    ensures { Gives (ScriptFails line) (λ saying. Some (saying_of saying)) result
         (spec.settle_line text.now) }
 {
     let name = node_name(alloc, text, line)?;
@@ -230,7 +230,7 @@ fn settle_line(alloc: Global, text: &[u8], line: u64) -> Result<Heading, ScriptF
 
 #[tactic(auto, unfolding(crate::specs::Grammar::show_line))]
 fn show_line(alloc: Global, text: &[u8], line: u64) -> Result<Heading, ScriptFault>
-    ensures { Gives (Fails line) (λ saying. Some (saying_of saying)) result
+    ensures { Gives (ScriptFails line) (λ saying. Some (saying_of saying)) result
         (spec.show_line text.now) }
 {
     let name = node_name(alloc, text, line)?;
@@ -240,7 +240,7 @@ fn show_line(alloc: Global, text: &[u8], line: u64) -> Result<Heading, ScriptFau
 /// `C once`, or `C stay` for a search that goes on after its refresh.
 #[tactic(auto, unfolding(crate::specs::Grammar::open_line))]
 fn open_line(alloc: Global, text: &[u8], line: u64) -> Result<Heading, ScriptFault>
-    ensures { Gives (Fails line) (λ saying. Some (saying_of saying)) result
+    ensures { Gives (ScriptFails line) (λ saying. Some (saying_of saying)) result
         (spec.open_line text.now) }
 {
     let (name, mode) = named(alloc, text, line)?;
@@ -254,7 +254,7 @@ fn open_line(alloc: Global, text: &[u8], line: u64) -> Result<Heading, ScriptFau
 /// `P N`.
 #[tactic(auto, unfolding(crate::specs::Grammar::limited))]
 fn limited(alloc: Global, text: &[u8], line: u64) -> Result<(Octets, u64), ScriptFault>
-    ensures { Gives (Fails line) (λ x. Some x) result (spec.limited text.now) }
+    ensures { Gives (ScriptFails line) (λ x. Some x) result (spec.limited text.now) }
 {
     let (name, rest) = named(alloc, text, line)?;
     let limit = number(rest, MOST_COUNT, line)?;
@@ -263,7 +263,7 @@ fn limited(alloc: Global, text: &[u8], line: u64) -> Result<(Octets, u64), Scrip
 
 #[tactic(auto, unfolding(crate::specs::Grammar::log_line))]
 fn log_line(alloc: Global, text: &[u8], line: u64) -> Result<Heading, ScriptFault>
-    ensures { Gives (Fails line) (λ saying. Some (saying_of saying)) result
+    ensures { Gives (ScriptFails line) (λ saying. Some (saying_of saying)) result
         (spec.log_line text.now) }
 {
     let (name, limit) = limited(alloc, text, line)?;
@@ -272,7 +272,7 @@ fn log_line(alloc: Global, text: &[u8], line: u64) -> Result<Heading, ScriptFaul
 
 #[tactic(auto, unfolding(crate::specs::Grammar::queue_line))]
 fn queue_line(alloc: Global, text: &[u8], line: u64) -> Result<Heading, ScriptFault>
-    ensures { Gives (Fails line) (λ saying. Some (saying_of saying)) result
+    ensures { Gives (ScriptFails line) (λ saying. Some (saying_of saying)) result
         (spec.queue_line text.now) }
 {
     let (name, limit) = limited(alloc, text, line)?;
@@ -282,7 +282,7 @@ fn queue_line(alloc: Global, text: &[u8], line: u64) -> Result<Heading, ScriptFa
 /// `C`, which stands for `C 1`, or `C N`.
 #[tactic(auto, unfolding(crate::specs::Grammar::counted, crate::specs::Words::node_name))]
 fn counted(alloc: Global, text: &[u8], line: u64) -> Result<(Octets, u64), ScriptFault>
-    ensures { Gives (Fails line) (λ x. Some x) result (spec.counted text.now) }
+    ensures { Gives (ScriptFails line) (λ x. Some x) result (spec.counted text.now) }
 {
     if spells_node_name(text) {
         return Ok((Octets::from_slice(alloc, text)?, 1));
@@ -295,7 +295,7 @@ fn counted(alloc: Global, text: &[u8], line: u64) -> Result<(Octets, u64), Scrip
 
 #[tactic(auto, unfolding(crate::specs::Grammar::send_line))]
 fn send_line(alloc: Global, text: &[u8], line: u64) -> Result<Heading, ScriptFault>
-    ensures { Gives (Fails line) (λ saying. Some (saying_of saying)) result
+    ensures { Gives (ScriptFails line) (λ saying. Some (saying_of saying)) result
         (spec.send_line text.now) }
 {
     let (name, count) = counted(alloc, text, line)?;
@@ -304,7 +304,7 @@ fn send_line(alloc: Global, text: &[u8], line: u64) -> Result<Heading, ScriptFau
 
 #[tactic(auto, unfolding(crate::specs::Grammar::take_line))]
 fn take_line(alloc: Global, text: &[u8], line: u64) -> Result<Heading, ScriptFault>
-    ensures { Gives (Fails line) (λ saying. Some (saying_of saying)) result
+    ensures { Gives (ScriptFails line) (λ saying. Some (saying_of saying)) result
         (spec.take_line text.now) }
 {
     let (name, count) = counted(alloc, text, line)?;
@@ -313,7 +313,7 @@ fn take_line(alloc: Global, text: &[u8], line: u64) -> Result<Heading, ScriptFau
 
 #[tactic(auto, unfolding(crate::specs::Grammar::cut_line))]
 fn cut_line(alloc: Global, text: &[u8], line: u64) -> Result<Heading, ScriptFault>
-    ensures { Gives (Fails line) (λ saying. Some (saying_of saying)) result
+    ensures { Gives (ScriptFails line) (λ saying. Some (saying_of saying)) result
         (spec.cut_line text.now) }
 {
     let name = node_name(alloc, text, line)?;
@@ -322,7 +322,7 @@ fn cut_line(alloc: Global, text: &[u8], line: u64) -> Result<Heading, ScriptFaul
 
 #[tactic(auto, unfolding(crate::specs::Grammar::lose_line))]
 fn lose_line(alloc: Global, text: &[u8], line: u64) -> Result<Heading, ScriptFault>
-    ensures { Gives (Fails line) (λ saying. Some (saying_of saying)) result
+    ensures { Gives (ScriptFails line) (λ saying. Some (saying_of saying)) result
         (spec.lose_line text.now) }
 {
     let name = node_name(alloc, text, line)?;
@@ -332,7 +332,7 @@ fn lose_line(alloc: Global, text: &[u8], line: u64) -> Result<Heading, ScriptFau
 /// `C "TEXT"`.
 #[tactic(auto, unfolding(crate::specs::Grammar::cookie_line))]
 fn cookie_line(alloc: Global, text: &[u8], line: u64) -> Result<Heading, ScriptFault>
-    ensures { Gives (Fails line) (λ saying. Some (saying_of saying)) result
+    ensures { Gives (ScriptFails line) (λ saying. Some (saying_of saying)) result
         (spec.cookie_line text.now) }
 {
     let (name, rest) = named(alloc, text, line)?;
@@ -345,7 +345,7 @@ fn cookie_line(alloc: Global, text: &[u8], line: u64) -> Result<Heading, ScriptF
 /// `C P`.
 #[tactic(auto, unfolding(crate::specs::Grammar::repoint_line))]
 fn repoint_line(alloc: Global, text: &[u8], line: u64) -> Result<Heading, ScriptFault>
-    ensures { Gives (Fails line) (λ saying. Some (saying_of saying)) result
+    ensures { Gives (ScriptFails line) (λ saying. Some (saying_of saying)) result
         (spec.repoint_line text.now) }
 {
     let (name, source) = named(alloc, text, line)?;
@@ -356,7 +356,7 @@ fn repoint_line(alloc: Global, text: &[u8], line: u64) -> Result<Heading, Script
 /// `C SCOPE "BASE" "FILTER"`.
 #[tactic(auto, unfolding(crate::specs::Grammar::respec_line))]
 fn respec_line(alloc: Global, text: &[u8], line: u64) -> Result<Heading, ScriptFault>
-    ensures { Gives (Fails line) (λ saying. Some (saying_of saying)) result
+    ensures { Gives (ScriptFails line) (λ saying. Some (saying_of saying)) result
         (spec.respec_line text.now) }
 {
     let (name, rest) = named(alloc, text, line)?;

@@ -42,7 +42,7 @@ fn kept_length(text: &[u8], most: usize) -> usize
 /// How many bytes the first line of a text has, its line feed included.
 fn line_length(text: &[u8]) -> usize
     requires { 0 < length text.now }
-    ensures cut { spec.IsCut text.now result }
+    ensures cut { spec.IsCutAt text.now result }
     ensures one { length (lines (take result text.now)) ≡ 1 }
     ensures filled { 0 < result }
     ensures within { result ≤ length text.now }

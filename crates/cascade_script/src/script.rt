@@ -34,10 +34,10 @@ pub struct Script {
 
 impl Model for Script {
     ghost use Rattle.std.specs.Prelude.{◌≤◌, length, take};
-    ghost use Rattle.cascade_script.specs.Reader.{Reader};
+    ghost use Rattle.cascade_script.specs.Reader.{ScriptReader};
     ghost use Rattle.cascade_script.specs.Reading.{left_at, IsPlace};
 
-    ghost Value = { Reader };
+    ghost Value = { ScriptReader };
 
     ghost view = { λ s. record {
       lines = left_at (take s.kept s.text) s.place;

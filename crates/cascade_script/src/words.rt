@@ -5,7 +5,7 @@ ghost use Rattle.entry_tree.specs.Selection.{search_of};
 ghost use Rattle.ldap_filter.specs.FilterTree.{tree_of};
 ghost use Rattle.ldif_text.specs.Field.{shown};
 ghost use Rattle.ldap_ber.specs.Gives.{Gives};
-ghost use Rattle.cascade_script.specs.Fault.{Fails};
+ghost use Rattle.cascade_script.specs.Fault.{ScriptFails};
 ghost use Rattle.cascade_script.specs.Words as spec;
 
 use crate::ScriptFault;
@@ -18,7 +18,7 @@ use std::alloc::{AllocError, Global};
 
 /// The two sides of the first mark; a line without one is faulty.
 pub fn until_mark(bytes: &[u8], mark: u8, line: u64) -> Result<(&[u8], &[u8]), ScriptFault>
-    ensures { Gives (Fails line) (λ x. Some (x.0.now, x.1.now)) result (spec.until mark bytes.now) }
+    ensures { Gives (ScriptFails line) (λ x. Some (x.0.now, x.1.now)) result (spec.until mark bytes.now) }
 {
     match cut_at(bytes, mark) {
         (first_part, Some(back)) => Ok((first_part, back)),
@@ -35,14 +35,14 @@ fn without_prefix<'a>(bytes: &'a [u8], prefix: &[u8]) -> Option<&'a [u8]>
 
 /// What follows the prefix.
 pub fn after_prefix<'a>(bytes: &'a [u8], prefix: &[u8], line: u64) -> Result<&'a [u8], ScriptFault>
-    ensures { Gives (Fails line) (λ x. Some x.now) result (spec.stripped prefix.now bytes.now) }
+    ensures { Gives (ScriptFails line) (λ x. Some x.now) result (spec.stripped prefix.now bytes.now) }
 {
     without_prefix(bytes, prefix).ok_or(ScriptFault::bad_command(line))
 }
 
 /// Goes on where the test holds.
 pub fn only_if(test: bool, line: u64) -> Result<(), ScriptFault>
-    ensures { Gives (Fails line) (λ x. Some x) result (spec.guarded test) }
+    ensures { Gives (ScriptFails line) (λ x. Some x) result (spec.guarded test) }
 {
     if test {
         Ok(())
@@ -54,7 +54,7 @@ pub fn only_if(test: bool, line: u64) -> Result<(), ScriptFault>
 /// Goes on where the line ends.
 #[tactic(auto, unfolding(crate::specs::Words::at_end))]
 pub fn at_end(rest: &[u8], line: u64) -> Result<(), ScriptFault>
-    ensures { Gives (Fails line) (λ x. Some x) result (spec.at_end rest.now) }
+    ensures { Gives (ScriptFails line) (λ x. Some x) result (spec.at_end rest.now) }
 {
     only_if(rest.is_empty(), line)
 }
@@ -75,7 +75,7 @@ pub fn spells_node_name(bytes: &[u8]) -> bool
 /// The name of a node.
 #[tactic(auto, unfolding(crate::specs::Words::node_name))]
 pub fn node_name(alloc: Global, bytes: &[u8], line: u64) -> Result<Octets, ScriptFault>
-    ensures { Gives (Fails line) (λ x. Some x) result (spec.node_name bytes.now) }
+    ensures { Gives (ScriptFails line) (λ x. Some x) result (spec.node_name bytes.now) }
 {
     only_if(spells_node_name(bytes), line)?;
     Ok(Octets::from_slice(alloc, bytes)?)
@@ -84,7 +84,7 @@ pub fn node_name(alloc: Global, bytes: &[u8], line: u64) -> Result<Octets, Scrip
 /// The name of a node, and what stands after the space after it.
 #[tactic(auto, unfolding(crate::specs::Words::named))]
 pub fn named(alloc: Global, text: &[u8], line: u64) -> Result<(Octets, &[u8]), ScriptFault>
-    ensures { Gives (Fails line) (λ x. Some (x.0, x.1.now)) result (spec.named text.now) }
+    ensures { Gives (ScriptFails line) (λ x. Some (x.0, x.1.now)) result (spec.named text.now) }
 {
     let (word, rest) = until_mark(text, b' ', line)?;
     Ok((node_name(alloc, word, line)?, rest))
@@ -96,7 +96,7 @@ fn all_digits(text: &[u8]) -> bool
     text.iter().all(|b| b.is_ascii_digit())
 }
 
-/// Whether the text is a decimal number without a needless zero at its prefix.
+/// Whether the text is a decimal number without a needless leading zero.
 fn spells_number(text: &[u8]) -> bool
     ensures { result ≡ spec.is_number text.now }
 {
@@ -110,7 +110,7 @@ fn spells_number(text: &[u8]) -> bool
 #[tactic(auto, unfolding(crate::specs::Words::number))]
 pub fn number(text: &[u8], most: u64, line: u64) -> Result<u64, ScriptFault>
     requires { most ≤ spec.greatest_number }
-    ensures { Gives (Fails line) (λ x. Some x) result (spec.number most text.now) }
+    ensures { Gives (ScriptFails line) (λ x. Some x) result (spec.number most text.now) }
 {
     if !spells_number(text) {
         return Err(ScriptFault::bad_command(line));
@@ -137,7 +137,7 @@ fn value_up_to(digits: &[u8], most: u64) -> Option<u64>
 /// What stands between quotation marks, and after them.
 #[tactic(auto, unfolding(crate::specs::Words::quoted))]
 pub fn quoted(text: &[u8], line: u64) -> Result<(&[u8], &[u8]), ScriptFault>
-    ensures { Gives (Fails line) (λ x. Some (x.0.now, x.1.now)) result (spec.quoted text.now) }
+    ensures { Gives (ScriptFails line) (λ x. Some (x.0.now, x.1.now)) result (spec.quoted text.now) }
 {
     let rest = after_prefix(text, b"\"", line)?;
     until_mark(rest, b'"', line)
@@ -146,7 +146,7 @@ pub fn quoted(text: &[u8], line: u64) -> Result<(&[u8], &[u8]), ScriptFault>
 /// The name of an entry.
 #[tactic(auto, unfolding(crate::specs::Words::name_in))]
 pub fn name_in(alloc: Global, text: &[u8], line: u64) -> Result<Dn, ScriptFault>
-    ensures { Gives (Fails line) (λ x. Some x) result (spec.name_in text.now) }
+    ensures { Gives (ScriptFails line) (λ x. Some x) result (spec.name_in text.now) }
 {
     match Dn::parse(alloc, text) {
         Ok(name) => Ok(name),
@@ -157,7 +157,7 @@ pub fn name_in(alloc: Global, text: &[u8], line: u64) -> Result<Dn, ScriptFault>
 
 #[tactic(auto, unfolding(crate::specs::Words::filter_in))]
 fn filter_in(alloc: Global, text: &[u8], line: u64) -> Result<Filter, ScriptFault>
-    ensures { Gives (Fails line) (λ filter. Some (tree_of filter)) result
+    ensures { Gives (ScriptFails line) (λ filter. Some (tree_of filter)) result
         (spec.filter_in text.now) }
 {
     match Filter::read_text(alloc, text) {
@@ -169,7 +169,7 @@ fn filter_in(alloc: Global, text: &[u8], line: u64) -> Result<Filter, ScriptFaul
 
 #[tactic(auto, unfolding(crate::specs::Words::scope_in))]
 fn scope_in(word: &[u8], line: u64) -> Result<Scope, ScriptFault>
-    ensures { Gives (Fails line) (λ x. Some x) result (spec.scope_in word.now) }
+    ensures { Gives (ScriptFails line) (λ x. Some x) result (spec.scope_in word.now) }
 {
     if word == b"base".as_slice() {
         return Ok(Scope::Base);
@@ -186,7 +186,7 @@ fn scope_in(word: &[u8], line: u64) -> Result<Scope, ScriptFault>
 /// `SCOPE "BASE" "FILTER"`, and what stands after it.
 #[tactic(auto, unfolding(crate::specs::Words::search_in))]
 pub fn search_in(alloc: Global, text: &[u8], line: u64) -> Result<(Spec, &[u8]), ScriptFault>
-    ensures { Gives (Fails line) (λ x. Some (search_of x.0, x.1.now)) result
+    ensures { Gives (ScriptFails line) (λ x. Some (search_of x.0, x.1.now)) result
         (spec.search_in text.now) }
 {
     let (word, rest) = until_mark(text, b' ', line)?;

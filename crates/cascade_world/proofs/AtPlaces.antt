@@ -1,8 +1,8 @@
 -- What is done between a provider and a consumer at their places, and taken back.
-use Rattle.std.proofs.Common.{◌≡◌, ◌==◌, ◌<◌, ℕ, Bool, true, false, inl, inr, zero, suc, Some, List, [], ◌∷◌, length, set, get_or, refl, ap, sym, subst, ◌∙◌, arith}
+use Rattle.std.proofs.Common.{◌≡◌, ◌==◌, ◌<◌, ℕ, Bool, true, false, inl, inr, Some, List, [], ◌∷◌, length, set, get_or, refl, ap, sym, subst, ◌∙◌, arith}
 use Rattle.std.specs.Prelude.{◌⊎◌, Result, Ok, Err, IfOk, IfSome, slice_get}
 use Rattle.std.proofs.lemmas.Bool.Decides.{nat_tests}
-use Rattle.std.proofs.lemmas.List.{set-get_or, set-set, get_or-set_same}
+use Rattle.std.proofs.lemmas.List.{get_or-set_same}
 use Rattle.std.proofs.Math.ListN.{length-set}
 use Rattle.std.proofs.lemmas.Option.{slice_get-get_or}
 use Rattle.sync_provider.specs.Machine.{ProviderState}
@@ -20,18 +20,7 @@ use Rattle.cascade_world.specs.Places.{ArePlaces, placed, PerformsAt}
 use Rattle.cascade_report.specs.ReportLines.{StoredStage}
 use Rattle.cascade_world.specs.World.{WorldState, is_provider_node, is_consumer_node, top_of, commits_of}
 use Rattle.cascade_world.proofs.Places.{position_is}
-
--- what stands at a place
-pub element : {X : Type 0} (xs : List X) (i : ℕ) → i < length xs → (x : X) × (x ≡ get_or xs i x)
-element [] i low = absurd (omega arith)
-element (x ∷ xs) zero low = (x, refl)
-element (x ∷ xs) (suc i) low = element xs i (omega arith)
-
-read_at : {X : Type 0} (xs : List X) (i : ℕ) (x : X) → i < length xs → x ≡ get_or xs i x → slice_get xs i ≡ Some x
-read_at xs i x low is = slice_get-get_or xs i x low ∙ ap Some (sym is)
-
-set_same : {X : Type 0} (xs : List X) (i : ℕ) (x y : X) → x ≡ get_or xs i x → y ≡ x → set xs i y ≡ xs
-set_same xs i x y is same = ap (set xs i) (same ∙ is) ∙ set-get_or xs i x
+use Rattle.cascade_world.proofs.Lists.{element, read_at, set_same, set_back}
 
 -- the place of the provider node is one of the list
 pub provider_node_low : (state : WorldState) (name : List ℕ) (j i : ℕ) → ArePlaces state name (j, i) → j < length state.provider_nodes
@@ -126,12 +115,6 @@ pub leaves_at : (state mid new : WorldState) (j i : ℕ) (part : Agreement → E
 leaves_at state mid new j i part result stages answer at low does = subst (λ o. IfSome o (λ consumer_node. Leaves (commits_of mid consumer_node stages) new answer)) (consumer_after state mid j i part result at low) does
 
 -- ---- what is taken back
-
-set_back : {X : Type 0} (xs : List X) (i : ℕ) (x y z : X) → slice_get xs i ≡ Some x → i < length xs → z ≡ x → set (set xs i y) i z ≡ xs
-set_back xs i x y z at low same =
-    let both : Some x ≡ Some (get_or xs i x) = sym at ∙ slice_get-get_or xs i x low in
-    let is : x ≡ get_or xs i x = cc in
-    set-set xs i y z ∙ set_same xs i x z is same
 
 -- where a stage took effect both can be brought back
 pub stands : (state mid : WorldState) (j i : ℕ) (part : Agreement → ExchangeOutcome) (done : Performed) (at : PerformsAt state j i part mid (Ok done)) → (done.stages.items ≡ [] → ⊥) → BringsBack at.provider_node.provider at.consumer_node at.provider at.consumer done.before

@@ -5,7 +5,7 @@ use Rattle.std.specs.Str.{bytes_eq}
 use Rattle.std.proofs.lemmas.Bool.{cases_Bool, or_parts}
 use Rattle.cascade_nodes.specs.declared.node.ConsumerNode.{ConsumerNode}
 use Rattle.cascade_nodes.specs.Nodes.{is_consumer_node, source_of, top_above, top_within, holds_above, is_fed_within}
-use Rattle.cascade_world.proofs.SameNames.{same_name}
+use Rattle.entry_tree.proofs.NameKeys.{same_bytes}
 
 -- from this name up, each of these is the provider of the one before it, and the last one has none
 abbrev pub Climbs : List ConsumerNode → List ℕ → List (List ℕ) → List ℕ → Type 0
@@ -35,11 +35,6 @@ pub found_above : (found : Option ConsumerNode) (next : List ℕ) → option_map
 found_above None next e = let never : ⊥ = cc in absurd never
 found_above (Some f) next e = record { consumer_node = f; there = refl; source = cc }
 
--- a name without a source is of no consumer node
-pub none_above : (found : Option ConsumerNode) → option_map (λ (f : ConsumerNode). f.source) found ≡ None → found ≡ None
-none_above None e = refl
-none_above (Some f) e = let never : ⊥ = cc in absurd never
-
 -- ---- one way up
 
 one_way : (consumer_nodes : List ConsumerNode) (name : List ℕ) (path other : List (List ℕ)) (top end : List ℕ) → Climbs consumer_nodes name path top → Climbs consumer_nodes name other end → path ≡ other
@@ -61,12 +56,12 @@ record IsMet (consumer_nodes : List ConsumerNode) (name : List ℕ) (path : List
 meets : (consumer_nodes : List ConsumerNode) (name node : List ℕ) (path : List (List ℕ)) (top : List ℕ) → Climbs consumer_nodes node path top → Avoids name (node ∷ path) ⊎ IsMet consumer_nodes name path top
 meets consumer_nodes name node [] top c =
     elim (cases_Bool (bytes_eq node name)) [
-      | inl hit ↦ inr record { later = []; short = omega arith; climbs = subst (λ x. Climbs consumer_nodes x [] top) (same_name node name hit) c }
+      | inl hit ↦ inr record { later = []; short = omega arith; climbs = subst (λ x. Climbs consumer_nodes x [] top) (same_bytes node name hit) c }
       | inr miss ↦ inl (miss, tt)
     ]
 meets consumer_nodes name node (next ∷ path) top c =
     elim (cases_Bool (bytes_eq node name)) [
-      | inl hit ↦ inr record { later = next ∷ path; short = omega arith; climbs = subst (λ x. Climbs consumer_nodes x (next ∷ path) top) (same_name node name hit) c }
+      | inl hit ↦ inr record { later = next ∷ path; short = omega arith; climbs = subst (λ x. Climbs consumer_nodes x (next ∷ path) top) (same_bytes node name hit) c }
       | inr miss ↦ by miss (meets consumer_nodes name next path top c.1)
     ]
   where
@@ -115,7 +110,7 @@ without_other name other [] apart = refl
 without_other name other (f ∷ consumer_nodes) apart =
     elim (cases_Bool (is_consumer_node name f)) [
       | inl hit ↦
-          let miss : is_consumer_node other f ≡ false = ap (bytes_eq other) (sym (same_name name f.name hit)) ∙ apart in
+          let miss : is_consumer_node other f ≡ false = ap (bytes_eq other) (sym (same_bytes name f.name hit)) ∙ apart in
           rw hit (rw miss (without_other name other consumer_nodes apart))
       | inr out ↦
           rw out (
@@ -186,13 +181,13 @@ climbs_still old new name source is node (next ∷ path) top c free = (is.others
 rerouted : (old new : List ConsumerNode) (name source : List ℕ) → IsRerouted old new name source → ClimbsFrom new name → (node : List ℕ) (path : List (List ℕ)) (top : List ℕ) → Climbs old node path top → ClimbsFrom new node
 rerouted old new name source is from node [] top c =
     elim (cases_Bool (bytes_eq node name)) [
-      | inl hit ↦ subst (ClimbsFrom new) (sym (same_name node name hit)) from
+      | inl hit ↦ subst (ClimbsFrom new) (sym (same_bytes node name hit)) from
       | inr miss ↦ ([], top, (c.0, is.others node miss ∙ c.1))
     ]
 rerouted old new name source is from node (next ∷ path) top c =
     let rest = rerouted old new name source is from next path top c.1 in
     elim (cases_Bool (bytes_eq node name)) [
-      | inl hit ↦ subst (ClimbsFrom new) (sym (same_name node name hit)) from
+      | inl hit ↦ subst (ClimbsFrom new) (sym (same_bytes node name hit)) from
       | inr miss ↦ (next ∷ rest.0, rest.1, (is.others node miss ∙ c.0, rest.2))
     ]
 

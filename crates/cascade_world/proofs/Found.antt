@@ -12,19 +12,19 @@ use Rattle.cascade_nodes.specs.declared.node.ConsumerNode.{ConsumerNode}
 use Rattle.cascade_exchange.specs.Cookies.{most_nodes}
 use Rattle.cascade_exchange.specs.Exchange.{Agreement, ExchangeOutcome, agreement_of, idle, respecs}
 use Rattle.cascade_world.proofs.Finding.{consumer_node_name}
-use Rattle.cascade_world.specs.World.{WorldState, Step, has_node, provider_node_named, consumer_node_named, where_room, with_root, declare_root, is_offered, follow, declare_consumer_node, with_outcome, lineage_of, between, exchange_of, exchange, is_fed, pointed_after, repoint_to, repoint_of, repoint, respec_at, respec_of, respec}
+use Rattle.cascade_world.specs.World.{WorldState, StepOutcome, has_node, provider_node_named, consumer_node_named, where_room, with_root, declare_root, is_offered, follow, declare_consumer_node, with_outcome, lineage_of, between, exchange_of, exchange, is_fed, pointed_after, repoint_to, repoint_of, repoint, respec_at, respec_of, respec}
 
 -- of a lookup, and what is done with what it finds
-pub if_found : {X : Type 0} (Holds : Step → Type 0) (done : Option X → Step) (found : Option X) → Holds (done None) → ((x : X) → found ≡ Some x → Holds (done (Some x))) → Holds (done found)
+pub if_found : {X : Type 0} (Holds : StepOutcome → Type 0) (done : Option X → StepOutcome) (found : Option X) → Holds (done None) → ((x : X) → found ≡ Some x → Holds (done (Some x))) → Holds (done found)
 if_found Holds done None none holds = none
 if_found Holds done (Some x) none holds = holds x refl
 
-module _ (Holds : Step → Type 0) (refused : (cause : Cause) → Holds (Err cause)) where
-  if_passed : (test : Bool) (cause : Cause) (done : Step) → (test ≡ false → Holds done) → Holds (cond test (Err cause) done)
+module _ (Holds : StepOutcome → Type 0) (refused : (cause : Cause) → Holds (Err cause)) where
+  if_passed : (test : Bool) (cause : Cause) (done : StepOutcome) → (test ≡ false → Holds done) → Holds (cond test (Err cause) done)
   if_passed true cause done holds = refused cause
   if_passed false cause done holds = holds refl
 
-  if_offered : (search : Search) (r : ProviderNode) (done : Step) → (is_offered search r ≡ true → Holds done) → Holds (cond (not (is_offered search r)) (Err OutsideSuffix) done)
+  if_offered : (search : Search) (r : ProviderNode) (done : StepOutcome) → (is_offered search r ≡ true → Holds done) → Holds (cond (not (is_offered search r)) (Err OutsideSuffix) done)
   if_offered search r done holds = if_passed (not (is_offered search r)) OutsideSuffix done (λ inside. holds (not-false (is_offered search r) inside))
 
   if_room : (state after : WorldState) → (state.nodes < most_nodes → Holds (Ok (after, []))) → Holds (where_room state after)
@@ -44,8 +44,8 @@ module _ (Holds : Step → Type 0) (refused : (cause : Cause) → Holds (Err cau
       if_found Holds (follow state search after) (provider_node_named source state) (refused UnknownNode) (λ r there. if_offered search r (where_room state after) (λ inside. if_room state after (holds new r there inside))))
 
 -- of a consumer that is there, under its own name
-module _ (Holds : List ℕ → Step → Type 0) (refused : (name : List ℕ) (cause : Cause) → Holds name (Err cause)) where
-  named : (state : WorldState) (name : List ℕ) (f : ConsumerNode) (done : List ℕ → Step) → consumer_node_named name state ≡ Some f → (consumer_node_named f.name state ≡ Some f → Holds f.name (done f.name)) → Holds name (done name)
+module _ (Holds : List ℕ → StepOutcome → Type 0) (refused : (name : List ℕ) (cause : Cause) → Holds name (Err cause)) where
+  named : (state : WorldState) (name : List ℕ) (f : ConsumerNode) (done : List ℕ → StepOutcome) → consumer_node_named name state ≡ Some f → (consumer_node_named f.name state ≡ Some f → Holds f.name (done f.name)) → Holds name (done name)
   named state name f done e holds =
       let here : name ≡ f.name = consumer_node_name state.consumer_nodes name f e in
       subst (λ n. Holds n (done n)) (sym here) (holds (subst (λ n. consumer_node_named n state ≡ Some f) here e))

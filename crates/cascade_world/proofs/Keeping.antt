@@ -10,7 +10,7 @@ use Rattle.entry_tree.specs.Reading.{read_change}
 use Rattle.entry_tree.specs.Selection.{Search}
 use Rattle.entry_tree.specs.declared.op.Op.{Op}
 use Rattle.schema_rules.specs.declared.raw.Change.{Change}
-use Rattle.sync_consumer.specs.Committing.{stage_in, IsKept}
+use Rattle.sync_consumer.specs.Committing.{stage_in, IsReadyOn}
 use Rattle.sync_consumer.proofs.Upholding.{nothing_kept}
 use Rattle.sync_messages.specs.declared.request.Mode.TheVariants.{RefreshOnly, RefreshAndPersist}
 use Rattle.sync_provider.specs.Machine.{ProviderState, fresh, judged_by, log_limited, queue_limited}
@@ -32,12 +32,13 @@ use Rattle.cascade_exchange.proofs.Exchanging.{Alters, AltersIn, wants_of, part_
 use Rattle.cascade_report.specs.ReportLines.{StoredStage, ReportLine, stages_of}
 use Rattle.cascade_world.specs.Directory.{wrote_read, wrote_change}
 use Rattle.cascade_world.specs.InStep.{IsInStep, IsSteady, AreInStep, OwnCanCommit}
-use Rattle.cascade_world.specs.World.{WorldState, Step, IsStep, Does, no_nodes, step, is_provider_node, is_consumer_node, provider_node_named, consumer_node_named, first_changed, with_provider, with_consumer_node, with_provider_node, new_provider_node, with_consumer, with_replica, new_consumer_node, write_to, limited, with_pair, with_own, commits_in, commits_of, with_lines, with_outcome, lineage_of, exchange, pointed, pointed_after, shown_of, show_of}
-use Rattle.cascade_world.proofs.Finding.{find-push, IsChanged, found_after, provider_nodes_by, consumer_nodes_by, provider_node_name, consumer_node_name, provider_changed, consumer_node_changed, provider_node_changed, pointed_changed, IsNew, is_new}
+use Rattle.cascade_world.specs.World.{WorldState, StepOutcome, IsStep, DoesStep, no_nodes, step, is_provider_node, is_consumer_node, provider_node_named, consumer_node_named, first_changed, with_provider, with_consumer_node, with_provider_node, new_provider_node, with_consumer, with_replica, new_consumer_node, write_to, limited, with_pair, with_own, commits_in, commits_of, with_lines, with_outcome, lineage_of, exchange, pointed, pointed_after, shown_of, show_of}
+use Rattle.cascade_world.proofs.Finding.{IsChanged, found_after, provider_nodes_by, consumer_nodes_by, provider_node_name, consumer_node_name, provider_changed, consumer_node_changed, provider_node_changed, pointed_changed, IsNew, is_new}
 use Rattle.cascade_world.proofs.Found as lookup
 use Rattle.cascade_world.proofs.SameNames.{itself, pointed_at}
+use Rattle.cascade_world.proofs.Lists.{find-push}
 
-abbrev pub StepKeeps : Step → Type 0
+abbrev pub StepKeeps : StepOutcome → Type 0
 StepKeeps (Ok next) = AreInStep next.0
 StepKeeps (Err cause) = Unit {0}
 
@@ -110,7 +111,7 @@ consumer_node_declared state count f new_is steady other g found = by (find-push
     by (inr new) =
         let same : other ≡ f.name = consumer_node_name (state.consumer_nodes ++ f ∷ []) other g found ∙ ap (λ (x : ConsumerNode). x.name) (sym new) in
         record {
-          kept = subst (λ (x : ConsumerNode). IsKept x.consumer.copy.held (stage_in x.consumer.copy.session)) new new_is.kept;
+          kept = subst (λ (x : ConsumerNode). IsReadyOn x.consumer.copy.held (stage_in x.consumer.copy.session)) new new_is.kept;
           own = λ s e. subst (λ (x : ConsumerNode). IsInStep x s) new (new_is.own s (ap (provider_nodes_by state.provider_nodes) (sym same) ∙ e));
         }
 
@@ -206,8 +207,8 @@ module _ (state : WorldState) (name : List ℕ) (f : ConsumerNode) (r : Provider
       let before = (steady n h there).own was.was was.there in
       record { kind = was.kind ∙ before.kind; entries = was.entries ∙ before.entries }
 
-  tidy_at : (h : ConsumerNode) → g ≡ h → IsKept h.consumer.copy.held (stage_in h.consumer.copy.session)
-  tidy_at h is = subst (λ (x : ConsumerNode). IsKept x.consumer.copy.held (stage_in x.consumer.copy.session)) is carries.tidy
+  tidy_at : (h : ConsumerNode) → g ≡ h → IsReadyOn h.consumer.copy.held (stage_in h.consumer.copy.session)
+  tidy_at h is = subst (λ (x : ConsumerNode). IsReadyOn x.consumer.copy.held (stage_in x.consumer.copy.session)) is carries.tidy
 
   abbrev AtName : List ℕ → ConsumerNode → Type 0
   AtName n h = ((n ≡ name) × (g ≡ h)) ⊎ ((bytes_eq n name ≡ false) × (consumer_nodes_by state.consumer_nodes n ≡ Some h))
@@ -308,7 +309,7 @@ pointed_some name source state f e steady other h there =
 
     at : ((other ≡ name) × (pointed_at source f ≡ h)) ⊎ ((bytes_eq other name ≡ false) × (consumer_nodes_by state.consumer_nodes other ≡ Some h)) → IsSteady (pointed name source state) other h
     at (inl here) = record {
-      kept = subst (λ (x : ConsumerNode). IsKept x.consumer.copy.held (stage_in x.consumer.copy.session)) here.1 before.kept;
+      kept = subst (λ (x : ConsumerNode). IsReadyOn x.consumer.copy.held (stage_in x.consumer.copy.session)) here.1 before.kept;
       own = λ s e'.
           let is = before.own s (ap (provider_nodes_by state.provider_nodes) (sym here.0) ∙ e') in
           subst (λ (x : ConsumerNode). IsInStep x s) here.1 (record { kind = is.kind; entries = is.entries });
@@ -324,7 +325,7 @@ pointed_keeps name source state steady = by (consumer_node_named name state) ref
         subst (λ fs. AreInStep (record state { consumer_nodes = fs })) (sym same) steady
     by (Some f) e = pointed_some name source state f e steady
 
-after_keeps : (name source : List ℕ) (next : Step) → StepKeeps next → StepKeeps (pointed_after name source next)
+after_keeps : (name source : List ℕ) (next : StepOutcome) → StepKeeps next → StepKeeps (pointed_after name source next)
 after_keeps name source (Ok next) steady = pointed_keeps name source next.0 steady
 after_keeps name source (Err cause) steady = tt
 
@@ -360,11 +361,11 @@ step_keeps state (asks.Show name) steady = lookup.if_found StepKeeps (show_of st
 pub none_in_step : (state : WorldState) → state ≡ no_nodes → AreInStep state
 none_in_step state none = subst AreInStep (sym none) (λ name f found. let never : ⊥ = cc in absurd never)
 
-is_step_in_step : (next : Step) (new : WorldState) (text : List ℕ) → StepKeeps next → IsStep next new text → AreInStep new
+is_step_in_step : (next : StepOutcome) (new : WorldState) (text : List ℕ) → StepKeeps next → IsStep next new text → AreInStep new
 is_step_in_step (Ok next) new text steady is = subst AreInStep (sym is.0) steady
 is_step_in_step (Err cause) new text steady is = absurd is
 
 -- after an order, which left the state where it was refused
-pub does_in_step : (state new : WorldState) (order : Order) (result : Result (List ℕ) Cause) → AreInStep state → Does (step state order) new result → OnErr result (new ≡ state) → AreInStep new
+pub does_in_step : (state new : WorldState) (order : Order) (result : Result (List ℕ) Cause) → AreInStep state → DoesStep (step state order) new result → OnErr result (new ≡ state) → AreInStep new
 does_in_step state new order (Ok text) steady does same = is_step_in_step (step state order) new text (step_keeps state order steady) does
 does_in_step state new order (Err cause) steady does same = subst AreInStep (sym same) steady

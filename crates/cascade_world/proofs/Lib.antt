@@ -4,6 +4,7 @@ pub mod Declaring
 pub mod Finding
 pub mod Found
 pub mod Keeping
+pub mod Lists
 pub mod OwnCommits
 pub mod Owning
 pub mod Places
@@ -13,4 +14,3 @@ pub mod Showing
 pub mod Steps
 pub mod Traced
 pub mod Upwards
-pub mod Writing

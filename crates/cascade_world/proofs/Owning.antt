@@ -14,8 +14,10 @@ use Rattle.cascade_exchange.proofs.Owns.{OwnsNew}
 use Rattle.cascade_exchange.specs.Exchange.{Agreement, agreement_of}
 use Rattle.cascade_report.specs.Origins.{Lineage}
 use Rattle.cascade_world.specs.World.{is_provider_node, is_consumer_node}
-use Rattle.cascade_world.proofs.Finding.{find-more, find-push, IsChanged, found_after, provider_nodes_by, consumer_nodes_by}
-use Rattle.cascade_world.proofs.SameNames.{same_name, itself}
+use Rattle.cascade_world.proofs.Finding.{IsChanged, found_after, provider_nodes_by, consumer_nodes_by}
+use Rattle.cascade_world.proofs.SameNames.{itself}
+use Rattle.cascade_world.proofs.Lists.{find-more, find-push}
+use Rattle.entry_tree.proofs.NameKeys.{same_bytes}
 
 -- a consumer of the provider of this name has the search
 pub record HasOwner (consumer_nodes : List ConsumerNode) (name : List ℕ) (at : ℕ) : Type 0 where
@@ -73,7 +75,7 @@ module _ (provider_nodes next : List ProviderNode) (consumer_nodes after : List 
     where
       by : (same : Bool) → bytes_eq was.place name ≡ same → HasOwner after n at
       by true is =
-          let here : Some f ≡ Some was.owner = sym e ∙ ap (consumer_nodes_by consumer_nodes) (sym (same_name was.place name is)) ∙ was.there in
+          let here : Some f ≡ Some was.owner = sym e ∙ ap (consumer_nodes_by consumer_nodes) (sym (same_bytes was.place name is)) ∙ was.there in
           let one : f ≡ was.owner = cc in
           absurd (other (ap (λ (g : ConsumerNode). g.search) one ∙ was.search) (ap (λ (g : ConsumerNode). g.source) one ∙ was.source))
       by false is = record { place = was.place; owner = was.owner; there = changed'.others was.place is ∙ was.there; source = was.source; search = was.search }
@@ -103,7 +105,7 @@ owned_pointed provider_nodes consumer_nodes after name f now e changed idle owne
       where
         same : (hit : Bool) → bytes_eq was.place name ≡ hit → HasOwner after n at
         same true is =
-            let here : Some f ≡ Some was.owner = sym e ∙ ap (consumer_nodes_by consumer_nodes) (sym (same_name was.place name is)) ∙ was.there in
+            let here : Some f ≡ Some was.owner = sym e ∙ ap (consumer_nodes_by consumer_nodes) (sym (same_bytes was.place name is)) ∙ was.there in
             let one : f ≡ was.owner = cc in
             let bad : None ≡ Some at = sym idle ∙ ap (λ (g : ConsumerNode). g.search) one ∙ was.search in
             let never : ⊥ = cc in

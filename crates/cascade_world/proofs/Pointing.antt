@@ -17,12 +17,11 @@ use Rattle.cascade_nodes.specs.Commits.{commits_all}
 use Rattle.cascade_exchange.specs.Exchange.{Agreement, ExchangeOutcome, agreement_of, part_of, idle, respecs}
 use Rattle.cascade_world.specs.Places.{ArePlaces}
 use Rattle.cascade_report.specs.ReportLines.{StoredStage, ReportLine, stages_of}
-use Rattle.cascade_world.specs.World.{WorldState, Step, Does, IsStep, is_provider_node, is_consumer_node, provider_node_named, first_changed, with_consumer_node, with_pair, with_own, with_lines, with_outcome, commits_in, commits_of, lineage_of, exchange, is_fed, is_offered, pointed, pointed_after, repoint_to, repoint_of, repoint, respec_at, respec_of, respec}
-use Rattle.cascade_world.proofs.AtPlaces.{element}
-use Rattle.cascade_world.proofs.Finding.{length-first_changed}
+use Rattle.cascade_world.specs.World.{WorldState, StepOutcome, DoesStep, IsStep, is_provider_node, is_consumer_node, provider_node_named, first_changed, with_consumer_node, with_pair, with_own, with_lines, with_outcome, commits_in, commits_of, lineage_of, exchange, is_fed, is_offered, pointed, pointed_after, repoint_to, repoint_of, repoint, respec_at, respec_of, respec}
 use Rattle.cascade_world.proofs.Found as lookup
 use Rattle.cascade_exchange.proofs.Exchanging.{AltersIn, wants_of, part_alters}
 use Rattle.cascade_world.proofs.Places.{position_is, found_at, changed_at}
+use Rattle.cascade_world.proofs.Lists.{length-first_changed, element}
 
 -- ---- what an order for another provider comes to
 
@@ -80,7 +79,7 @@ repoint_through : (state : WorldState) (name source : List ℕ) (i j : ℕ) (f :
 repoint_through state name source i j f r stand fed within = by_both state name source i j f r stand ∙ rw (fed, within) refl
 
 -- a refused cut refuses the order
-refused_after : (name source : List ℕ) (next : Step) (new : WorldState) (cause : Cause) → Does next new (Err cause) → Does (pointed_after name source next) new (Err cause)
+refused_after : (name source : List ℕ) (next : StepOutcome) (new : WorldState) (cause : Cause) → DoesStep next new (Err cause) → DoesStep (pointed_after name source next) new (Err cause)
 refused_after name source next new BadCommand h = ap (pointed_after name source) h
 refused_after name source next new UnknownNode h = ap (pointed_after name source) h
 refused_after name source next new NameTaken h = ap (pointed_after name source) h
@@ -93,9 +92,9 @@ refused_after name source next new NoMemory h = tt
 
 -- a repoint is refused for what rejects its cut
 pub repoint_refused : (state new : WorldState) (name source : List ℕ) (i j : ℕ) (f : ConsumerNode) (r : ProviderNode) (cause : Cause) → Stand state name source i j f r → is_fed state name source ≡ false → is_offered f.consumer.spec r ≡ true
-    → Does (exchange state name idle) new (Err cause) → Does (repoint state name source) new (Err cause)
+    → DoesStep (exchange state name idle) new (Err cause) → DoesStep (repoint state name source) new (Err cause)
 repoint_refused state new name source i j f r cause stand fed within h =
-    subst (λ next. Does next new (Err cause)) (sym (repoint_through state name source i j f r stand fed within)) (refused_after name source (exchange state name idle) new cause h)
+    subst (λ next. DoesStep next new (Err cause)) (sym (repoint_through state name source i j f r stand fed within)) (refused_after name source (exchange state name idle) new cause h)
 
 -- ---- an exchange keeps each consumer at its place
 
@@ -126,7 +125,7 @@ commits_kept state consumer_node stages = by (provider_node_named consumer_node.
     by None = refl
     by (Some own) = own_kept state (commits_all state.clock consumer_node.consumer.spec own stages)
 
-abbrev IsAt : List ℕ → ℕ → Step → Type 0
+abbrev IsAt : List ℕ → ℕ → StepOutcome → Type 0
 IsAt name i (Ok next) = position (is_consumer_node name) next.0.consumer_nodes ≡ Some i
 IsAt name i (Err cause) = Unit {0}
 
@@ -150,16 +149,16 @@ exchanged_at state name i what e =
     lookup.exchanged (λ n next. position (is_consumer_node n) state.consumer_nodes ≡ Some i → IsAt n i next) (λ n cause at. tt) state name (part_of what) (λ f r is there at.
     let pair = agreement_of r.provider f (lineage_of state r) in outcome_at (wants_of what) state f.name i pair (part_of what pair) at refl (part_alters what pair)) e
 
-step_at : (name : List ℕ) (i : ℕ) (next : Step) (mid : WorldState) (text : List ℕ) → IsAt name i next → IsStep next mid text → position (is_consumer_node name) mid.consumer_nodes ≡ Some i
+step_at : (name : List ℕ) (i : ℕ) (next : StepOutcome) (mid : WorldState) (text : List ℕ) → IsAt name i next → IsStep next mid text → position (is_consumer_node name) mid.consumer_nodes ≡ Some i
 step_at name i (Ok next) mid text at h = ap (λ (s : WorldState). position (is_consumer_node name) s.consumer_nodes) h.0 ∙ at
 step_at name i (Err cause) mid text at h = absurd h
 
-pub still_at : (state mid : WorldState) (name : List ℕ) (i : ℕ) (what : Exchange) (text : List ℕ) → position (is_consumer_node name) state.consumer_nodes ≡ Some i → Does (exchange state name (part_of what)) mid (Ok text)
+pub still_at : (state mid : WorldState) (name : List ℕ) (i : ℕ) (what : Exchange) (text : List ℕ) → position (is_consumer_node name) state.consumer_nodes ≡ Some i → DoesStep (exchange state name (part_of what)) mid (Ok text)
     → position (is_consumer_node name) mid.consumer_nodes ≡ Some i
 still_at state mid name i what text e h = step_at name i (exchange state name (part_of what)) mid text (exchanged_at state name i what e) h
 
 -- an exchange leaves the places of the consumer nodes
-pub still_within : (state mid : WorldState) (name : List ℕ) (i : ℕ) (what : Exchange) (text : List ℕ) → position (is_consumer_node name) state.consumer_nodes ≡ Some i → Does (exchange state name (part_of what)) mid (Ok text) → i < length mid.consumer_nodes
+pub still_within : (state mid : WorldState) (name : List ℕ) (i : ℕ) (what : Exchange) (text : List ℕ) → position (is_consumer_node name) state.consumer_nodes ≡ Some i → DoesStep (exchange state name (part_of what)) mid (Ok text) → i < length mid.consumer_nodes
 still_within state mid name i what text e h = (position_is (is_consumer_node name) mid.consumer_nodes i (still_at state mid name i what text e h)).1
 
 -- ---- the consumer follows its new provider
@@ -167,7 +166,7 @@ still_within state mid name i what text e h = (position_is (is_consumer_node nam
 abbrev sourced : WorldState → ℕ → ConsumerNode → List ℕ → WorldState
 sourced state i g source = record state { consumer_nodes = set state.consumer_nodes i (record g { source = source }) }
 
-pointed_step : (name source : List ℕ) (i : ℕ) (g : ConsumerNode) (next : Step) (mid : WorldState) (text : List ℕ) → position (is_consumer_node name) mid.consumer_nodes ≡ Some i → g ≡ get_or mid.consumer_nodes i g → IsStep next mid text
+pointed_step : (name source : List ℕ) (i : ℕ) (g : ConsumerNode) (next : StepOutcome) (mid : WorldState) (text : List ℕ) → position (is_consumer_node name) mid.consumer_nodes ≡ Some i → g ≡ get_or mid.consumer_nodes i g → IsStep next mid text
     → IsStep (pointed_after name source next) (sourced mid i g source) text
 pointed_step name source i g (Ok next) mid text e is h =
     let consumer_nodes : set mid.consumer_nodes i (record g { source = source }) ≡ first_changed (is_consumer_node name) (λ (consumer_node : ConsumerNode). record consumer_node { source = source }) mid.consumer_nodes =
@@ -178,7 +177,7 @@ pointed_step name source i g (Err cause) mid text e is h = absurd h
 
 -- the same of the parts of the code, which sees the state
 pub repointed : (state mid view : WorldState) (name source : List ℕ) (i j : ℕ) (f g : ConsumerNode) (r : ProviderNode) (text : List ℕ) → Stand state name source i j f r → is_fed state name source ≡ false → is_offered f.consumer.spec r ≡ true
-    → Does (exchange state name idle) mid (Ok text) → view ≡ mid → g ≡ get_or view.consumer_nodes i g → Does (repoint state name source) (sourced view i g source) (Ok text)
+    → DoesStep (exchange state name idle) mid (Ok text) → view ≡ mid → g ≡ get_or view.consumer_nodes i g → DoesStep (repoint state name source) (sourced view i g source) (Ok text)
 repointed state mid view name source i j f g r text stand fed within h same is =
     let is' = subst (λ (s : WorldState). g ≡ get_or s.consumer_nodes i g) same is in
     let at = still_at state mid name i goes.Idle text stand.at_consumer_node h in

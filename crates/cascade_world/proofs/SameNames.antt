@@ -4,10 +4,7 @@ use Rattle.std.proofs.lemmas.Bool.{cases_Bool}
 use Rattle.std.proofs.lemmas.Slice.Eq.{bytes_eq-Decides}
 use Rattle.std.specs.Str.{bytes_eq}
 use Rattle.cascade_nodes.specs.declared.node.ConsumerNode.{ConsumerNode}
-
--- names that are compared as equal are so
-pub same_name : (name other : List ℕ) → bytes_eq name other ≡ true → name ≡ other
-same_name name other hit = (bytes_eq-Decides name other).0 hit
+use Rattle.entry_tree.proofs.NameKeys.{same_bytes}
 
 -- each name is compared as equal to itself
 pub itself : (name : List ℕ) → bytes_eq name name ≡ true
@@ -17,7 +14,7 @@ itself name = (bytes_eq-Decides name name).1 refl
 pub other_way : (a b : List ℕ) → bytes_eq a b ≡ false → bytes_eq b a ≡ false
 other_way a b miss =
     elim (cases_Bool (bytes_eq b a)) [
-      | inl hit ↦ let bad : bytes_eq a b ≡ true = subst (λ x. bytes_eq x b ≡ true) (same_name b a hit) (itself b) in let worse : false ≡ true = sym miss ∙ bad in cc
+      | inl hit ↦ let bad : bytes_eq a b ≡ true = subst (λ x. bytes_eq x b ≡ true) (same_bytes b a hit) (itself b) in let worse : false ≡ true = sym miss ∙ bad in cc
       | inr so ↦ so
     ]
 

@@ -10,7 +10,7 @@ use Rattle.cascade_nodes.specs.declared.node.ConsumerNode.{ConsumerNode}
 use Rattle.cascade_script.specs.Orders.Order.{Show}
 use Rattle.cascade_report.specs.ReportLines.{text_of}
 use Rattle.cascade_report.specs.ReportLines.ReportLine.{Shown}
-use Rattle.cascade_world.specs.World.{WorldState, Step, IsStep, step, is_provider_node, is_consumer_node, consumer_node_named, shown_of, show_of}
+use Rattle.cascade_world.specs.World.{WorldState, StepOutcome, IsStep, step, is_provider_node, is_consumer_node, consumer_node_named, shown_of, show_of}
 use Rattle.cascade_world.proofs.Places.{found_at}
 
 pub shown_provider_node : (state : WorldState) (name : List ℕ) (i : ℕ) (r : ProviderNode) → position (is_provider_node name) state.provider_nodes ≡ Some i → r ≡ get_or state.provider_nodes i r
@@ -29,7 +29,7 @@ shown_none state name no_provider_node no_consumer_node =
     ap (λ o. show_of state name (shown_of o (consumer_node_named name state))) (find_no_place (is_provider_node name) state.provider_nodes no_provider_node)
     ∙ ap (λ o. show_of state name (shown_of None o)) (find_no_place (is_consumer_node name) state.consumer_nodes no_consumer_node)
 
-is_shown : (s : Step) (state : WorldState) (name : List ℕ) (entries : List Entry) (text : List ℕ) → s ≡ Ok (state, Shown name entries ∷ []) → text ≡ text_of entries → IsStep s state text
+is_shown : (s : StepOutcome) (state : WorldState) (name : List ℕ) (entries : List Entry) (text : List ℕ) → s ≡ Ok (state, Shown name entries ∷ []) → text ≡ text_of entries → IsStep s state text
 is_shown s state name entries text e same = subst (λ o. IsStep o state text) (sym e) (refl, same ∙ sym (append-nil (text_of entries)))
 
 -- a show of a provider node gives its entries

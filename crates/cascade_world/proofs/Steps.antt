@@ -19,7 +19,7 @@ use Rattle.cascade_report.specs.Origins.{Lineage}
 use Rattle.cascade_world.specs.InStep.{AreInStep, OwnCanCommit}
 use Rattle.cascade_world.specs.Places.{ArePlaces, placed, PerformsAt, Writes}
 use Rattle.cascade_report.specs.ReportLines.{stages_of}
-use Rattle.cascade_world.specs.World.{WorldState, Step, Does, IsStep, is_provider_node, is_consumer_node, provider_node_named, consumer_node_named, with_provider, with_consumer_node, with_pair, with_lines, with_outcome, commits_of, lineage_of, between, exchange_of, exchange, write_to, limited, limit_log, limit_queue}
+use Rattle.cascade_world.specs.World.{WorldState, StepOutcome, DoesStep, IsStep, is_provider_node, is_consumer_node, provider_node_named, consumer_node_named, with_provider, with_consumer_node, with_pair, with_lines, with_outcome, commits_of, lineage_of, between, exchange_of, exchange, write_to, limited, limit_log, limit_queue}
 use Rattle.cascade_exchange.proofs.Carrying.{IsCarried, CarriedIn, part_carried}
 use Rattle.cascade_exchange.proofs.Exchanging.{Alters, AltersIn, wants_of, part_alters}
 use Rattle.cascade_world.proofs.AtPlaces.{consumer_after}
@@ -110,7 +110,7 @@ exchange_committed state mid name j i what done places at =
 
 -- where the commits are done too
 pub exchange_done : (state mid new : WorldState) (name : List ℕ) (j i : ℕ) (what : Exchange) (done : Performed) → ArePlaces state name (j, i) → (at : PerformsAt state j i (part_of what) mid (Ok done))
-    → commits_of mid at.consumer done.stages.items ≡ Ok new → Does (exchange state name (part_of what)) new (Ok done.text.items)
+    → commits_of mid at.consumer done.stages.items ≡ Ok new → DoesStep (exchange state name (part_of what)) new (Ok done.text.items)
 exchange_done state mid new name j i what done places at commits =
     subst (λ s. IsStep s new done.text.items) (sym (exchange_committed state mid name j i what done places at ∙ ap (with_lines at.does.0) commits)) (refl, at.does.2)
 
@@ -136,13 +136,13 @@ exchange_uncommitted state mid new name j i what done cause places at commits = 
 
 -- where no stage took effect, nothing is committed
 pub exchange_through : (state mid : WorldState) (name : List ℕ) (j i : ℕ) (what : Exchange) (done : Performed) → ArePlaces state name (j, i) → PerformsAt state j i (part_of what) mid (Ok done) → done.stages.items ≡ []
-    → Does (exchange state name (part_of what)) mid (Ok done.text.items)
+    → DoesStep (exchange state name (part_of what)) mid (Ok done.text.items)
 exchange_through state mid name j i what done places at none =
     exchange_done state mid mid name j i what done places at (ap (commits_of mid at.consumer) none ∙ commits_none mid at.consumer)
 
 -- a refused commit, out of memory among the refusals
 pub exchange_stopped : (state mid left new : WorldState) (name : List ℕ) (j i : ℕ) (what : Exchange) (done : Performed) (cause : Cause) → ArePlaces state name (j, i) → (at : PerformsAt state j i (part_of what) mid (Ok done))
-    → Leaves (commits_of mid at.consumer done.stages.items) left (Err cause) → Does (exchange state name (part_of what)) new (Err cause)
+    → Leaves (commits_of mid at.consumer done.stages.items) left (Err cause) → DoesStep (exchange state name (part_of what)) new (Err cause)
 exchange_stopped state mid left new name j i what done BadCommand places at h = exchange_uncommitted state mid new name j i what done BadCommand places at h
 exchange_stopped state mid left new name j i what done UnknownNode places at h = exchange_uncommitted state mid new name j i what done UnknownNode places at h
 exchange_stopped state mid left new name j i what done NameTaken places at h = exchange_uncommitted state mid new name j i what done NameTaken places at h
@@ -155,7 +155,7 @@ exchange_stopped state mid left new name j i what done NoMemory places at h = tt
 
 -- a part that is refused
 pub exchange_refused : (state mid new : WorldState) (name : List ℕ) (j i : ℕ) (what : Exchange) (cause : Cause) → ArePlaces state name (j, i) → PerformsAt state j i (part_of what) mid (Err cause)
-    → Does (exchange state name (part_of what)) new (Err cause)
+    → DoesStep (exchange state name (part_of what)) new (Err cause)
 exchange_refused state mid new name j i what cause places at = by cause at.does
   where
     is : Between state name j i at.provider_node at.consumer_node
@@ -164,7 +164,7 @@ exchange_refused state mid new name j i what cause places at = by cause at.does
     seen : (c : Cause) → part_of what (pair_at state at.provider_node at.consumer_node) ≡ Err c → exchange state name (part_of what) ≡ Err c
     seen c h = exchange_is state name j i at.provider_node at.consumer_node (part_of what) is ∙ ap (with_outcome state) h
 
-    by : (c : Cause) → Performs (part_of what (pair_at state at.provider_node at.consumer_node)) (agreement_of at.provider at.consumer (lineage_of state at.provider_node)) (Err c) → Does (exchange state name (part_of what)) new (Err c)
+    by : (c : Cause) → Performs (part_of what (pair_at state at.provider_node at.consumer_node)) (agreement_of at.provider at.consumer (lineage_of state at.provider_node)) (Err c) → DoesStep (exchange state name (part_of what)) new (Err c)
     by BadCommand h = seen BadCommand h
     by UnknownNode h = seen UnknownNode h
     by NameTaken h = seen NameTaken h
@@ -176,13 +176,13 @@ exchange_refused state mid new name j i what cause places at = by cause at.does
     by NoMemory h = tt
 
 -- an order for a consumer that is not there
-pub nowhere : (state new : WorldState) (name : List ℕ) (part : Agreement → ExchangeOutcome) (cause : Cause) → cause ≡ UnknownNode → ((part : Agreement → ExchangeOutcome) → exchange state name part ≡ Err UnknownNode) → Does (exchange state name part) new (Err cause)
-nowhere state new name part cause e h = subst (λ c. Does (exchange state name part) new (Err c)) (sym e) (h part)
+pub nowhere : (state new : WorldState) (name : List ℕ) (part : Agreement → ExchangeOutcome) (cause : Cause) → cause ≡ UnknownNode → ((part : Agreement → ExchangeOutcome) → exchange state name part ≡ Err UnknownNode) → DoesStep (exchange state name part) new (Err cause)
+nowhere state new name part cause e h = subst (λ c. DoesStep (exchange state name part) new (Err c)) (sym e) (h part)
 
 -- ---- writes
 
 -- a write to no provider is refused
-pub no_provider_node : (state new : WorldState) (name : List ℕ) (change : Change) → position (is_provider_node name) state.provider_nodes ≡ None → Does (write_to state name change (provider_node_named name state)) new (Err UnknownNode)
+pub no_provider_node : (state new : WorldState) (name : List ℕ) (change : Change) → position (is_provider_node name) state.provider_nodes ≡ None → DoesStep (write_to state name change (provider_node_named name state)) new (Err UnknownNode)
 no_provider_node state new name change e = ap (write_to state name change) (find_no_place (is_provider_node name) state.provider_nodes e)
 
 -- the state where the provider at this place is now this
@@ -190,7 +190,7 @@ abbrev supplied : WorldState → ℕ → ProviderNode → ProviderState → Worl
 supplied state i r p' = record state { provider_nodes = set state.provider_nodes i (record r { provider = p' }) }
 
 write_ok : (state : WorldState) (name : List ℕ) (change : Change) (i : ℕ) (r : ProviderNode) (p' : ProviderState) (text : List ℕ) → position (is_provider_node name) state.provider_nodes ≡ Some i → r ≡ get_or state.provider_nodes i r
-    → Writes r.provider name state.clock change p' (Ok text) → Does (write_to state name change (provider_node_named name state)) (supplied state i r p') (Ok text)
+    → Writes r.provider name state.clock change p' (Ok text) → DoesStep (write_to state name change (provider_node_named name state)) (supplied state i r p') (Ok text)
 write_ok state name change i r p' text e is h =
     let found : provider_node_named name state ≡ Some r = found_at (is_provider_node name) state.provider_nodes i r e is in
     let provider_nodes : set state.provider_nodes i (record r { provider = p' }) ≡ with_provider name p' state.provider_nodes = changed_at state.provider_nodes (is_provider_node name) (λ (provider_node : ProviderNode). record provider_node { provider = p' }) i r e is in
@@ -198,19 +198,19 @@ write_ok state name change i r p' text e is h =
     (ap (λ rs. record state { provider_nodes = rs }) provider_nodes ∙ ap (λ q. record state { provider_nodes = with_provider name q state.provider_nodes }) h.0, h.1)
 
 write_does : (state : WorldState) (name : List ℕ) (change : Change) (i : ℕ) (r : ProviderNode) (p' : ProviderState) (result : Result (List ℕ) Cause) → position (is_provider_node name) state.provider_nodes ≡ Some i → r ≡ get_or state.provider_nodes i r
-    → Writes r.provider name state.clock change p' result → Does (write_to state name change (provider_node_named name state)) (supplied state i r p') result
+    → Writes r.provider name state.clock change p' result → DoesStep (write_to state name change (provider_node_named name state)) (supplied state i r p') result
 write_does state name change i r p' (Ok text) e is h = write_ok state name change i r p' text e is h
-write_does state name change i r p' (Err cause) e is h = subst (λ c. Does (write_to state name change (provider_node_named name state)) (supplied state i r p') (Err c)) (sym h.0) tt
+write_does state name change i r p' (Err cause) e is h = subst (λ c. DoesStep (write_to state name change (provider_node_named name state)) (supplied state i r p') (Err c)) (sym h.0) tt
 
 -- the same of the parts of the code, which sees the state
 pub write_seen : (state view : WorldState) (name spelled : List ℕ) (change : Change) (i : ℕ) (r : ProviderNode) (p' : ProviderState) (result : Result (List ℕ) Cause) → view ≡ state → spelled ≡ name
     → position (is_provider_node name) state.provider_nodes ≡ Some i → r ≡ get_or view.provider_nodes i r → Writes r.provider spelled view.clock change p' result
-    → Does (write_to state name change (provider_node_named name state)) (supplied view i r p') result
+    → DoesStep (write_to state name change (provider_node_named name state)) (supplied view i r p') result
 write_seen state view name spelled change i r p' result same named e is h =
     let is' = subst (λ (s : WorldState). r ≡ get_or s.provider_nodes i r) same is in
     let h' = subst (λ (s : WorldState). Writes r.provider spelled s.clock change p' result) same h in
     let h'' = subst (λ n. Writes r.provider n state.clock change p' result) named h' in
-    subst (λ (s : WorldState). Does (write_to state name change (provider_node_named name state)) (supplied s i r p') result) (sym same) (write_does state name change i r p' result e is' h'')
+    subst (λ (s : WorldState). DoesStep (write_to state name change (provider_node_named name state)) (supplied s i r p') result) (sym same) (write_does state name change i r p' result e is' h'')
 
 -- a write that runs out of memory leaves the nodes
 pub write_same : (state : WorldState) (name : List ℕ) (now : ℕ) (change : Change) (i : ℕ) (r : ProviderNode) (p' : ProviderState) (result : Result (List ℕ) Cause) → r ≡ get_or state.provider_nodes i r
@@ -223,19 +223,19 @@ write_same state name now change i r p' (Err cause) is h =
 
 -- ---- limits
 
-no_limited : (state new : WorldState) (name : List ℕ) (change : ProviderState → ProviderState) → position (is_provider_node name) state.provider_nodes ≡ None → Does (limited state name change (provider_node_named name state)) new (Err UnknownNode)
+no_limited : (state new : WorldState) (name : List ℕ) (change : ProviderState → ProviderState) → position (is_provider_node name) state.provider_nodes ≡ None → DoesStep (limited state name change (provider_node_named name state)) new (Err UnknownNode)
 no_limited state new name change e = ap (limited state name change) (find_no_place (is_provider_node name) state.provider_nodes e)
 
 -- a limit for the log of no provider is refused
-pub no_log_limited : (state new : WorldState) (name : List ℕ) (limit : ℕ) → position (is_provider_node name) state.provider_nodes ≡ None → Does (limit_log state name limit) new (Err UnknownNode)
+pub no_log_limited : (state new : WorldState) (name : List ℕ) (limit : ℕ) → position (is_provider_node name) state.provider_nodes ≡ None → DoesStep (limit_log state name limit) new (Err UnknownNode)
 no_log_limited state new name limit e = no_limited state new name (λ p. log_limited p limit) e
 
 -- a limit for the queues of no provider is refused
-pub no_queue_limited : (state new : WorldState) (name : List ℕ) (limit : ℕ) → position (is_provider_node name) state.provider_nodes ≡ None → Does (limit_queue state name limit) new (Err UnknownNode)
+pub no_queue_limited : (state new : WorldState) (name : List ℕ) (limit : ℕ) → position (is_provider_node name) state.provider_nodes ≡ None → DoesStep (limit_queue state name limit) new (Err UnknownNode)
 no_queue_limited state new name limit e = no_limited state new name (λ p. queue_limited p limit) e
 
 limit_ok : (state : WorldState) (name : List ℕ) (change : ProviderState → ProviderState) (i : ℕ) (r : ProviderNode) (p' : ProviderState) → position (is_provider_node name) state.provider_nodes ≡ Some i → r ≡ get_or state.provider_nodes i r → p' ≡ change r.provider
-    → Does (limited state name change (provider_node_named name state)) (supplied state i r p') (Ok [])
+    → DoesStep (limited state name change (provider_node_named name state)) (supplied state i r p') (Ok [])
 limit_ok state name change i r p' e is now =
     let found : provider_node_named name state ≡ Some r = found_at (is_provider_node name) state.provider_nodes i r e is in
     let provider_nodes : set state.provider_nodes i (record r { provider = p' }) ≡ with_provider name p' state.provider_nodes = changed_at state.provider_nodes (is_provider_node name) (λ (provider_node : ProviderNode). record provider_node { provider = p' }) i r e is in
@@ -244,15 +244,15 @@ limit_ok state name change i r p' e is now =
 
 -- the same of the parts of the code, which sees the state
 pub limit_seen : (state view : WorldState) (name : List ℕ) (change : ProviderState → ProviderState) (i : ℕ) (r : ProviderNode) (p' : ProviderState) → view ≡ state → position (is_provider_node name) state.provider_nodes ≡ Some i → r ≡ get_or view.provider_nodes i r
-    → p' ≡ change r.provider → Does (limited state name change (provider_node_named name state)) (supplied view i r p') (Ok [])
+    → p' ≡ change r.provider → DoesStep (limited state name change (provider_node_named name state)) (supplied view i r p') (Ok [])
 limit_seen state view name change i r p' same e is now =
-    subst (λ (s : WorldState). Does (limited state name change (provider_node_named name state)) (supplied s i r p') (Ok [])) (sym same)
+    subst (λ (s : WorldState). DoesStep (limited state name change (provider_node_named name state)) (supplied s i r p') (Ok [])) (sym same)
     (limit_ok state name change i r p' e (subst (λ (s : WorldState). r ≡ get_or s.provider_nodes i r) same is) now)
 
 -- ---- refusals
 
 -- a step that is refused does what its refusal says
-pub refused_as : (next : Step) (new : WorldState) (cause : Cause) → next ≡ Err cause → Does next new (Err cause)
+pub refused_as : (next : StepOutcome) (new : WorldState) (cause : Cause) → next ≡ Err cause → DoesStep next new (Err cause)
 refused_as next new BadCommand h = h
 refused_as next new UnknownNode h = h
 refused_as next new NameTaken h = h
@@ -264,7 +264,7 @@ refused_as next new Circle h = h
 refused_as next new NoMemory h = tt
 
 -- the refusal of an event, at its line
-pub refused_at : (line : ℕ) (next : Step) (new : WorldState) (cause : Cause) → Does next new (Err cause) → RefusedAt line line cause next
+pub refused_at : (line : ℕ) (next : StepOutcome) (new : WorldState) (cause : Cause) → DoesStep next new (Err cause) → RefusedAt line line cause next
 refused_at line next new BadCommand h = (h, refl)
 refused_at line next new UnknownNode h = (h, refl)
 refused_at line next new NameTaken h = (h, refl)

@@ -10,6 +10,7 @@ use Rattle.sync_messages.specs.declared.request.Mode.TheVariants.{RefreshOnly, R
 use Rattle.schema_rules.specs.declared.raw.Change.{Change}
 use Rattle.entry_tree.specs.Selection.{Search}
 use Rattle.entry_tree.specs.declared.entry.Entry.{Entry}
+use Rattle.entry_tree.proofs.NameKeys.{same_bytes}
 use Rattle.sync_provider.specs.Machine.{ProviderState, log_limited, queue_limited}
 use Rattle.sync_provider.specs.declared.provider.Kind.TheVariants.{Root, Replica}
 use Rattle.cascade_script.specs.Orders.{Order}
@@ -24,10 +25,11 @@ use Rattle.cascade_exchange.specs.Exchange.{Agreement, ExchangeOutcome, agreemen
 use Rattle.cascade_report.specs.ReportLines.{StoredStage, ReportLine, stages_of}
 use Rattle.cascade_report.specs.ReportLines.ReportLine.{Wrote, Clocked, Shown}
 use Rattle.cascade_exchange.specs.Trace.{Seen, seen_of, unseen, after_own, after_line, name_in, traced, AreTraced}
-use Rattle.cascade_world.specs.World.{WorldState, Step, step, is_provider_node, is_consumer_node, has_node, provider_node_named, consumer_node_named, first_changed, with_consumer_node, with_provider, with_provider_node, with_pair, with_own, commits_in, commits_of, with_lines, with_outcome, lineage_of, exchange, new_provider_node, with_root, new_consumer_node, with_consumer, with_replica, write_to, limited, pointed, pointed_after, shown_of, show_of}
-use Rattle.cascade_world.proofs.SameNames.{same_name, itself, other_way, pointed_at}
-use Rattle.cascade_world.proofs.Finding.{consumer_node_name, list_any-found, list_any-changed}
+use Rattle.cascade_world.specs.World.{WorldState, StepOutcome, step, is_provider_node, is_consumer_node, has_node, provider_node_named, consumer_node_named, first_changed, with_consumer_node, with_provider, with_provider_node, with_pair, with_own, commits_in, commits_of, with_lines, with_outcome, lineage_of, exchange, new_provider_node, with_root, new_consumer_node, with_consumer, with_replica, write_to, limited, pointed, pointed_after, shown_of, show_of}
+use Rattle.cascade_world.proofs.SameNames.{itself, other_way, pointed_at}
+use Rattle.cascade_world.proofs.Finding.{consumer_node_name}
 use Rattle.cascade_world.proofs.Found as lookup
+use Rattle.cascade_world.proofs.Lists.{list_any-found, list_any-changed}
 
 -- no two consumers have one name
 abbrev pub AreApart : List ConsumerNode → Type 0
@@ -101,7 +103,7 @@ none_of : (name : List ℕ) (state : WorldState) (seen : Seen) (line : ReportLin
 none_of name state seen line new (inl time) = subst (λ l. after_line name seen l ≡ seen) (sym time.1) (quiet_after name seen (Clocked time.0) refl)
 none_of name state seen line new (inr there) =
     elim (cases_Bool (bytes_eq (name_in line) name)) [
-      | inl hit ↦ let bad : has_node name state ≡ true = subst (λ n. has_node n state ≡ true) (same_name (name_in line) name hit) there in let worse : false ≡ true = sym new ∙ bad in cc
+      | inl hit ↦ let bad : has_node name state ≡ true = subst (λ n. has_node n state ≡ true) (same_bytes (name_in line) name hit) there in let worse : false ≡ true = sym new ∙ bad in cc
       | inr miss ↦ rw miss refl
     ]
 
@@ -150,7 +152,7 @@ changed_traced name before after ls ms (f ∷ fs) e same apart own step' h =
       | inl hit ↦
           let e' : Some f ≡ Some before = rw hit at e in
           let is : f ≡ before = cc in
-          let here : name ≡ f.name = same_name name f.name hit in
+          let here : name ≡ f.name = same_bytes name f.name hit in
           let was : seen_of before ≡ traced name ls = ap seen_of (sym is) ∙ h.0 ∙ ap (λ n. traced n ls) (sym here) in
           let now : seen_of after ≡ traced name (ls ++ ms) =
           step' ∙ sym (own_after name (seen_of before) ms own) ∙ ap (λ s. fold (after_line name) s ms) was ∙ sym (traced-append name ls ms) in
@@ -196,7 +198,7 @@ pushed_traced ls (g ∷ gs) f new h = (h.0, pushed_traced ls gs f new h.1)
 -- ---- each order
 
 -- what is left is what these lines report
-abbrev pub ReportedAfter : List ReportLine → Step → Type 0
+abbrev pub ReportedAfter : List ReportLine → StepOutcome → Type 0
 ReportedAfter lines (Err cause) = Unit {0}
 ReportedAfter lines (Ok next) = AreReported next.0 (lines ++ next.1)
 
@@ -268,7 +270,7 @@ pair_reported : (wants : Search → Search) (lines : List ReportLine) (state : W
 pair_reported wants lines state name before after more e is k =
     let here : name ≡ before.consumer_node.name = consumer_node_name state.consumer_nodes name before.consumer_node e in
     let same : after.consumer_node.name ≡ name = k.name ∙ sym here in
-    let named : (f : ConsumerNode) → is_consumer_node name f ≡ true → after.consumer_node.name ≡ f.name = λ f hit. same ∙ same_name name f.name hit in
+    let named : (f : ConsumerNode) → is_consumer_node name f ≡ true → after.consumer_node.name ≡ f.name = λ f hit. same ∙ same_bytes name f.name hit in
     let own : EachOwn name more = subst (λ n. EachOwn n more) (sym here) k.own in
     let changed' : with_consumer_node after.consumer_node.name after.consumer_node state.consumer_nodes ≡ with_consumer_node name after.consumer_node state.consumer_nodes = ap (λ n. with_consumer_node n after.consumer_node state.consumer_nodes) same in
     let still : (other : List ℕ) → has_node other (with_pair state after) ≡ has_node other state =
@@ -294,7 +296,7 @@ own_reported lines state (Ok own) is =
     let after : WorldState = record state { provider_nodes = with_provider_node own.name own state.provider_nodes } in
     let still : (other : List ℕ) → has_node other after ≡ has_node other state =
     λ other. ap (λ b. b || list_any (is_consumer_node other) state.consumer_nodes)
-    (list_any-changed (is_provider_node own.name) (is_provider_node other) (λ (r : ProviderNode). own) state.provider_nodes (λ r hit. ap (bytes_eq other) (same_name own.name r.name hit))) in
+    (list_any-changed (is_provider_node own.name) (is_provider_node other) (λ (r : ProviderNode). own) state.provider_nodes (λ r hit. ap (bytes_eq other) (same_bytes own.name r.name hit))) in
     record { apart = is.apart; of_nodes = still_of_nodes state after lines (λ other h. still other ∙ h) is.of_nodes; reported = is.reported }
 
 commits_reported_in : (lines : List ReportLine) (state : WorldState) (search : Search) (stages : List StoredStage) (own : Option ProviderNode) → AreReported state lines → ReportedIn lines (commits_in state search stages own)
@@ -320,7 +322,7 @@ exchange_after wants lines state name part keeps is =
 
 -- ---- other providers, and other wishes
 
-pointed_reported : (lines : List ReportLine) (name source : List ℕ) (next : Step) → ReportedAfter lines next → ReportedAfter lines (pointed_after name source next)
+pointed_reported : (lines : List ReportLine) (name source : List ℕ) (next : StepOutcome) → ReportedAfter lines next → ReportedAfter lines (pointed_after name source next)
 pointed_reported lines name source (Err cause) is = tt
 pointed_reported lines name source (Ok next) is =
     let state = next.0 in

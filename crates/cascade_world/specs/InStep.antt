@@ -1,7 +1,7 @@
 -- Replicas whose directories hold what their consumers hold.
 use Rattle.std.specs.Prelude.{◌≡◌, ℕ, Some, List}
 use Rattle.directory_writes.specs.Directory.{entries_of}
-use Rattle.sync_consumer.specs.Committing.{stage_in, IsKept}
+use Rattle.sync_consumer.specs.Committing.{stage_in, IsReadyOn}
 use Rattle.sync_provider.specs.declared.provider.Kind.TheVariants.{Replica}
 use Rattle.cascade_nodes.specs.Commits.{CanCommit}
 use Rattle.cascade_nodes.specs.declared.node.ProviderNode.{ProviderNode}
@@ -18,7 +18,8 @@ pub record IsInStep (consumer_node : ConsumerNode) (provider_node : ProviderNode
 -- name is in step with it
 pub record IsSteady
     (state : WorldState) (name : List ℕ) (consumer_node : ConsumerNode) : Type 0 where
-  pub kept : IsKept consumer_node.consumer.copy.held (stage_in consumer_node.consumer.copy.session)
+  pub kept :
+      IsReadyOn consumer_node.consumer.copy.held (stage_in consumer_node.consumer.copy.session)
   pub own :
       (provider_node : ProviderNode) → provider_node_named name state ≡ Some provider_node
       → IsInStep consumer_node provider_node

@@ -84,12 +84,12 @@ is_fed state other name =
     is_fed_within (length state.consumer_nodes) state.consumer_nodes other name
 
 -- the state after an order with the lines that it reports, or why the order is refused
-abbrev pub Step : Type 0
-Step = Result (WorldState × List ReportLine) Cause
+abbrev pub StepOutcome : Type 0
+StepOutcome = Result (WorldState × List ReportLine) Cause
 
 -- ---- declarations
 
-abbrev pub where_room : WorldState → WorldState → Step
+abbrev pub where_room : WorldState → WorldState → StepOutcome
 where_room state after =
     if nat_le most_nodes state.nodes then Err (LimitReached most_nodes) else Ok (after, [])
 
@@ -109,7 +109,7 @@ with_root state name suffix =
       provider_nodes = state.provider_nodes ++ new_provider_node state Root name suffix ∷ [];
     }
 
-abbrev pub declare_root : WorldState → List ℕ → List (List TypeAndValue) → Step
+abbrev pub declare_root : WorldState → List ℕ → List (List TypeAndValue) → StepOutcome
 declare_root state name suffix =
     if has_node name state then Err NameTaken else where_room state (with_root state name suffix)
 
@@ -130,29 +130,29 @@ with_replica state consumer_node = record state {
 }
 
 -- a consumer of a provider
-abbrev pub follow : WorldState → Search → WorldState → Option ProviderNode → Step
+abbrev pub follow : WorldState → Search → WorldState → Option ProviderNode → StepOutcome
 follow state search after None = Err UnknownNode
 follow state search after (Some provider_node) =
     if not (is_offered search provider_node) then Err OutsideSuffix else where_room state after
 
-abbrev pub declare_consumer_node : WorldState → List ℕ → List ℕ → Search → WorldState → Step
+abbrev pub declare_consumer_node : WorldState → List ℕ → List ℕ → Search → WorldState → StepOutcome
 declare_consumer_node state name source search after =
     if has_node name state then Err NameTaken
     else follow state search after (provider_node_named source state)
 
-abbrev pub declare_consumer : WorldState → List ℕ → List ℕ → Search → Bool → Step
+abbrev pub declare_consumer : WorldState → List ℕ → List ℕ → Search → Bool → StepOutcome
 declare_consumer state name source search reload =
     declare_consumer_node state name source search
     (with_consumer state (new_consumer_node name source search reload))
 
-abbrev pub declare_replica : WorldState → List ℕ → List ℕ → Search → Bool → Step
+abbrev pub declare_replica : WorldState → List ℕ → List ℕ → Search → Bool → StepOutcome
 declare_replica state name source search reload =
     declare_consumer_node state name source search
     (with_replica state (new_consumer_node name source search reload))
 
 -- ---- writes
 
-abbrev pub write_to : WorldState → List ℕ → Change → Option ProviderNode → Step
+abbrev pub write_to : WorldState → List ℕ → Change → Option ProviderNode → StepOutcome
 write_to state name change None = Err UnknownNode
 write_to state name change (Some provider_node) =
     Ok (
@@ -166,7 +166,7 @@ write_to state name change (Some provider_node) =
 
 -- a provider gets another limit
 abbrev pub limited :
-    WorldState → List ℕ → (ProviderState → ProviderState) → Option ProviderNode → Step
+    WorldState → List ℕ → (ProviderState → ProviderState) → Option ProviderNode → StepOutcome
 limited state name change None = Err UnknownNode
 limited state name change (Some provider_node) =
     Ok (
@@ -177,12 +177,12 @@ limited state name change (Some provider_node) =
     )
 
 -- its session log keeps n touches at most from now on
-abbrev pub limit_log : WorldState → List ℕ → ℕ → Step
+abbrev pub limit_log : WorldState → List ℕ → ℕ → StepOutcome
 limit_log state name limit =
     limited state name (λ provider. log_limited provider limit) (provider_node_named name state)
 
 -- and the queue of each of its searches n messages at most, from the next write on
-abbrev pub limit_queue : WorldState → List ℕ → ℕ → Step
+abbrev pub limit_queue : WorldState → List ℕ → ℕ → StepOutcome
 limit_queue state name limit =
     limited state name (λ provider. queue_limited provider limit) (provider_node_named name state)
 
@@ -214,12 +214,12 @@ commits_of state consumer_node stages =
     commits_in state consumer_node.consumer.spec stages
     (provider_node_named consumer_node.name state)
 
-abbrev pub with_lines : List ReportLine → Result WorldState Cause → Step
+abbrev pub with_lines : List ReportLine → Result WorldState Cause → StepOutcome
 with_lines lines (Ok state) = Ok (state, lines)
 with_lines lines (Err cause) = Err cause
 
 -- what took effect in the event is committed at its end
-abbrev pub with_outcome : WorldState → ExchangeOutcome → Step
+abbrev pub with_outcome : WorldState → ExchangeOutcome → StepOutcome
 with_outcome state (Ok next) =
     with_lines next.1 (commits_of (with_pair state next.0) next.0.consumer_node (stages_of next.1))
 with_outcome state (Err cause) = Err cause
@@ -229,7 +229,7 @@ lineage_of state provider_node =
     record { top = top_of state provider_node.name; notes = provider_node.notes }
 
 abbrev pub between :
-    WorldState → ConsumerNode → (Agreement → ExchangeOutcome) → Option ProviderNode → Step
+    WorldState → ConsumerNode → (Agreement → ExchangeOutcome) → Option ProviderNode → StepOutcome
 between state consumer_node part None = Err UnknownNode
 between state consumer_node part (Some provider_node) =
     with_outcome state (part (record {
@@ -239,12 +239,13 @@ between state consumer_node part (Some provider_node) =
     }))
 
 -- what goes on between a consumer and its provider
-abbrev pub exchange_of : WorldState → (Agreement → ExchangeOutcome) → Option ConsumerNode → Step
+abbrev pub exchange_of :
+    WorldState → (Agreement → ExchangeOutcome) → Option ConsumerNode → StepOutcome
 exchange_of state part None = Err UnknownNode
 exchange_of state part (Some consumer_node) =
     between state consumer_node part (provider_node_named consumer_node.source state)
 
-abbrev pub exchange : WorldState → List ℕ → (Agreement → ExchangeOutcome) → Step
+abbrev pub exchange : WorldState → List ℕ → (Agreement → ExchangeOutcome) → StepOutcome
 exchange state name part = exchange_of state part (consumer_node_named name state)
 
 -- ---- other providers, and other wishes
@@ -258,38 +259,39 @@ pointed name source state =
           state.consumer_nodes;
     }
 
-abbrev pub pointed_after : List ℕ → List ℕ → Step → Step
+abbrev pub pointed_after : List ℕ → List ℕ → StepOutcome → StepOutcome
 pointed_after name source (Ok next) = Ok (pointed name source next.0, next.1)
 pointed_after name source (Err cause) = Err cause
 
 -- a busy consumer is cut, and keeps its cookie and its entries
-abbrev pub repoint_to : WorldState → List ℕ → List ℕ → ConsumerNode → Option ProviderNode → Step
+abbrev pub repoint_to :
+    WorldState → List ℕ → List ℕ → ConsumerNode → Option ProviderNode → StepOutcome
 repoint_to state name source consumer_node None = Err UnknownNode
 repoint_to state name source consumer_node (Some provider_node) =
     if is_fed state name source then Err Circle
     else if not (is_offered consumer_node.consumer.spec provider_node) then Err OutsideSuffix
     else pointed_after name source (exchange state name idle)
 
-abbrev pub repoint_of : WorldState → List ℕ → List ℕ → Option ConsumerNode → Step
+abbrev pub repoint_of : WorldState → List ℕ → List ℕ → Option ConsumerNode → StepOutcome
 repoint_of state name source None = Err UnknownNode
 repoint_of state name source (Some consumer_node) =
     repoint_to state name source consumer_node (provider_node_named source state)
 
-abbrev pub repoint : WorldState → List ℕ → List ℕ → Step
+abbrev pub repoint : WorldState → List ℕ → List ℕ → StepOutcome
 repoint state name source = repoint_of state name source (consumer_node_named name state)
 
-abbrev pub respec_at : WorldState → List ℕ → Search → Option ProviderNode → Step
+abbrev pub respec_at : WorldState → List ℕ → Search → Option ProviderNode → StepOutcome
 respec_at state name search None = Err UnknownNode
 respec_at state name search (Some provider_node) =
     if not (is_offered search provider_node) then Err OutsideSuffix
     else exchange state name (respecs search)
 
-abbrev pub respec_of : WorldState → List ℕ → Search → Option ConsumerNode → Step
+abbrev pub respec_of : WorldState → List ℕ → Search → Option ConsumerNode → StepOutcome
 respec_of state name search None = Err UnknownNode
 respec_of state name search (Some consumer_node) =
     respec_at state name search (provider_node_named consumer_node.source state)
 
-abbrev pub respec : WorldState → List ℕ → Search → Step
+abbrev pub respec : WorldState → List ℕ → Search → StepOutcome
 respec state name search = respec_of state name search (consumer_node_named name state)
 
 -- ---- entries
@@ -300,13 +302,13 @@ shown_of (Some provider_node) found = Some (entries_of provider_node.provider.di
 shown_of None (Some consumer_node) = Some consumer_node.consumer.copy.held
 shown_of None None = None
 
-abbrev pub show_of : WorldState → List ℕ → Option (List Entry) → Step
+abbrev pub show_of : WorldState → List ℕ → Option (List Entry) → StepOutcome
 show_of state name None = Err UnknownNode
 show_of state name (Some entries) = Ok (state, Shown name entries ∷ [])
 
 -- ---- orders
 
-abbrev pub step : WorldState → Order → Step
+abbrev pub step : WorldState → Order → StepOutcome
 step state (asks.Provider name suffix) = declare_root state name suffix
 step state (asks.Consumer name source search reload) =
     declare_consumer state name source search reload
@@ -332,20 +334,20 @@ step state (asks.Show name) =
 -- ---- what the code answers
 
 -- the state and the lines are those of a step that is done
-abbrev pub IsStep : Step → WorldState → List ℕ → Type 0
+abbrev pub IsStep : StepOutcome → WorldState → List ℕ → Type 0
 IsStep (Err cause) new text = ⊥
 IsStep (Ok next) new text = (new ≡ next.0) × (text ≡ lines_text next.1)
 
 -- what a part of a step answers and leaves; out of memory says nothing
-abbrev pub Does : Step → WorldState → Result (List ℕ) Cause → Type 0
-Does next new (Ok text) = IsStep next new text
-Does next new (Err NoMemory) = Unit {0}
-Does next new (Err cause) = next ≡ Err cause
+abbrev pub DoesStep : StepOutcome → WorldState → Result (List ℕ) Cause → Type 0
+DoesStep next new (Ok text) = IsStep next new text
+DoesStep next new (Err NoMemory) = Unit {0}
+DoesStep next new (Err cause) = next ≡ Err cause
 
 -- what a step answers and leaves
-abbrev pub Answers : ℕ → Step → WorldState → Result (List ℕ) ScriptFault → Type 0
-Answers line next new (Ok text) = IsStep next new text
-Answers line next new (Err fault) = RefusedAt line fault.line fault.cause next
+abbrev pub AnswersStep : ℕ → StepOutcome → WorldState → Result (List ℕ) ScriptFault → Type 0
+AnswersStep line next new (Ok text) = IsStep next new text
+AnswersStep line next new (Err fault) = RefusedAt line fault.line fault.cause next
 
 abbrev pub StepsBy : WorldState → ℕ → Order → WorldState → Result (List ℕ) ScriptFault → Type 0
-StepsBy old line order new result = Answers line (step old order) new result
+StepsBy old line order new result = AnswersStep line (step old order) new result

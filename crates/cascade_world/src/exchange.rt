@@ -6,22 +6,21 @@ ghost use Rattle.cascade_nodes.specs.Commits.{Leaves};
 ghost use Rattle.cascade_world.specs.InStep.{AreInStep, OwnCanCommit};
 ghost use Rattle.cascade_world.specs.Places.{ArePlaces, PerformsAt};
 ghost use Rattle.cascade_world.specs.World as spec;
-ghost use Rattle.cascade_world.specs.World.{Does};
+ghost use Rattle.cascade_world.specs.World.{DoesStep};
 
-use crate::dropping::discard;
 use crate::nodes::Nodes;
 use crate::world::Lines;
 use cascade_exchange::{Exchange, Performed, serve};
 use cascade_report::StoredStage;
 use cascade_script::Cause;
-use ldap_ber::Octets;
+use ldap_ber::{Octets, discard};
 
 impl Nodes {
     /// Does what goes on between a consumer and its provider, and then the commits of a replica.
     /// After a refusal the world is as before.
     pub(crate) fn exchange(&mut self, name: Octets, exchange: Exchange) -> Result<Lines, Cause>
         requires in_step { AreInStep self.old }
-        ensures steps { Does (spec.exchange self.old name (part_of exchange)) self.new result }
+        ensures steps { DoesStep (spec.exchange self.old name (part_of exchange)) self.new result }
         ensures err { OnErr result (self.new ≡ self.old) }
     {
         match self.places(&name) {
@@ -49,7 +48,7 @@ impl Nodes {
         requires consumer_node { consumer_node < length self.old.consumer_nodes }
         requires places { (name : List ℕ) × ArePlaces self.old name (provider_node, consumer_node) }
         ensures steps { (name : List ℕ) → ArePlaces self.old name (provider_node, consumer_node)
-            → Does (spec.exchange self.old name (part_of exchange)) self.new result }
+            → DoesStep (spec.exchange self.old name (part_of exchange)) self.new result }
         ensures err { OnErr result (self.new ≡ self.old) }
     {
         let done = self.perform(provider_node, consumer_node, exchange)?;

@@ -4,7 +4,6 @@
 //! out goes into the consumer's link as bytes, and the consumer takes what these bytes spell.
 #![tactic(auto)]
 
-mod dropping;
 mod exchange;
 mod new_nodes;
 mod nodes;

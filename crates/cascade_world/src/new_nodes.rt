@@ -4,9 +4,8 @@ ghost use Rattle.entry_tree.specs.Selection.{search_of};
 ghost use Rattle.cascade_exchange.specs.Cookies.{most_nodes};
 ghost use Rattle.cascade_script.specs.Orders.{Order as order};
 ghost use Rattle.cascade_world.specs.World as spec;
-ghost use Rattle.cascade_world.specs.World.{Does};
+ghost use Rattle.cascade_world.specs.World.{DoesStep};
 
-use crate::dropping::discard;
 use crate::nodes::{Nodes, no_lines};
 use crate::world::Lines;
 use cascade_exchange::MOST_NODES;
@@ -14,7 +13,7 @@ use cascade_nodes::{ConsumerNode, ProviderNode};
 use cascade_script::Cause;
 use dn_names::Dn;
 use entry_tree::Spec;
-use ldap_ber::{NoMemory, Octets};
+use ldap_ber::{NoMemory, Octets, discard};
 use std::alloc::AllocError;
 use sync_provider::Kind;
 
@@ -34,7 +33,7 @@ impl Nodes {
 
     /// Declares a root.
     pub(crate) fn declare_root(&mut self, name: Octets, suffix: Dn) -> Result<Lines, Cause>
-        ensures steps { Does (spec.step self.old (order.Provider name suffix)) self.new result }
+        ensures steps { DoesStep (spec.step self.old (order.Provider name suffix)) self.new result }
         ensures err { OnErr result (self.new ≡ self.old) }
     {
         if self.has_node(&name) {
@@ -86,7 +85,7 @@ impl Nodes {
         wanted: Spec,
         reload: bool,
     ) -> Result<Lines, Cause>
-        ensures steps { Does
+        ensures steps { DoesStep
             (spec.step self.old (order.Consumer name source (search_of wanted) reload)) self.new
             result }
         ensures err { OnErr result (self.new ≡ self.old) }
@@ -116,7 +115,7 @@ impl Nodes {
         wanted: Spec,
         reload: bool,
     ) -> Result<Lines, Cause>
-        ensures steps { Does
+        ensures steps { DoesStep
             (spec.step self.old (order.Replica name source (search_of wanted) reload)) self.new
             result }
         ensures err { OnErr result (self.new ≡ self.old) }

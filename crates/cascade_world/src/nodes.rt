@@ -8,18 +8,17 @@ ghost use Rattle.cascade_report.specs.ReportLines.ReportLine.{Wrote};
 ghost use Rattle.cascade_world.specs.World as spec;
 ghost use Rattle.cascade_exchange.specs.Cookies.{most_nodes};
 ghost use Rattle.cascade_world.specs.InStep.{AreInStep};
-ghost use Rattle.cascade_world.specs.World.{Does};
+ghost use Rattle.cascade_world.specs.World.{DoesStep};
 ghost use Rattle.cascade_exchange.specs.Exchange.{Agreement, ExchangeOutcome};
 ghost use Rattle.cascade_world.specs.Places.{ArePlaces, Writes};
 
-use crate::dropping::discard;
 use crate::world::Lines;
 use cascade_exchange::Exchange;
 use cascade_nodes::{ConsumerNode, ProviderNode, ScriptProvider};
 use cascade_report::{push_wrote, text_of};
 use cascade_script::{Cause, Command};
 use entry_tree::{OpFault, read_op};
-use ldap_ber::{NoMemory, Octets};
+use ldap_ber::{NoMemory, Octets, discard};
 use ldap_constants::{OTHER, SUCCESS};
 use schema_rules::Change;
 use std::alloc::Global;
@@ -78,7 +77,7 @@ impl Nodes {
     /// Does a command, and gives its lines. After a refusal the nodes are as before.
     pub(crate) fn apply(&mut self, command: Command) -> Result<Lines, Cause>
         requires in_step { AreInStep self.old }
-        ensures steps { Does (spec.step self.old (order_of command)) self.new result }
+        ensures steps { DoesStep (spec.step self.old (order_of command)) self.new result }
         ensures err { OnErr result (self.new ≡ self.old) }
     {
         match command {
@@ -177,7 +176,7 @@ impl Nodes {
 
     #[tactic(auto, using(crate::proofs::Steps::no_provider_node, crate::proofs::Steps::write_same))]
     fn write(&mut self, name: &Octets, change: &Change) -> Result<Lines, Cause>
-        ensures steps { Does (spec.step self.old (order.Write name.now change.now))
+        ensures steps { DoesStep (spec.step self.old (order.Write name.now change.now))
             self.new result }
         ensures err { OnErr result (self.new ≡ self.old) }
     {
@@ -190,7 +189,7 @@ impl Nodes {
 
     #[tactic(auto, using(crate::proofs::Steps::no_log_limited))]
     fn limit_log(&mut self, name: &Octets, limit: u64) -> Result<Lines, Cause>
-        ensures steps { Does (spec.step self.old (order.Log name.now limit)) self.new result }
+        ensures steps { DoesStep (spec.step self.old (order.Log name.now limit)) self.new result }
         ensures err { OnErr result (self.new ≡ self.old) }
     {
         let Some(place) = self.provider_node_place(name) else {
@@ -202,7 +201,7 @@ impl Nodes {
 
     #[tactic(auto, using(crate::proofs::Steps::no_queue_limited))]
     fn limit_queue(&mut self, name: &Octets, limit: u64) -> Result<Lines, Cause>
-        ensures steps { Does (spec.step self.old (order.Queue name.now limit)) self.new result }
+        ensures steps { DoesStep (spec.step self.old (order.Queue name.now limit)) self.new result }
         ensures err { OnErr result (self.new ≡ self.old) }
     {
         let Some(place) = self.provider_node_place(name) else {
@@ -216,7 +215,7 @@ impl Nodes {
 
     #[tactic(auto, using(crate::proofs::Showing::shows_provider_node, crate::proofs::Showing::shows_consumer_node, crate::proofs::Showing::shown_none))]
     fn show(&self, name: &Octets) -> Result<Lines, Cause>
-        ensures { Does (spec.step self.now (order.Show name.now)) self.now result }
+        ensures { DoesStep (spec.step self.now (order.Show name.now)) self.now result }
     {
         if let Some(provider_node) = self.provider_node_place(name) {
             let entries = self.provider_nodes[provider_node].provider.entries()?;
@@ -241,7 +240,7 @@ pub(crate) fn no_lines(alloc: Global) -> Lines
 }
 
 /// Writes to a provider node, and reports it.
-#[tactic(auto, using(crate::proofs::Writing::grown, crate::proofs::Writing::refused_same))]
+#[tactic(auto, using(sync_provider::proofs::AddedWrites::grown, sync_provider::proofs::AddedWrites::refused_same))]
 fn write_to(
     alloc: Global,
     provider: &mut ScriptProvider,

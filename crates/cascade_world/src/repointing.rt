@@ -6,23 +6,22 @@ ghost use Rattle.cascade_exchange.specs.Exchange as exchange;
 ghost use Rattle.cascade_nodes.specs.Nodes as nodes;
 ghost use Rattle.cascade_script.specs.Orders.{Order as order};
 ghost use Rattle.cascade_world.specs.World as spec;
-ghost use Rattle.cascade_world.specs.World.{Does};
+ghost use Rattle.cascade_world.specs.World.{DoesStep};
 ghost use Rattle.cascade_world.specs.InStep.{AreInStep};
 
-use crate::dropping::discard;
 use crate::nodes::Nodes;
 use crate::world::Lines;
 use cascade_exchange::Exchange;
 use cascade_script::Cause;
 use entry_tree::Spec;
-use ldap_ber::{NoMemory, Octets};
+use ldap_ber::{NoMemory, Octets, discard};
 
 impl Nodes {
     /// A consumer follows another provider from now on: a busy one is cut, and keeps its cookie and
     /// its entries.
     pub(crate) fn repoint(&mut self, name: Octets, source: Octets) -> Result<Lines, Cause>
         requires in_step { AreInStep self.old }
-        ensures steps { Does (spec.step self.old (order.Repoint name source)) self.new result }
+        ensures steps { DoesStep (spec.step self.old (order.Repoint name source)) self.new result }
         ensures err { OnErr result (self.new ≡ self.old) }
     {
         let Some(consumer_node) = self.consumer_node_place(&name) else {
@@ -48,7 +47,7 @@ impl Nodes {
     /// entries.
     pub(crate) fn respec(&mut self, name: Octets, wanted: Spec) -> Result<Lines, Cause>
         requires in_step { AreInStep self.old }
-        ensures steps { Does (spec.step self.old (order.Respec name (search_of wanted)))
+        ensures steps { DoesStep (spec.step self.old (order.Respec name (search_of wanted)))
             self.new result }
         ensures err { OnErr result (self.new ≡ self.old) }
     {

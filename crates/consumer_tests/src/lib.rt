@@ -1,4 +1,5 @@
-//! Tests of a consumer: the crate `sync_consumer`, by its public calls.
+//! Tests of the messages of a search and of a consumer: the crates `sync_wire` and `sync_consumer`,
+//! by their public calls.
 #![tactic(auto)]
 
 #[cfg(test)]
@@ -13,3 +14,5 @@ mod requests;
 mod rows;
 #[cfg(test)]
 mod sync_consumer_tests;
+#[cfg(test)]
+mod sync_wire_tests;

@@ -2,7 +2,7 @@
 //! `-`, its name, and its attributes with bars between them, each `type=value;value` or `type`
 //! alone, where `CSN` stands for an entryCSN. `done` and `doneDeletes`: a code, and a cookie or `-`
 //! where there is a Sync Done control.
-use ldap_ber::{NoMemory, Octets, OctetsList};
+use ldap_ber::{NoMemory, Octets, OctetsList, discard};
 use ldap_constants::{SUCCESS, SYNC_DONE, SYNC_INFO, SYNC_STATE};
 use ldap_messages::{Control, ControlList, LdapResult, Message, Protocol};
 use schema_rules::{RawAttribute, RawList};
@@ -22,9 +22,6 @@ pub(crate) fn parted(text: &str) -> (&str, &str) {
 pub(crate) fn number(text: &str) -> u128 {
     text.parse::<u128>().unwrap_or(0)
 }
-
-/// Drops a value through its bound, so that no proof goes through the cases of its type.
-pub(crate) fn discard<T: Drop>(_value: T) {}
 
 pub(crate) fn octets(alloc: Global, text: &str) -> Result<Octets, NoMemory> {
     Octets::from_slice(alloc, text.as_bytes())

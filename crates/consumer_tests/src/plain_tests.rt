@@ -1,9 +1,9 @@
 //! A consumer holds what the plain copy holds, after each message of all sequences of three.
-use crate::messages::{ID, discard, sent};
+use crate::messages::{ID, sent};
 use crate::plain_copy::{Answer, PlainCopy, name_of};
 use crate::rows::new_consumer;
 use entry_tree::Entry;
-use ldap_ber::NoMemory;
+use ldap_ber::{NoMemory, discard};
 use ldap_messages::Message;
 use std::alloc::Global;
 use std::mem;

@@ -3,7 +3,7 @@ ghost use Rattle.std.specs.Prelude.{◌≡◌, ◌≤◌, IsTrue};
 ghost use Rattle.ldap_filter.specs.FilterTree.{tree_of, depth};
 ghost use Rattle.ldap_messages.specs.Operation.{IsOfGrammar, operation_of};
 
-use crate::messages::discard;
+use ldap_ber::discard;
 use ldap_filter::Filter;
 use ldap_messages::{Message, Protocol};
 use std::alloc::Global;

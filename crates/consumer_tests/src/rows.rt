@@ -4,10 +4,11 @@
 //! `new`, `once` and `stay` begin with a new consumer, or a search in one of the modes. There are
 //! two consumers: `copy` makes the second one a copy of the first, and `swap` puts each in the
 //! other's place.
-use crate::messages::{CSN, discard, number, octets, parted, sent};
+use crate::messages::{CSN, number, octets, parted, sent};
 use crate::requests::{is_presence, requested};
 use dn_names::Dn;
 use entry_tree::{Entry, Scope, Spec};
+use ldap_ber::discard;
 use ldap_filter::Filter;
 use schema_rules::Attribute;
 use std::alloc::Global;

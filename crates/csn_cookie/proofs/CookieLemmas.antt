@@ -141,6 +141,7 @@ ids_at-text rid sid rest small short =
 abbrev SpellsCookie : List ℕ → Cookie → Type 0
 SpellsCookie text cookie = IsCookie cookie × IsCookieSpelling cookie text
 
+-- a text that is read as a cookie is a spelling of it
 pub cookie_of_text-spelled : (text : List ℕ) (cookie : Cookie) → cookie_of_text text ≡ Some cookie → IsCookie cookie × IsCookieSpelling cookie text
 unfolding cookie_of_text
 cookie_of_text-spelled text cookie h =
@@ -231,6 +232,7 @@ blank_ids text h =
     let is = ids_is ids text [] read in
     inr (inr (ids.0, ids.1, is.0, is.1, is.2 ∙ append-nil (ids_text ids.0 ids.1))))
 
+-- a text that is found to be blank is blank
 pub is_blank-blank : (text : List ℕ) → is_blank text ≡ true → IsBlank text
 unfolding is_blank
 is_blank-blank text h =
@@ -242,6 +244,7 @@ is_blank-blank text h =
       | inr ids ↦ blank_ids text ids
     ]
 
+-- and a blank one is found to be so
 pub blank-is_blank : (text : List ℕ) → IsBlank text → is_blank text ≡ true
 unfolding is_blank
 blank-is_blank text (inl none) = rw none refl

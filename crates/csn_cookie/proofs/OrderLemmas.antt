@@ -11,6 +11,7 @@ use Rattle.std.proofs.lemmas.Cmp.{nat_cmp_total, on_total, then_total, tied_itse
 use Rattle.std.proofs.lemmas.Map.Keys.{sorted_head, sorted_tail}
 use Rattle.csn_cookie.specs.Csn.{CsnValue, csn_cmp, is_before, is_upto, upto}
 
+-- the order of CSNs is total
 pub csn_cmp_total : IsTotalOrder csn_cmp
 csn_cmp_total =
     then_total (on_total (λ (c : CsnValue). c.micros) nat_cmp_total)
@@ -22,12 +23,15 @@ less_from Less h = refl
 less_from Equal h = absurd cc
 less_from Greater h = absurd cc
 
+-- a CSN that is before another compares as less
 pub csn_cmp-before : (a b : CsnValue) → is_before a b ≡ true → csn_cmp a b ≡ Less
 csn_cmp-before a b h = less_from (csn_cmp a b) h
 
+-- a CSN is not greater than itself
 pub is_upto-itself : (a : CsnValue) → is_upto a a ≡ true
 is_upto-itself a = rw (tied_itself csn_cmp_total a) refl
 
+-- nor than one that it is less than
 pub is_upto-before : (a b : CsnValue) → csn_cmp a b ≡ Less → is_upto a b ≡ true
 is_upto-before a b h = rw h refl
 

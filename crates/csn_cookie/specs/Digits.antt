@@ -1,4 +1,4 @@
--- Numbers in a fixed count of digits, and the prefix of a text.
+-- Numbers in a fixed count of digits, and the beginning of a text.
 use Rattle.std.specs.Prelude.{ℕ, zero, suc, ◌+◌, ◌/◌, ◌%◌, ◌&&◌, Bool, false, List, [], ◌∷◌, ◌++◌, length, take, drop, Option, Some, None, option_map, nat_eq, nat_le, nat_lt, if◌then◌else◌}
 use Rattle.std.specs.List.{list_all, list_any, starts_with}
 use Rattle.std.specs.Char.{is_digit, is_ascii_uppercase}

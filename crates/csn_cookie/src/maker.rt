@@ -49,7 +49,8 @@ impl CsnMaker {
     }
 
     /// Draws the next CSN, where the clock shows `now`, in microseconds from the first moment of
-    /// 1970 on. A clock past the year 9999 counts as its end.
+    /// 1970 on. A clock past the year 9999 counts as its end. It is `CsnsSpent` where the last CSN
+    /// is the greatest one, and the maker is as before.
     pub fn next(&mut self, now: u64) -> Result<Csn, CookieFault>
         ensures exact { result_ok result ≡ next_csn now self.old }
         ensures drawn { IfOk result (λ csn. self.new ≡ csn) }

@@ -1,4 +1,4 @@
-//! Texts of a fixed length, written from the prefix.
+//! Texts of a fixed length, written from left to right.
 
 ghost use Rattle.std.specs.Prelude.{◌≡◌, ◌≤◌, ◌+◌, [], ◌++◌, length};
 ghost use Rattle.csn_cookie.specs.Digits.{field};

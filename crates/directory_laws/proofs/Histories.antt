@@ -9,7 +9,7 @@ use Rattle.entry_tree.specs.declared.entry.Entry.{Entry}
 use Rattle.entry_tree.specs.declared.op.Write.{Write}
 use Rattle.entry_tree.specs.Effects.{effect}
 use Rattle.entry_tree.specs.History.{identity, state_from, state_of}
-use Rattle.directory_laws.specs.Accepted.{IsAccepted, WereAccepted}
+use Rattle.directory_laws.specs.Accepted.{IsAcceptedFromClient, WereAccepted}
 use Rattle.sync_wire.specs.CanBeSent.{CanBeSent}
 use Rattle.directory_laws.proofs.Writing.{sent-effect}
 
@@ -19,7 +19,7 @@ identity-below history number = omega arith
 -- each of these writes was accepted in the entries that those before it left
 abbrev pub AllAccepted : List (List TypeAndValue) → ℕ → List Entry → ℕ → List Write → Type 0
 AllAccepted suffix history entries before writes =
-    (number : ℕ) (other : Write) → number < length writes → IsAccepted suffix (state_from history entries before (take number writes)) (get_or writes number other)
+    (number : ℕ) (other : Write) → number < length writes → IsAcceptedFromClient suffix (state_from history entries before (take number writes)) (get_or writes number other)
 
 sent-state_from : (writes : List Write) (suffix : List (List TypeAndValue)) (history : ℕ) (entries : List Entry) (before : ℕ) → All CanBeSent entries
     → AllAccepted suffix history entries before writes → All CanBeSent (state_from history entries before writes)
@@ -47,7 +47,7 @@ sent-state_of suffix history writes number accepted =
 
 -- accepted writes and one more that is accepted are accepted writes
 pub WereAccepted-push : (suffix : List (List TypeAndValue)) (history : ℕ) (writes : List Write) (write : Write) → WereAccepted suffix history writes
-    → IsAccepted suffix (state_of history writes (length writes)) write → WereAccepted suffix history (writes ++ write ∷ [])
+    → IsAcceptedFromClient suffix (state_of history writes (length writes)) write → WereAccepted suffix history (writes ++ write ∷ [])
 WereAccepted-push suffix history writes write accepted last number other low =
     elim (cases_lt number (length writes)) [
       | inl earlier ↦
@@ -62,6 +62,6 @@ WereAccepted-push suffix history writes write accepted last number other low =
 -- the first of accepted writes were accepted
 pub WereAccepted-prefix : (suffix : List (List TypeAndValue)) (history : ℕ) (writes more : List Write) → WereAccepted suffix history (writes ++ more) → WereAccepted suffix history writes
 WereAccepted-prefix suffix history writes more accepted number other low =
-    subst (IsAccepted suffix (state_of history writes number)) (get_or_append_left writes more other number low)
-    (subst (λ before. IsAccepted suffix (state_from history [] 0 before) (get_or (writes ++ more) number other)) (take-append-le number writes more (omega (arith, low)))
+    subst (IsAcceptedFromClient suffix (state_of history writes number)) (get_or_append_left writes more other number low)
+    (subst (λ before. IsAcceptedFromClient suffix (state_from history [] 0 before) (get_or (writes ++ more) number other)) (take-append-le number writes more (omega (arith, low)))
     (accepted number other (omega (arith, low, length-append writes more))))

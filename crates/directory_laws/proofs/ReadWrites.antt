@@ -21,35 +21,35 @@ use Rattle.directory_laws.proofs.ReadNames.{name_of_text-sound, rdn_of_text-soun
 use Rattle.directory_laws.proofs.Results.{value_is}
 
 -- what a reading gives has the fact, if it gives anything
-abbrev Gives : {A : Type 0} → (A → Type 0) → Result A ℕ → Type 0
-Gives {A} P read = (a : A) → read ≡ Ok a → P a
+abbrev GivesSuch : {A : Type 0} → (A → Type 0) → Result A ℕ → Type 0
+GivesSuch {A} P read = (a : A) → read ≡ Ok a → P a
 
 -- the second step gives what has the fact, where the first gave something that has another
-gives-and_then : {A B : Type 0} (P : A → Type 0) (Q : B → Type 0) (read : Result A ℕ) (next : A → Result B ℕ) → Gives P read → ((a : A) → P a → Gives Q (next a)) → Gives Q (and_then read next)
+gives-and_then : {A B : Type 0} (P : A → Type 0) (Q : B → Type 0) (read : Result A ℕ) (next : A → Result B ℕ) → GivesSuch P read → ((a : A) → P a → GivesSuch Q (next a)) → GivesSuch Q (and_then read next)
 gives-and_then P Q (Ok a) next first second b same = second a (first a refl) b same
 gives-and_then P Q (Err code) next first second b same = absurd (cc)
 
 -- a reading that gives this gives what has the fact
-gives-this : {A : Type 0} (P : A → Type 0) (a : A) → P a → Gives P (Ok a)
+gives-this : {A : Type 0} (P : A → Type 0) (a : A) → P a → GivesSuch P (Ok a)
 gives-this P a fact b same = subst P (value_is a b same) fact
 
-gives-or_invalid_dn_syntax : {A : Type 0} (P : A → Type 0) (read : Result A NameFault) → ((a : A) → read ≡ Ok a → P a) → Gives P (or_invalid_dn_syntax read)
+gives-or_invalid_dn_syntax : {A : Type 0} (P : A → Type 0) (read : Result A NameFault) → ((a : A) → read ≡ Ok a → P a) → GivesSuch P (or_invalid_dn_syntax read)
 gives-or_invalid_dn_syntax {A} P (Ok a) first b same = gives-this P a (first a refl) b same
 gives-or_invalid_dn_syntax P (Err fault) first b same = absurd (cc)
 
-gives-name : (text : List ℕ) → Gives IsName (read_name text)
+gives-name : (text : List ℕ) → GivesSuch IsName (read_name text)
 gives-name text = gives-or_invalid_dn_syntax IsName (name_of_text text) (name_of_text-sound text)
 
 abbrev IsRdn : List TypeAndValue → Type 0
 IsRdn rdn = is_rdn rdn ≡ true
 
-gives-rdn : (text : List ℕ) → Gives IsRdn (read_rdn text)
+gives-rdn : (text : List ℕ) → GivesSuch IsRdn (read_rdn text)
 gives-rdn text = gives-or_invalid_dn_syntax IsRdn (rdn_of_text text) (rdn_of_text-sound text)
 
 abbrev IsAbove : Option (List (List TypeAndValue)) → Type 0
 IsAbove superior = IfSome superior IsName
 
-gives-superior : (text : Option (List ℕ)) → Gives IsAbove (read_superior text)
+gives-superior : (text : Option (List ℕ)) → GivesSuch IsAbove (read_superior text)
 gives-superior None = gives-this IsAbove None tt
 gives-superior (Some text) = gives-and_then IsName IsAbove (read_name text) (λ name. Ok (Some name)) (gives-name text) (λ name is. gives-this IsAbove (Some name) is)
 

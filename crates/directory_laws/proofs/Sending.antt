@@ -13,7 +13,7 @@ use Rattle.dn_names.proofs.Equality.{found_type}
 use Rattle.dn_names.proofs.Rereading.{name_read_again}
 use Rattle.entry_tree.specs.declared.entry.Entry.{Entry}
 use Rattle.sync_wire.specs.CanBeSent.{CanBeSent}
-use Rattle.directory_laws.specs.Reading.{IsReadable, IsReadAgain}
+use Rattle.directory_laws.specs.Reading.{IsReadable, EntryIsReadAgain}
 
 found : (kind : ℕ) (values : List (List ℕ)) → values ≢ [] → list_all (is_of_syntax kind) values ≡ true → type_named (type_name kind) ≡ Some kind
 found kind [] some syntax = absurd (some refl)
@@ -41,7 +41,7 @@ readable a some given =
     }
 
 -- an entry that can be sent is read again as it was
-pub IsReadAgain-sent : (e : Entry) → CanBeSent e → IsReadAgain e
+pub IsReadAgain-sent : (e : Entry) → CanBeSent e → EntryIsReadAgain e
 IsReadAgain-sent e sent = record {
   name = name_read_again e.dn sent.name;
   is_csn = csn_of_text-csn_text e.csn sent.is_csn;

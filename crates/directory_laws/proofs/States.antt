@@ -13,9 +13,9 @@ use Rattle.entry_tree.specs.Effects.{effect}
 use Rattle.entry_tree.specs.History.{identity, state_from, state_of}
 use Rattle.entry_tree.specs.State.{ascends, is_named, entry_named}
 use Rattle.entry_tree.proofs.Identities.{above}
-use Rattle.sync_model.specs.Law.{IsWithin}
+use Rattle.sync_model.specs.Law.{IsWithinLimits}
 use Rattle.sync_model.specs.Within.{same_named}
-use Rattle.directory_laws.specs.Accepted.{IsAccepted, WereAccepted}
+use Rattle.directory_laws.specs.Accepted.{IsAcceptedFromClient, WereAccepted}
 use Rattle.directory_laws.proofs.Histories.{AllAccepted, accepted-take}
 use Rattle.directory_laws.proofs.Members.{in_found, above_in}
 use Rattle.directory_laws.proofs.Numbers.{IsNumbered, IsNumbered-later, IsNumbered-next, IsNumbered-new, each_effect}
@@ -31,7 +31,7 @@ unfolding state_from
 small-state_from [] suffix history entries before small accepted = small
 small-state_from (write ∷ writes) suffix history entries before small accepted =
     let uuid = identity history (before + 1) in
-    let first : IsAccepted suffix entries write = accepted 0 write (omega arith) in
+    let first : IsAcceptedFromClient suffix entries write = accepted 0 write (omega arith) in
     small-state_from writes suffix history (effect entries write.op uuid write.csn) (before + 1) (small-effect write.op suffix entries uuid write.csn small first.formed first.free)
     (λ number other low. accepted (suc number) other (omega arith))
 
@@ -51,7 +51,7 @@ unfolding state_from
 tree-state_from [] suffix history entries before tree numbered accepted few = tree
 tree-state_from (write ∷ writes) suffix history entries before tree numbered accepted few =
     let uuid = identity history (before + 1) in
-    let first : IsAccepted suffix entries write = accepted 0 write (omega arith) in
+    let first : IsAcceptedFromClient suffix entries write = accepted 0 write (omega arith) in
     tree-state_from writes suffix history (effect entries write.op uuid write.csn) (before + 1)
     (tree-effect write.op suffix entries uuid write.csn first.formed first.free (λ other member. IsNumbered-new history before other.uuid (numbered other member) (omega (arith, few))) tree)
     (each_effect (IsNumbered history (before + 1)) write.op entries uuid write.csn first.formed (IsNumbered-next history before)
@@ -81,9 +81,9 @@ same_named-none (e ∷ entries) asc apart =
         absurd (omega (arith, far, same))
 
 -- each state keeps within the limits
-pub IsWithin-state_of : (suffix : List (List TypeAndValue)) (history : ℕ) (writes : List Write) → WereAccepted suffix history writes → length writes ≤ 2 ^ 62 → (number : ℕ)
-    → IsWithin (state_of history writes number)
-IsWithin-state_of suffix history writes accepted few number =
+pub IsWithinLimits-state_of : (suffix : List (List TypeAndValue)) (history : ℕ) (writes : List Write) → WereAccepted suffix history writes → length writes ≤ 2 ^ 62 → (number : ℕ)
+    → IsWithinLimits (state_of history writes number)
+IsWithinLimits-state_of suffix history writes accepted few number =
     let small = small-state_of suffix history writes number accepted in
     let tree = tree-state_of suffix history writes number accepted few in
     record {

@@ -18,7 +18,7 @@ use Rattle.entry_tree.specs.Effects.{edited, modified, effect}
 use Rattle.entry_tree.specs.Sound.{is_sound_edit, is_sound_op}
 use Rattle.entry_tree.specs.State.{put, is_identified, is_named, entry_named}
 use Rattle.entry_tree.proofs.AttributeLists.{IsAttributeList-after_edits}
-use Rattle.directory_laws.specs.Accepted.{IsWellFormed, IsAccepted}
+use Rattle.directory_laws.specs.Accepted.{IsWellFormed, IsAcceptedFromClient}
 use Rattle.sync_wire.specs.CanBeSent.{CanBeSent}
 use Rattle.directory_laws.proofs.Codes.{light-added, light-edited}
 use Rattle.directory_laws.proofs.Given.{given-after_edits}
@@ -91,7 +91,7 @@ sent-op (Rename name rdn deletes superior) suffix entries uuid csn sound formed 
 sent-op (Commit puts drops) suffix entries uuid csn sound formed asked is_csn none below = absurd formed
 
 -- entries can be sent after an accepted write
-pub sent-effect : (suffix : List (List TypeAndValue)) (entries : List Entry) (write : Write) (uuid : ℕ) → All CanBeSent entries → IsAccepted suffix entries write
+pub sent-effect : (suffix : List (List TypeAndValue)) (entries : List Entry) (write : Write) (uuid : ℕ) → All CanBeSent entries → IsAcceptedFromClient suffix entries write
     → uuid < 2 ^ 128 → All CanBeSent (effect entries write.op uuid write.csn)
 sent-effect suffix entries write uuid sound accepted below =
     sent-op write.op suffix entries uuid write.csn sound accepted.formed accepted.sound accepted.is_csn accepted.free below

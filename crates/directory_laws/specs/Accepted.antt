@@ -22,7 +22,7 @@ IsWellFormed (Rename name rdn deletes superior) = (is_rdn rdn ≡ true) × IfSom
 IsWellFormed (Commit puts drops) = ⊥
 
 -- a client may ask for the write, its CSN is in range, and nothing rejects it in these entries
-pub record IsAccepted
+pub record IsAcceptedFromClient
     (suffix : List (List TypeAndValue)) (entries : List Entry) (write : Write) : Type 0 where
   pub formed : IsWellFormed write.op
   pub sound : is_sound_op write.op ≡ true
@@ -33,4 +33,4 @@ pub record IsAccepted
 abbrev pub WereAccepted : List (List TypeAndValue) → ℕ → List Write → Type 0
 WereAccepted suffix history writes =
     (number : ℕ) (other : Write) → number < length writes
-    → IsAccepted suffix (state_of history writes number) (get_or writes number other)
+    → IsAcceptedFromClient suffix (state_of history writes number) (get_or writes number other)

@@ -13,10 +13,10 @@ use Rattle.entry_tree.specs.History.{state_of}
 use Rattle.entry_tree.specs.Reading.{read_change}
 use Rattle.entry_tree.specs.Sound.{is_sound_op}
 use Rattle.entry_tree.specs.State.{total_weight, most_entries, most_weight}
-use Rattle.sync_model.specs.Law.{IsWithin}
-use Rattle.directory_laws.specs.Accepted.{IsWellFormed, IsAccepted, WereAccepted}
+use Rattle.sync_model.specs.Law.{IsWithinLimits}
+use Rattle.directory_laws.specs.Accepted.{IsWellFormed, IsAcceptedFromClient, WereAccepted}
 use Rattle.sync_wire.specs.CanBeSent.{CanBeSent}
-use Rattle.directory_laws.specs.Reading.{IsReadAgain}
+use Rattle.directory_laws.specs.Reading.{EntryIsReadAgain}
 
 -- each entry after the first n writes can be sent
 abbrev pub EntriesCanBeSent : Type 0
@@ -30,19 +30,19 @@ abbrev pub WritesKeepEntries : Type 0
 WritesKeepEntries =
     (suffix : List (List TypeAndValue)) (entries : List Entry) (write : Write) (uuid : ℕ)
     → All CanBeSent entries
-    → IsAccepted suffix entries write → uuid < 2 ^ 128
+    → IsAcceptedFromClient suffix entries write → uuid < 2 ^ 128
     → All CanBeSent (effect entries write.op uuid write.csn)
 
 -- what can be sent is read again
 abbrev pub SentIsReadAgain : Type 0
-SentIsReadAgain = (e : Entry) → CanBeSent e → IsReadAgain e
+SentIsReadAgain = (e : Entry) → CanBeSent e → EntryIsReadAgain e
 
 -- one more write, which is accepted in the entries that the others left
 abbrev pub AcceptedWritesGrow : Type 0
 AcceptedWritesGrow =
     (suffix : List (List TypeAndValue)) (history : ℕ) (writes : List Write) (write : Write)
     → WereAccepted suffix history writes
-    → IsAccepted suffix (state_of history writes (length writes)) write
+    → IsAcceptedFromClient suffix (state_of history writes (length writes)) write
     → WereAccepted suffix history (writes ++ write ∷ [])
 
 -- the first writes of a list that was accepted were accepted
@@ -71,7 +71,7 @@ abbrev pub StatesAreWithin : Type 0
 StatesAreWithin =
     (suffix : List (List TypeAndValue)) (history : ℕ) (writes : List Write)
     → WereAccepted suffix history writes → length writes ≤ most_identities
-    → (number : ℕ) → IsWithin (state_of history writes number)
+    → (number : ℕ) → IsWithinLimits (state_of history writes number)
 
 -- ---- what holds of each write
 

@@ -20,7 +20,7 @@ pub record IsReadable (a : Attribute) : Type 0 where
       type_rule a.kind ≡ Class → All (λ value. is_some (class_named value) ≡ true) a.values
 
 -- the name and the CSN are read from their texts, and no type stands twice
-pub record IsReadAgain (e : Entry) : Type 0 where
+pub record EntryIsReadAgain (e : Entry) : Type 0 where
   pub name : name_of_text (name_text e.dn) ≡ Ok e.dn
   pub is_csn : csn_of_text (csn_text e.csn) ≡ Some e.csn
   pub attributes : All IsReadable e.attrs

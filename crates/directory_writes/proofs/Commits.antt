@@ -1,11 +1,12 @@
 -- What a commit that has nothing against it gets, and that other writes fit.
 use Rattle.std.proofs.Common.{◌≡◌, ℕ, ◌+◌, ◌-◌, ◌^◌, ◌<◌, ◌≤◌, min, Bool, true, false, cond, List, length, Option, Some, None, refl, ap, sym, ◌∙◌, arith, subst}
-use Rattle.std.specs.Prelude.{not, ◌&&◌, ◌||◌, nat_lt, nat_le, is_none, option_map, Result, Ok, Err, IfErr}
+use Rattle.std.specs.Prelude.{not, ◌&&◌, ◌||◌, nat_lt, nat_le, is_none, is_some, option_map, Ok, Err}
 use Rattle.std.specs.List.{list_all}
 use Rattle.std.specs.Option.{option_or}
-use Rattle.std.proofs.lemmas.Bool.{false≢true, leb-false, ltb-false, lt-ltb, le-ltb, le-leb}
+use Rattle.std.proofs.Math.Bool.{and-false}
+use Rattle.std.proofs.lemmas.Bool.{false≢true, leb-false, leb-true, ltb-false, ltb-true, lt-leb, lt-ltb, le-ltb, le-leb}
 use Rattle.std.proofs.lemmas.Bool.Decides.{nat_tests}
-use Rattle.ldap_constants.specs.declared.result_codes.TheConstants.{SUCCESS}
+use Rattle.ldap_constants.specs.declared.result_codes.TheConstants.{ADMIN_LIMIT_EXCEEDED, SUCCESS}
 use Rattle.csn_cookie.specs.Csn.{CsnValue}
 use Rattle.csn_cookie.specs.CsnMaker.{greatest_count}
 use Rattle.entry_tree.specs.Effects.{committed}
@@ -22,8 +23,8 @@ use Rattle.entry_tree.specs.declared.entry.Entry.{Entry}
 use Rattle.entry_tree.specs.declared.op.Op.{Op}
 use Rattle.entry_tree.specs.declared.op.Op.TheVariants.{Add, Delete, Modify, Rename, Commit}
 use Rattle.entry_tree.specs.declared.op.Write.{Write}
-use Rattle.directory_writes.specs.Commits.{held_refusal, log_refusal, commit_refusal, Opposes}
-use Rattle.directory_writes.specs.Directory.{DirectoryState, entries_of, csn_of_next_write, has_room, most_writes, most_writes_weight, judged, write_code, code_of_judged, IsPlanned}
+use Rattle.directory_writes.specs.Commits.{held_refusal, log_refusal, commit_refusal, Rejects}
+use Rattle.directory_writes.specs.Directory.{DirectoryState, entries_of, csn_of_next_write, has_room, most_writes, most_writes_weight, judged, judged_at, write_code, code_of_judged, IsPlanned}
 use Rattle.directory_writes.specs.Weights.{op_weight, kept_weight}
 use Rattle.directory_writes.specs.declared.commit.DirectoryFault.{DirectoryFault}
 use Rattle.directory_writes.specs.declared.commit.DirectoryFault.TheVariants.{LimitReached, DuplicateName, NoMemory}
@@ -63,6 +64,13 @@ room_left : (writes weight : ℕ) → nat_le most_writes writes ≡ false → na
     → (nat_lt writes most_writes && nat_le weight most_writes_weight) ≡ true
 room_left writes weight few light =
     (λ i. lt-ltb writes most_writes (leb-false most_writes writes few) i && le-leb weight most_writes_weight (ltb-false most_writes_weight weight light) i)
+
+no_place : (writes weight : ℕ) → nat_le most_writes writes ≡ true → (nat_lt writes most_writes && nat_le weight most_writes_weight) ≡ false
+no_place writes weight many = ap (λ b. b && nat_le weight most_writes_weight) (le-ltb writes most_writes (leb-true most_writes writes many))
+
+no_weight : (writes weight : ℕ) → nat_lt most_writes_weight weight ≡ true → (nat_lt writes most_writes && nat_le weight most_writes_weight) ≡ false
+no_weight writes weight heavy =
+    ap (λ b. nat_lt writes most_writes && b) (lt-leb weight most_writes_weight (ltb-true most_writes_weight weight heavy)) ∙ and-false (nat_lt writes most_writes)
 
 -- a commit that is not refused gets a CSN and the code 0
 pub commit_open : (d : DirectoryState) (puts : List Entry) (drops : List ℕ) (now : ℕ) → commit_refusal d puts drops now ≡ None → IsOpen d puts drops now
@@ -110,7 +118,7 @@ of_refusal (refusals.SameName one other) = DuplicateName one other
 of_refusal refusals.NoMemory = NoMemory
 
 -- what a tree has against the entries is what rejects them here
-pub held_opposed : (entries : List Entry) (refusal : CommitRefusal) → fitting.Opposes entries refusal → Opposes (held_refusal entries) (of_refusal refusal)
+pub held_opposed : (entries : List Entry) (refusal : CommitRefusal) → fitting.Opposes entries refusal → Rejects (held_refusal entries) (of_refusal refusal)
 held_opposed entries = by
   where
     heavy_only : (length entries ≤ most_entries) → most_weight < total_weight entries → held_refusal entries ≡ Some (LimitReached most_weight)
@@ -125,7 +133,7 @@ held_opposed entries = by
     named false true same one other h is = absurd (false≢true (sym h))
     named false false same one other h is = ap (option_map (λ pair. DuplicateName pair.0 pair.1)) is
 
-    by : (given : CommitRefusal) → fitting.Opposes entries given → Opposes (held_refusal entries) (of_refusal given)
+    by : (given : CommitRefusal) → fitting.Opposes entries given → Rejects (held_refusal entries) (of_refusal given)
     by refusals.TooMany many =
         ap (λ b. cond b (Some (LimitReached most_entries)) (cond (nat_lt most_weight (total_weight entries)) (Some (LimitReached most_weight)) (option_map (λ pair. DuplicateName pair.0 pair.1) (same_named entries))))
         (lt-ltb most_entries (length entries) many)
@@ -146,19 +154,13 @@ log_capped d weight capped now is =
     (ap (λ w. nat_lt most_writes_weight (kept_weight d.writes + w)) is ∙ capped_heavy (kept_weight d.writes) weight)
 
 -- the first of two causes
-pub first_opposed : (first second : Option DirectoryFault) (fault : DirectoryFault) → Opposes first fault → Opposes (option_or first second) fault
+pub first_opposed : (first second : Option DirectoryFault) (fault : DirectoryFault) → Rejects first fault → Rejects (option_or first second) fault
 first_opposed first second (LimitReached limit) is = ap (λ o. option_or o second) is
 first_opposed first second (DuplicateName one other) is = ap (λ o. option_or o second) is
 first_opposed first second NoMemory is = is
 
-pub second_opposed : (first second : Option DirectoryFault) (fault : DirectoryFault) → first ≡ None → Opposes second fault → Opposes (option_or first second) fault
-second_opposed first second fault none is = subst (λ o. Opposes (option_or o second) fault) (sym none) is
-
--- where the first gives no refusal, that of the second is the whole one
-pub second_of : {T : Type 0} (first second : Option DirectoryFault) (outcome : Result T DirectoryFault) → first ≡ None → IfErr outcome (Opposes second)
-    → IfErr outcome (Opposes (option_or first second))
-second_of first second (Ok x) none is = is
-second_of first second (Err fault) none is = second_opposed first second fault none is
+pub second_opposed : (first second : Option DirectoryFault) (fault : DirectoryFault) → first ≡ None → Rejects second fault → Rejects (option_or first second) fault
+second_opposed first second fault none is = subst (λ o. Rejects (option_or o second) fault) (sym none) is
 
 -- where neither gives a refusal there is none
 pub none_opposed : (first second : Option DirectoryFault) → first ≡ None → second ≡ None → option_or first second ≡ None
@@ -186,6 +188,45 @@ light_log d weight now = by (nat_le most_writes (length d.writes)) (nat_lt most_
     by true heavy spent h = let never : ⊥ = cc in absurd never
     by false true spent h = let never : ⊥ = cc in absurd never
     by false false spent h = refl
+
+-- ---- what is drawn
+
+-- an operation has room where nothing rejects one more write of its capped weight
+pub log_room : (d : DirectoryState) (op : Op) (weight now : ℕ) → weight ≡ min (op_weight op) (2 ^ 64 - 1) → log_refusal d weight now ≡ None → has_room d.writes op ≡ true
+log_room d op weight now capped free = by (nat_le most_writes (length d.writes)) refl (nat_lt most_writes_weight (kept_weight d.writes + op_weight op)) refl (is_none (csn_of_next_write d now)) (sym (log_capped d (op_weight op) weight now capped) ∙ free)
+  where
+    by : (full : Bool) → nat_le most_writes (length d.writes) ≡ full → (heavy : Bool) → nat_lt most_writes_weight (kept_weight d.writes + op_weight op) ≡ heavy → (spent : Bool)
+        → cond full (Some (LimitReached most_writes)) (cond heavy (Some (LimitReached most_writes_weight)) (cond spent (Some (LimitReached greatest_count)) None)) ≡ None → has_room d.writes op ≡ true
+    by true few heavy light spent h = let never : ⊥ = cc in absurd never
+    by false few true light spent h = let never : ⊥ = cc in absurd never
+    by false few false light spent h = room_left (length d.writes) (kept_weight d.writes + op_weight op) few light
+
+-- and its weight is not capped then
+pub log_weight : (d : DirectoryState) (op : Op) (weight now : ℕ) → weight ≡ min (op_weight op) (2 ^ 64 - 1) → log_refusal d weight now ≡ None → kept_weight d.writes + weight ≡ kept_weight d.writes + op_weight op
+log_weight d op weight now capped free =
+    let fits_in : kept_weight d.writes + weight ≤ most_writes_weight = ltb-false most_writes_weight (kept_weight d.writes + weight) (light_log d weight now free) in
+    omega (arith, capped, fits_in)
+
+-- it is rejected where something rejects that write
+pub log_full : (d : DirectoryState) (op : Op) (weight now : ℕ) → weight ≡ min (op_weight op) (2 ^ 64 - 1) → is_some (log_refusal d weight now) ≡ true → judged d op now ≡ Err ADMIN_LIMIT_EXCEEDED
+log_full d op weight now capped some =
+    by (nat_le most_writes (length d.writes)) refl (nat_lt most_writes_weight (kept_weight d.writes + op_weight op)) refl (csn_of_next_write d now)
+    (sym (ap is_some (log_capped d (op_weight op) weight now capped)) ∙ some)
+  where
+    shut : (room : Bool) → room ≡ false → (next : Option CsnValue) → cond room (judged_at d op next) (Err ADMIN_LIMIT_EXCEEDED) ≡ Err ADMIN_LIMIT_EXCEEDED
+    shut room none next = ap (λ b. cond b (judged_at d op next) (Err ADMIN_LIMIT_EXCEEDED)) none
+
+    spent : (room : Bool) → cond room (judged_at d op None) (Err ADMIN_LIMIT_EXCEEDED) ≡ Err ADMIN_LIMIT_EXCEEDED
+    spent true = refl
+    spent false = refl
+
+    by : (full : Bool) → nat_le most_writes (length d.writes) ≡ full → (heavy : Bool) → nat_lt most_writes_weight (kept_weight d.writes + op_weight op) ≡ heavy → (next : Option CsnValue)
+        → is_some (cond full (Some (LimitReached most_writes)) (cond heavy (Some (LimitReached most_writes_weight)) (cond (is_none next) (Some (LimitReached greatest_count)) None))) ≡ true
+        → cond (has_room d.writes op) (judged_at d op next) (Err ADMIN_LIMIT_EXCEEDED) ≡ Err ADMIN_LIMIT_EXCEEDED
+    by true many heavy light next h = shut (has_room d.writes op) (no_place (length d.writes) (kept_weight d.writes + op_weight op) many) next
+    by false few true heavy next h = shut (has_room d.writes op) (no_weight (length d.writes) (kept_weight d.writes + op_weight op) heavy) next
+    by false few false light None h = spent (has_room d.writes op)
+    by false few false light (Some csn) h = absurd (false≢true h)
 
 -- a commit of sound and light entries that nothing rejects is previewed so
 pub commit_planned : (d : DirectoryState) (puts : List Entry) (drops : List ℕ) (now : ℕ) (preview : Preview) (entries : List Entry) (weight : ℕ) → entries ≡ entries_of d

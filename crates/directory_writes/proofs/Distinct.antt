@@ -2,14 +2,9 @@
 use Rattle.std.proofs.Common.{◌≡◌, ◌≢◌, ◌<◌, ◌⊎◌, ℕ, Bool, true, false, cond, List, [], ◌∷◌, map, Option, Some, None, refl, ap, sym, ◌∙◌, inl, inr, subst}
 use Rattle.std.specs.Prelude.{⊤}
 use Rattle.std.specs.BTreeMap.{insert_entry, is_at}
-use Rattle.std.specs.Cmp.{nat_cmp_is}
 use Rattle.std.specs.Ordering.{nat_cmp, match_ordering}
-use Rattle.std.specs.declared.cmp.Ordering.TheVariants.{Greater}
 use Rattle.std.proofs.lemmas.Bool.{cases_order, false≢true}
-use Rattle.directory_writes.proofs.Keyed.{less_cmp, is_at-same, at-is, kept_at, closed_at, opened-other, closed-other, put_on, put_on-other}
-
-greater : (a b : ℕ) → b < a → nat_cmp a b ≡ Greater
-greater a b more = sym (nat_cmp_is a b Greater more)
+use Rattle.directory_writes.proofs.Keyed.{less_cmp, more_cmp, is_at-same, at-is, kept_at, closed_at, opened-other, closed-other, put_on, put_on-other}
 
 -- no two of these have one number
 abbrev pub AreDistinct : {X : Type 0} → List (ℕ × X) → Type 0
@@ -29,7 +24,7 @@ distinct-opened (e ∷ es) k s free apart = by (λ none. distinct-opened es k s 
         order (inr (inl less)) =
             subst (λ o. AreDistinct (match_ordering o ((k, s) ∷ e ∷ es) ((e.0, s) ∷ es) (e ∷ insert_entry nat_cmp es k s))) (sym (less_cmp k e.0 less)) (none, apart)
         order (inr (inr more)) =
-            subst (λ o. AreDistinct (match_ordering o ((k, s) ∷ e ∷ es) ((e.0, s) ∷ es) (e ∷ insert_entry nat_cmp es k s))) (sym (greater k e.0 more))
+            subst (λ o. AreDistinct (match_ordering o ((k, s) ∷ e ∷ es) ((e.0, s) ∷ es) (e ∷ insert_entry nat_cmp es k s))) (sym (more_cmp k e.0 more))
             (opened-other es k e.0 s (λ same. far (sym same)) ∙ apart.0, rest)
 
     by : (kept_at es k ≡ None → AreDistinct (insert_entry nat_cmp es k s)) → (b : Bool) → is_at (nat_cmp k) e.0 ≡ b → cond b (Some e.1) (kept_at es k) ≡ None → AreDistinct (insert_entry nat_cmp (e ∷ es) k s)
@@ -81,10 +76,6 @@ kept-changed change (e ∷ es) k = by (kept-changed change es k) (is_at (nat_cmp
         → cond b (Some (change e.1)) (kept_at (each_changed change es) k) ≡ changed_found change (cond b (Some e.1) (kept_at es k))
     by rest true = refl
     by rest false = rest
-
--- what is at a number is changed where all are changed
-pub changed-at : {X : Type 0} (change : X → X) (es : List (ℕ × X)) (k : ℕ) (x : X) → kept_at es k ≡ Some x → kept_at (each_changed change es) k ≡ Some (change x)
-changed-at change es k x found = kept-changed change es k ∙ ap (changed_found change) found
 
 -- what is at a number after all were changed was there before
 pub changed-was : {X : Type 0} (change : X → X) (es : List (ℕ × X)) (k : ℕ) (y : X) → kept_at (each_changed change es) k ≡ Some y → (x : X) × (kept_at es k ≡ Some x)

@@ -18,6 +18,7 @@ less_cmp a b h = sym (nat_cmp_is a b Less h)
 pub same_cmp : (a b : ℕ) → a ≡ b → nat_cmp a b ≡ Equal
 same_cmp a b h = sym (nat_cmp_is a b Equal h)
 
+-- a greater number compares as greater
 pub more_cmp : (a b : ℕ) → b < a → nat_cmp a b ≡ Greater
 more_cmp a b h = sym (nat_cmp_is a b Greater h)
 
@@ -25,6 +26,7 @@ more_cmp a b h = sym (nat_cmp_is a b Greater h)
 pub is_at-same : (a b : ℕ) → a ≡ b → is_at (nat_cmp a) b ≡ true
 is_at-same a b h = ap is_eq (same_cmp a b h)
 
+-- another number is at another key
 pub is_at-other : (a b : ℕ) → a ≢ b → is_at (nat_cmp a) b ≡ false
 is_at-other a b h = by (cases_order a b)
   where

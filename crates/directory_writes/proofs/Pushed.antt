@@ -108,8 +108,6 @@ each-now old new (u ∷ us) = step (is_change (change_at old new u)) (each-now o
   step true rest = (refl, rest)
   step false rest = rest
 
--- ---- each entry has its number after one more write
-
 -- each entry has its number after one more write
 pub numbered-push : (history : ℕ) (writes : List Write) (w : Write) (old new : List Entry) (numbers later : Numbers)
     → old ≡ entries_after history writes → new ≡ entries_after history (writes ++ w ∷ [])

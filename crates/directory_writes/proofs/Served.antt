@@ -9,7 +9,7 @@ use Rattle.entry_tree.specs.State.{entry_at}
 use Rattle.session_log.specs.Log.{Log, covers, since}
 use Rattle.sync_model.specs.Stream.Start.{DeletePhase, PresentPhase}
 use Rattle.directory_writes.specs.Directory.{DirectoryState}
-use Rattle.directory_writes.specs.Starting.{IsServed}
+use Rattle.directory_writes.specs.Starting.{CanBegin}
 use Rattle.directory_writes.specs.Touches.{Numbers, last_touch, IsLogged, number_at, AreNumbered}
 use Rattle.directory_writes.proofs.Notified.{log-shows}
 
@@ -19,11 +19,11 @@ pub walk_since : (history : ℕ) (writes : List Write) (log : Log) (number : ℕ
 walk_since history writes log number is above = log-shows (state_of history writes) (length writes) log number is above
 
 -- a search whose cookie the log covers can be served
-pub covered : (d : DirectoryState) (number : ℕ) → number ≤ length d.writes → covers number d.log ≡ true → IsServed d (DeletePhase number)
+pub covered : (d : DirectoryState) (number : ℕ) → number ≤ length d.writes → covers number d.log ≡ true → CanBegin d (DeletePhase number)
 covered d number low covers_it = (leb-true d.log.floor number covers_it, low)
 
 -- a search whose cookie the log does not cover can be served
-pub uncovered : (d : DirectoryState) (number : ℕ) → number ≤ length d.writes → IsServed d (PresentPhase number)
+pub uncovered : (d : DirectoryState) (number : ℕ) → number ≤ length d.writes → CanBegin d (PresentPhase number)
 uncovered d number low = low
 
 -- an entry that there is has its number

@@ -1,23 +1,23 @@
 -- What one more write makes of the parts that are kept beside the writes, and what later writes leave of an earlier state.
-use Rattle.std.proofs.Common.{◌≡◌, ◌<◌, ◌+◌, ◌-◌, ◌^◌, min, ℕ, List, [], ◌∷◌, ◌++◌, length, take, refl, ap, sym, ◌∙◌, arith, subst}
-use Rattle.std.specs.Prelude.{◌≤◌, ◌&&◌, nat_lt, nat_le, true, cond, Option, Some, None, Result, Ok, Err}
+use Rattle.std.proofs.Common.{◌≡◌, ◌<◌, ◌+◌, ◌-◌, ℕ, List, [], ◌∷◌, ◌++◌, length, take, refl, ap, sym, ◌∙◌, arith, subst, append-nil}
+use Rattle.std.specs.Prelude.{◌≤◌, nat_lt, nat_le, true, cond, Option, Some, None, Err}
 use Rattle.std.proofs.Math.Seq.{take-append_seam}
 use Rattle.std.proofs.lemmas.List.Sums.{sum_by-append}
 use Rattle.std.proofs.lemmas.Bool.{and_parts, leb-true}
-use Rattle.std.proofs.lemmas.Bool.Decides.{nat_tests}
-use Rattle.ldap_constants.specs.declared.result_codes.TheConstants.{SUCCESS, ADMIN_LIMIT_EXCEEDED, OTHER}
+use Rattle.ldap_constants.specs.declared.result_codes.TheConstants.{ADMIN_LIMIT_EXCEEDED}
 use Rattle.csn_cookie.specs.Csn.{CsnValue, start, is_before}
 use Rattle.dn_names.specs.Names.{TypeAndValue}
 use Rattle.entry_tree.specs.Codes.{code_of}
 use Rattle.entry_tree.specs.Effects.{effect}
 use Rattle.entry_tree.specs.History.{identity, state_from, state_of}
-use Rattle.entry_tree.specs.State.{entry_at}
+use Rattle.entry_tree.specs.State.{entry_at, ascends}
 use Rattle.entry_tree.specs.Touched.{touched, with_changes, CanBeMade}
 use Rattle.entry_tree.specs.declared.entry.Entry.{Entry}
 use Rattle.entry_tree.specs.declared.op.Op.{Op}
 use Rattle.entry_tree.specs.declared.op.Write.{Write}
 use Rattle.entry_tree.specs.declared.touched.EntryChange.{EntryChange}
-use Rattle.directory_writes.specs.Directory.{DirectoryState, entries_after, entries_of, last_csn, last_csn_of, csn_of_next_write, most_writes, most_writes_weight, has_room, judged_code, judged_at, judged, with_write, with_judged, written, code_of_judged, write_code, IsAccepted, IsPlanned, IsKept}
+use Rattle.sync_model.proofs.Histories.{ascends-state_of}
+use Rattle.directory_writes.specs.Directory.{DirectoryState, entries_after, entries_of, last_csn, last_csn_of, csn_of_next_write, most_writes, most_writes_weight, has_room, judged_code, judged_at, judged, with_write, IsAccepted, IsPlanned, IsKeptBeside}
 use Rattle.directory_writes.specs.Touches.{Numbers, uuids_of, noted_each, logged, all_notes, IsLogged, renewed, AreNumbered}
 use Rattle.directory_writes.specs.declared.preview.Preview.{Preview}
 use Rattle.directory_writes.specs.Weights.{op_weight, kept_weight}
@@ -65,10 +65,10 @@ no_numbers history entries numbers empty u e found = absurd (never (ap (λ es. e
 -- a directory without writes keeps its invariant
 pub kept_none : (suffix : List (List TypeAndValue)) (sid history : ℕ) (writes : List Write) (entries : List Entry) (last : CsnValue) (log : Log) (limit : ℕ) (numbers : Numbers)
     → writes ≡ [] → entries ≡ [] → last ≡ start sid → sid < 4096 → log ≡ fresh limit
-    → IsKept (record { suffix = suffix; sid = sid; history = history; writes = writes; log = log }) entries last 0 numbers
+    → IsKeptBeside (record { suffix = suffix; sid = sid; history = history; writes = writes; log = log }) entries last 0 numbers
 unfolding state_from
 kept_none suffix sid history writes entries last log limit numbers none empty first small new =
-    subst (λ all. IsKept (record { suffix = suffix; sid = sid; history = history; writes = all; log = log }) entries last 0 numbers) (sym none)
+    subst (λ all. IsKeptBeside (record { suffix = suffix; sid = sid; history = history; writes = all; log = log }) entries last 0 numbers) (sym none)
     (record {
       made = empty;
       stamped = first;
@@ -88,31 +88,16 @@ pub state_now : (d : DirectoryState) (whole more : List Write) → d.writes ++ m
 state_now d whole more is =
     ap (λ writes. entries_after d.history (take (length d.writes) writes)) (sym is) ∙ ap (entries_after d.history) (take-append_seam d.writes more)
 
+-- they ascend by identity
+pub ascends_now : (d : DirectoryState) → ascends (entries_of d) ≡ true
+ascends_now d = ap ascends (sym (state_now d d.writes [] (append-nil d.writes))) ∙ ascends-state_of d.history d.writes (length d.writes)
+
 -- the CSN of a longer history at the number of the kept writes is that of now
 pub csn_now : (d : DirectoryState) (whole more : List Write) → d.writes ++ more ≡ whole → last_csn (start d.sid) (take (length d.writes) whole) ≡ last_csn_of d
 csn_now d whole more is =
     ap (λ writes. last_csn (start d.sid) (take (length d.writes) writes)) (sym is) ∙ ap (last_csn (start d.sid)) (take-append_seam d.writes more)
 
 -- ---- what is kept within the limits
-
--- a weight that is capped at the greatest number has room where the weight has
-capped_room : (kept weight : ℕ) → nat_le (kept + min weight (2 ^ 64 - 1)) most_writes_weight ≡ nat_le (kept + weight) most_writes_weight
-capped_room kept weight = grind (arith, nat_tests)
-
--- room by count and capped weight is room for a write
-pub room_is : (writes : List Write) (op : Op) (weight : ℕ) → weight ≡ min (op_weight op) (2 ^ 64 - 1)
-    → (nat_lt (length writes) most_writes && nat_le (kept_weight writes + weight) most_writes_weight) ≡ has_room writes op
-room_is writes op weight capped =
-    ap (λ b. nat_lt (length writes) most_writes && b)
-    (ap (λ w. nat_le (kept_weight writes + w) most_writes_weight) capped ∙ capped_room (kept_weight writes) (op_weight op))
-
--- what the kept writes weigh with a write that there is room for, whose weight is capped
-pub total_is : (writes : List Write) (op : Op) (kept weight : ℕ) → kept ≡ kept_weight writes → weight ≡ min (op_weight op) (2 ^ 64 - 1)
-    → (nat_lt (length writes) most_writes && nat_le (kept_weight writes + weight) most_writes_weight) ≡ true → kept + weight ≡ kept_weight writes + op_weight op
-total_is writes op kept weight is capped within =
-    let parts = and_parts (nat_lt (length writes) most_writes) (nat_le (kept_weight writes + weight) most_writes_weight) within in
-    let light : kept_weight writes + weight ≤ most_writes_weight = leb-true (kept_weight writes + weight) most_writes_weight parts.1 in
-    omega (arith, is, capped, light)
 
 -- the kept writes weigh no more than their limit with a write that there is room for
 room_light : (writes : List Write) (op : Op) → has_room writes op ≡ true → kept_weight writes + op_weight op ≤ most_writes_weight
@@ -207,9 +192,9 @@ pub log_is : (d : DirectoryState) (entries after : List Entry) (numbers later : 
     → IsPushed d entries after numbers later log w → log ≡ (with_write d w).log
 log_is d entries after numbers later log w was push = push.notes ∙ (λ i. logged (length d.writes + 1) (was i) (push.leads i) d.log)
 
-kept_push : (d : DirectoryState) (entries after : List Entry) (last : CsnValue) (kept total : ℕ) (numbers later : Numbers) (log : Log) (w : Write) → IsKept d entries last kept numbers
+kept_push : (d : DirectoryState) (entries after : List Entry) (last : CsnValue) (kept total : ℕ) (numbers later : Numbers) (log : Log) (w : Write) → IsKeptBeside d entries last kept numbers
     → total ≡ kept_weight d.writes + op_weight w.op → has_room d.writes w.op ≡ true → is_before (last_csn_of d) w.csn ≡ true → IsPushed d entries after numbers later log w
-    → IsKept (record d { writes = d.writes ++ w ∷ []; log = log }) after w.csn total later
+    → IsKeptBeside (record d { writes = d.writes ++ w ∷ []; log = log }) after w.csn total later
 kept_push d entries after last kept total numbers later log w was weighs room before push =
     let light : kept_weight d.writes + op_weight w.op ≤ most_writes_weight = room_light d.writes w.op room in
     record {
@@ -226,18 +211,18 @@ kept_push d entries after last kept total numbers later log w was weighs room be
 
 -- a directory keeps its invariant after a write that was previewed
 pub kept_after : (d : DirectoryState) (op : Op) (preview : Preview) (entries after : List Entry) (last drawn : CsnValue) (kept : ℕ) (numbers later : Numbers) (log : Log) (writes : List Write)
-    → IsKept d entries last kept numbers → IsPlanned d op preview → drawn ≡ preview.csn → IsPut d op preview entries after numbers later log writes
-    → IsKept (record d { writes = writes; log = log }) after drawn preview.weight later
+    → IsKeptBeside d entries last kept numbers → IsPlanned d op preview → drawn ≡ preview.csn → IsPut d op preview entries after numbers later log writes
+    → IsKeptBeside (record d { writes = writes; log = log }) after drawn preview.weight later
 kept_after d op preview entries after last drawn kept numbers later log writes was plan is put =
     let w : Write = record { csn = preview.csn; op = op } in
     let push = planned_push d op preview entries after numbers later log writes was.made plan put in
-    subst (λ ws. IsKept (record d { writes = ws; log = log }) after drawn preview.weight later) (sym put.last)
-    (subst (λ s. IsKept (record d { writes = d.writes ++ w ∷ []; log = log }) after s preview.weight later) (sym is)
+    subst (λ ws. IsKeptBeside (record d { writes = ws; log = log }) after drawn preview.weight later) (sym put.last)
+    (subst (λ s. IsKeptBeside (record d { writes = d.writes ++ w ∷ []; log = log }) after s preview.weight later) (sym is)
     (kept_push d entries after last kept preview.weight numbers later log w was plan.weighed plan.room plan.later push))
 
 -- what is kept beside another log and other numbers of the same writes
-kept_with : (d : DirectoryState) (entries : List Entry) (last : CsnValue) (kept : ℕ) (numbers later : Numbers) (log : Log) → IsKept d entries last kept numbers
-    → IsLogged d.history d.writes log → AreNumbered d.history d.writes entries later → IsKept (record d { log = log }) entries last kept later
+kept_with : (d : DirectoryState) (entries : List Entry) (last : CsnValue) (kept : ℕ) (numbers later : Numbers) (log : Log) → IsKeptBeside d entries last kept numbers
+    → IsLogged d.history d.writes log → AreNumbered d.history d.writes entries later → IsKeptBeside (record d { log = log }) entries last kept later
 kept_with d entries last kept numbers later log was logged touched = record {
   made = was.made;
   stamped = was.stamped;
@@ -251,18 +236,18 @@ kept_with d entries last kept numbers later log was logged touched = record {
 }
 
 -- a write that is refused leaves what is kept
-pub kept_refused : (d : DirectoryState) (entries after : List Entry) (last : CsnValue) (kept : ℕ) (numbers later : Numbers) (log : Log) (writes : List Write) → IsKept d entries last kept numbers
-    → after ≡ entries → log ≡ d.log → later ≡ numbers → writes ≡ d.writes → IsKept (record d { writes = writes; log = log }) after last kept later
+pub kept_refused : (d : DirectoryState) (entries after : List Entry) (last : CsnValue) (kept : ℕ) (numbers later : Numbers) (log : Log) (writes : List Write) → IsKeptBeside d entries last kept numbers
+    → after ≡ entries → log ≡ d.log → later ≡ numbers → writes ≡ d.writes → IsKeptBeside (record d { writes = writes; log = log }) after last kept later
 kept_refused d entries after last kept numbers later log writes was same is keeps all =
-    subst (λ ws. IsKept (record d { writes = ws; log = log }) after last kept later) (sym all)
-    (subst (λ es. IsKept (record d { log = log }) es last kept later) (sym same)
+    subst (λ ws. IsKeptBeside (record d { writes = ws; log = log }) after last kept later) (sym all)
+    (subst (λ es. IsKeptBeside (record d { log = log }) es last kept later) (sym same)
     (kept_with d entries last kept numbers later log was (subst (IsLogged d.history d.writes) (sym is) was.logged) (subst (AreNumbered d.history d.writes entries) (sym keeps) was.touched)))
 
 -- a log that is trimmed keeps what it is the rest of
-pub kept_trimmed : (d : DirectoryState) (entries after : List Entry) (last : CsnValue) (kept : ℕ) (numbers later : Numbers) (log : Log) (limit : ℕ) → IsKept d entries last kept numbers
-    → after ≡ entries → log ≡ trimmed limit d.log → later ≡ numbers → IsKept (record d { log = log }) after last kept later
+pub kept_trimmed : (d : DirectoryState) (entries after : List Entry) (last : CsnValue) (kept : ℕ) (numbers later : Numbers) (log : Log) (limit : ℕ) → IsKeptBeside d entries last kept numbers
+    → after ≡ entries → log ≡ trimmed limit d.log → later ≡ numbers → IsKeptBeside (record d { log = log }) after last kept later
 kept_trimmed d entries after last kept numbers later log limit was left is same =
-    subst (λ es. IsKept (record d { log = log }) es last kept later) (sym left)
+    subst (λ es. IsKeptBeside (record d { log = log }) es last kept later) (sym left)
     (kept_with d entries last kept numbers later log was
     (subst (IsLogged d.history d.writes) (sym is) (IsLogOf-trimmed (all_notes (state_of d.history d.writes) (length d.writes)) d.log limit was.logged))
     (subst (AreNumbered d.history d.writes entries) (sym same) was.touched))
@@ -274,14 +259,3 @@ put_is d op preview entries after numbers later log writes was plan put =
     let w : Write = record { csn = preview.csn; op = op } in
     let push = planned_push d op preview entries after numbers later log writes was plan put in
     λ i. record d { writes = put.last i; log = log_is d entries after numbers later log w was push i }
-
--- out of memory, which other reports, is no code of a write, so what has it leaves the directory
-pub unwritten : (d : DirectoryState) (op : Op) (now : ℕ) → write_code d op now ≡ OTHER → written d op now ≡ d
-unwritten d op now = by (judged d op now)
-  where
-    by : (outcome : Result Write ℕ) → code_of_judged outcome ≡ OTHER → with_judged d outcome ≡ d
-    by (Ok write) h = absurd (far h)
-      where
-        far : ◌≡◌ {A = ℕ} SUCCESS OTHER → ⊥
-        far e = omega (arith, e)
-    by (Err code) h = refl

@@ -29,15 +29,15 @@ log_refusal d weight now =
     else if is_none (csn_of_next_write d now) then Some (LimitReached greatest_count)
     else None
 
--- what rejects a commit to the directory: first what rejects one more write, then what is
--- against the entries after it
+-- what rejects a commit to the directory: first what rejects one more write, then what
+-- rejects the entries after it
 abbrev pub commit_refusal : DirectoryState → List Entry → List ℕ → ℕ → Option DirectoryFault
 commit_refusal d puts drops now =
     option_or (log_refusal d (op_weight (Commit puts drops)) now)
     (held_refusal (committed (entries_of d) puts drops))
 
 -- a fault reports what rejects a commit; out of memory reports nothing
-abbrev pub Opposes : Option DirectoryFault → DirectoryFault → Type 0
-Opposes refusal (LimitReached limit) = refusal ≡ Some (LimitReached limit)
-Opposes refusal (DuplicateName one other) = refusal ≡ Some (DuplicateName one other)
-Opposes refusal NoMemory = Unit {0}
+abbrev pub Rejects : Option DirectoryFault → DirectoryFault → Type 0
+Rejects refusal (LimitReached limit) = refusal ≡ Some (LimitReached limit)
+Rejects refusal (DuplicateName one other) = refusal ≡ Some (DuplicateName one other)
+Rejects refusal NoMemory = Unit {0}

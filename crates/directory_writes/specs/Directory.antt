@@ -183,7 +183,7 @@ CsnsRise sid writes = IsStrictlySortedBy csn_cmp (start sid ∷ csns writes)
 
 -- what holds of a directory's writes and its log, and of the parts that are kept beside them: the
 -- entries, the last CSN, the weight of the writes, and the number of each entry's last touch
-pub record IsKept
+pub record IsKeptBeside
     (d : DirectoryState) (entries : List Entry) (last : CsnValue)
     (weight : ℕ) (numbers : Numbers) : Type 0 where
   pub made : entries ≡ entries_of d

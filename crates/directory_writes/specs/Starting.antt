@@ -36,10 +36,10 @@ start_at d (Some number) = if covers number d.log then DeletePhase number else P
 
 -- a search can begin so: its number is not above that of the writes, and where the log is to report
 -- what was touched since, it does
-abbrev pub IsServed : DirectoryState → Start → Type 0
-IsServed d InitialContent = ⊤
-IsServed d (DeletePhase number) = (d.log.floor ≤ number) × (number ≤ length d.writes)
-IsServed d (PresentPhase number) = number ≤ length d.writes
+abbrev pub CanBegin : DirectoryState → Start → Type 0
+CanBegin d InitialContent = ⊤
+CanBegin d (DeletePhase number) = (d.log.floor ≤ number) × (number ≤ length d.writes)
+CanBegin d (PresentPhase number) = number ≤ length d.writes
 
 -- ---- how it is kept
 

@@ -89,6 +89,6 @@ pub record TouchState : Type 0 where
   pub numbers : Numbers
 
 -- entries, and what is known of which write touched which
-pub record HeldState : Type 0 where
+pub record EntriesState : Type 0 where
   pub entries : List Entry
   pub touches : TouchState

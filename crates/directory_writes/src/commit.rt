@@ -3,7 +3,7 @@
 ghost use Rattle.std.specs.Prelude.{◌≡◌, List};
 ghost use Rattle.entry_tree.specs.Fitting as fitting;
 ghost use Rattle.entry_tree.specs.declared.entry.Entry.{Entry};
-ghost use Rattle.directory_writes.specs.Commits.{held_refusal, Opposes};
+ghost use Rattle.directory_writes.specs.Commits.{held_refusal, Rejects};
 ghost use Rattle.directory_writes.specs.declared.commit.DirectoryFault.TheVariants.{NoMemory};
 
 use entry_tree::CommitRefusal;
@@ -19,7 +19,7 @@ const MOST_WEIGHT: u64 = 67_108_864;
 #[derive(Clone, Copy, Debug, PartialEq, Eq)]
 pub enum DirectoryFault {
     /// A limit would be passed: n writes are kept, so much the kept writes may weigh, so high
-    /// the counts of change numbers go, n entries there may be, or so much they may weigh.
+    /// the counts of CSNs go, n entries there may be, or so much they may weigh.
     LimitReached(u64),
     /// These two entries would have one name: the first whose name a later one has, and the first
     /// such.
@@ -38,7 +38,7 @@ impl From<AllocError> for DirectoryFault {
 /// The fault reports the same of the entries.
 impl From<CommitRefusal> for DirectoryFault {
     ghost from_gives = { λ given fault. (entries : List Entry)
-        → fitting.Opposes entries given → Opposes (held_refusal entries) fault };
+        → fitting.Opposes entries given → Rejects (held_refusal entries) fault };
 
     #[tactic(auto, using(crate::proofs::Commits::held_opposed))]
     fn from(refusal: CommitRefusal) -> DirectoryFault {

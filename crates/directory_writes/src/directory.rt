@@ -1,6 +1,6 @@
 //! A directory by its accepted writes.
 
-ghost use Rattle.std.specs.Prelude.{◌≡◌, ◌+◌, ◌<◌, ◌≤◌, ◌&&◌, nat_lt, nat_le, true, [], ◌∷◌, ◌++◌, length, is_some, None, Some, Ok, IfOk, IfErr, OnOk, OnErr, IfSome, IsTrue};
+ghost use Rattle.std.specs.Prelude.{◌≡◌, ◌+◌, ◌<◌, ◌≤◌, true, [], ◌∷◌, ◌++◌, length, is_some, None, Some, Ok, IfOk, IfErr, OnOk, OnErr, IfSome, IsTrue};
 ghost use Rattle.std.specs.List.{list_all};
 ghost use Rattle.std.specs.List.Sorted.{IsStrictlySortedBy};
 ghost use Rattle.std.specs.Ordering.{nat_cmp};
@@ -10,10 +10,10 @@ ghost use Rattle.entry_tree.specs.Fitting.{fits, is_light};
 ghost use Rattle.entry_tree.specs.State.{entry_at, same_named};
 ghost use Rattle.entry_tree.specs.Sound.{is_commit, is_sound_op, is_sound_put};
 ghost use Rattle.entry_tree.specs.Touched.{touched};
-ghost use Rattle.directory_writes.specs.Commits.{commit_refusal, log_refusal, Opposes};
+ghost use Rattle.directory_writes.specs.Commits.{commit_refusal, log_refusal, Rejects};
 ghost use Rattle.directory_writes.specs.Starting as starting;
 ghost use Rattle.directory_writes.specs.Directory as directory;
-ghost use Rattle.directory_writes.specs.Starting.{start_of, IsServed};
+ghost use Rattle.directory_writes.specs.Starting.{start_of, CanBegin};
 ghost use Rattle.directory_writes.specs.Touches.{last_touch};
 ghost use Rattle.directory_writes.specs.Weights as weights;
 ghost use Rattle.directory_writes.specs.Weights.{kept_weight};
@@ -28,7 +28,7 @@ use crate::weights::{commit_weight, op_weight};
 use csn_cookie::{Cookie, Csn, CsnMaker};
 use dn_names::Dn;
 use entry_tree::{Entry, Op, OpFault, Tree, Write};
-use ldap_ber::Octets;
+use ldap_ber::{Octets, discard};
 use ldap_constants::{ADMIN_LIMIT_EXCEEDED, SUCCESS};
 use std::alloc::{AllocError, Global};
 use std::marker::Model;
@@ -68,7 +68,7 @@ struct Drawn {
 }
 
 impl Model for Directory {
-    ghost use Rattle.directory_writes.specs.Directory.{DirectoryState, IsKept};
+    ghost use Rattle.directory_writes.specs.Directory.{DirectoryState, IsKeptBeside};
 
     ghost Value = { DirectoryState };
 
@@ -80,7 +80,7 @@ impl Model for Directory {
       log = d.held.touches.log;
     } };
 
-    ghost invariant = { λ d. IsKept
+    ghost invariant = { λ d. IsKeptBeside
         (record {
           suffix = d.suffix;
           sid = d.sid;
@@ -117,7 +117,7 @@ impl Directory {
         &self.suffix
     }
 
-    /// Gives the number that reports the cookies of this directory from those of another one.
+    /// Gives the number that distinguishes the cookies of this directory from those of another.
     pub fn history(&self) -> u128
         ensures { result ≡ self.now.history }
     {
@@ -163,7 +163,7 @@ impl Directory {
     }
 
     /// The identities of the entries that the writes after write `number` touched, ascending. The
-    /// session log reports them from its floor on.
+    /// session log reports them from its floor on. It is `NoMemory` where memory runs out.
     #[tactic(auto, using(crate::proofs::Served::walk_since))]
     pub fn touched_since(&self, number: u64) -> Result<Vec<u128>, NoMemory>
         requires { self.now.log.floor ≤ number }
@@ -216,7 +216,7 @@ impl Directory {
     pub fn start_at(&self, prefix: Option<u64>) -> Start
         requires { IfSome prefix (λ number. number ≤ length self.now.writes) }
         ensures value { start_of result ≡ starting.start_at self.now prefix }
-        ensures served { IsServed self.now (start_of result) }
+        ensures served { CanBegin self.now (start_of result) }
     {
         match prefix {
             None => Start::InitialContent,
@@ -239,7 +239,7 @@ impl Directory {
 
     /// Applies a write where the clock shows `now`, in microseconds from the first moment of 1970
     /// on, and answers its code. A write with another code than success leaves the directory as it
-    /// was.
+    /// was. It is `NoMemory` where memory runs out, and the directory is as before.
     #[tactic(auto, using(crate::proofs::Judged::written_good, crate::proofs::Judged::code_good, crate::proofs::Judged::refused_code, crate::proofs::Judged::refused_same))]
     pub fn write(&mut self, op: Op, now: u64) -> Result<u32, NoMemory>
         requires sound { is_sound_op op ≡ true }
@@ -261,7 +261,7 @@ impl Directory {
     }
 
     /// What `write` would do where the clock shows `now`, or the code that it would answer. The
-    /// directory is left as it is.
+    /// directory is left as it is. It is `Code` or `NoMemory`.
     pub fn preview(&self, op: &Op, now: u64) -> Result<Preview, OpFault>
         requires sound { is_sound_op op.now ≡ true }
         requires fits { fits (directory.entries_of self.now) op.now ≡ true }
@@ -308,7 +308,8 @@ impl Directory {
     }
 
     /// Whether a commit that puts these entries and drops these identities may be kept where the
-    /// clock shows `now`, or the first cause against it.
+    /// clock shows `now`, or the first cause against it. It is `LimitReached` with the limit,
+    /// `DuplicateName` with both identities, or `NoMemory`.
     pub fn check_commit(
         &self,
         puts: &[Entry],
@@ -316,7 +317,7 @@ impl Directory {
         now: u64,
     ) -> Result<(), DirectoryFault>
         ensures ok { OnOk result (commit_refusal self.now puts.now drops.now now ≡ None) }
-        ensures refused { IfErr result (Opposes (commit_refusal self.now puts.now drops.now now)) }
+        ensures refused { IfErr result (Rejects (commit_refusal self.now puts.now drops.now now)) }
     {
         let _ = self.judge_commit(puts, drops, now)?;
         Ok(())
@@ -339,13 +340,14 @@ impl Directory {
             ≡ Ok (record { csn = preview.csn; op = Op.Commit puts.now drops.now })) }
         ensures planned { IfOk result
             (directory.IsPlanned self.now (Op.Commit puts.now drops.now)) }
-        ensures refused { IfErr result (Opposes (commit_refusal self.now puts.now drops.now now)) }
+        ensures refused { IfErr result (Rejects (commit_refusal self.now puts.now drops.now now)) }
     {
         self.judge_commit(puts, drops, now)
     }
 
-    /// The same of any entries. The commit is judged by what it puts and drops where the write
-    /// before it is a commit, or it is the first write.
+    /// What `preview_commit` reports, of entries that need not be sound or light. The commit is
+    /// judged by what it puts and drops where the write before it is a commit, or it is the first
+    /// write.
     #[tactic(auto, using(crate::proofs::Commits::log_capped, crate::proofs::Commits::first_opposed))]
     fn judge_commit(
         &self,
@@ -360,7 +362,7 @@ impl Directory {
         ensures planned { IfOk result (λ preview.
             list_all is_sound_put puts.now ≡ true → list_all is_light puts.now ≡ true
             → directory.IsPlanned self.now (Op.Commit puts.now drops.now) preview) }
-        ensures refused { IfErr result (Opposes (commit_refusal self.now puts.now drops.now now)) }
+        ensures refused { IfErr result (Rejects (commit_refusal self.now puts.now drops.now now)) }
     {
         let weight = commit_weight(puts, drops);
         let drawn = self.draw_within(weight, now)?;
@@ -393,7 +395,8 @@ impl Directory {
         ensures maker { IfOk result (λ drawn. drawn.csn_maker ≡ drawn.csn) }
         ensures weight { IfOk result (λ drawn.
             drawn.weight ≡ kept_weight self.now.writes + weight) }
-        ensures refused { IfErr result (Opposes (log_refusal self.now weight now)) }
+        ensures refused { IfErr result (Rejects (log_refusal self.now weight now)) }
+        ensures full { OnErr result (is_some (log_refusal self.now weight now) ≡ true) }
     {
         if self.accepted.len() >= MOST_WRITES {
             return Err(DirectoryFault::LimitReached(MOST_WRITES as u64));
@@ -414,7 +417,6 @@ impl Directory {
 
     /// The change number that this operation would get, or adminLimitExceeded where it cannot be
     /// kept.
-    #[tactic(auto, using(crate::proofs::Writes::total_is))]
     fn draw(&self, op: &Op, now: u64) -> Result<Drawn, OpFault>
         ensures room { OnOk result (directory.has_room self.now.writes op.now ≡ true) }
         ensures value { IfOk result (λ drawn.
@@ -424,27 +426,10 @@ impl Directory {
             drawn.weight ≡ kept_weight self.now.writes + weights.op_weight op.now) }
         ensures refused { IfErr result (directory.Refuses (directory.judged self.now op.now now)) }
     {
-        let weight = op_weight(op);
-        if !self.has_room(weight) {
-            return Err(OpFault::Code(ADMIN_LIMIT_EXCEEDED));
-        }
-        let mut csn_maker = self.csn_maker.copy();
-        match csn_maker.next(now) {
-            Ok(csn) => Ok(Drawn {
-                csn,
-                csn_maker,
-                weight: self.weight + weight,
-            }),
+        match self.draw_within(op_weight(op), now) {
+            Ok(drawn) => Ok(drawn),
             Err(_) => Err(OpFault::Code(ADMIN_LIMIT_EXCEEDED)),
         }
-    }
-
-    /// Whether a write of this weight may be kept.
-    fn has_room(&self, weight: u64) -> bool
-        ensures { result ≡ (nat_lt (length self.now.writes) directory.most_writes
-            && nat_le (kept_weight self.now.writes + weight) directory.most_writes_weight) }
-    {
-        self.accepted.len() < MOST_WRITES && weight <= MOST_WRITES_WEIGHT - self.weight
     }
 }
 
@@ -457,9 +442,6 @@ fn is_commit(op: &Op) -> bool
         Op::Commit(_, _) => true,
     }
 }
-
-/// Drops a value.
-fn discard<T: Drop>(_value: T) {}
 
 /// The code that a fault reports.
 fn code_of(fault: OpFault) -> Result<u32, NoMemory>

@@ -5,7 +5,7 @@ ghost use Rattle.entry_tree.specs.Effects.{committed};
 ghost use Rattle.entry_tree.specs.State.{same_named};
 ghost use Rattle.entry_tree.specs.Touched.{with_changes, CanBeMade, IsPlan};
 ghost use Rattle.session_log.specs.Log.{fresh, trimmed};
-ghost use Rattle.directory_writes.specs.Commits.{held_refusal, Opposes};
+ghost use Rattle.directory_writes.specs.Commits.{held_refusal, Rejects};
 ghost use Rattle.directory_writes.specs.Touches.{noted_each, renewed, uuids_of};
 
 use crate::NoMemory;
@@ -23,9 +23,9 @@ pub(crate) struct Held {
 }
 
 impl Model for Held {
-    ghost use Rattle.directory_writes.specs.Touches.{HeldState};
+    ghost use Rattle.directory_writes.specs.Touches.{EntriesState};
 
-    ghost Value = { HeldState };
+    ghost Value = { EntriesState };
 
     ghost view = { λ h. record { entries = h.tree; touches = h.touches } };
 }
@@ -81,7 +81,7 @@ impl Held {
         ensures plan { IfOk result
             (IsPlan self.now.entries (committed self.now.entries puts.now drops.now)) }
         ensures refused { IfErr result
-            (Opposes (held_refusal (committed self.now.entries puts.now drops.now))) }
+            (Rejects (held_refusal (committed self.now.entries puts.now drops.now))) }
     {
         match self.tree.plan_commit(puts, drops, apart) {
             Ok(entry_changes) => Ok(entry_changes),

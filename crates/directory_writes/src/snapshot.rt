@@ -18,9 +18,9 @@ pub struct DirectorySnapshot {
 }
 
 impl Model for DirectorySnapshot {
-    ghost use Rattle.directory_writes.specs.Snapshot.{Snapshot};
+    ghost use Rattle.directory_writes.specs.Snapshot.{SnapshotState};
 
-    ghost Value = { Snapshot };
+    ghost Value = { SnapshotState };
 
     ghost view = { λ m. record {
       count = m.count;
@@ -33,7 +33,7 @@ impl Model for DirectorySnapshot {
 }
 
 impl Directory {
-    /// This moment.
+    /// This moment. It is `NoMemory` where memory runs out.
     pub fn snapshot(&self) -> Result<DirectorySnapshot, NoMemory>
         ensures { IfOk result (IsSnapshotOf self.now) }
     {

@@ -1,14 +1,14 @@
 -- What the path keys of names show: the names that are at or below others, and those that are equal.
-use Rattle.std.proofs.Common.{◌≡◌, ℕ, ◌-◌, ◌+◌, ◌<◌, ◌≤◌, ◌^◌, true, false, ◌&&◌, nat_eq, nat_le, nat_lt, List, [], ◌∷◌, ◌++◌, length, map, take, drop, refl, sym, ◌∙◌, ap, arith, inl, inr, subst, append_assoc, append-nil}
+use Rattle.std.proofs.Common.{◌≡◌, ℕ, ◌-◌, ◌+◌, ◌<◌, ◌≤◌, ◌^◌, true, false, ◌&&◌, nat_eq, nat_le, nat_lt, List, [], ◌∷◌, ◌++◌, length, map, take, drop, refl, sym, ◌∙◌, ap, arith, inl, inr, subst, append_assoc, append-nil, length-append}
 use Rattle.std.specs.Prelude.{bytes_eq}
 use Rattle.std.specs.List.{AllPass, list_all, starts_with}
 use Rattle.std.proofs.lemmas.Bool.{and_parts, and_from, eqb-true, eq-eqb, le-leb, ltb-true, cases_lt}
 use Rattle.std.proofs.lemmas.Bool.Decides.{Decides-eqb}
-use Rattle.std.proofs.lemmas.List.{length-take, length-drop, take-append-drop}
+use Rattle.std.proofs.lemmas.List.{length-take, length-drop, take-append-drop, take_at}
 use Rattle.std.proofs.lemmas.List.Elements.{All-cons, All-head, All-take, All-drop}
 use Rattle.std.proofs.lemmas.Slice.Eq.{starts_is, bytes_eq-Decides}
 use Rattle.dn_names.specs.Names.{TypeAndValue, same_name, suffix_of, is_at_or_below, is_child_of, parent_of}
-use Rattle.dn_names.specs.Paths.{four_octets, piece_set, rdn_path, path_key, has_short_key, has_small_numbers, HasPath, IsPathOf}
+use Rattle.dn_names.specs.Paths.{four_octets, piece_set, rdn_path, path_key, has_short_key, has_small_numbers, HasPath, IsPathOf, IsPathInParts}
 use Rattle.dn_names.specs.Sound.{is_rdn}
 use Rattle.dn_names.proofs.Alike.{Name, both_or_none}
 use Rattle.dn_names.proofs.KeyTexts.{joined}
@@ -61,9 +61,34 @@ so_far-all rdns left path far none =
     let whole : rdns ≡ far.done = far.cut ∙ ap (λ front. front ++ far.done) none in
     record { is = far.is ∙ ap path_key (sym whole); numbers = (let P : Name → Type 0 = λ name. AllPass has_small_numbers name in subst P (sym whole) far.numbers) }
 
+-- ---- the path of the parent
+
+-- the path of a name of one RDN more
+pub in_parts-more : (rdns above : Name) (own : List TypeAndValue) (path more : List ℕ) (long : ℕ) → rdns ≡ own ∷ above → IsPathOf above path → more ≡ path ++ rdn_path own
+    → has_small_numbers own ≡ true → long ≡ length path → IsPathInParts rdns more long
+in_parts-more rdns above own path more long parts far longer small is =
+    rw parts (record {
+      path = record { is = longer ∙ ap (λ text. text ++ rdn_path own) far.is; numbers = All-cons counts own above small far.numbers };
+      parent = is ∙ ap length far.is;
+    })
+
+-- without RDNs nothing is above
+pub in_parts-none : (rdns : Name) → length rdns ≡ 0 → IsPathInParts rdns [] 0
+in_parts-none [] none = record { path = record { is = refl; numbers = λ k d within. absurd (omega arith) }; parent = refl }
+in_parts-none (rdn ∷ above) none = absurd (omega arith)
+
+pub parent-within : (rdns : Name) → length (path_key (parent_of rdns)) ≤ length (path_key rdns)
+parent-within [] = omega arith
+parent-within (rdn ∷ above) = omega (arith, length-append (path_key above) (rdn_path rdn))
+
+-- the path of a name begins with that of its parent
+pub parent-begins : (rdns : Name) → take (length (path_key (parent_of rdns))) (path_key rdns) ≡ path_key (parent_of rdns)
+parent-begins [] = refl
+parent-begins (rdn ∷ above) = take_at (path_key above) (rdn_path rdn) (length (path_key above)) refl
+
 -- ---- parts of a name that has a path
 
-HasPath-drop : (count : ℕ) (name : Name) → HasPath name → HasPath (drop count name)
+pub HasPath-drop : (count : ℕ) (name : Name) → HasPath name → HasPath (drop count name)
 HasPath-drop count name has = record {
   sound = record {
     rdns = All-drop passes count name has.sound.rdns;

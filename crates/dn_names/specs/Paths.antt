@@ -51,6 +51,11 @@ pub record IsPathOf (rdns : List (List TypeAndValue)) (path : List ℕ) : Type 0
   pub is : path ≡ path_key rdns
   pub numbers : AllPass has_small_numbers rdns
 
+-- the same, and its first octets, this number of them, are the path key of the parent
+pub record IsPathInParts (rdns : List (List TypeAndValue)) (whole : List ℕ) (above : ℕ) : Type 0 where
+  pub path : IsPathOf rdns whole
+  pub parent : above ≡ length (path_key (parent_of rdns))
+
 -- what the path keys of two names show of these
 pub record ShowsNames (one other : List (List TypeAndValue)) : Type 0 where
   pub below : starts_with nat_eq (path_key one) (path_key other) ≡ is_at_or_below one other

@@ -72,7 +72,8 @@ impl Dn {
         })
     }
 
-    /// Reads a name. The first refused RDN is reported.
+    /// Reads a name (RFC 4514, section 3). The first refused RDN is reported. It is `BadName`,
+    /// `UnknownType` or `TooLong` with its place, or `NoMemory`.
     pub fn parse(alloc: Global, text: &[u8]) -> Result<Dn, NameFault>
         ensures ok { IfOk result (λ dn. name_of_text text.now ≡ Ok dn) }
         ensures fault { IfErr result (IsFaultOf (name_of_text text.now)) }
@@ -112,7 +113,8 @@ impl Dn {
         })
     }
 
-    /// The name as text, which is read again as the same name.
+    /// The name as text, which is read again as the same name (RFC 4514, section 2). It is
+    /// `NoMemory` where memory runs out.
     pub fn write(&self) -> Result<Octets, NoMemory>
         ensures text { IfOk result (λ octets. octets ≡ name_text self.now) }
         ensures again { IfOk result (λ octets. name_of_text octets ≡ Ok self.now) }
@@ -129,7 +131,8 @@ impl Dn {
         rdns_len(self.rdns())
     }
 
-    /// A text that is another name's exactly where the names are equal.
+    /// A text that is another name's exactly where the names are equal. It is `NoMemory` where
+    /// memory runs out.
     pub fn key(&self) -> Result<Vec<u8>, NoMemory>
         ensures { IfOk result (λ key. key.items ≡ name_key self.now) }
     {
@@ -152,16 +155,25 @@ impl Dn {
         }
     }
 
+    /// Lends the path key of the parent's name, which is empty where the name has one RDN at most.
+    pub fn parent_path(&self) -> &[u8]
+        ensures value { result.now ≡ path_key (parent_of self.now) }
+        ensures sound { HasPath (parent_of self.now) }
+    {
+        match &self.name {
+            Some(name) => name.parent_path(),
+            None => &[],
+        }
+    }
+
     /// The path key, made a second time. It is `NoMemory` where memory runs out.
     pub fn path_key(&self) -> Result<Vec<u8>, NoMemory>
         ensures { IfOk result (λ path. path.items ≡ path_key self.now) }
     {
-        let mut path = Vec::new(self.alloc);
-        path.extend_from_slice(self.path())?;
-        Ok(path)
+        Vec::from_slice(self.alloc, self.path())
     }
 
-    /// Whether the names are equal.
+    /// Whether the names are equal (RFC 4517, section 4.2.15).
     pub fn same(&self, other: &Dn) -> bool
         ensures { result ≡ same_name self.now other.now }
     {
@@ -182,7 +194,7 @@ impl Dn {
         self.rdns().len() == other.rdns().len() + 1 && self.is_at_or_below(other)
     }
 
-    /// The name without its own RDN.
+    /// The name without its own RDN. It is `NoMemory` where memory runs out.
     pub fn parent(&self) -> Result<Dn, NoMemory>
         requires { 0 < length self.now }
         ensures { IfOk result (λ dn. dn ≡ parent_of self.now) }
@@ -200,14 +212,14 @@ impl Dn {
         if self.rdns().len() >= MOST_RDNS {
             return Err(NameFault::TooLong(0));
         }
-        let mut rdns = Vec::new(self.alloc);
+        let mut rdns = Vec::with_capacity(self.alloc, self.rdns().len() + 1)?;
         rdns.push(rdn.copy()?)?;
         append_copies(&mut rdns, self.rdns())?;
         Ok(Dn::of(self.alloc, rdns)?)
     }
 
-    /// The name with `to` in place of its suffix that equals `from`. It is `TooLong`, with the
-    /// place 0, where that would have more than 32 RDNs, or `NoMemory`.
+    /// The name with `to` in place of its suffix that equals `from` (RFC 4511, section 4.9). It is
+    /// `TooLong`, with the place 0, where that would have more than 32 RDNs, or `NoMemory`.
     pub fn moved(&self, from: &Dn, to: &Dn) -> Result<Dn, NameFault>
         requires { is_at_or_below self.now from.now ≡ true }
         ensures ok { IfOk result (λ dn. limited (moved_name self.now from.now to.now) ≡ Ok dn) }
@@ -218,7 +230,7 @@ impl Dn {
         if kept.len() + to.rdns().len() > MOST_RDNS {
             return Err(NameFault::TooLong(0));
         }
-        let mut rdns = Vec::new(self.alloc);
+        let mut rdns = Vec::with_capacity(self.alloc, kept.len() + to.rdns().len())?;
         append_copies(&mut rdns, kept)?;
         append_copies(&mut rdns, to.rdns())?;
         Ok(Dn::of(self.alloc, rdns)?)
@@ -252,7 +264,7 @@ fn read_rdns(alloc: Global, bytes: usize, signs: &[Sign]) -> Result<Vec<Rdn>, Na
 fn copies(alloc: Global, rdns: &[Rdn]) -> Result<Vec<Rdn>, NoMemory>
     ensures { IfOk result (λ copied. copied.items ≡ rdns.now) }
 {
-    let mut copied = Vec::new(alloc);
+    let mut copied = Vec::with_capacity(alloc, rdns.len())?;
     append_copies(&mut copied, rdns)?;
     Ok(copied)
 }

@@ -7,10 +7,13 @@ use ldap_ber::NoMemory;
 use std::alloc::Global;
 use std::collections::BTreeSet;
 
-/// Whether a type stands twice with one key.
+/// Whether a type stands twice with one key. One pair alone needs no mark.
 pub(crate) fn has_double(alloc: Global, pairs: &[Pair]) -> Result<bool, NoMemory>
     ensures { IfOk result (λ double. double ≡ spec.has_double pairs.now) }
 {
+    if pairs.len() < 2 {
+        return Ok(false);
+    }
     Ok(pair_set(alloc, pairs)?.len() < pairs.len())
 }
 

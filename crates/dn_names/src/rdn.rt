@@ -40,7 +40,8 @@ impl Model for Rdn {
 }
 
 impl Rdn {
-    /// Reads one RDN. The place of each fault is 0.
+    /// Reads one RDN (RFC 4514, section 3). The place of each fault is 0. It is `BadName`,
+    /// `UnknownType` or `TooLong`, or `NoMemory`.
     pub fn parse(alloc: Global, text: &[u8]) -> Result<Rdn, NameFault>
         ensures ok { IfOk result (λ rdn. rdn_of_text text.now ≡ Ok rdn) }
         ensures fault { IfErr result (IsFaultOf (rdn_of_text text.now)) }
@@ -67,7 +68,7 @@ impl Rdn {
         if has_double(alloc, pairs.as_slice())? {
             return Err(NameFault::BadName(place));
         }
-        let mut text = Vec::new(alloc);
+        let mut text = Vec::with_capacity(alloc, signs.len())?;
         append_pairs(&mut text, pairs.as_slice())?;
         let length = text.len();
         if length > MOST_BYTES {
@@ -89,7 +90,7 @@ impl Rdn {
     pub fn copy(&self) -> Result<Rdn, NoMemory>
         ensures { IfOk result (λ rdn. rdn ≡ self.now) }
     {
-        let mut pairs = Vec::new(*self.pairs.allocator());
+        let mut pairs = Vec::with_capacity(*self.pairs.allocator(), self.pairs.len())?;
         for pair in self.list() {
             pairs.push(pair.copy()?)?;
         }
@@ -108,7 +109,8 @@ impl Rdn {
         self.length
     }
 
-    /// The RDN as text, which is read again as the same RDN.
+    /// The RDN as text, which is read again as the same RDN (RFC 4514, section 2.2). It is
+    /// `NoMemory` where memory runs out.
     pub fn write(&self) -> Result<Octets, NoMemory>
         ensures text { IfOk result (λ octets. octets ≡ rdn_text self.now) }
         ensures again { IfOk result (λ octets. rdn_of_text octets ≡ Ok self.now) }

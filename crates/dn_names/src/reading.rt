@@ -27,7 +27,7 @@ pub(crate) fn read_pairs(
     ensures fault { IfErr result (spec.IsFaultOf
         (spec.pairs_of place ended (slice_split (spec.is_plain 43) signs.now))) }
 {
-    let mut pairs = Vec::new(alloc);
+    let mut pairs = Vec::with_capacity(alloc, 1)?;
     let mut rest = signs;
     'pairs: loop {
         let (part, more) = cut(rest, b'+');

@@ -58,7 +58,7 @@ pub(crate) fn signs_of(alloc: Global, text: &[u8]) -> Result<Vec<Sign>, NoMemory
     ensures value { IfOk result (λ signs. signs.items ≡ spec.signs_of text.now) }
     ensures width { spec.signs_width (spec.signs_of text.now) ≡ length text.now }
 {
-    let mut signs = Vec::new(alloc);
+    let mut signs = Vec::with_capacity(alloc, text.len())?;
     let mut rest = text;
     while let Some((sign, after)) = first_sign(rest) {
         signs.push(sign)?;

@@ -31,7 +31,7 @@ fn string_bytes(alloc: Global, signs: &[Sign]) -> Result<Option<Vec<u8>>, NoMemo
     ensures { IfOk result (λ octets.
         option_map (λ v. v.items) octets ≡ spec.each_some spec.string_byte signs.now) }
 {
-    let mut bytes = Vec::new(alloc);
+    let mut bytes = Vec::with_capacity(alloc, signs.len())?;
     for sign in signs {
         match string_byte(*sign) {
             Some(byte) => bytes.push(byte)?,
@@ -46,7 +46,7 @@ pub(crate) fn plain_bytes(alloc: Global, signs: &[Sign]) -> Result<Option<Vec<u8
     ensures { IfOk result (λ octets.
         option_map (λ v. v.items) octets ≡ spec.each_some spec.plain_byte signs.now) }
 {
-    let mut bytes = Vec::new(alloc);
+    let mut bytes = Vec::with_capacity(alloc, signs.len())?;
     for sign in signs {
         match plain_byte(*sign) {
             Some(byte) => bytes.push(byte)?,

@@ -1,14 +1,13 @@
 -- Entries at their identities, in the order of these.
 use Rattle.std.proofs.Common.{◌≡◌, ◌<◌, ◌+◌, ℕ, Bool, true, false, not, ◌||◌, cond, nat_eq, nat_lt, List, [], ◌∷◌, ◌++◌, length, map, take, get_or, Some, refl, sym, ap, ◌∙◌, ◌⊎◌, inl, inr, arith}
-use Rattle.std.specs.Prelude.{fold, is_none}
+use Rattle.std.specs.Prelude.{fold, Option, None, is_none, is_some}
 use Rattle.std.specs.BTreeMap.{is_at, insert_entry}
-use Rattle.std.specs.Cmp.{nat_eq_equiv, nat_cmp_total, tied_itself, unsigned_ties}
-use Rattle.std.specs.List.{filter}
+use Rattle.std.specs.Cmp.{nat_cmp_is, nat_eq_equiv, nat_cmp_total, tied_itself, unsigned_ties}
+use Rattle.std.specs.List.{filter, cons_option}
 use Rattle.std.specs.Map.{lookup, remove_entry, values_of}
 use Rattle.std.specs.Ordering.{nat_cmp, match_ordering}
 use Rattle.std.specs.declared.cmp.Ordering.TheVariants.{Less, Greater}
 use Rattle.std.proofs.lemmas.Bool.{and_parts, eqb-true, ne_eqb, ltb-true, cases_order}
-use Rattle.std.proofs.lemmas.Bool.Decides.{nat_tests}
 use Rattle.std.proofs.lemmas.List.{map-append, take_more}
 use Rattle.std.proofs.lemmas.List.Elements.{filter-append, filter_map-append}
 use Rattle.std.proofs.lemmas.List.Sums.{fold-append}
@@ -42,7 +41,8 @@ found_by_identity (e ∷ es) u = λ i. cond (identified u e i) (Some e) (found_b
 
 -- ---- without an entry
 
-all_stay : (u : ℕ) (es : List Entry) → above u es ≡ true → filter (λ e. not (is_identified u e)) es ≡ es
+-- entries above an identity stay without its entry
+pub all_stay : (u : ℕ) (es : List Entry) → above u es ≡ true → filter (λ e. not (is_identified u e)) es ≡ es
 all_stay u [] later = refl
 all_stay u (e ∷ es) later =
     let p = and_parts (nat_lt u e.uuid) (above u es) later in
@@ -97,12 +97,6 @@ all_removed (u ∷ us) es asc =
 
 -- ---- with an entry
 
-less_is : (a b : ℕ) → a < b → nat_cmp a b ≡ Less
-less_is a b less = grind (arith, nat_tests)
-
-more_is : (a b : ℕ) → b < a → nat_cmp a b ≡ Greater
-more_is a b more = grind (arith, nat_tests)
-
 pub put_by_identity : (e : Entry) (es : List Entry) → ascends es ≡ true → insert_entry nat_cmp (by_identity es) e.uuid e ≡ by_identity (put e es)
 put_by_identity e [] asc = refl
 put_by_identity e (x ∷ es) asc =
@@ -122,11 +116,11 @@ put_by_identity e (x ∷ es) asc =
         ∙ ap (λ u. (u, e) ∷ by_identity es) same
         ∙ sym (ap by_identity (put_there e x es same far))
     by far rest (inr (inl less)) =
-        ap (λ o. match_ordering o first ((x.uuid, e) ∷ by_identity es) later) (more_is e.uuid x.uuid less)
+        ap (λ o. match_ordering o first ((x.uuid, e) ∷ by_identity es) later) (sym (nat_cmp_is e.uuid x.uuid Greater less))
         ∙ ap (λ ps. (x.uuid, x) ∷ ps) rest
         ∙ sym (ap by_identity (put_after e x es less))
     by far rest (inr (inr more)) =
-        ap (λ o. match_ordering o first ((x.uuid, e) ∷ by_identity es) later) (less_is e.uuid x.uuid more)
+        ap (λ o. match_ordering o first ((x.uuid, e) ∷ by_identity es) later) (sym (nat_cmp_is e.uuid x.uuid Less more))
         ∙ sym (ap by_identity (put_before e x es more far))
 
 -- what a step of the map puts in
@@ -160,6 +154,21 @@ dropped_more start changes i c low is =
 pub put_more_in : (start : List (ℕ × Entry)) (changes : List EntryChange) (i : ℕ) (c : EntryChange) → i < length changes → c ≡ get_or changes i c
     → fold put_in start (puts_of (take (i + 1) changes)) ≡ fold put_in (fold put_in start (puts_of (take i changes))) (puts_of (c ∷ []))
 put_more_in start changes i c low is = part_more put_in puts_of (filter_map-append (λ (x : EntryChange). x.after)) start changes i c low is
+
+-- one change by itself puts in or takes out
+pub drops_of-kept : (c : EntryChange) → is_some c.after ≡ true → drops_of (c ∷ []) ≡ []
+drops_of-kept c kept = by c.after kept
+  where
+    by : (after : Option Entry) → is_some after ≡ true → map (λ (x : EntryChange). x.uuid) (cond (is_none after) (c ∷ []) []) ≡ []
+    by None kept = absurd (cc)
+    by (Some e) kept = refl
+
+pub puts_of-gone : (c : EntryChange) → is_some c.after ≡ false → puts_of (c ∷ []) ≡ []
+puts_of-gone c gone = by c.after gone
+  where
+    by : (after : Option Entry) → is_some after ≡ false → cons_option after [] ≡ []
+    by None gone = refl
+    by (Some e) gone = absurd (cc)
 
 -- the entries after changes, step by step
 pub changed_by_steps : (es : List Entry) (start left after : List (ℕ × Entry)) (changes : List EntryChange) → ascends es ≡ true → start ≡ by_identity es

@@ -3,6 +3,7 @@ use Rattle.std.proofs.Common.{◌≡◌, ℕ, Bool, true, false, not, ◌&&◌, 
 use Rattle.std.specs.Prelude.{is_none}
 use Rattle.std.specs.List.{filter, cons_option}
 use Rattle.std.specs.Option.{option_or}
+use Rattle.std.proofs.Math.Bool.{and-false}
 use Rattle.std.proofs.lemmas.Bool.{eqb-true, eq-eqb, or_parts, false≢true, ne_eqb}
 use Rattle.std.proofs.lemmas.List.{reverse-append}
 use Rattle.std.proofs.lemmas.List.Folds.{find-append}
@@ -35,13 +36,10 @@ either_way : (b : Bool) (e : Entry) → option_or (cond b (Some e) None) (Some e
 either_way true e = refl
 either_way false e = refl
 
-or_none : (found : Option Entry) → option_or found None ≡ found
+-- what is found is all there is where nothing else is
+pub or_none : (found : Option Entry) → option_or found None ≡ found
 or_none None = refl
 or_none (Some e) = refl
-
-and_false : (b : Bool) → (b && false) ≡ false
-and_false true = refl
-and_false false = refl
 
 module _ (old new : List Entry) where
   abbrev changes : List ℕ → List EntryChange
@@ -91,7 +89,7 @@ module _ (old new : List Entry) where
       by None none false miss rest = ap (λ b. b || among u (drops_of (changes us))) miss ∙ rest
       by (Some e) some true hit rest =
           let held : is_none (entry_at new u) ≡ false = ap is_none (ap (entry_at new) (eqb-true u v hit) ∙ some) in
-          rest ∙ ap (λ b. among u us && b) held ∙ and_false (among u us) ∙ sym held
+          rest ∙ ap (λ b. among u us && b) held ∙ and-false (among u us) ∙ sym held
       by (Some e) some false miss rest = rest
 
   -- what was there is replaced at these identities alone

@@ -11,11 +11,12 @@ use Rattle.dn_names.proofs.EqualNames.{name_sym, name_trans}
 use Rattle.entry_writes.specs.declared.entry.Entry.{Entry}
 use Rattle.entry_writes.specs.declared.touched.EntryChange.{EntryChange}
 use Rattle.entry_writes.specs.State.{ascends, entry_at, is_named, entry_named, most_entries, most_weight, same_named, total_weight}
-use Rattle.entry_writes.specs.Touched.{identities, joined, change_at, is_change, touched, puts_of}
+use Rattle.entry_writes.specs.Touched.{change_at, touched, puts_of}
 use Rattle.entry_tree.specs.Fitting.{may_be_held}
 use Rattle.entry_tree.specs.Judging.{AreClear, has_free_name, is_changed, is_free, takes_of}
-use Rattle.entry_tree.proofs.Changing.{none_outside, own_uuid, same_where, touched_at}
-use Rattle.entry_tree.proofs.DistinctNames.{distinct_where_none, none_where_distinct, fails_where_none, passes_where_all, passes_where_found}
+use Rattle.entry_tree.proofs.Changing.{both, differs, none_outside, own_uuid, same_where, touched_at}
+use Rattle.entry_tree.proofs.DistinctNames.{distinct_where_none, none_where_distinct, fails_where_none, passes_where_all}
+use Rattle.entry_tree.proofs.Finding.{found_passes}
 use Rattle.entry_tree.proofs.Moving.{held_where_found}
 use Rattle.entry_tree.proofs.Rising.{among, among-filter}
 use Rattle.entry_tree.proofs.Totals.{adds_touched, sum_found, sum_ones}
@@ -24,15 +25,9 @@ module _ (old new : List Entry) where
   abbrev changes : List ℕ → List EntryChange
   changes us = map (change_at old new) us
 
-  abbrev differs : ℕ → Bool
-  differs u = is_change (change_at old new u)
-
-  abbrev both : List ℕ
-  both = joined (identities old) (identities new)
-
   -- the identities that change
   abbrev changed : List ℕ
-  changed = filter differs both
+  changed = filter (differs old new) (both old new)
 
   -- ---- what the changes leave or make
 
@@ -67,9 +62,9 @@ module _ (old new : List Entry) where
 
   -- the others have what they had
   stays : (u : ℕ) → among u changed ≡ false → entry_at old u ≡ entry_at new u
-  stays u off = by (differs u) refl (among u both) refl (sym (among-filter differs u both) ∙ off)
+  stays u off = by (differs old new u) refl (among u (both old new)) refl (sym (among-filter (differs old new) u (both old new)) ∙ off)
     where
-      by : (d : Bool) → differs u ≡ d → (b : Bool) → among u both ≡ b → (d && b) ≡ false → entry_at old u ≡ entry_at new u
+      by : (d : Bool) → differs old new u ≡ d → (b : Bool) → among u (both old new) ≡ b → (d && b) ≡ false → entry_at old u ≡ entry_at new u
       by false same b in_both h = same_where old new u same
       by true differ false out h = let p = none_outside old new u out in p.0 ∙ sym p.1
       by true differ true in_both h = absurd (false≢true (sym h))
@@ -95,7 +90,7 @@ module _ (old new : List Entry) where
         by None none h = absurd (false≢true (sym (fails_where_none (is_named e.dn) old x.uuid x was none) ∙ same))
         by (Some holder) found h =
             let there : entry_at old holder.uuid ≡ Some holder = held_where_found (is_named e.dn) old holder asc found in
-            let named : same_name holder.dn e.dn ≡ true = passes_where_found (is_named e.dn) old holder found in
+            let named : same_name holder.dn e.dn ≡ true = found_passes (is_named e.dn) old holder found in
             let alike : same_name x.dn holder.dn ≡ true = name_trans x.dn e.dn holder.dn same (name_sym holder.dn e.dn named) in
             let is : holder.uuid ≡ x.uuid = distinct_where_none old apart holder x there was alike in
             let hit : among holder.uuid changed ≡ true =

@@ -206,14 +206,3 @@ directory_committed es puts drops weight asc held weighs =
     }
 
 -- ---- the steps of a commit
-
--- the entries that are left after the drops of a commit
-pub left_by_steps : (es reserved left : List Entry) (drops dropped : List ℕ) → reserved ≡ es → dropped ≡ joined [] drops
-    → left ≡ filter (λ e. not (is_one_of dropped e)) reserved → left ≡ filter (λ e. not (is_one_of drops e)) es
-left_by_steps es reserved left drops dropped same set removed =
-    removed ∙ (λ i. filter (λ e. not (is_one_of (set i) e)) (same i)) ∙ kept_by_set drops es
-
--- the entries after the drops and the puts of a commit are those after it
-pub committed_by_steps : (es puts left copied after : List Entry) (drops : List ℕ) → left ≡ filter (λ e. not (is_one_of drops e)) es → copied ≡ puts → after ≡ put_all left copied
-    → after ≡ committed es puts drops
-committed_by_steps es puts left copied after drops removed same put = put ∙ (λ i. put_all (removed i) (same i))

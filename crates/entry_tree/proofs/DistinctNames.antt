@@ -9,6 +9,7 @@ use Rattle.dn_names.proofs.EqualNames.{name_sym}
 use Rattle.entry_writes.specs.declared.entry.Entry.{Entry}
 use Rattle.entry_writes.specs.State.{ascends, entry_at, is_named, entry_named, same_named}
 use Rattle.entry_writes.proofs.Identities.{above, none_at}
+use Rattle.entry_tree.proofs.Finding.{found_passes}
 use Rattle.entry_tree.proofs.Moving.{held_where_found}
 use Rattle.entry_tree.proofs.Order.{at_head}
 
@@ -24,15 +25,6 @@ fails_where_none p (e ∷ es) u x there none = by (fails_where_none p es u x) (n
     by rest here is true passes free = let never : ⊥ = cc in absurd never
     by rest true is false fails free = let same : e ≡ x = cc in ap p (sym same) ∙ fails
     by rest false is false fails free = rest is free
-
--- the entry that a test finds passes it
-pub passes_where_found : (p : Entry → Bool) (es : List Entry) (x : Entry) → find p es ≡ Some x → p x ≡ true
-passes_where_found p [] x found = let never : ⊥ = cc in absurd never
-passes_where_found p (e ∷ es) x found = by (passes_where_found p es x) (p e) refl found
-  where
-    by : (find p es ≡ Some x → p x ≡ true) → (b : Bool) → p e ≡ b → cond b (Some e) (find p es) ≡ Some x → p x ≡ true
-    by rest true passes here = let same : e ≡ x = cc in ap p (sym same) ∙ passes
-    by rest false fails there = rest there
 
 -- where all entries pass a test, the one of an identity does
 pub passes_where_all : (test : Entry → Bool) (es : List Entry) (u : ℕ) (x : Entry) → entry_at es u ≡ Some x → list_all test es ≡ true → test x ≡ true
@@ -99,5 +91,5 @@ none_where_distinct (h ∷ es) asc distinct =
     free later up None is = is
     free later up (Some x) is =
         let there : entry_at es x.uuid ≡ Some x = held_where_found (is_named h.dn) es x up is in
-        let named : same_name x.dn h.dn ≡ true = passes_where_found (is_named h.dn) es x is in
+        let named : same_name x.dn h.dn ≡ true = found_passes (is_named h.dn) es x is in
         absurd (far later x there (distinct h x (at_head h es) (past later x there) named))

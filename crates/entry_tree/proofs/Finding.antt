@@ -72,6 +72,15 @@ first_by_least test (e ∷ es) least asc is = by (λ found holds. first_by_least
         later (Some n) (sym (same_rest fails n) ∙ has.0, λ u holds. has.1 u (same_rest fails u ∙ holds))
         ∙ sym (at_rest n (λ same. false≢true (sym fails ∙ ap (passes test) (sym at_head ∙ ap (entry_at (e ∷ es)) same) ∙ has.0)))
 
+-- the entry that a test finds passes it
+pub found_passes : (test : Entry → Bool) (es : List Entry) (x : Entry) → find test es ≡ Some x → test x ≡ true
+found_passes test [] x found = let never : ⊥ = cc in absurd never
+found_passes test (e ∷ es) x found = by (found_passes test es x) (test e) refl found
+  where
+    by : (find test es ≡ Some x → test x ≡ true) → (b : Bool) → test e ≡ b → cond b (Some e) (find test es) ≡ Some x → test x ≡ true
+    by rest true holds here = let same : e ≡ x = cc in ap test (sym same) ∙ holds
+    by rest false fails there = rest there
+
 -- ---- by names
 
 -- what passes the one test passes the other
@@ -113,14 +122,6 @@ named_by_least name es least asc has is sound =
     least_passes : (least : Option ℕ) → IsLeastOf (λ u. has_path (path_key name) (entry_at es u)) least → IsLeastOf (λ u. passes (λ e. bytes_eq (path_key e.dn) (path_key name)) (entry_at es u)) least
     least_passes None none = λ u. pass_same (entry_at es u) ∙ none u
     least_passes (Some n) has = (pass_same (entry_at es n) ∙ has.0, λ u holds. has.1 u (sym (pass_same (entry_at es u)) ∙ holds))
-
-    found_passes : (test : Entry → Bool) (xs : List Entry) (e : Entry) → find test xs ≡ Some e → test e ≡ true
-    found_passes test [] e found = absurd (cc)
-    found_passes test (x ∷ xs) e found = step (test x) refl (found_passes test xs e) found
-      where
-        step : (b : Bool) → test x ≡ b → (find test xs ≡ Some e → test e ≡ true) → cond b (Some x) (find test xs) ≡ Some e → test e ≡ true
-        step true holds later here = let same : x ≡ e = cc in ap test (sym same) ∙ holds
-        step false fails later there = later there
 
 -- the least identity at a path key is the least whose entry has it
 least_by_index : (es : List Entry) (names : Names) (path : List ℕ) (least : Option ℕ) → IsIndex names es → IsLeast (ids_at names path) least → IsLeastOf (λ u. has_path path (entry_at es u)) least

@@ -1,14 +1,13 @@
 -- What a commit leaves at the identities that it puts or drops: the last entry of each that it puts, or none.
-use Rattle.std.proofs.Common.{◌≡◌, ◌<◌, ◌+◌, ℕ, Bool, true, false, cond, nat_eq, List, [], ◌∷◌, ◌++◌, length, take, get_or, map, reverse, Bor, Option, Some, None, refl, sym, ap, ◌∙◌, ◌⊎◌, inl, inr, arith}
+use Rattle.std.proofs.Common.{◌≡◌, ◌<◌, ◌+◌, ℕ, Bool, true, false, cond, nat_eq, List, [], ◌∷◌, ◌++◌, length, take, get_or, map, reverse, Bor, Option, Some, None, refl, sym, ap, ◌∙◌}
 use Rattle.std.specs.Prelude.{◌||◌}
 use Rattle.std.specs.BTreeMap as btree
 use Rattle.std.specs.BTreeMap.{BTreeMap, is_at}
-use Rattle.std.specs.Cmp.{nat_cmp_is}
+use Rattle.std.specs.Cmp.{unsigned_ties}
 use Rattle.std.specs.List.{filter}
 use Rattle.std.specs.Option.{option_copied, option_or}
-use Rattle.std.specs.Ordering.{nat_cmp, is_eq}
-use Rattle.std.specs.declared.cmp.Ordering.TheVariants.{Less, Equal, Greater}
-use Rattle.std.proofs.lemmas.Bool.{cases_order, eq-eqb, false≢true, ne_eqb, or_left, or_right}
+use Rattle.std.specs.Ordering.{nat_cmp}
+use Rattle.std.proofs.lemmas.Bool.{eq-eqb, false≢true, ne_eqb, or_left, or_right}
 use Rattle.std.proofs.lemmas.List.{reverse-append, take_more}
 use Rattle.std.proofs.lemmas.List.Folds.{find-append}
 use Rattle.std.proofs.Math.Bool.{or-false}
@@ -23,14 +22,6 @@ use Rattle.entry_tree.proofs.Rising.{among, among-joined}
 
 -- ---- the last entry of each identity, in a map
 
-at_is : (a b : ℕ) → is_at (nat_cmp a) b ≡ nat_eq a b
-at_is a b = by (cases_order a b)
-  where
-    by : (a ≡ b) ⊎ ((a < b) ⊎ (b < a)) → is_at (nat_cmp a) b ≡ nat_eq a b
-    by (inl same) = ap is_eq (sym (nat_cmp_is a b Equal same)) ∙ sym (eq-eqb a b same)
-    by (inr (inl less)) = ap is_eq (sym (nat_cmp_is a b Less less)) ∙ sym (ne_eqb a b (λ same. omega (arith, same, less)))
-    by (inr (inr more)) = ap is_eq (sym (nat_cmp_is a b Greater more)) ∙ sym (ne_eqb a b (λ same. omega (arith, same, more)))
-
 -- with one more entry
 pub latest_more : (old new : BTreeMap ℕ (Bor Entry)) (puts : List Entry) (i : ℕ) (e : Bor Entry) → i < length puts → e.now ≡ get_or puts i e.now
     → ((u : ℕ) → btree.get nat_cmp new u ≡ cond (is_at (nat_cmp e.now.uuid) u) (Some e) (btree.get nat_cmp old u))
@@ -38,7 +29,7 @@ pub latest_more : (old new : BTreeMap ℕ (Bor Entry)) (puts : List Entry) (i : 
     → (u : ℕ) → option_copied (btree.get nat_cmp new u) ≡ entry_at (reverse (take (i + 1) puts)) u
 latest_more old new puts i e low at updates so_far u =
     ap option_copied (updates u)
-    ∙ by (is_at (nat_cmp e.now.uuid) u) (nat_eq e.now.uuid u) (at_is e.now.uuid u)
+    ∙ by (is_at (nat_cmp e.now.uuid) u) (nat_eq e.now.uuid u) (sym (unsigned_ties e.now.uuid u))
     ∙ sym (ap (λ xs. entry_at xs u) longer)
   where
     by : (one other : Bool) → one ≡ other → option_copied (cond one (Some e) (btree.get nat_cmp old u)) ≡ cond other (Some e.now) (entry_at (reverse (take i puts)) u)

@@ -25,7 +25,8 @@ key_cmp one other = slice_cmp nat_cmp one.items other.items
 abbrev pub is_key : List ℕ → Vec ℕ Global → Bool
 is_key path = is_at (λ (key : Vec ℕ Global). slice_cmp nat_cmp path key.items)
 
-same_bytes : (one other : List ℕ) → bytes_eq one other ≡ true → one ≡ other
+-- bytes that pass the test are the same
+pub same_bytes : (one other : List ℕ) → bytes_eq one other ≡ true → one ≡ other
 same_bytes one other same = (bytes_decides one other).0 same
 
 -- the text of a key that is this path

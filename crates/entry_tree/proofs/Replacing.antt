@@ -2,7 +2,6 @@
 use Rattle.std.proofs.Common.{◌≡◌, ◌<◌, ◌≤◌, ◌+◌, ℕ, zero, suc, Bool, true, false, not, ◌&&◌, cond, nat_eq, nat_lt, List, [], ◌∷◌, length, map, get_or, set, Some, None, ap, sym, ◌∙◌, refl, arith}
 use Rattle.std.specs.List.{filter, find, list_all, list_any, sum_by, position, position_or_len}
 use Rattle.std.proofs.lemmas.Bool.{eq-eqb, eqb-true, ne_eqb, ltb-true, and_parts, or_parts}
-use Rattle.std.proofs.lemmas.List.Quantifiers.{position-Some}
 use Rattle.std.proofs.lemmas.List.Sums.{AllPass-from_list_all, sum_by-cons, sum_by-set, fails_before_first}
 use Rattle.std.proofs.lemmas.List.{length-set}
 use Rattle.schema_rules.specs.Attributes.{weight_of}
@@ -14,18 +13,7 @@ use Rattle.entry_writes.specs.Touched.{is_change, touched}
 use Rattle.entry_writes.proofs.Identities.{none_held, stepped, touched_mapped}
 use Rattle.entry_writes.proofs.Same.{entry_same}
 
--- ---- the place of the first
-
-find_first : {X : Type 0} (p : X → Bool) (xs : List X) (i : ℕ) (d : X) → i < length xs → p (get_or xs i d) ≡ true → ((k : ℕ) → k < i → p (get_or xs k d) ≡ false)
-    → find p xs ≡ Some (get_or xs i d)
-find_first p [] i d low here before = absurd (omega arith)
-find_first p (x ∷ xs) zero d low here before = ap (λ b. cond b (Some x) (find p xs)) here
-find_first p (x ∷ xs) (suc i) d low here before =
-    ap (λ b. cond b (Some x) (find p xs)) (before 0 (omega arith)) ∙ find_first p xs i d (omega arith) here (λ k h. before (suc k) (omega arith))
-
--- what is found is the item at the first place that passes
-pub find_at_place : {X : Type 0} (p : X → Bool) (xs : List X) (i : ℕ) (d : X) → position p xs ≡ Some i → find p xs ≡ Some (get_or xs i d)
-find_at_place p xs i d found = let q = position-Some p xs i d found in find_first p xs i d q.0 q.1 q.2
+-- ---- what is nowhere
 
 find_nowhere : {X : Type 0} (p : X → Bool) (xs : List X) → ((k : ℕ) (d : X) → k < length xs → p (get_or xs k d) ≡ false) → find p xs ≡ None
 find_nowhere p [] none = refl

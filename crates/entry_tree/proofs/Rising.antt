@@ -36,7 +36,8 @@ pub below-insert : (n : ℕ) (ns : List ℕ) (u : ℕ) → n < u → below_all n
 below-insert n [] u less below = grind (arith, nat_tests)
 below-insert n (m ∷ ns) u less below = grind (arith, nat_tests, below-insert n ns u less)
 
-rises-insert : (ns : List ℕ) (u : ℕ) → rises ns ≡ true → rises (insert_key nat_cmp ns u) ≡ true
+-- ascending numbers ascend with one more at its place
+pub rises-insert : (ns : List ℕ) (u : ℕ) → rises ns ≡ true → rises (insert_key nat_cmp ns u) ≡ true
 rises-insert [] u up = refl
 rises-insert (n ∷ ns) u up =
     let p = and_parts (below_all n ns) (rises ns) up in

@@ -1,16 +1,15 @@
 -- The place of an entry, as a binary search finds it.
-use Rattle.std.proofs.Common.{◌≡◌, ◌<◌, ◌≤◌, ℕ, zero, suc, true, cond, nat_lt, List, [], ◌∷◌, length, get_or, set, Some, None, ap, ◌∙◌, subst, sym, refl, ◌⊎◌, inl, inr, arith}
+use Rattle.std.proofs.Common.{◌≡◌, ◌<◌, ◌≤◌, ℕ, zero, suc, true, nat_lt, List, [], ◌∷◌, length, get_or, set, subst, arith}
 use Rattle.std.specs.Cmp.{ranks}
-use Rattle.std.specs.Prelude.{Result, IsOk, is_ok}
 use Rattle.std.specs.List.{HoldsAt, insert}
 use Rattle.std.specs.List.Sorted.{IsNonDecreasingBy, IsPartitionPoint}
 use Rattle.std.specs.Ordering.{nat_cmp, MatchOrdering, ordering_index}
 use Rattle.std.specs.declared.cmp.Ordering.TheVariants.{Less, Equal, Greater}
-use Rattle.std.proofs.lemmas.Bool.{and_parts, eq-eqb, ltb-true, ne_eqb, cases_lt}
+use Rattle.std.proofs.lemmas.Bool.{and_parts, ltb-true}
 use Rattle.std.proofs.lemmas.Bool.Decides.{nat_tests}
 use Rattle.std.proofs.lemmas.List.Sums.{AllPass-from_list_all}
 use Rattle.entry_writes.specs.declared.entry.Entry.{Entry}
-use Rattle.entry_writes.specs.State.{ascends, entry_at, put}
+use Rattle.entry_writes.specs.State.{ascends, put}
 use Rattle.entry_writes.proofs.Identities.{above}
 use Rattle.entry_tree.proofs.Putting.{set_puts, insert_puts}
 
@@ -52,46 +51,3 @@ insert_found e es place asc low found =
     let parted = found (λ i j d up less. index_rises (get_or es i d).uuid (get_or es j d).uuid e.uuid (rises es asc i j d up less)) in
     insert_puts e es place asc low (λ k less. less_where (get_or es k e).uuid e.uuid (parted.0 k e (omega arith) less))
     (λ k from less. more_where (get_or es k e).uuid e.uuid (parted.1 k e from less))
-
--- ---- an entry that is looked for
-
-at_place : (es : List Entry) (u place : ℕ) (d : Entry) → ascends es ≡ true → place < length es → (get_or es place d).uuid ≡ u → entry_at es u ≡ Some (get_or es place d)
-at_place [] u place d asc low is = absurd (omega arith)
-at_place (x ∷ es) u zero d asc low is = ap (λ b. cond b (Some x) (entry_at es u)) (eq-eqb x.uuid u is)
-at_place (x ∷ es) u (suc place) d asc low is =
-    let p = and_parts (above x.uuid es) (ascends es) asc in
-    let far : nat_lt x.uuid (get_or es place d).uuid ≡ true = AllPass-from_list_all (λ (y : Entry). nat_lt x.uuid y.uuid) es p.0 place d (omega arith) in
-    let below : x.uuid < (get_or es place d).uuid = ltb-true x.uuid (get_or es place d).uuid far in
-    ap (λ b. cond b (Some x) (entry_at es u)) (ne_eqb x.uuid u (λ same. omega (arith, same, below, is))) ∙ at_place es u place d p.1 (omega arith) is
-
-nowhere : (es : List Entry) (u : ℕ) → ((k : ℕ) (d : Entry) → k < length es → (get_or es k d).uuid ≡ u → ⊥) → entry_at es u ≡ None
-nowhere [] u other = refl
-nowhere (x ∷ es) u other =
-    ap (λ b. cond b (Some x) (entry_at es u)) (ne_eqb x.uuid u (λ same. other zero x (omega arith) same))
-    ∙ nowhere es u (λ k d low same. other (suc k) d (omega (arith, low)) same)
-
--- the entry at the place that a search finds is that of the identity
-pub held_at : (es : List Entry) (u place : ℕ) (e : Entry) → ascends es ≡ true → place < length es → HoldsAt (λ (y : Entry). nat_cmp y.uuid u ≡ Equal) es place → e ≡ get_or es place e
-    → Some e ≡ entry_at es u
-held_at es u place e asc low at is = ap (λ x. Some x) is ∙ sym (at_place es u place e asc low (same_where (get_or es place e).uuid u (at e)))
-
--- where a search finds no place the identity has no entry
-pub held_nowhere : (es : List Entry) (u place : ℕ) → ascends es ≡ true
-    → (IsNonDecreasingBy (λ (y : Entry). ordering_index (nat_cmp y.uuid u)) es → IsPartitionPoint (λ (y : Entry). nat_cmp y.uuid u ≡ Less) (λ (y : Entry). nat_cmp y.uuid u ≡ Greater) es place)
-    → None ≡ entry_at es u
-held_nowhere es u place asc found =
-    sym (nowhere es u (by (found (λ i j d up less. index_rises (get_or es i d).uuid (get_or es j d).uuid u (rises es asc i j d up less)))))
-  where
-    at : IsPartitionPoint (λ (y : Entry). nat_cmp y.uuid u ≡ Less) (λ (y : Entry). nat_cmp y.uuid u ≡ Greater) es place → (k : ℕ) (d : Entry) → k < length es → (get_or es k d).uuid ≡ u
-        → (k < place) ⊎ (place ≤ k) → ⊥
-    at parted k d low same (inl less) = let under = less_where (get_or es k d).uuid u (parted.0 k d (omega arith) less) in omega (arith, same, under)
-    at parted k d low same (inr from) = let over = more_where (get_or es k d).uuid u (parted.1 k d from low) in omega (arith, same, over)
-
-    by : IsPartitionPoint (λ (y : Entry). nat_cmp y.uuid u ≡ Less) (λ (y : Entry). nat_cmp y.uuid u ≡ Greater) es place → (k : ℕ) (d : Entry) → k < length es → (get_or es k d).uuid ≡ u → ⊥
-    by parted k d low same = at parted k d low same (cases_lt k place)
-
--- ---- a place for which there is room
-
--- what is so where there was room
-pub with_room : {A E X : Type 0} (r : Result A E) (x y : X) → IsOk r → cond (is_ok r) x y ≡ x
-with_room r x y room = ap (λ b. cond b x y) room

@@ -3,6 +3,7 @@ use Rattle.std.proofs.Common.{◌≡◌, ◌<◌, ◌+◌, ℕ, suc, Bool, true,
 use Rattle.std.specs.Prelude.{is_some, All}
 use Rattle.std.specs.List.{cons_option, filter, filter_map, list_all, list_any}
 use Rattle.std.specs.Result.{result_ok}
+use Rattle.std.proofs.Math.Bool.{or-false}
 use Rattle.std.proofs.lemmas.Bool.{and_parts, eqb-true, eq-eqb, or_left, or_right, false≢true}
 use Rattle.std.proofs.lemmas.List.{take_more}
 use Rattle.std.proofs.lemmas.List.Elements.{All-filter, filter_map-append}
@@ -18,6 +19,7 @@ use Rattle.entry_writes.specs.State.{ascends, entry_at, is_identified, is_named}
 use Rattle.entry_writes.specs.Touched.{identities, joined}
 use Rattle.entry_writes.proofs.Identities.{at_each}
 use Rattle.entry_tree.specs.NameIndex.{Names, ids_at, has_path, IsIndex, HasPathKey}
+use Rattle.entry_tree.proofs.Changing.{own_uuid}
 use Rattle.entry_tree.proofs.Committing.{rises-identities}
 use Rattle.entry_tree.proofs.Directory.{ascends_filter}
 use Rattle.entry_tree.proofs.Finding.{passes}
@@ -28,7 +30,7 @@ use Rattle.entry_tree.proofs.Rising.{among, among-joined, rises, rises-joined, s
 -- ---- identities whose entries pass
 
 -- an identity that some entry has
-among_identities : (es : List Entry) (u : ℕ) → among u (identities es) ≡ is_some (entry_at es u)
+pub among_identities : (es : List Entry) (u : ℕ) → among u (identities es) ≡ is_some (entry_at es u)
 among_identities [] u = refl
 among_identities (e ∷ es) u = by (nat_eq u e.uuid) refl (among_identities es u)
   where
@@ -87,11 +89,7 @@ module _ (name : List (List TypeAndValue)) (es : List Entry) (names : Names) (pa
   pub at_name_is : filter_map (entry_at es) (joined [] (ids_at names path)) ≡ filter (is_named name) es
   at_name_is =
       taken_entries (is_named name) es (joined [] (ids_at names path)) asc (rises-joined [] (ids_at names path) refl)
-      (λ u. among-joined u [] (ids_at names path) ∙ plain (among u (ids_at names path)) ∙ stands_named u)
-    where
-      plain : (b : Bool) → (b || false) ≡ b
-      plain true = refl
-      plain false = refl
+      (λ u. among-joined u [] (ids_at names path) ∙ or-false (among u (ids_at names path)) ∙ stands_named u)
 
   -- ---- another entry of the name
 
@@ -116,15 +114,6 @@ module _ (name : List (List TypeAndValue)) (es : List Entry) (names : Names) (pa
       by true same here rest = or_left (not (nat_eq v t)) (list_any (λ id. not (nat_eq id t)) us) (ap not (ap (λ n. nat_eq n t) (sym (eqb-true u v same)) ∙ other))
       by false differ here rest = or_right (not (nat_eq v t)) (list_any (λ id. not (nat_eq id t)) us) (rest here other)
 
-  -- the identity of an entry
-  identity_is : (xs : List Entry) (u : ℕ) (e : Entry) → entry_at xs u ≡ Some e → e.uuid ≡ u
-  identity_is [] u e found = absurd (cc)
-  identity_is (x ∷ xs) u e found = by (nat_eq x.uuid u) refl (identity_is xs u e) found
-    where
-      by : (b : Bool) → nat_eq x.uuid u ≡ b → (entry_at xs u ≡ Some e → e.uuid ≡ u) → cond b (Some x) (entry_at xs u) ≡ Some e → e.uuid ≡ u
-      by true hit rest here = let same : x ≡ e = cc in ap (λ (y : Entry). y.uuid) (sym same) ∙ eqb-true x.uuid u hit
-      by false miss rest there = rest there
-
   -- another entry has the name where another identity stands at its path key
   pub taken_by_index : (t : ℕ) → list_any (λ id. not (nat_eq id t)) (ids_at names path) ≡ list_any (λ other. is_named name other && not (is_identified t other)) es
   taken_by_index t = by (list_any (λ id. not (nat_eq id t)) (ids_at names path)) refl
@@ -133,7 +122,7 @@ module _ (name : List (List TypeAndValue)) (es : List Entry) (names : Names) (pa
       one u other None off never = absurd (false≢true never)
       one u other (Some e) found named =
           any_where_held (is_identified u) (another t) es e found
-          (ap (λ b. b && not (nat_eq e.uuid t)) named ∙ ap (λ n. not (nat_eq n t)) (identity_is es u e found) ∙ ap not other)
+          (ap (λ b. b && not (nat_eq e.uuid t)) named ∙ ap (λ n. not (nat_eq n t)) (own_uuid es u e found) ∙ ap not other)
 
       each : list_any (λ id. not (nat_eq id t)) (ids_at names path) ≡ false → (e : Entry) → entry_at es e.uuid ≡ Some e → another t e ≡ false
       each none e at = split (is_named name e) refl (nat_eq e.uuid t) refl

@@ -1,7 +1,7 @@
 -- What entries weigh after changes, by what these take away and bring.
-use Rattle.std.proofs.Common.{◌≡◌, ◌<◌, ◌≤◌, ◌+◌, ℕ, true, List, length, take, get_or, Option, Some, ap, sym, ◌∙◌, subst, arith}
+use Rattle.std.proofs.Common.{◌≡◌, ◌<◌, ◌≤◌, ◌+◌, ℕ, true, List, length, take, get_or, Option, ap, sym, ◌∙◌, subst, arith}
 use Rattle.std.specs.List.{sum_by}
-use Rattle.std.proofs.lemmas.List.Sums.{sum_by_more_le}
+use Rattle.std.proofs.lemmas.List.Sums.{sum_by_more, sum_by_more_le}
 use Rattle.schema_rules.specs.Attributes.{weight_of}
 use Rattle.entry_writes.specs.declared.entry.Entry.{Entry}
 use Rattle.entry_writes.specs.declared.touched.EntryChange.{EntryChange}
@@ -26,12 +26,19 @@ directory_put e es weight h few light =
 
 -- ---- what changes take away and bring
 
--- what those so far and the next take, or bring, is no more than all
-pub side_more_le : (side : EntryChange → Option Entry) (changes : List EntryChange) (i : ℕ) (change : EntryChange) (e : Entry) → i < length changes → change ≡ get_or changes i change → side change ≡ Some e
-    → sum_by (λ c. found_weight (side c)) (take i changes) + weight_of e.attrs ≤ sum_by (λ c. found_weight (side c)) changes
-side_more_le side changes i change e low at found =
-    let same : found_weight (side (get_or changes i change)) ≡ weight_of e.attrs = ap (λ c. found_weight (side c)) (sym at) ∙ ap found_weight found in
-    omega (arith, same, sum_by_more_le (λ c. found_weight (side c)) changes i change low)
+-- what those so far and the next take, or bring
+pub side_more : (side : EntryChange → Option Entry) (changes : List EntryChange) (i : ℕ) (change : EntryChange) → i < length changes → change ≡ get_or changes i change
+    → sum_by (λ c. found_weight (side c)) (take (i + 1) changes) ≡ sum_by (λ c. found_weight (side c)) (take i changes) + found_weight (side change)
+side_more side changes i change low at =
+    sum_by_more (λ c. found_weight (side c)) changes i change low
+    ∙ ap (λ c. sum_by (λ x. found_weight (side x)) (take i changes) + found_weight (side c)) (sym at)
+
+-- is no more than all take, or bring
+pub side_more_le : (side : EntryChange → Option Entry) (changes : List EntryChange) (i : ℕ) (change : EntryChange) → i < length changes → change ≡ get_or changes i change
+    → sum_by (λ c. found_weight (side c)) (take i changes) + found_weight (side change) ≤ sum_by (λ c. found_weight (side c)) changes
+side_more_le side changes i change low at =
+    subst (λ c. sum_by (λ x. found_weight (side x)) (take i changes) + found_weight (side c) ≤ sum_by (λ x. found_weight (side x)) changes) (sym at)
+    (sum_by_more_le (λ c. found_weight (side c)) changes i change low)
 
 -- the weights of both states, by the changes between them
 pub record Weighs (old new : List Entry) (changes : List EntryChange) : Type 0 where

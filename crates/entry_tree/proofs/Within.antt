@@ -4,6 +4,7 @@ use Rattle.std.specs.Cmp.Lexicographic.{bytes_decides}
 use Rattle.std.specs.List.{filter, filter_map, starts_with}
 use Rattle.std.specs.List.Sorted.{IsStrictlySortedBy}
 use Rattle.std.specs.Map.{keys_of}
+use Rattle.std.proofs.Math.Bool.{or-false}
 use Rattle.std.proofs.lemmas.Bool.{false≢true, or_left, or_right}
 use Rattle.std.proofs.lemmas.List.Folds.{list_any-append}
 use Rattle.std.proofs.lemmas.Map.Keys.{sorted_head, sorted_tail}
@@ -104,12 +105,8 @@ module _ (name : List (List TypeAndValue)) (es : List Entry) (names : Names) (pa
           (index.exact (path_key e.dn) u ∙ ap (has_path (path_key e.dn)) found ∙ (bytes_decides (path_key e.dn) (path_key e.dn)).1 refl)
 
   among_below : (u : ℕ) → among u (joined [] (ids_within names path)) ≡ passes (is_below name) (entry_at es u)
-  among_below u = among-joined u [] (ids_within names path) ∙ plain (among u (ids_within names path)) ∙ both (among u (ids_within names path)) refl (passes (is_below name) (entry_at es u)) refl
+  among_below u = among-joined u [] (ids_within names path) ∙ or-false (among u (ids_within names path)) ∙ both (among u (ids_within names path)) refl (passes (is_below name) (entry_at es u)) refl
     where
-      plain : (b : Bool) → (b || false) ≡ b
-      plain true = refl
-      plain false = refl
-
       both : (b : Bool) → among u (ids_within names path) ≡ b → (p : Bool) → passes (is_below name) (entry_at es u) ≡ p → b ≡ p
       both true inside p holds = sym (holds_below u (within_there names path u ordered inside)) ∙ holds
       both false off true holds = absurd (false≢true (sym off ∙ is_inside u holds))

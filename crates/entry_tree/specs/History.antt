@@ -37,8 +37,3 @@ differing_over states from (suc steps) =
 -- the identities that the writes after number `from` up to number `upto` change
 abbrev pub touched_over : ℕ → List Write → ℕ → ℕ → List ℕ
 touched_over history writes from upto = differing_over (state_of history writes) from (upto - from)
-
--- and those that they change in what a specification selects
-abbrev pub changed_over : Search → ℕ → List Write → ℕ → ℕ → List ℕ
-changed_over search history writes from upto =
-    differing_over (content search history writes) from (upto - from)

@@ -1,4 +1,5 @@
--- What a commit is judged by where no two entries before it have one name: the changes that it makes.
+-- What a commit is judged by where no two entries before it have one name: the changes that it
+-- makes.
 use Rattle.std.specs.Prelude.{◌≡◌, ℕ, ◌+◌, ◌≤◌, Bool, true, ◌==◌, length, List, Option, Some, None}
 use Rattle.std.specs.List.{filter_map, list_all, list_any}
 use Rattle.entry_writes.specs.declared.entry.Entry.{Entry}

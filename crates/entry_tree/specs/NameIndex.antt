@@ -19,7 +19,8 @@ Names = List (Vec ℕ Global × Vec ℕ Global)
 
 -- what is found at a path key
 abbrev pub found_at : Names → List ℕ → Option (Vec ℕ Global)
-found_at names path = lookup (is_at (λ (key : Vec ℕ Global). slice_cmp nat_cmp path key.items)) names
+found_at names path =
+    lookup (is_at (λ (key : Vec ℕ Global). slice_cmp nat_cmp path key.items)) names
 
 abbrev pub listed : Option (Vec ℕ Global) → List ℕ
 listed None = []

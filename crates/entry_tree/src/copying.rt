@@ -5,7 +5,8 @@ use crate::tree::Tree;
 use ldap_ber::NoMemory;
 
 impl Tree {
-    /// The same entries a second time, which share what they are made of with these.
+    /// The same entries a second time, which share what they are made of with these. It is
+    /// `NoMemory` where memory runs out.
     pub fn copy(&self) -> Result<Tree, NoMemory>
         ensures { IfOk result (λ copy. copy ≡ self.now) }
     {

@@ -1,5 +1,5 @@
 //! Which names have entries.
-ghost use Rattle.std.specs.Prelude.{◌≡◌, None, IfOk, IfErr, OnOk};
+ghost use Rattle.std.specs.Prelude.{◌≡◌, None, IfErr, OnOk};
 ghost use Rattle.entry_writes.specs.Codes as codes;
 ghost use Rattle.entry_writes.specs.Fault.{HasCode};
 ghost use Rattle.entry_writes.specs.State as state;
@@ -8,7 +8,6 @@ use crate::names::has_longer;
 use crate::tree::Tree;
 use dn_names::Dn;
 use entry_writes::OpFault;
-use ldap_ber::NoMemory;
 use ldap_constants::{ENTRY_ALREADY_EXISTS, NO_SUCH_OBJECT, NOT_ALLOWED_ON_NON_LEAF};
 
 impl Tree {
@@ -18,7 +17,7 @@ impl Tree {
         ensures ok { OnOk result (codes.place_code suffix.now self.now dn.now ≡ None) }
         ensures fault { IfErr result (HasCode (codes.place_code suffix.now self.now dn.now)) }
     {
-        if self.has_no_place(suffix, dn)? {
+        if self.has_no_place(suffix, dn) {
             return Err(OpFault::Code(NO_SUCH_OBJECT));
         }
         if self.has_name(dn) {
@@ -28,16 +27,16 @@ impl Tree {
     }
 
     /// Whether the name is not at or below the suffix, or is below it and its parent has no entry.
-    fn has_no_place(&self, suffix: &Dn, dn: &Dn) -> Result<bool, NoMemory>
-        ensures { IfOk result (λ none. none ≡ codes.has_no_place suffix.now self.now dn.now) }
+    fn has_no_place(&self, suffix: &Dn, dn: &Dn) -> bool
+        ensures { result ≡ codes.has_no_place suffix.now self.now dn.now }
     {
         if !dn.is_at_or_below(suffix) {
-            return Ok(true);
+            return true;
         }
         if dn.same(suffix) {
-            return Ok(false);
+            return false;
         }
-        Ok(!self.has_parent(dn)?)
+        !self.has_parent(dn)
     }
 
     /// Whether an entry has the name.
@@ -48,14 +47,13 @@ impl Tree {
     }
 
     /// Whether an entry has the name of the parent; the empty name has none.
-    fn has_parent(&self, dn: &Dn) -> Result<bool, NoMemory>
-        ensures { IfOk result (λ parent. parent ≡ state.has_parent self.now dn.now) }
+    fn has_parent(&self, dn: &Dn) -> bool
+        ensures { result ≡ state.has_parent self.now dn.now }
     {
         if dn.rdns().is_empty() {
-            return Ok(false);
+            return false;
         }
-        let parent = dn.parent()?;
-        Ok(self.has_name(&parent))
+        self.find_at(dn.parent_path()).is_some()
     }
 
     /// Whether an entry is below the name.

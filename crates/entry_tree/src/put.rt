@@ -1,5 +1,5 @@
 //! Changes that are put in place.
-ghost use Rattle.std.specs.Prelude.{◌≡◌, ◌≤◌, ◌+◌, true, [], ◌∷◌, fold, IfOk, OnOk, OnErr};
+ghost use Rattle.std.specs.Prelude.{◌≡◌, ◌≤◌, ◌+◌, ◌-◌, ◌^◌, min, true, [], ◌∷◌, fold, IfOk, OnOk, OnErr};
 ghost use Rattle.std.specs.BTreeMap.{is_at, insert_entry};
 ghost use Rattle.std.specs.Map.{remove_entry, values_of};
 ghost use Rattle.std.specs.Ordering.{nat_cmp};
@@ -9,7 +9,7 @@ ghost use Rattle.entry_writes.specs.Touched as changing;
 
 use crate::reindex::reindexed;
 use crate::tree::{Entries, Tree};
-use entry_writes::{EntryChange, Touched};
+use entry_writes::{Entry, EntryChange, Touched};
 use ldap_ber::NoMemory;
 
 impl Tree {
@@ -23,12 +23,53 @@ impl Tree {
         let changes = entry_changes.list();
         let weight = weight_with(self.weight, changes);
         let names = reindexed(self.alloc, &self.names, changes)?;
-        let entries = changed(&self.entries, changes)?;
-        self.entries = entries;
+        change_entries(&mut self.entries, changes)?;
         self.names = names;
         self.weight = weight;
         Ok(())
     }
+}
+
+/// Makes the changes. One change by itself is made where the entries stand, and of several all are
+/// made or none.
+fn change_entries(entries: &mut Entries, changes: &[EntryChange]) -> Result<(), NoMemory>
+    requires keyed { entries.old ≡ by_identity (values_of entries.old) }
+    requires ascends { state.ascends (values_of entries.old) ≡ true }
+    ensures ok { OnOk result (entries.new
+        ≡ by_identity (changing.with_changes (values_of entries.old) changes.now)) }
+    ensures err { OnErr result (entries.new ≡ entries.old) }
+{
+    match changes {
+        [change] => change_one(entries, change),
+        _ => change_each(entries, changes),
+    }
+}
+
+/// Makes the one change.
+fn change_one(entries: &mut Entries, change: &EntryChange) -> Result<(), NoMemory>
+    requires keyed { entries.old ≡ by_identity (values_of entries.old) }
+    requires ascends { state.ascends (values_of entries.old) ≡ true }
+    ensures ok { OnOk result (entries.new
+        ≡ by_identity (changing.with_changes (values_of entries.old) (change.now ∷ []))) }
+    ensures err { OnErr result (entries.new ≡ entries.old) }
+{
+    if change.after.is_some() {
+        return put_one(entries, change);
+    }
+    remove_one(entries, change)
+}
+
+/// Makes all the changes.
+fn change_each(entries: &mut Entries, changes: &[EntryChange]) -> Result<(), NoMemory>
+    requires keyed { entries.old ≡ by_identity (values_of entries.old) }
+    requires ascends { state.ascends (values_of entries.old) ≡ true }
+    ensures ok { OnOk result (entries.new
+        ≡ by_identity (changing.with_changes (values_of entries.old) changes.now)) }
+    ensures err { OnErr result (entries.new ≡ entries.old) }
+{
+    let after = changed(entries, changes)?;
+    *entries = after;
+    Ok(())
 }
 
 /// The entries after the changes.
@@ -58,9 +99,10 @@ fn remove_each(entries: &mut Entries, changes: &[EntryChange]) -> Result<(), NoM
 
 /// Removes the entry of the identity, where the change leaves it without one.
 fn remove_one(entries: &mut Entries, change: &EntryChange) -> Result<(), NoMemory>
-    ensures { OnOk result (entries.new
+    ensures ok { OnOk result (entries.new
         ≡ fold (λ held uuid. remove_entry (is_at (nat_cmp uuid)) held) entries.old
         (changing.drops_of (change.now ∷ []))) }
+    ensures err { OnErr result (entries.new ≡ entries.old) }
 {
     match &change.after {
         Some(_) => Ok(()),
@@ -82,9 +124,10 @@ fn put_each(entries: &mut Entries, changes: &[EntryChange]) -> Result<(), NoMemo
 
 /// Puts the entry that the change leaves or makes in its place.
 fn put_one(entries: &mut Entries, change: &EntryChange) -> Result<(), NoMemory>
-    ensures { OnOk result (entries.new
+    ensures ok { OnOk result (entries.new
         ≡ fold (λ held entry. insert_entry nat_cmp held entry.uuid entry) entries.old
         (changing.puts_of (change.now ∷ []))) }
+    ensures err { OnErr result (entries.new ≡ entries.old) }
 {
     match &change.after {
         Some(entry) => entries.insert(entry.uuid, entry.copy()?),
@@ -100,33 +143,21 @@ fn weight_with(total: u64, changes: &[EntryChange]) -> u64
     ensures { result + changing.weight_before changes.now
         ≡ total + changing.weight_after changes.now }
 {
-    total - weight_before(changes) + weight_after(changes)
+    let mut weight = total;
+    for change in changes {
+        weight -= found_weight(&change.before);
+        weight += found_weight(&change.after);
+    }
+    weight
 }
 
-/// What the entries before the changes weigh.
-fn weight_before(changes: &[EntryChange]) -> u64
-    requires { changing.weight_before changes.now ≤ state.most_weight }
-    ensures { result ≡ changing.weight_before changes.now }
+/// What an entry weighs, or 0 where there is none. The greatest number stands for all weights above
+/// it.
+fn found_weight(entry: &Option<Entry>) -> u64
+    ensures { result ≡ min (state.found_weight entry.now) (2 ^ 64 - 1) }
 {
-    let mut total: u64 = 0;
-    for change in changes {
-        if let Some(entry) = &change.before {
-            total += entry.attrs.weight();
-        }
+    match entry {
+        Some(entry) => entry.attrs.weight(),
+        None => 0,
     }
-    total
-}
-
-/// What the entries after the changes weigh.
-fn weight_after(changes: &[EntryChange]) -> u64
-    requires { changing.weight_after changes.now ≤ state.most_weight }
-    ensures { result ≡ changing.weight_after changes.now }
-{
-    let mut total: u64 = 0;
-    for change in changes {
-        if let Some(entry) = &change.after {
-            total += entry.attrs.weight();
-        }
-    }
-    total
 }

@@ -1,12 +1,12 @@
 //! The move of an entry with all below it (RFC 4511, section 4.9).
-ghost use Rattle.std.specs.Prelude.{◌≡◌, ◌≤◌, None, Some, filter, map, IfOk, IfErr, OnOk};
+ghost use Rattle.std.specs.Prelude.{◌≡◌, ◌≤◌, None, Some, IfOk, IfErr, OnOk};
 ghost use Rattle.std.specs.Option.{option_or};
 ghost use Rattle.schema_rules.specs.Attributes.{entry_code, weight_of};
 ghost use Rattle.entry_writes.specs.Codes as codes;
 ghost use Rattle.entry_writes.specs.Effects as effects;
 ghost use Rattle.entry_writes.specs.Fault.{HasCode};
 ghost use Rattle.entry_writes.specs.State as state;
-ghost use Rattle.entry_writes.specs.Touched.{is_change, IsPlan};
+ghost use Rattle.entry_writes.specs.Touched.{move_changes, IsPlan};
 
 use crate::modify::weight_without;
 use crate::tree::Tree;
@@ -105,14 +105,8 @@ fn moved(
     renamed: &Renamed,
     csn: Csn,
 ) -> Result<Touched, OpFault>
-    ensures entry_changes { IfOk result (λ entry_changes. entry_changes ≡ filter is_change
-        (map
-        (λ e.
-        record {
-          uuid = e.uuid;
-          before = Some e;
-          after = Some (effects.moved top.now renamed.now.name renamed.now.attrs csn e);
-        }) tree.now)) }
+    ensures entry_changes { IfOk result (λ entry_changes. entry_changes
+        ≡ move_changes tree.now top.now renamed.now.name renamed.now.attrs csn) }
     ensures accepted { OnOk result
         (codes.length_code tree.now top.now renamed.now.name ≡ None) }
     ensures refused { IfErr result

@@ -1,6 +1,8 @@
 //! The entries of a directory.
-ghost use Rattle.std.specs.Prelude.{◌≡◌, ◌≤◌, true, None, [], length, map, IfOk, OnOk, OnErr, IfErr};
+ghost use Rattle.std.specs.Prelude.{◌≡◌, ◌≤◌, true, None, List, [], length, map, IfOk, OnOk, OnErr, IfErr};
 ghost use Rattle.std.specs.Option.{option_copied};
+ghost use Rattle.dn_names.specs.Names.{TypeAndValue};
+ghost use Rattle.dn_names.specs.Paths.{path_key, HasPath};
 ghost use Rattle.entry_writes.specs.Codes.{code_of};
 ghost use Rattle.entry_writes.specs.Effects.{effect};
 ghost use Rattle.entry_writes.specs.Fault.{HasCode};
@@ -76,7 +78,7 @@ impl Tree {
         self.weight
     }
 
-    /// The entries, in ascending order of identity.
+    /// The entries, in ascending order of identity. It is `NoMemory` where memory runs out.
     pub fn entries(&self) -> Result<Vec<&Entry>, NoMemory>
         ensures { IfOk result (λ list. map (λ e. e.now) list.items ≡ self.now) }
     {
@@ -95,16 +97,25 @@ impl Tree {
     pub fn find(&self, dn: &Dn) -> Option<&Entry>
         ensures { option_copied result ≡ state.entry_named self.now dn.now }
     {
-        match first_at(&self.names, dn.path()) {
+        self.find_at(dn.path())
+    }
+
+    /// The entry whose name has this path key; where there are several, the first by identity.
+    pub(crate) fn find_at(&self, path: &[u8]) -> Option<&Entry>
+        ensures { (name : List (List TypeAndValue)) → HasPath name → path.now ≡ path_key name
+            → option_copied result ≡ state.entry_named self.now name }
+    {
+        match first_at(&self.names, path) {
             Some(uuid) => self.get(uuid),
             None => None,
         }
     }
 
-    /// Applies a write to the directory with this suffix, or reports the first code that rejects
-    /// it. An entry that is added gets the identity, and each entry that is added or changed the
-    /// CSN; what a commit puts keeps its own, and `check_commit` reports whether there is room for
-    /// it. The answer is what differs, with what was and what is. A refusal leaves the entries.
+    /// Applies a write to the directory with this suffix, or reports the first code that rejects it
+    /// (RFC 4511, sections 4.6 to 4.9). An entry that is added gets the identity, and each entry
+    /// that is added or changed the CSN; what a commit puts keeps its own, and `check_commit`
+    /// reports whether there is room for it. The answer is what differs, with what was and what is.
+    /// A refusal leaves the entries. It is `Code`, or `NoMemory`.
     pub fn apply(&mut self, op: &Op, suffix: &Dn, uuid: u128, csn: Csn) -> Result<Touched, OpFault>
         requires sound { is_sound_op op.now ≡ true }
         requires fits { fits self.old op.now ≡ true }
@@ -119,7 +130,8 @@ impl Tree {
         Ok(entry_changes)
     }
 
-    /// What `apply` would answer, which `put` can put in place. The entries stay as they are.
+    /// What `apply` would answer, which `put` can put in place. The entries stay as they are. It is
+    /// `Code`, or `NoMemory`.
     pub fn preview(&self, op: &Op, suffix: &Dn, uuid: u128, csn: Csn) -> Result<Touched, OpFault>
         requires sound { is_sound_op op.now ≡ true }
         requires fits { fits self.now op.now ≡ true }
@@ -153,7 +165,8 @@ impl Tree {
         }
     }
 
-    /// The entries that are wanted, in ascending order of identity.
+    /// The entries that are wanted, in ascending order of identity (RFC 4511, section 4.5.1). It is
+    /// `NoMemory` where memory runs out.
     pub fn select(&self, spec: &Spec) -> Result<EntryList, NoMemory>
         ensures { IfOk result (λ found. found ≡ select (search_of spec.now) self.now) }
     {

@@ -3,5 +3,6 @@ pub mod AttributeLists
 mod Editing
 pub mod Firsts
 pub mod Identities
+pub mod Keyed
 pub mod Passing
 pub mod Same

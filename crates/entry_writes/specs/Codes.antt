@@ -136,8 +136,8 @@ rename_code suffix entries None rdn deletes superior = Some NO_SUCH_OBJECT
 rename_code suffix entries (Some e) rdn deletes superior =
     moved_code suffix entries e (new_name e rdn superior) (new_attributes e rdn deletes) superior
 
--- ---- the code of a write to the directory with this suffix, where one rejects it; nothing is
--- against a commit, which its provider accepted write by write
+-- ---- the code of a write to the directory with this suffix, where one rejects it; none
+-- rejects a commit, which its provider accepted write by write
 abbrev pub code_of : List (List TypeAndValue) → List Entry → Op → Option ℕ
 code_of suffix entries (Add name attrs) = add_code suffix entries name attrs
 code_of suffix entries (Delete name) = delete_code entries name

@@ -38,6 +38,14 @@ has_some attrs kind values = list_any (matches kind (keys_there attrs kind)) val
 abbrev pub has_each : List Attribute → ℕ → List (List ℕ) → Bool
 has_each attrs kind values = list_all (matches kind (keys_there attrs kind)) values
 
+-- this is the key of the value
+abbrev pub has_key : ℕ → List ℕ → List ℕ → Bool
+has_key kind key value = is_among key (keys_of kind (value ∷ []))
+
+-- the attribute is of the type, and this is the key of one of its values
+abbrev pub holds_key : ℕ → List ℕ → Attribute → Bool
+holds_key kind key a = (a.kind == kind) && list_any (has_key kind key) a.values
+
 -- the value of the pair is there
 abbrev pub has_pair_value : List Attribute → TypeAndValue → Bool
 has_pair_value attrs pair = matches pair.kind (keys_there attrs pair.kind) pair.value

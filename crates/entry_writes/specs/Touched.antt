@@ -1,12 +1,15 @@
 -- The identities whose entry a write changes.
-use Rattle.std.specs.Prelude.{◌≡◌, ℕ, Bool, true, not, is_none, List, map, filter, fold, sum_by}
+use Rattle.std.specs.Prelude.{◌≡◌, ℕ, Bool, true, not, is_none, List, map, filter, fold, sum_by, Some}
 use Rattle.std.specs.List.{filter_map}
 use Rattle.std.specs.Ordering.{nat_cmp}
 use Rattle.std.specs.BTreeSet.{insert_key}
+use Rattle.csn_cookie.specs.Csn.{CsnValue}
+use Rattle.dn_names.specs.Names.{TypeAndValue}
+use Rattle.schema_rules.specs.declared.attributes.Attribute.{Attribute}
 use Rattle.entry_writes.specs.declared.entry.Entry.{Entry}
 use Rattle.entry_writes.specs.declared.touched.EntryChange.{EntryChange}
 use Rattle.entry_writes.specs.Bytes.{is_one_found}
-use Rattle.entry_writes.specs.Effects.{committed}
+use Rattle.entry_writes.specs.Effects.{committed, moved}
 use Rattle.entry_writes.specs.State.{ascends, entry_at, found_weight, total_weight, IsDirectory}
 
 abbrev pub identities : List Entry → List ℕ
@@ -28,6 +31,16 @@ is_change entry_change = not (is_one_found entry_change.before entry_change.afte
 abbrev pub touched : List Entry → List Entry → List EntryChange
 touched old new =
     filter is_change (map (change_at old new) (joined (identities old) (identities new)))
+
+-- what differs of these entries where `top` gets this name and these attributes and all below it
+-- moves with it
+abbrev pub move_changes :
+    List Entry → Entry → List (List TypeAndValue) → List Attribute → CsnValue → List EntryChange
+move_changes entries top name attrs csn =
+    filter is_change
+    (map
+    (λ e. record { uuid = e.uuid; before = Some e; after = Some (moved top name attrs csn e) })
+    entries)
 
 -- ---- changes that are put in place
 

@@ -14,7 +14,7 @@ use dn_names::{Dn, Pair, Rdn};
 use ldap_ber::{NoMemory, Octets, OctetsList};
 use ldap_constants::{ATTRIBUTE_OR_VALUE_EXISTS, NO_SUCH_ATTRIBUTE};
 use schema_rules::{
-    Attribute, AttributeType, Attrs, How, add_values, has_duplicates, keys_of, known_key,
+    Attribute, AttributeType, Attrs, How, add_values, has_equal_values, keys_of, known_key,
 };
 use std::alloc::Global;
 use std::slice::from_ref;
@@ -22,7 +22,7 @@ use std::slice::from_ref;
 pub(crate) fn copies(alloc: Global, attributes: &[Attribute]) -> Result<Vec<Attribute>, NoMemory>
     ensures { IfOk result (λ copied. copied.items ≡ attributes.now) }
 {
-    let mut copied = Vec::new(alloc);
+    let mut copied = Vec::with_capacity(alloc, attributes.len())?;
     for attribute in attributes {
         copied.push(attribute.copy()?)?;
     }
@@ -130,17 +130,18 @@ fn check_edit(alloc: Global, attributes: &[Attribute], edit: &Edit) -> Result<()
 {
     let kind = edit.kind;
     let values = edit.values.list();
-    if has_duplicates(&keys_of(alloc, kind, values)?) {
+    if has_equal_values(alloc, kind, values)? {
         return Err(OpFault::Code(ATTRIBUTE_OR_VALUE_EXISTS));
     }
-    let keys = keys_there(alloc, attributes, kind)?;
     match edit.how {
         How::Add => {
+            let keys = keys_there(alloc, attributes, kind)?;
             if has_some(alloc, kind, &keys, values)? {
                 return Err(OpFault::Code(ATTRIBUTE_OR_VALUE_EXISTS));
             }
         }
         How::Delete => {
+            let keys = keys_there(alloc, attributes, kind)?;
             if !has_kind(attributes, kind) || !has_each(alloc, kind, &keys, values)? {
                 return Err(OpFault::Code(NO_SUCH_ATTRIBUTE));
             }
@@ -158,7 +159,7 @@ fn without_kind(
 ) -> Result<Vec<Attribute>, NoMemory>
     ensures { IfOk result (λ left. left.items ≡ spec.without_kind attributes.now kind) }
 {
-    let mut left = Vec::new(alloc);
+    let mut left = Vec::with_capacity(alloc, attributes.len())?;
     for attribute in attributes {
         if attribute.kind != kind {
             left.push(attribute.copy()?)?;
@@ -198,7 +199,7 @@ fn without_values(
         left.items ≡ spec.without_values attributes.now kind values.now) }
 {
     let keys = keys_of(alloc, kind, values)?;
-    let mut left = Vec::new(alloc);
+    let mut left = Vec::with_capacity(alloc, attributes.len())?;
     for attribute in attributes {
         let rest = left_of(alloc, attribute, kind, &keys)?;
         if !rest.values.list().is_empty() {
@@ -218,7 +219,7 @@ fn with_other_values(
     ensures { IfOk result (λ items.
         items.items ≡ spec.with_change (λ held. values.now) attributes.now kind) }
 {
-    let mut items = Vec::new(alloc);
+    let mut items = Vec::with_capacity(alloc, attributes.len())?;
     for attribute in attributes {
         if attribute.kind == kind {
             items.push(Attribute {
@@ -332,12 +333,59 @@ pub fn own_pairs(dn: &Dn) -> &[Pair]
     }
 }
 
-/// Whether the value of the pair is there.
+/// Whether this is the key of the value.
+fn has_key(alloc: Global, kind: AttributeType, key: &[u8], value: &Octets) -> Result<bool, NoMemory>
+    ensures { IfOk result (λ found. found ≡ spec.has_key kind key.now value.now) }
+{
+    match known_key(alloc, kind, value.as_slice())? {
+        None => Ok(false),
+        Some(own) => Ok(own.as_slice() == key),
+    }
+}
+
+/// Whether this is the key of one of the values.
+fn has_keyed(
+    alloc: Global,
+    kind: AttributeType,
+    key: &[u8],
+    values: &[Octets],
+) -> Result<bool, NoMemory>
+    ensures { IfOk result (λ found. found ≡ list_any (spec.has_key kind key.now) values.now) }
+{
+    for value in values {
+        if has_key(alloc, kind, key, value)? {
+            return Ok(true);
+        }
+    }
+    Ok(false)
+}
+
+/// Whether the attribute is of the type, and this is the key of one of its values.
+fn holds_key(
+    alloc: Global,
+    kind: AttributeType,
+    key: &[u8],
+    attribute: &Attribute,
+) -> Result<bool, NoMemory>
+    ensures { IfOk result (λ found. found ≡ spec.holds_key kind key.now attribute.now) }
+{
+    if attribute.kind != kind {
+        return Ok(false);
+    }
+    has_keyed(alloc, kind, key, attribute.values.list())
+}
+
+/// Whether the value of the pair is there. The pair has its key with it.
 fn has_pair_value(alloc: Global, attributes: &[Attribute], pair: &Pair) -> Result<bool, NoMemory>
     ensures { IfOk result (λ found. found ≡ spec.has_pair_value attributes.now pair.now) }
 {
-    let keys = keys_there(alloc, attributes, pair.kind)?;
-    matches(alloc, pair.kind, &keys, &pair.value)
+    let key = pair.key();
+    for attribute in attributes {
+        if holds_key(alloc, pair.kind, key, attribute)? {
+            return Ok(true);
+        }
+    }
+    Ok(false)
 }
 
 /// Whether the value of each pair of the name's own RDN is there.
@@ -430,7 +478,8 @@ fn is_same_pair(one: &Pair, other: &Pair) -> bool
 }
 
 /// The attributes of an entry that gets another RDN (RFC 4511, section 4.9): with the values of the
-/// new one, and where they are to go without those of the old one that are not in the new.
+/// new one, and where they are to go without those of the old one that are not in the new. It is
+/// `NoMemory` where memory runs out.
 pub fn with_new_rdn(
     alloc: Global,
     attrs: &Attrs,

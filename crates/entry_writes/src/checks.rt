@@ -33,8 +33,8 @@ pub fn check_weight(weight: u64, others: u64) -> Result<(), OpFault>
     Ok(())
 }
 
-/// Refuses attributes without the values of the name's own RDN with namingViolation (64); or it is
-/// `NoMemory`.
+/// Refuses attributes without the values of the name's own RDN with namingViolation (64; RFC 4511,
+/// section 4.7); or it is `NoMemory`.
 pub fn check_naming(alloc: Global, dn: &Dn, attrs: &Attrs) -> Result<(), OpFault>
     ensures ok { OnOk result (spec.naming_code dn.now attrs.now ≡ None) }
     ensures fault { IfErr result (HasCode (spec.naming_code dn.now attrs.now)) }

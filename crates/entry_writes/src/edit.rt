@@ -39,7 +39,7 @@ impl Edits {
         }
     }
 
-    /// Puts the edit at the end.
+    /// Puts the edit at the end. It is `NoMemory` where memory runs out, and the list is as before.
     pub fn push(&mut self, item: Edit) -> Result<(), NoMemory>
         ensures ok { OnOk result (self.new ≡ self.old ++ item ∷ []) }
         ensures err { OnErr result (self.new ≡ self.old) }

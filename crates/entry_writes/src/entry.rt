@@ -59,7 +59,8 @@ impl EntryList {
         }
     }
 
-    /// Puts the entry at the end.
+    /// Puts the entry at the end. It is `NoMemory` where memory runs out, and the list is as
+    /// before.
     pub fn push(&mut self, item: Entry) -> Result<(), NoMemory>
         ensures ok { OnOk result (self.new ≡ self.old ++ item ∷ []) }
         ensures err { OnErr result (self.new ≡ self.old) }

@@ -24,7 +24,7 @@ use std::alloc::Global;
 /// that weigh n bytes. Else it reports the first code against them: attributeOrValueExists (20)
 /// or noSuchAttribute (16) of the edits in order; then of the attributes after them
 /// constraintViolation (19), objectClassViolation (65), notAllowedOnRDN (67) and adminLimitExceeded
-/// (11).
+/// (11). It is `NoMemory` where memory runs out.
 pub fn edited_entry(
     alloc: Global,
     entry: &Entry,

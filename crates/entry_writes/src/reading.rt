@@ -18,11 +18,12 @@ use ldap_constants::{
 use schema_rules::{AttributeType, Attrs, Change, EditList, How, RawEdit, are_of_syntax};
 use std::alloc::Global;
 
-/// Reads a write. The first code is reported: invalidDNSyntax where a name is refused; then of each
-/// attribute or edit in order undefinedAttributeType where its name names no type,
-/// constraintViolation where the type is operational, and invalidAttributeSyntax where a value is
-/// not of the type's syntax, and also where what is added has no value; after all of these
-/// attributeOrValueExists where two values of a type in an Add have one key.
+/// Reads a write (RFC 4511, sections 4.6 to 4.9). The first code is reported: invalidDNSyntax where
+/// a name is refused; then of each attribute or edit in order undefinedAttributeType where its name
+/// names no type, constraintViolation where the type is operational, and invalidAttributeSyntax
+/// where a value is not of the type's syntax, and also where what is added has no value; after all
+/// of these attributeOrValueExists where two values of a type in an Add have one key. It is
+/// `NoMemory` where memory runs out.
 #[tactic(auto, unfolding(crate::specs::Reading::read_change))]
 pub fn read_op(alloc: Global, change: &Change) -> Result<Op, OpFault>
     ensures ok { IfOk result (λ op. spec.read_change change.now ≡ Ok op) }

@@ -1,11 +1,11 @@
 //! The move of entries with one of them (RFC 4511, section 4.9).
-ghost use Rattle.std.specs.Prelude.{◌≡◌, ◌&&◌, true, false, None, Some, filter, map, length, nat_lt, if◌then◌else◌, IfOk, IfErr, OnOk};
+ghost use Rattle.std.specs.Prelude.{◌≡◌, ◌&&◌, true, false, None, Some, map, length, nat_lt, if◌then◌else◌, IfOk, IfErr, OnOk};
 ghost use Rattle.dn_names.specs.Names.{is_at_or_below, moved_name};
 ghost use Rattle.dn_names.specs.Sound.{most_rdns};
 ghost use Rattle.entry_writes.specs.Codes as codes;
 ghost use Rattle.entry_writes.specs.Effects as effects;
 ghost use Rattle.entry_writes.specs.Fault.{HasCode};
-ghost use Rattle.entry_writes.specs.Touched.{is_change};
+ghost use Rattle.entry_writes.specs.Touched.{move_changes};
 
 use crate::entry::Entry;
 use crate::fault::OpFault;
@@ -24,7 +24,8 @@ pub struct Renamed {
 }
 
 /// What differs of these entries after the one is renamed, or the code of a name that would be too
-/// long.
+/// long (RFC 4511, section 4.9). That is adminLimitExceeded (11). It is `NoMemory` where memory
+/// runs out.
 pub fn moved_entries(
     alloc: Global,
     entries: &[&Entry],
@@ -32,14 +33,9 @@ pub fn moved_entries(
     renamed: &Renamed,
     csn: Csn,
 ) -> Result<Touched, OpFault>
-    ensures entry_changes { IfOk result (λ entry_changes. entry_changes ≡ filter is_change
-        (map
-        (λ e.
-        record {
-          uuid = e.uuid;
-          before = Some e;
-          after = Some (effects.moved top.now renamed.now.name renamed.now.attrs csn e);
-        }) (map (λ e. e.now) entries.now))) }
+    ensures entry_changes { IfOk result (λ entry_changes. entry_changes
+        ≡ move_changes (map (λ e. e.now) entries.now) top.now renamed.now.name renamed.now.attrs
+        csn) }
     ensures accepted { OnOk result
         (codes.length_code (map (λ e. e.now) entries.now) top.now renamed.now.name ≡ None) }
     ensures refused { IfErr result

@@ -8,7 +8,8 @@ use dn_names::{Dn, NameFault, Rdn};
 use ldap_ber::NoMemory;
 use std::alloc::{AllocError, Global};
 
-/// The name right above the new one: the new superior, or the old parent.
+/// The name right above the new one: the new superior, or the old parent. It is `NoMemory` where
+/// memory runs out.
 pub fn name_above(alloc: Global, dn: &Dn, superior: &Option<Dn>) -> Result<Dn, NoMemory>
     ensures { IfOk result (λ above. above ≡ unwrap_or superior.now (parent_of dn.now)) }
 {
@@ -24,7 +25,8 @@ pub fn name_above(alloc: Global, dn: &Dn, superior: &Option<Dn>) -> Result<Dn, N
     }
 }
 
-/// The name with this RDN right below, where it is not too long to be one.
+/// The name with this RDN right below, where it is not too long to be one (RFC 4511, section 4.9).
+/// It is `NoMemory` where memory runs out.
 pub fn name_below(above: &Dn, rdn: &Rdn) -> Result<Option<Dn>, NoMemory>
     ensures { IfOk result (λ name. name ≡ result_ok (limited (rdn.now ∷ above.now))) }
 {

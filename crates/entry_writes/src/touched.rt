@@ -44,7 +44,8 @@ impl Touched {
         }
     }
 
-    /// Puts the change at the end.
+    /// Puts the change at the end. It is `NoMemory` where memory runs out, and the list is as
+    /// before.
     pub fn push(&mut self, item: EntryChange) -> Result<(), NoMemory>
         ensures ok { OnOk result (self.new ≡ self.old ++ item ∷ []) }
         ensures err { OnErr result (self.new ≡ self.old) }
@@ -53,7 +54,8 @@ impl Touched {
         Ok(())
     }
 
-    /// Puts what an identity had and its entry at the end, where these differ.
+    /// Puts what an identity had and its entry at the end, where these differ. It is `NoMemory`
+    /// where memory runs out, and the list is as before.
     pub fn push_change(&mut self, was: Option<&Entry>, now: &Entry) -> Result<(), NoMemory>
         ensures ok { OnOk result (self.new ≡ self.old ++ filter is_change
             (record { uuid = now.now.uuid; before = option_copied was.entry; after = Some now.now }
@@ -80,7 +82,8 @@ impl Touched {
         }
     }
 
-    /// Puts what an identity had and has at the end, where these differ.
+    /// Puts what an identity had and has at the end, where these differ. It is `NoMemory` where
+    /// memory runs out, and the list is as before.
     pub fn push_difference(
         &mut self,
         uuid: u128,

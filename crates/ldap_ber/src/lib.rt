@@ -5,14 +5,16 @@
 //! written is the one canonical spelling: the shortest length, the shortest integer, TRUE as `FF`.
 #![tactic(auto)]
 
+mod dropping;
 mod fault;
 mod laws;
 mod octets;
 mod reader;
 mod writer;
 
+pub use dropping::discard;
 pub use fault::{BerFault, BerKind};
 pub use laws::{canonical_spellings, elements_are_read, no_spelling_begins_another};
 pub use octets::{NoMemory, Octets, OctetsList};
-pub use reader::{Reader, Tlv, boolean, integer};
+pub use reader::{Reader, Tlv, boolean, integer, number_of};
 pub use writer::Writer;

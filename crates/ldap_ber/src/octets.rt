@@ -56,7 +56,7 @@ impl Model for Octets {
 }
 
 impl Octets {
-    /// A copy of these bytes.
+    /// A copy of these bytes. It is `NoMemory` where memory runs out.
     #[inline(always)]
     pub fn from_slice(alloc: Global, bytes: &[u8]) -> Result<Octets, NoMemory>
         ensures { IfOk result (λ octets. octets ≡ bytes.now) }
@@ -276,7 +276,8 @@ impl OctetsList {
         }
     }
 
-    /// Puts the string at the end.
+    /// Puts the string at the end. It is `NoMemory` where memory runs out, and the list is as
+    /// before.
     pub fn push(&mut self, item: Octets) -> Result<(), NoMemory>
         ensures ok { OnOk result (self.new ≡ self.old ++ item ∷ []) }
         ensures err { OnErr result (self.new ≡ self.old) }
@@ -287,7 +288,7 @@ impl OctetsList {
         answer
     }
 
-    /// Puts the strings at the end, or none of them.
+    /// Puts the strings at the end, or none of them. It is `NoMemory` where memory runs out.
     pub fn append(&mut self, more: OctetsList) -> Result<(), NoMemory>
         ensures ok { OnOk result (self.new ≡ self.old ++ more) }
         ensures err { OnErr result (self.new ≡ self.old) }

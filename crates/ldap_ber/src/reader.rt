@@ -151,8 +151,8 @@ impl<'a> Reader<'a> {
         Ok(tlv)
     }
 
-    /// The body of the next element, which has to have this tag. Else it is a fault of `next`, or
-    /// `WrongTag`, and the reader is as before.
+    /// The body of the next element, which has to have this tag (X.690, section 8.7). Else it is a
+    /// fault of `next`, or `WrongTag`, and the reader is as before.
     pub fn octets(&mut self, tag: u8) -> Result<&'a [u8], BerFault>
         ensures exact { Answers (λ octets. (octets.now, self.new.left)) result
             (octets_at tag self.old.stop self.old.left) }
@@ -164,8 +164,8 @@ impl<'a> Reader<'a> {
         Ok(tlv.body)
     }
 
-    /// The integer in the next element, which has to have this tag. Else it is a fault of `next`,
-    /// `WrongTag` or `BadInteger`, and the reader is as before.
+    /// The integer in the next element, which has to have this tag (X.690, section 8.3). Else it is
+    /// a fault of `next`, `WrongTag` or `BadInteger`, and the reader is as before.
     pub fn integer(&mut self, tag: u8) -> Result<i64, BerFault>
         ensures exact { Answers (λ value. (value, self.new.left)) result
             (integer_at tag self.old.stop self.old.left) }
@@ -183,8 +183,8 @@ impl<'a> Reader<'a> {
         }
     }
 
-    /// The truth value in the next element, which has to have this tag. Else it is a fault of
-    /// `next`, `WrongTag` or `BadBoolean`, and the reader is as before.
+    /// The truth value in the next element, which has to have this tag (X.690, section 8.2). Else
+    /// it is a fault of `next`, `WrongTag` or `BadBoolean`, and the reader is as before.
     pub fn boolean(&mut self, tag: u8) -> Result<bool, BerFault>
         ensures exact { Answers (λ value. (value, self.new.left)) result
             (boolean_at tag self.old.stop self.old.left) }
@@ -356,7 +356,7 @@ fn long_length_of(first: u8, more: &[u8]) -> Result<(usize, &[u8]), BerKind>
 }
 
 /// The number of up to four octets, the highest first.
-fn number_of(octets: &[u8]) -> usize
+pub fn number_of(octets: &[u8]) -> usize
     requires { length octets.now ≤ 4 }
     ensures { result ≡ number_after 0 octets.now }
 {

@@ -25,8 +25,8 @@ const FIRST_LEVELS: usize = 8;
 const FIRST_CONTENT: usize = 512;
 
 /// The header of an element that holds others, and where the element starts in the content: with
-/// two octets that a short header takes, before its body. Until the element is ended the length says
-/// nothing.
+/// two octets that a short header takes, before its body. Until the element is ended the length
+/// says nothing.
 #[derive(Clone, Copy)]
 struct Header {
     tag: u8,
@@ -92,8 +92,8 @@ impl Writer {
         }
     }
 
-    /// Writes an element with this tag and body. It is `NoMemory` where memory runs out or a length
-    /// has no place in four octets, and the writer is as before.
+    /// Writes an element with this tag and body (X.690, section 8.1). It is `NoMemory` where memory
+    /// runs out or a length has no place in four octets, and the writer is as before.
     #[inline(always)]
     pub fn octets(&mut self, tag: u8, bytes: &[u8]) -> Result<(), NoMemory>
         ensures ok { OnOk result (self.new ≡ after_bytes self.old (element tag bytes.now)) }
@@ -130,7 +130,8 @@ impl Writer {
         self.octets(tag, &[octet])
     }
 
-    /// Writes a truth value where it is not the usual one.
+    /// Writes a truth value where it is not the usual one. It is `NoMemory` where memory runs out,
+    /// and the writer is as before.
     pub fn boolean_unless(&mut self, tag: u8, usual: bool, value: bool) -> Result<(), NoMemory>
         ensures ok { OnOk result (self.new ≡ after_bytes self.old (flag_octets tag usual value)) }
         ensures err { OnErr result (self.new ≡ self.old) }

@@ -61,7 +61,8 @@ impl FilterList {
         Ok(FilterList { items })
     }
 
-    /// Puts the filter at the end.
+    /// Puts the filter at the end. It is `NoMemory` where memory runs out, and the list is as
+    /// before.
     pub fn push(&mut self, item: Filter) -> Result<(), NoMemory>
         ensures ok { OnOk result (parts_of self.new ≡ parts_of self.old ++ item ∷ []) }
         ensures err { OnErr result (parts_of self.new ≡ parts_of self.old) }

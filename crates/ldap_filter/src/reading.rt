@@ -16,10 +16,11 @@ use std::alloc::Global;
 const LEVELS: usize = 32;
 
 impl Filter {
-    /// The filter that a text writes. The place of a fault is that of the first byte that cannot
-    /// follow those before it, or the text's length where the text ends too early. A byte that is
-    /// not part of UTF-8 text follows none. `TooDeep` comes at the parenthesis of a filter that
-    /// stands in 32 others.
+    /// The filter that a text writes (RFC 4515, section 3). The place of a fault is that of the
+    /// first byte that cannot follow those before it, or the text's length where the text ends too
+    /// early. A byte that is not part of UTF-8 text follows none. `TooDeep` comes at the
+    /// parenthesis of a filter that stands in 32 others. Any other fault is `BadFilter`, or
+    /// `NoMemory`.
     #[tactic(auto, unfolding(crate::specs::Reading::read_filter))]
     pub fn read_text(alloc: Global, text: &[u8]) -> Result<Filter, FilterFault>
         ensures ok { IfOk result (λ filter. spec.read_filter text.now ≡ Ok (tree_of filter)) }

@@ -39,7 +39,8 @@ impl Truth {
 }
 
 impl Filter {
-    /// The truth of the filter on the attributes of an entry.
+    /// The truth of the filter on the attributes of an entry (RFC 4511, section 4.5.1.7). It is
+    /// `NoMemory` where memory runs out.
     #[cycle(truths)]
     pub fn value_on(&self, alloc: Global, attrs: &Attrs) -> Result<Truth, NoMemory>
         ensures { IfOk result (λ truth. truth ≡ spec.truth_on attrs.now (tree_of self.now)) }

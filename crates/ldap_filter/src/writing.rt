@@ -14,10 +14,10 @@ use ldap_ber::{NoMemory, Octets};
 use std::alloc::Global;
 
 impl Filter {
-    /// The text of the filter, which is read again as the same filter where that is not too deep.
-    /// `NoText` comes where the filter holds an extensible match, a type with other bytes than
-    /// letters, digits, `-`, `.` and `;` or without a byte, or an empty piece of a substring
-    /// filter.
+    /// The text of the filter, which is read again as the same filter where that is not too deep
+    /// (RFC 4515, section 3). `NoText` comes where the filter holds an extensible match, a type
+    /// with other bytes than letters, digits, `-`, `.` and `;` or without a byte, or an empty piece
+    /// of a substring filter. It is `NoMemory` where memory runs out.
     pub fn write_text(&self, alloc: Global) -> Result<Octets, FilterFault>
         ensures text { IfOk result (λ text. text ≡ spec.text_of (tree_of self.now)) }
         ensures ok { OnOk result (spec.has_text (tree_of self.now) ≡ true) }

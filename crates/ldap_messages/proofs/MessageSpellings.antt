@@ -46,6 +46,8 @@ message_spelled result whole has is small held = if_written_soundly result (mess
 short_body : (bytes body : List ℕ) → Begins bytes 48 body [] → length bytes ≤ 4194304 → length body ≤ 4194304
 short_body bytes body h le = omega (arith, ap (λ (x : List ℕ). length x) h.parts, length-append h.octets (body ++ []), length-append body [])
 
+-- the canonical encoding of a message that is not too long is read again as the message, whatever
+-- follows it
 pub message_read_again : {E : Type 0} (result : Result (List ℕ) E) (whole : Whole) → HasSpelling whole → IfOk result (λ o. o ≡ message_octets whole) → IfOk result IsSmall → IfOk result (λ o. IsHeld whole.1.0)
     → IfOk result (λ o. length o ≤ 4194304 → (after : List ℕ) → read_of (o ++ after) ≡ message whole (length o))
 message_read_again result whole has is small held =

@@ -1,9 +1,10 @@
 //! The frame of a message, which its first bytes announce: the tag of a SEQUENCE, and a definite
 //! length in at most four octets after its first (RFC 4511, section 5.1).
 
-ghost use Rattle.std.specs.Prelude.{◌≡◌, ◌≤◌, ◌<◌, ◌^◌, length, IfOk};
-ghost use Rattle.ldap_ber.specs.Element.{number_after};
+ghost use Rattle.std.specs.Prelude.{◌≡◌, ◌≤◌};
 ghost use Rattle.ldap_messages.specs.Frame.{framed, frame_at};
+
+use ldap_ber::number_of;
 
 /// The most octets of a message's body.
 const LONGEST: usize = 4_194_304;
@@ -65,18 +66,4 @@ fn framed(header: usize, count: usize, so_far: usize) -> Frame
         return Frame::Partial;
     }
     Frame::Held(header + count)
-}
-
-/// The number of up to four octets, the highest first.
-fn number_of(octets: &[u8]) -> usize
-    requires { length octets.now ≤ 4 }
-    ensures { result ≡ number_after 0 octets.now }
-{
-    match octets {
-        [a] => *a as usize,
-        [a, b] => *a as usize * 256 + *b as usize,
-        [a, b, c] => (*a as usize * 256 + *b as usize) * 256 + *c as usize,
-        [a, b, c, d] => ((*a as usize * 256 + *b as usize) * 256 + *c as usize) * 256 + *d as usize,
-        _ => 0,
-    }
 }

@@ -19,7 +19,7 @@ ghost use Rattle.ldap_messages.specs.Frame.{message, read_of, HasMeaning, Spells
 use crate::fault::MessageFault;
 use crate::frame::{Frame, frame_of};
 use crate::protocol::{Protocol, operation_of, put_operation};
-use ldap_ber::{NoMemory, Octets, Reader, Writer};
+use ldap_ber::{NoMemory, Octets, Reader, Writer, discard};
 use ldap_parts::{ControlList, PartFault, controls_of, put_controls, put_number, range_of};
 use std::alloc::Global;
 
@@ -50,7 +50,7 @@ impl Message {
     }
 
     /// Writes the canonical spelling, which is read again as the same message where it is not
-    /// longer than a frame may be.
+    /// longer than a frame may be (RFC 4511, section 5.1). It is `NoMemory` where memory runs out.
     pub fn write(&self, alloc: Global) -> Result<Octets, NoMemory>
         requires { HasSpelling (whole_of self.now) }
         ensures canonical { IfOk result (λ octets. octets ≡ message_octets (whole_of self.now)) }
@@ -146,7 +146,3 @@ fn message_of(alloc: Global, reader: &mut Reader) -> Result<Message, PartFault>
         }
     }
 }
-
-/// Drops a value through its bound: the many cases of an operation are gone through once, in the
-/// drop of their type, and not wherever one is dropped.
-fn discard<T: Drop>(_value: T) {}

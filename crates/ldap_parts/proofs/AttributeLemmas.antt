@@ -17,6 +17,7 @@ use Rattle.ldap_parts.proofs.StringLemmas.{strings_exact, strings_spelled, all_s
 
 -- ---- read
 
+-- an attribute is read exactly where it is encoded so
 pub attribute_exact : Exact AttributeForm attribute_at
 unfolding attribute_at
 attribute_exact = made_exact attribute_parts attribute_with (Sequence 48 (Both (OctetString 4) (StringsForm 49))) (sequence_at place_of 48 (both_at (string_at 4) (strings_at 49)))
@@ -25,6 +26,7 @@ attribute_exact = made_exact attribute_parts attribute_with (Sequence 48 (Both (
 pub attribute_shortens : Shortens AttributeForm
 attribute_shortens bytes x rest h = Begins-shorter bytes 48 h.0 rest h.2
 
+-- so is a list of them
 pub attributes_exact : Exact AttributesForm attributes_at
 attributes_exact = list_exact place_of 48 AttributeForm attribute_at attribute_exact attribute_shortens
 
@@ -46,6 +48,7 @@ attributes_end prefix stop bytes none = many_ended attribute_at prefix stop byte
 abbrev body : List ℕ × List (List ℕ) → List ℕ
 body parts = element 4 parts.0 ++ strings_octets 49 parts.1
 
+-- what is written of an attribute is an encoding of it
 pub attribute_spelled : Spelled AttributeForm attribute_octets (Always {X = RawAttribute}) Anything
 unfolding attribute_octets
 attribute_spelled = record {
@@ -55,6 +58,7 @@ attribute_spelled = record {
       (octets_spelled 4 (omega arith)) (strings_spelled 49 (omega arith)) (λ y rest sound after. tt)) tt)).spells x rest small (tt, tt) after;
 }
 
+-- so is what is written of a list
 pub attributes_spelled : Spelled AttributesForm attributes_octets (Always {X = List RawAttribute}) Anything
 attributes_spelled = record {
   spells = λ xs rest small sound after.

@@ -15,15 +15,18 @@ use Rattle.ldap_parts.specs.Components.{IsWithin, RangeForm, FlagForm, OptionFor
 
 -- ---- read
 
+-- an octet string is read exactly where it is encoded so
 pub string_exact : (tag : ℕ) → Exact (OctetString tag) (string_at tag)
 string_exact tag = reworded_exact place_of (OctetString tag) (octets_at tag) (octets_exact tag)
 
 pub string_shortens : (tag : ℕ) → Shortens (OctetString tag)
 string_shortens tag bytes x rest h = Begins-shorter bytes tag x rest h
 
+-- so is an integer
 pub number_exact : (tag : ℕ) → Exact (Integer tag) (number_at tag)
 number_exact tag = reworded_exact place_of (Integer tag) (integer_at tag) (integer_exact tag)
 
+-- so is a Boolean
 pub truth_exact : Exact (Boolean 1) truth_at
 truth_exact = reworded_exact place_of (Boolean 1) (boolean_at 1) (boolean_exact 1)
 
@@ -44,19 +47,23 @@ within_only least most place number value h =
     let t : (leb least value && leb value most) ≡ true = grind (arith, nat_tests) in
     rw (h.0, t) refl
 
+-- so is an integer within bounds
 pub range_exact : (least most tag : ℕ) → Exact (RangeForm least most tag) (range_at least most tag)
 range_exact least most tag = meaning_exact (IsWithin least most) (within least most) (Integer tag) (number_at tag) (within_found least most) (within_only least most) (number_exact tag)
 
+-- so is an octet string that may be absent
 pub option_exact : (tag : ℕ) → Exact (OptionForm tag) (option_at tag)
 option_exact tag = optional_exact tag (OctetString tag) (string_at tag) (string_exact tag)
 
 -- ---- written
 
+-- what is written of an integer within its bounds is an encoding of it
 pub range_spelled : (least most tag : ℕ) → tag % 32 ≢ 31 → most < 2 ^ 63 → Spelled (RangeForm least most tag) (number_octets tag) (λ value. (least ≤ value) × (value ≤ most)) Anything
 range_spelled least most tag low few =
     meaning_spelled (IsWithin least most) (Integer tag) (λ number. element tag (integer_octets number)) (FitsSigned w64) Anything (λ value. pos value) (λ value. (least ≤ value) × (value ≤ most))
     (λ value fits. ((refl, fits.0, fits.1), omega arith)) (integer_spelled tag low)
 
+-- so is what is written of an optional octet string, where no element with its tag follows
 pub option_spelled : (tag : ℕ) → tag % 32 ≢ 31 → Spelled (OptionForm tag) (string_octets tag) (Always {X = Option (List ℕ)}) (Lacks tag)
 option_spelled tag low = record {
   spells = λ option rest small sound after.

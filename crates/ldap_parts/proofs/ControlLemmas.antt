@@ -25,6 +25,7 @@ control_exact = made_exact control_parts control_with (Sequence 48 (Both (OctetS
 control_shortens : Shortens ControlForm
 control_shortens bytes x rest h = Begins-shorter bytes 48 h.0 rest h.2
 
+-- the controls of a message are read exactly where they are encoded so
 pub controls_exact : Exact ControlsForm controls_at
 controls_exact = default_exact 160 [] (ListOf 160 ControlForm) (list_at place_of 160 control_at) (list_exact place_of 160 ControlForm control_at control_exact control_shortens)
 
@@ -75,5 +76,6 @@ controls_go (control ∷ controls) rest small after =
       (list_spelled 160 ControlForm control_octets (Always {X = Control}) (omega arith) control_spelled).spells (control ∷ controls) rest small (all_sound (Always {X = Control}) (λ x. tt) (control ∷ controls)) tt,
     )
 
+-- what is written of controls is an encoding of them, where no element with their tag follows
 pub controls_spelled : Spelled ControlsForm controls_octets (Always {X = List Control}) (Lacks 160)
 controls_spelled = record { spells = λ controls rest small sound after. controls_go controls rest small after }

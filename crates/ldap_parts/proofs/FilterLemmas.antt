@@ -56,6 +56,7 @@ pieces_exact = meaning_exact ArePieces pieces_of (Tagged 48 (Both (OptionForm 12
 substrings_exact : Exact SubstringsForm substrings_at
 substrings_exact = sequence_exact place_of 164 _ _ (both_exact _ _ _ _ (string_exact 4) pieces_exact)
 
+-- a type with a value is read exactly where it is encoded so
 pub assertion_exact : (tag : ℕ) → Exact (AssertionForm tag) (assertion_at tag)
 assertion_exact tag = sequence_exact place_of tag _ _ (both_exact _ _ _ _ (string_exact 4) (string_exact 4))
 
@@ -158,6 +159,7 @@ no_level : Exact (FilterIn zero) (filter_in zero)
 unfolding FilterIn filter_in
 no_level = record { found = λ stop bytes x rest h. absurd cc; only = λ stop bytes x rest h. absurd h }
 
+-- so is a filter in these levels
 pub filter_exact : (levels : ℕ) → Exact (FilterIn levels) (filter_in levels)
 filter_exact zero = no_level
 filter_exact (suc d) = record { found = filter_found d (filter_exact d); only = filter_only d (filter_exact d) }

@@ -49,6 +49,7 @@ substrings_spelled : Spelled SubstringsForm substrings_octets (λ item. Unit {0}
 substrings_spelled = sequence_spelled 164 (Both (OctetString 4) PiecesForm) (λ item. element 4 item.0 ++ pieces_octets item.1) (λ item. Unit {0} × HasPiece item.1) Anything (omega arith)
     (both_spelled (OctetString 4) PiecesForm (element 4) pieces_octets (Always {X = List ℕ}) HasPiece Anything Anything (octets_spelled 4 (omega arith)) pieces_spelled (λ y rest sound after. tt)) tt
 
+-- what is written of a type with a value is an encoding of it
 pub assertion_spelled : (tag : ℕ) → tag % 32 ≢ 31 → Spelled (AssertionForm tag) (assertion_octets tag) (λ item. Unit {0} × Unit {0}) Anything
 assertion_spelled tag low = sequence_spelled tag (Both (OctetString 4) (OctetString 4)) (λ item. element 4 item.0 ++ element 4 item.1) (λ item. Unit {0} × Unit {0}) Anything low
     (both_spelled (OctetString 4) (OctetString 4) (element 4) (element 4) (Always {X = List ℕ}) (Always {X = List ℕ}) Anything Anything (octets_spelled 4 (omega arith)) (octets_spelled 4 (omega arith)) (λ y rest sound after. tt)) tt
@@ -101,6 +102,7 @@ some_level (present n) h = omega arith
 some_level (approx n v) h = omega arith
 some_level (extensible v) h = omega arith
 
+-- so is what is written of a filter that fits in these levels
 pub filter_spelled : (levels : ℕ) → Spelled (FilterIn levels) filter_octets (FitsIn levels) Anything
 filter_spelled zero = record { spells = λ t rest small fits after. absurd (some_level t fits.0) }
 filter_spelled (suc d) = record { spells = λ t rest small fits after. filter_goes d (filter_spelled d) t rest small fits }

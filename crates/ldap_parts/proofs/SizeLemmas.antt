@@ -10,6 +10,7 @@ use Rattle.ldap_parts.specs.Attributes.{attribute_octets}
 use Rattle.ldap_parts.specs.Components.{number_octets, strings_octets}
 use Rattle.ldap_parts.specs.Controls.{control_octets}
 
+-- an attribute is encoded in at most 25 times what its values weigh
 pub attribute_size : (raw : RawAttribute) → 1 ≤ length raw.name → raw.values ≢ [] → length (attribute_octets raw) ≤ 25 * values_weight raw.name raw.values
 unfolding attribute_octets
 attribute_size raw some filled =

@@ -11,6 +11,7 @@ use Rattle.ldap_parts.specs.Faults.{place_of}
 use Rattle.ldap_parts.specs.Components.{StringsForm, string_at, strings_at, strings_from_first, strings_octets}
 use Rattle.ldap_parts.proofs.ComponentLemmas.{string_exact, string_shortens}
 
+-- a list of octet strings is read exactly where it is encoded so
 pub strings_exact : (tag : ℕ) → Exact (StringsForm tag) (strings_at tag)
 strings_exact tag = list_exact place_of tag (OctetString 4) (string_at 4) (string_exact 4) (string_shortens 4)
 
@@ -46,10 +47,12 @@ strings_only stop bytes x rest some h none = strings_first stop bytes x rest som
 pub strings_end : (prefix : List (List ℕ)) (stop : ℕ) (bytes : List ℕ) → length bytes ≡ 0 → with_prefix prefix (many_at (string_at 4) stop bytes) ≡ Ok prefix
 strings_end prefix stop bytes none = many_ended (string_at 4) prefix stop bytes none
 
+-- what holds of each value holds of all values of a list
 pub all_sound : {X : Type 0} (F : X → Type 0) → ((x : X) → F x) → (xs : List X) → AllByRecursion F xs
 all_sound F h [] = tt
 all_sound F h (x ∷ xs) = (h x, all_sound F h xs)
 
+-- what is written of a list of octet strings is an encoding of it
 pub strings_spelled : (tag : ℕ) → tag % 32 ≢ 31 → Spelled (StringsForm tag) (strings_octets tag) (Always {X = List (List ℕ)}) Anything
 strings_spelled tag low = record {
   spells = λ xs rest small sound after.

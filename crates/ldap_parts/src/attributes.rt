@@ -26,8 +26,8 @@ use ldap_ber::{NoMemory, Reader, Writer};
 use schema_rules::{RawAttribute, RawList};
 use std::alloc::Global;
 
-/// The attribute that comes next. Else it is `Refused` with the place of the first element that is
-/// not so, or `NoMemory`, and the reader is as before.
+/// The attribute that comes next (RFC 4511, section 4.1.7). Else it is `Refused` with the place of
+/// the first element that is not so, or `NoMemory`, and the reader is as before.
 #[inline(always)]
 #[tactic(auto, unfolding(crate::specs::Attributes::attribute_at))]
 pub fn attribute_of(alloc: Global, reader: &mut Reader) -> Result<RawAttribute, PartFault>
@@ -47,8 +47,8 @@ pub fn attribute_of(alloc: Global, reader: &mut Reader) -> Result<RawAttribute, 
     Ok(RawAttribute { name, values })
 }
 
-/// The list of attributes that comes next. Else it is `Refused` with the place of the first element
-/// that is not so, or `NoMemory`, and the reader is as before.
+/// The list of attributes that comes next (RFC 4511, section 4.1.7). Else it is `Refused` with the
+/// place of the first element that is not so, or `NoMemory`, and the reader is as before.
 pub fn attributes_of(alloc: Global, reader: &mut Reader) -> Result<RawList, PartFault>
     ensures exact { Gives Fails (λ attributes. Ok (attributes, reader.new.left)) result
         (attributes_at reader.old.stop reader.old.left) }
@@ -100,8 +100,8 @@ fn put_body(writer: &mut Writer, attribute: &RawAttribute) -> Result<(), NoMemor
     put_strings(writer, 0x31, attribute.values.list())
 }
 
-/// Writes a list of attributes. It is `NoMemory` where memory runs out, and the writer is as
-/// before.
+/// Writes a list of attributes (RFC 4511, section 4.1.7). It is `NoMemory` where memory runs out,
+/// and the writer is as before.
 pub fn put_attributes(writer: &mut Writer, attributes: &[RawAttribute]) -> Result<(), NoMemory>
     ensures ok { OnOk result
         (writer.new ≡ after_bytes writer.old (attributes_octets attributes.now)) }

@@ -66,7 +66,8 @@ impl ControlList {
         Ok(ControlList { items })
     }
 
-    /// Puts the control at the end.
+    /// Puts the control at the end. It is `NoMemory` where memory runs out, and the list is as
+    /// before.
     pub fn push(&mut self, item: Control) -> Result<(), NoMemory>
         ensures ok { OnOk result (self.new ≡ self.old ++ item ∷ []) }
         ensures err { OnErr result (self.new ≡ self.old) }
@@ -83,8 +84,9 @@ impl ControlList {
     }
 }
 
-/// The controls of a message, where they come next, or none. Else it is `Refused` with the place of
-/// the first element that is not so, or `NoMemory`, and the reader is as before.
+/// The controls of a message, where they come next, or none (RFC 4511, section 4.1.11). Else it is
+/// `Refused` with the place of the first element that is not so, or `NoMemory`, and the reader is
+/// as before.
 pub fn controls_of(alloc: Global, reader: &mut Reader) -> Result<ControlList, PartFault>
     ensures exact { Gives Fails (λ controls. Ok (controls, reader.new.left)) result
         (controls_at reader.old.stop reader.old.left) }

@@ -41,9 +41,9 @@ use ldap_ber::{Octets, OctetsList, Reader};
 use ldap_filter::{Filter, FilterList, Pieces};
 use std::alloc::Global;
 
-/// The filter that comes next, in at most n levels. An item and an empty list are a level.
-/// Else it is `Refused` with the place of the first element that is not so, or `NoMemory`, and the
-/// reader is as before.
+/// The filter that comes next, in at most n levels (RFC 4511, section 4.5.1.7). An item and an
+/// empty list are a level. Else it is `Refused` with the place of the first element that is not so,
+/// or `NoMemory`, and the reader is as before.
 #[cycle(filters)]
 #[tactic(auto, unfolding(crate::specs::Filters::filter_in))]
 pub fn filter_of(alloc: Global, reader: &mut Reader, levels: usize) -> Result<Filter, PartFault>
@@ -159,8 +159,9 @@ fn item_of(alloc: Global, reader: &mut Reader) -> Result<Filter, PartFault>
     Ok(Filter::Extensible(string_of(alloc, reader, 0xA9)?))
 }
 
-/// The type and the value of the element with this tag that comes next. Else it is `Refused` with
-/// the place of the first element that is not so, or `NoMemory`, and the reader is as before.
+/// The type and the value of the element with this tag that comes next (RFC 4511, section 4.1.6).
+/// Else it is `Refused` with the place of the first element that is not so, or `NoMemory`, and the
+/// reader is as before.
 pub fn assertion_of(
     alloc: Global,
     reader: &mut Reader,

@@ -6,7 +6,7 @@ ghost use Rattle.ldap_session.specs.Requests.{request_of, is_search, is_known, h
 ghost use Rattle.ldap_session.specs.Shown.{shown};
 ghost use Rattle.ldap_session.specs.declared.request.Request.TheVariants.{Response};
 
-use ldap_ber::{Octets, OctetsList};
+use ldap_ber::{Octets, OctetsList, discard};
 use ldap_constants::SYNC_REQUEST;
 use ldap_filter::Filter;
 use ldap_messages::{Authentication, Control, Protocol, SearchScope};
@@ -43,10 +43,6 @@ pub enum Request {
     /// What only a server sends.
     Response,
 }
-
-/// Drops a value through its bound: the many cases of its type are gone through once, in the drop
-/// of the type, and not wherever one is dropped.
-fn discard<T: Drop>(_value: T) {}
 
 /// What an operation asks for. How aliases are dereferenced and how long a search may take have no
 /// effect.

@@ -1,4 +1,5 @@
 pub mod TextLines
+pub mod Continued
 pub mod Joined
 pub mod Places
 pub mod Shorter

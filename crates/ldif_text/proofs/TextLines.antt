@@ -41,7 +41,7 @@ one_part [] l = absurd (omega arith)
 one_part (b ∷ bs) l = let some : (length (b ∷ bs) == 0) ≡ false = grind (arith, nat_tests) in rw some refl
 
 -- a first line that the text ends
-lines-none : (bs : List ℕ) → 0 < length bs → (cut 10 bs).1 ≡ None → lines bs ≡ (cut 10 bs).0 ∷ []
+pub lines-none : (bs : List ℕ) → 0 < length bs → (cut 10 bs).1 ≡ None → lines bs ≡ (cut 10 bs).0 ∷ []
 lines-none bs l e =
     let prefix = (cut 10 bs).0 in
     ap lines_of_parts (split-cut 10 bs ∙ ap (λ o. prefix ∷ parts_after 10 o) e) ∙ ap (λ f. lines_of_parts (f ∷ [])) (cut-none 10 bs e) ∙ one_part bs l ∙ ap (λ f. f ∷ []) (sym (cut-none 10 bs e))
@@ -73,6 +73,7 @@ next-some bytes line rest at next l prefix back n =
     ∙ ap (λ k. lines (drop k bytes)) (let s : at + (length (cut 10 here).0 + 1) ≡ next = omega (arith, n, ap length prefix) in s) in
     lines-some here rest (sym back) ∙ ap (λ t. strip_carriage_return (cut 10 here).0 ∷ t) after ∙ ap (λ f. strip_carriage_return f ∷ lines (drop next bytes)) (sym prefix)
 
+-- where no line feed is left, the rest of the text is its last line
 pub next-none : (bytes line : List ℕ) (at next : ℕ) → at < length bytes → line ≡ (cut 10 (drop at bytes)).0 → None ≡ (cut 10 (drop at bytes)).1 → next ≡ length bytes
     → lines (drop at bytes) ≡ line ∷ lines (drop next bytes)
 next-none bytes line at next l prefix back n =

@@ -17,7 +17,7 @@ use Rattle.schema_rules.proofs.Tables.{found_by_name}
 use Rattle.ldif_text.specs.declared.field.Field.{Field}
 use Rattle.ldif_text.specs.Lines.{unfolded, from_content, text_lines}
 use Rattle.ldif_text.specs.Record.{with_value, is_of_type}
-use Rattle.ldif_text.specs.Reader.{Reader, record_from}
+use Rattle.ldif_text.specs.Reader.{RecordReader, record_from}
 use Rattle.ldif_text.specs.Written.{value_text, line_text, attributes_text, entry_text, raw_of, IsEntry}
 use Rattle.ldif_text.proofs.WrittenLines.{in_line, is_good_name, body_of_field, joined_text, lines-joined_text, field_in_line}
 use Rattle.ldif_text.proofs.WrittenRecords.{AreGood, numbered, blank_after, unfolded-fields, joined_onto, name_field, after_fields, fields_back, blank_rest}
@@ -233,7 +233,7 @@ entry_back begun number name attrs first bytes known once =
     ∙ ap (λ rs. Ok (Some (record { change = Add name rs; after = after_fields number number (name_field name ∷ fields_of attrs) }))) (attributes_joined [] attrs known once (new_all attrs))
 
 pub written_back : (begun : Bool) (number : ℕ) (name : List ℕ) (attrs : List Attribute) → IsEntry name attrs
-    → (after : Reader) × (record_from begun (from_content (text_lines number (entry_text name attrs None))) ≡ Ok (Some (record { change = Add name (map raw_of attrs); after = after }))) × (from_content after.lines ≡ [])
+    → (after : RecordReader) × (record_from begun (from_content (text_lines number (entry_text name attrs None))) ≡ Ok (Some (record { change = Add name (map raw_of attrs); after = after }))) × (from_content after.lines ≡ [])
 written_back begun number name attrs is =
     let known = known_from attrs is.kinds is.list.filled is.values in
     let fields = name_field name ∷ fields_of attrs in

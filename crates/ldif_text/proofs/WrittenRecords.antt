@@ -12,7 +12,7 @@ use Rattle.ldif_text.specs.Fault.{◌>>=◌}
 use Rattle.ldif_text.specs.Lines.{is_empty, is_continued, next_number, onto, unfolded, from_content, record_lines, after_record, last_number}
 use Rattle.ldif_text.specs.Field.{keyword}
 use Rattle.ldif_text.specs.Record.{with_value, attributes_of, add_of, change_of_kind, body_of, change_of}
-use Rattle.ldif_text.specs.Reader.{Reader, is_version, record_at, record_from}
+use Rattle.ldif_text.specs.Reader.{RecordReader, is_version, record_at, record_from}
 use Rattle.ldif_text.proofs.Joined.{unfolded_cons, unfolded_nil, onto_end}
 use Rattle.ldif_text.proofs.WrittenLines.{is_good_name, body_of_field, value_text_after, field_not_continued, field_not_comment, field_back}
 
@@ -103,7 +103,7 @@ change_back last number name f fields bytes good other =
     ∙ ap (λ r. r >>= λ attrs. Ok (Add name attrs)) (attributes_back second [] (f ∷ fields) good)
 
 -- where the lines of a record are read up to
-abbrev pub after_fields : ℕ → ℕ → List Field → Reader
+abbrev pub after_fields : ℕ → ℕ → List Field → RecordReader
 after_fields last number fields = record { lines = blank_after number fields ∷ []; line = last_number last (numbered number fields); begun = true }
 
 record_back : (last number : ℕ) (name : List ℕ) (f : Field) (fields : List Field) → IsBytes name → AreGood (f ∷ fields) → bytes_eq f.name (codes "changetype") ≡ false

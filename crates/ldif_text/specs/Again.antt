@@ -3,14 +3,14 @@ use Rattle.std.specs.Prelude.{◌≡◌, ℕ, Bool, Some, None, Ok, List, [], ma
 use Rattle.schema_rules.specs.declared.attributes.Attribute.{Attribute}
 use Rattle.schema_rules.specs.declared.raw.Change.TheVariants.{Add}
 use Rattle.ldif_text.specs.Lines.{text_lines, from_content}
-use Rattle.ldif_text.specs.Reader.{Reader, next_record}
+use Rattle.ldif_text.specs.Reader.{RecordReader, next_record}
 use Rattle.ldif_text.specs.Written.{entry_text, raw_of}
 
 -- a reader at the text of the entry, whose lines have any numbers, finds the add of this entry, and
 -- no content after it
 abbrev pub IsReadAgain : List ℕ → List Attribute → Type 0
 IsReadAgain name attrs =
-    (number line : ℕ) (begun : Bool) → (after : Reader)
+    (number line : ℕ) (begun : Bool) → (after : RecordReader)
     × (next_record (record {
       lines = text_lines number (entry_text name attrs None);
       line = line;

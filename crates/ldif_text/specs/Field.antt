@@ -23,7 +23,7 @@ cut mark [] = ([], None)
 cut mark (b ∷ bytes) =
     if b == mark then ([], Some bytes) else (b ∷ (cut mark bytes).0, (cut mark bytes).1)
 
--- the bytes without the spaces at their prefix
+-- the bytes without the spaces at their beginning
 abbrev pub unspaced : List ℕ → List ℕ
 unspaced [] = []
 unspaced (b ∷ bytes) = if b == 32 then unspaced bytes else b ∷ bytes

@@ -13,7 +13,7 @@ use Rattle.ldif_text.specs.Record.{change_of}
 
 -- the lines that are left, the number of the last line of the record that was given last, and
 -- whether one was given
-pub record Reader : Type 0 where
+pub record RecordReader : Type 0 where
   pub lines : List Line
   pub line : ℕ
   pub begun : Bool
@@ -29,7 +29,7 @@ is_version line = do
 -- a record, and the reader after it
 pub record Found : Type 0 where
   pub change : Change
-  pub after : Reader
+  pub after : RecordReader
 
 -- what was taken from a text
 abbrev pub found_in : List ℕ → TakenRecord → Found
@@ -67,5 +67,5 @@ record_from begun (line ∷ lines) = do
   Ok (Some found)
 
 -- the next record; none where empty lines and comments alone are left
-abbrev pub next_record : Reader → Result (Option Found) LdifFault
+abbrev pub next_record : RecordReader → Result (Option Found) LdifFault
 next_record reader = record_from reader.begun (from_content reader.lines)

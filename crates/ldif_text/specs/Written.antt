@@ -55,7 +55,8 @@ operational_text (Some operational) =
 abbrev pub attributes_text : List Attribute → List ℕ
 attributes_text attributes = flat_map attribute_text attributes
 
--- `dn:` and the name, a line for each value in the order held, the marks, and an empty line
+-- `dn:` and the name, a line for each value in the order held, the operational attributes, and
+-- an empty line
 abbrev pub entry_text : List ℕ → List Attribute → Option (ℕ × CsnValue) → List ℕ
 entry_text name attrs operational =
     line_text (codes "dn") name

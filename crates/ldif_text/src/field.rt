@@ -59,7 +59,7 @@ fn base64_value(alloc: Global, text: &[u8], number: u64) -> Result<Octets, LdifF
     }
 }
 
-/// The bytes without the spaces at their prefix.
+/// The bytes without the spaces at their beginning.
 fn unspaced(bytes: &[u8]) -> &[u8]
     ensures { result.now ≡ spec.unspaced bytes.now }
 {

@@ -7,6 +7,9 @@ ghost use Rattle.ldif_text.specs.Field.{cut, shown};
 use ldap_ber::{NoMemory, Octets};
 use std::alloc::Global;
 
+/// So many lines most records have at most, and those of others need more room.
+const COMMON_LINES: usize = 8;
+
 /// A place in a text.
 #[derive(Clone, Copy, Debug)]
 pub struct Cursor {
@@ -161,8 +164,39 @@ pub fn joined_line(
     }
 }
 
-/// The line with those at the place that continue it, and the place after them.
+/// Whether the line at a place continues the one before it.
+fn continues_at(text: &[u8], cursor: Cursor) -> bool
+    ensures { result ≡ spec.is_continued (lines (drop cursor.at text.now)) }
+{
+    if cursor.at < text.len() {
+        return text[cursor.at] == b' ';
+    }
+    false
+}
+
+/// The line with those at the place that continue it, and the place after them. Where none does,
+/// it is the line itself.
 fn continued(
+    alloc: Global,
+    line: Line,
+    text: &[u8],
+    cursor: Cursor,
+) -> Result<(Line, Cursor), NoMemory>
+    requires place { cursor.at ≤ length text.now }
+    requires filled { spec.is_empty line.text ≡ false }
+    ensures line { IfOk result (λ x.
+        spec.onto line (spec.left_at text.now cursor) ≡ x.0 ∷ spec.left_at text.now x.1) }
+    ensures later { IfOk result (λ x. cursor.at ≤ x.1.at) }
+    ensures within { IfOk result (λ x. x.1.at ≤ length text.now) }
+{
+    if continues_at(text, cursor) {
+        return joined(alloc, line, text, cursor);
+    }
+    Ok((line, cursor))
+}
+
+/// The line with those at the place that continue it, put together, and the place after them.
+fn joined(
     alloc: Global,
     line: Line,
     text: &[u8],
@@ -221,7 +255,7 @@ pub fn record_lines(
         spec.after_record (spec.left_at text.now cursor) ≡ spec.left_at text.now x.1) }
     ensures within { IfOk result (λ x. x.1.at ≤ length text.now) }
 {
-    let mut lines = Vec::new(alloc);
+    let mut lines = Vec::with_capacity(alloc, COMMON_LINES)?;
     let mut place = cursor;
     while let Some((line, after)) = joined_line(alloc, text, place)? {
         if line.is_empty() {

@@ -1,5 +1,5 @@
 //! Records, as lists of their lines.
-ghost use Rattle.std.specs.Prelude.{◌≡◌, ◌≤◌, [], length, None, Ok, IfOk, OnOk, OnErr};
+ghost use Rattle.std.specs.Prelude.{◌≡◌, ◌≤◌, [], length, None, Ok, OnOk, OnErr};
 ghost use Rattle.std.specs.Str.{bytes_eq, str_eq_ignore_ascii_case};
 ghost use Rattle.std.specs.List.{position_or_len};
 ghost use Rattle.schema_rules.specs.declared.raw.RawAttribute.{RawAttribute};
@@ -90,7 +90,7 @@ fn add_of(alloc: Global, last: u64, name: Octets, lines: &[Line]) -> Result<Chan
         [] => Err(LdifFault::BadChange(last)),
         _ => {
             let attributes = attributes_of(alloc, lines)?;
-            Ok(Change::Add(name, raw_list(alloc, attributes)?))
+            Ok(Change::Add(name, RawList::of(attributes)))
         }
     }
 }
@@ -99,7 +99,7 @@ fn add_of(alloc: Global, last: u64, name: Octets, lines: &[Line]) -> Result<Chan
 fn attributes_of(alloc: Global, lines: &[Line]) -> Result<Vec<RawAttribute>, LdifFault>
     ensures { Gives Refuses (λ x. Ok x.items) result (spec.attributes_of [] lines.now) }
 {
-    let mut attributes = Vec::new(alloc);
+    let mut attributes = Vec::with_capacity(alloc, lines.len())?;
     for line in lines {
         let field = field_of(alloc, line)?;
         add_value(alloc, &mut attributes, field.name, field.value)?;
@@ -121,8 +121,7 @@ fn add_value(
         let found = &mut attributes[place];
         return found.values.push(value);
     }
-    let mut values = OctetsList::new(alloc);
-    values.push(value)?;
+    let values = OctetsList::of_one(alloc, value);
     attributes.push(RawAttribute { name, values })?;
     Ok(())
 }
@@ -144,16 +143,6 @@ fn is_of_type(attribute: &RawAttribute, name: &Octets) -> bool
     ensures { result ≡ spec.is_of_type name.now attribute.now }
 {
     is_same_type(attribute.name.as_slice(), name.as_slice())
-}
-
-fn raw_list(alloc: Global, attributes: Vec<RawAttribute>) -> Result<RawList, NoMemory>
-    ensures { IfOk result (λ list. list ≡ attributes.items) }
-{
-    let mut list = RawList::new(alloc);
-    for attribute in attributes {
-        list.push(attribute)?;
-    }
-    Ok(list)
 }
 
 fn delete_of(alloc: Global, name: Octets, lines: &[Line]) -> Result<Change, LdifFault>

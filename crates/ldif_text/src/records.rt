@@ -27,9 +27,9 @@ pub struct Records<'a> {
 impl<'a> Model for Records<'a> {
     ghost use Rattle.std.specs.Prelude.{◌≤◌, length};
     ghost use Rattle.ldif_text.specs.Lines.{left_at};
-    ghost use Rattle.ldif_text.specs.Reader.{Reader};
+    ghost use Rattle.ldif_text.specs.Reader.{RecordReader};
 
-    ghost Value = { Reader };
+    ghost Value = { RecordReader };
 
     ghost view = { λ r. record {
       lines = left_at r.text.now r.place;
@@ -69,8 +69,9 @@ impl<'a> Records<'a> {
         self.line
     }
 
-    /// The next record, or None where empty lines and comments alone are left. After a refusal the
-    /// reader is as before.
+    /// The next record, or None where empty lines and comments alone are left (RFC 2849). After a
+    /// refusal the reader is as before. It is `BadLine`, `BadBase64` or `BadChange` with the number
+    /// of the line, or `NoMemory`.
     pub fn next(&mut self, alloc: Global) -> Result<Option<Change>, LdifFault>
         ensures given { IfOk result (λ found. IfSome found (λ change.
             spec.next_record self.old ≡ Ok (Some (record { change = change; after = self.new })))) }

@@ -12,9 +12,9 @@ use schema_rules::{Attribute, Attrs};
 use std::alloc::Global;
 use uuid::Uuid;
 
-/// The entry of this name as a record of LDIF, ended by an empty line. The marks are its identity
-/// and the number of its last change. Lines are not folded. A value that could not be read again as
-/// it stands is written in base64.
+/// The entry of this name as a record of LDIF, ended by an empty line, with its entryUUID and its
+/// entryCSN where they are given (RFC 2849). Lines are not folded. A value that could not be read
+/// again as it stands is written in base64. It is `NoMemory` where memory runs out.
 pub fn write_entry(
     alloc: Global,
     name: &[u8],
@@ -127,7 +127,8 @@ fn holds_unsafe(value: &[u8]) -> bool
         .any(|b| *b == 0 || *b == b'\n' || *b == b'\r' || *b > 127)
 }
 
-/// What is written of an entry without marks is read again as the add of that entry.
+/// What is written of an entry without entryUUID and entryCSN is read again as the add of that
+/// entry.
 pub fn entries_are_read_again()
     ensures { (name : List ℕ) (attrs : List Attribute) → spec.IsEntry name attrs
         → IsReadAgain name attrs }

@@ -22,7 +22,7 @@ pub struct Consumer {
 #[derive(Debug, Drop, PartialEq, Eq)]
 pub struct Full(pub Bytes);
 
-/// The two ends of a new ring with `capacity` slots.
+/// The two ends of a new ring with `capacity` slots. It is `NoMemory` where memory runs out.
 pub fn ring(alloc: Global, capacity: usize) -> Result<(Producer, Consumer), AllocError>
     requires { 1 ≤ capacity }
     ensures ends { IfOk result (λ ends. AreOneRing ends.0 ends.1) }

@@ -1,4 +1,4 @@
-//! What the tests assert of each row of their tables, and how they drop what they read.
+//! What the tests assert of each row of their tables.
 use std::fmt::Debug;
 use std::process::Abort;
 
@@ -22,6 +22,3 @@ pub(crate) fn assert_same_of<T: PartialEq + Debug>(
         "{row:?}: {found:?} in place of {wanted:?}"
     );
 }
-
-/// Drops a value through its bound, so that no proof goes through the cases of its type.
-pub(crate) fn discard<T: Drop>(_value: T) {}

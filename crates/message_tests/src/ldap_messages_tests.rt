@@ -6,8 +6,8 @@
 ghost use Rattle.std.specs.Prelude.{IfOk};
 ghost use Rattle.ldap_messages.specs.Whole.{whole_of, HasSpelling};
 
-use crate::assertions::{assert_same, assert_same_of, discard};
-use ldap_ber::Octets;
+use crate::assertions::{assert_same, assert_same_of};
+use ldap_ber::{Octets, discard};
 use ldap_messages::{
     Authentication, Control, ControlList, LdapResult, Message, MessageFault, Protocol, SearchScope,
 };

@@ -5,8 +5,8 @@
 //! rules of RFC 4511, sections 4 and 5.1.
 ghost use Rattle.std.specs.Prelude.{◌≡◌, OnOk};
 
-use crate::assertions::{assert_same_of, discard};
-use ldap_ber::{NoMemory, Octets, OctetsList, Reader, Writer};
+use crate::assertions::assert_same_of;
+use ldap_ber::{NoMemory, Octets, OctetsList, Reader, Writer, discard};
 use ldap_filter::Filter;
 use ldap_parts::{
     Control, ControlList, PartFault, assertion_of, attribute_of, attributes_of, controls_of,

@@ -2,10 +2,10 @@
 //! known. The bytes are by hand from the rules of RFC 4511, sections 4 and 5.1, and of RFC 3909,
 //! section 2.1; the codes are those of RFC 4511, section 4.2.2 and appendix A.2, and of RFC 4513,
 //! section 5.1.
-use crate::assertions::{assert_same, assert_same_of, discard};
+use crate::assertions::{assert_same, assert_same_of};
 use crate::ldap_messages_tests::message_of;
 use dn_names::Dn;
-use ldap_ber::{NoMemory, Octets};
+use ldap_ber::{NoMemory, Octets, discard};
 use ldap_messages::{Authentication, Control, ControlList, Message, MessageFault};
 use ldap_session::{
     Access, AskedSearch, Request, bind_code, binds_as, cancels, has_unknown_critical, may_write,

@@ -92,7 +92,8 @@ impl<T: Weighs + Drop> SearchQueue<T> {
     /// Puts all the items after those that are pending, or none of them.
     ///
     /// Where they are refused they are dropped, since the search that they were for can't go on
-    /// without them.
+    /// without them. It is `QueueFull` with the limit where what would be pending is more than that
+    /// or weighs more than 16 MiB, or `NoMemory`, and what was pending stays.
     pub fn push_all(&mut self, items: Vec<T>) -> Result<(), QueueFault>
         ensures ok { OnOk result
             ((self.new.items ≡ self.old.items ++ items.items) × (self.new.limit ≡ self.old.limit)) }

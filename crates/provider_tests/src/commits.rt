@@ -7,12 +7,12 @@ ghost use Rattle.entry_tree.specs.Sound.{is_sound_attribute, is_sound_put};
 ghost use Rattle.entry_tree.specs.State.{most_entry_weight};
 ghost use Rattle.schema_rules.specs.Attributes.{weight_of};
 
-use crate::rows::{discard, number, push_counted, push_word};
+use crate::rows::{number, push_counted, push_word};
 use crate::writes::{raw_list, unit};
 use csn_cookie::Csn;
 use dn_names::Dn;
 use entry_tree::{Entry, EntryList};
-use ldap_ber::NoMemory;
+use ldap_ber::{NoMemory, discard};
 use schema_rules::Attrs;
 use std::alloc::Global;
 use std::test::Fail;

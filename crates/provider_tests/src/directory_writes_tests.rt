@@ -6,12 +6,12 @@ ghost use Rattle.entry_tree.specs.Sound.{is_sound_op, is_commit};
 ghost use Rattle.directory_writes.specs.Directory.{entries_of};
 
 use crate::commits::{drops_of, puts_of};
-use crate::rows::{discard, number, parted, push_counted, push_csn, push_word};
+use crate::rows::{number, parted, push_counted, push_csn, push_word};
 use crate::writes::change;
 use directory_writes::{Directory, DirectoryFault, Preview, Start};
 use dn_names::Dn;
 use entry_tree::{EntryChange, Op, OpFault, read_op};
-use ldap_ber::NoMemory;
+use ldap_ber::{NoMemory, discard};
 use std::alloc::Global;
 use std::process::Abort;
 use std::test::Fail;

@@ -4,9 +4,9 @@
 //! end of a refresh, with `on-` before it where the search goes on; `busy` for the end of a search
 //! whose queue was full. After it, `@` and the number of writes that its cookie names. Where there
 //! is no message: `nothing` or `none`.
-use crate::rows::{discard, number, parted, push_word, utf8};
+use crate::rows::{number, parted, push_word, utf8};
 use csn_cookie::Cookie;
-use ldap_ber::{NoMemory, Octets};
+use ldap_ber::{NoMemory, Octets, discard};
 use ldap_constants::{BUSY, SUCCESS, SYNC_DONE, SYNC_STATE};
 use ldap_messages::{Message, Protocol};
 use std::alloc::Global;

@@ -1,9 +1,10 @@
 //! A provider through its port, and the journal that it keeps.
-use crate::rows::{discard, push_counted, push_word};
+use crate::rows::{push_counted, push_word};
 use crate::searches::{asked, spec};
 use crate::writes::change;
 use dn_names::Dn;
 use entry_tree::{OpFault, read_op};
+use ldap_ber::discard;
 use std::alloc::Global;
 use std::test::Fail;
 use sync_provider::{

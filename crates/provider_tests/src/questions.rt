@@ -4,10 +4,11 @@
 //!
 //! A search reports `f` and how many entries were found, or `o` and how many of them were given
 //! where there are more, and their names, or `c32`. A comparison reports `c` and its code.
-use crate::rows::{discard, number, parted, push_counted, push_word, utf8};
+use crate::rows::{number, parted, push_counted, push_word, utf8};
 use crate::searches::spec;
 use dn_names::Dn;
 use entry_tree::Entry;
+use ldap_ber::discard;
 use std::alloc::Global;
 use std::test::Fail;
 use sync_provider::{PlainSearch, SearchReply, SyncDirectory};

@@ -16,7 +16,7 @@ use crate::spellings::{spell, spell_busy};
 use crate::writes::{add_up_to, swing, write};
 use csn_cookie::Csn;
 use dn_names::Dn;
-use ldap_ber::NoMemory;
+use ldap_ber::{NoMemory, discard};
 use std::alloc::Global;
 use std::process::Abort;
 use std::test::Fail;
@@ -156,9 +156,9 @@ fn drop_search(provider: &mut SyncDirectory, search: u64, text: &mut String) -> 
 /// Then the searches are again those before.
 #[tactic(auto, using(sync_provider::proofs::Returns::no_write_came))]
 fn take_aside(alloc: Global, provider: &mut SyncDirectory, text: &mut String) -> Result<(), Fail> {
-    let first = provider.open_search(1)?;
-    let second = provider.open_search(2)?;
-    let third = provider.open_search(3)?;
+    let first = provider.search_snapshot(1)?;
+    let second = provider.search_snapshot(2)?;
+    let third = provider.search_snapshot(3)?;
     let done = end_searches(alloc, provider, text);
     provider.return_to_search(first);
     provider.return_to_search(second);
@@ -242,6 +242,3 @@ pub(crate) fn number(text: &str) -> u64 {
 pub(crate) fn utf8(bytes: &[u8]) -> &str {
     str::from_utf8(bytes).unwrap_or("?")
 }
-
-/// Drops a value through its bound, so that no proof goes through the cases of its type.
-pub(crate) fn discard<T: Drop>(_value: T) {}

@@ -4,7 +4,8 @@ ghost use Rattle.std.specs.Prelude.{◌≡◌, IsTrue};
 ghost use Rattle.ldap_messages.specs.Operation.{IsOfGrammar, operation_of};
 ghost use Rattle.ldap_messages.specs.Outcome.{RefersOn};
 
-use crate::rows::{discard, number, push_word};
+use crate::rows::{number, push_word};
+use ldap_ber::discard;
 use ldap_constants::BUSY;
 use ldap_messages::{LdapResult, Message, Protocol};
 use std::alloc::Global;

@@ -113,7 +113,7 @@ queue 1; stay dc=x * ''; hand 1 9; add ou=c,dc=x; queue 2; add ou=d,dc=x; hand 1
 stay dc=x (ou=c) ''; hand 1 9; add ou=c,dc=x; replace ou=c,dc=x description=d; queue 0; add ou=c,dc=x; replace ou=a,dc=x description=d; hand 1 9 => w1 w2 w3 s1@3 on-presents@3 nothing w4 w5 c68 w6 +4:ou=c,dc=x@4 ~4:ou=c,dc=x@5 nothing
 # A search that is over takes its place until its end is handed out or it is dropped.
 queue 0; times 64 stay dc=x * ''; add ou=c,dc=x; stay dc=x * ''; drop 7; stay dc=x (ou=d) ''; hand 9 9; stay dc=x (ou=d) ''; hand 9 9; hand 7 9 => w1 w2 w3 s1@3 s2@3 s3@3 s4@3 s5@3 s6@3 s7@3 s8@3 s9@3 s10@3 s11@3 s12@3 s13@3 s14@3 s15@3 s16@3 s17@3 s18@3 s19@3 s20@3 s21@3 s22@3 s23@3 s24@3 s25@3 s26@3 s27@3 s28@3 s29@3 s30@3 s31@3 s32@3 s33@3 s34@3 s35@3 s36@3 s37@3 s38@3 s39@3 s40@3 s41@3 s42@3 s43@3 s44@3 s45@3 s46@3 s47@3 s48@3 s49@3 s50@3 s51@3 s52@3 s53@3 s54@3 s55@3 s56@3 s57@3 s58@3 s59@3 s60@3 s61@3 s62@3 s63@3 s64@3 w4 c11 dropped s7@4 busy s9@4 on-presents@4 nothing on-presents@4 nothing
-# Queues with 16 MiB at most. Each message weighs 64, its name, and its types and values but for the marks.
+# Queues with 16 MiB at most. Each message weighs 64, its name, and its types and values but for the operational ones.
 ^root; first; add ou=a,dc=x; add ou=b,ou=a,dc=x; add ou=c,ou=a,dc=x; add ou=d,ou=a,dc=x; add ou=e,ou=a,dc=x; add ou=r,dc=x; swell ou=b,ou=a,dc=x 65407; swell ou=c,ou=a,dc=x 65407; swell ou=d,ou=a,dc=x 65407; swell ou=e,ou=a,dc=x 65407
 # They fit, and so do 2,048 more. Where one of them is handed out another fits, and one that weighs
 # 65,529 does not.

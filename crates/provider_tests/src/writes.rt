@@ -1,7 +1,7 @@
 //! Writes, in words.
-use crate::rows::{discard, number, parted, push_counted};
+use crate::rows::{number, parted, push_counted};
 use entry_tree::{OpFault, read_op};
-use ldap_ber::{NoMemory, Octets, OctetsList};
+use ldap_ber::{NoMemory, Octets, OctetsList, discard};
 use ldap_constants::SUCCESS;
 use schema_rules::{Change, EditList, How, RawAttribute, RawEdit, RawList};
 use std::alloc::Global;

@@ -13,7 +13,7 @@ use std::alloc::Global;
 
 /// Decides a whole walk over identities at one moment, for a client that has the content after
 /// write `after`. Of the items that were touched since, the selected ones are sent and the others
-/// are named as deleted; nothing is reported of the rest.
+/// are named as deleted; nothing is reported of the rest. It is `NoMemory` where memory runs out.
 pub fn plan(alloc: Global, items: &[Item], after: u64) -> Result<Vec<Decision>, NoMemory>
     requires { IsStrictlySortedBy nat_cmp (identities items.now) }
     ensures exact { IfOk result (λ plan. plan.items ≡ spec.planned after items.now) }
@@ -27,7 +27,8 @@ pub fn plan(alloc: Global, items: &[Item], after: u64) -> Result<Vec<Decision>, 
     decide_each(alloc, items, after)
 }
 
-/// Decides one piece of a walk that goes on at another moment.
+/// Decides one piece of a walk that goes on at another moment. It is `NoMemory` where memory runs
+/// out.
 pub fn slice(alloc: Global, items: &[Item], after: u64) -> Result<Vec<Decision>, NoMemory>
     requires few { length items.now ≤ 256 }
     requires ascends { IsStrictlySortedBy nat_cmp (identities items.now) }

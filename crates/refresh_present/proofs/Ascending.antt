@@ -17,6 +17,7 @@ all-filter P p (item ∷ items) all = step (p item) (all-filter P p items all.1)
   step true rest = (all.0, rest)
   step false rest = rest
 
+-- some of the items in ascending order are in ascending order
 pub ascends-filter : (p : Item → Bool) (items : List Item) → IsStrictlySortedBy nat_cmp (identities items)
     → IsStrictlySortedBy nat_cmp (identities (filter p items))
 unfolding IsStrictlySortedBy

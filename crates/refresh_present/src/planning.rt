@@ -17,7 +17,8 @@ pub type NoMemory = AllocError;
 
 /// Decides a whole walk over the entries at one moment. Without a cookie (`after` is None) each
 /// selected entry is sent (RFC 4533, section 3.3.1). With the cookie of write `after` those are
-/// sent that were touched after it, and the others are named as present (section 3.3.2).
+/// sent that were touched after it, and the others are named as present (section 3.3.2). It is
+/// `NoMemory` where memory runs out.
 pub fn plan(alloc: Global, items: &[Item], after: Option<u64>) -> Result<Vec<Decision>, NoMemory>
     requires { IsStrictlySortedBy nat_cmp (identities items.now) }
     ensures exact { IfOk result (λ plan. plan.items ≡ spec.planned after items.now) }
@@ -31,7 +32,8 @@ pub fn plan(alloc: Global, items: &[Item], after: Option<u64>) -> Result<Vec<Dec
     decide_each(alloc, items, after)
 }
 
-/// Decides one piece of a walk that goes on at another moment.
+/// Decides one piece of a walk that goes on at another moment. It is `NoMemory` where memory runs
+/// out.
 pub fn slice(alloc: Global, items: &[Item], after: Option<u64>) -> Result<Vec<Decision>, NoMemory>
     requires few { length items.now ≤ 256 }
     requires ascends { IsStrictlySortedBy nat_cmp (identities items.now) }

@@ -88,6 +88,7 @@ fails_everywhere xs kind k d none low =
     let long = none_long (position_or_len (is_of kind) xs) (length xs) none in
     fails_before_first (is_of kind) xs k d (omega arith)
 
+-- a list of attributes with more values of one type is such a list
 pub IsAttributeList-with_values : (xs : List Attribute) (kind : ℕ) (values : List (List ℕ)) → IsAttributeList xs → values ≢ [] → IsAttributeList (with_values xs kind values)
 unfolding kind_of
 IsAttributeList-with_values xs kind values list some = by (position (is_of kind) xs) refl
@@ -121,6 +122,7 @@ is_given-grown a kind values same old new =
     ap (λ b. not (is_operational a.kind) && b) (list_all-append (is_of_syntax a.kind) a.values values)
     ∙ both (not (is_operational a.kind)) (list_all (is_of_syntax a.kind) a.values) _ old more
 
+-- and clients may give it, where they may give both
 pub is_given-with_values : (xs : List Attribute) (kind : ℕ) (values : List (List ℕ)) → list_all is_given xs ≡ true → is_given (fresh kind values) ≡ true
     → list_all is_given (with_values xs kind values) ≡ true
 is_given-with_values [] kind values all given = ap (λ b. b && true) given

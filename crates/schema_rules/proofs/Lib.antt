@@ -1,7 +1,9 @@
+pub mod FewValues
 pub mod Joined
 pub mod Joining
 pub mod Lines
 pub mod Lists
 pub mod Reading
 pub mod Sizes
+pub mod Syntax
 pub mod Tables

@@ -27,6 +27,7 @@ pub filter_map_some : {X Y : Type 0} (h : X → Option Y) (xs : List X) (i : ℕ
 filter_map_some h xs i x y low at gives =
     filter_map_more h xs i x low at ∙ ap (λ o. filter_map h (take i xs) ++ cons_option o []) gives
 
+-- an element that is mapped to nothing adds nothing
 pub filter_map_none : {X Y : Type 0} (h : X → Option Y) (xs : List X) (i : ℕ) (x : X) → i < length xs → x ≡ get_or xs i x → h x ≡ None
     → filter_map h (take (i + 1) xs) ≡ filter_map h (take i xs)
 filter_map_none h xs i x low at gives =
@@ -47,6 +48,7 @@ flat_map_filter_passes f p xs i x low at passes =
     ∙ ap (λ b. flat_map f (filter p (take i xs)) ++ flat_map f (cond b (x ∷ []) [])) passes
     ∙ ap (λ ys. flat_map f (filter p (take i xs)) ++ ys) (append-nil (f x))
 
+-- an element that fails the test adds nothing
 pub flat_map_filter_fails : {X Y : Type 0} (f : X → List Y) (p : X → Bool) (xs : List X) (i : ℕ) (x : X) → i < length xs → x ≡ get_or xs i x → p x ≡ false
     → flat_map f (filter p (take (i + 1) xs)) ≡ flat_map f (filter p (take i xs))
 flat_map_filter_fails f p xs i x low at fails =

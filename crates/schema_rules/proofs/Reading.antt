@@ -47,6 +47,7 @@ pub HasCode-same : (one two : Option ℕ) (fault : SchemaFault) → ((n : ℕ) �
 HasCode-same one two (Code n) same shown = same n shown
 HasCode-same one two NoMemory same shown = tt
 
+-- an attribute that no code rejects is one that clients may give
 pub none_given : (kind : ℕ) (values : List (List ℕ)) → typed_code (Some kind) values ≡ None → is_given (record { kind = kind; values = values }) ≡ true
 none_given kind values none = by (is_operational kind) none
   where
@@ -59,6 +60,7 @@ none_given kind values none = by (is_operational kind) none
     by true h = absurd (cc)
     by false h = rest (nat_eq (length values) 0) (list_all (is_of_syntax kind) values) h
 
+-- and it has a value
 pub none_filled : (kind : ℕ) (values : List (List ℕ)) → typed_code (Some kind) values ≡ None → values ≢ []
 none_filled kind [] none e = by (is_operational kind) none
   where

@@ -13,6 +13,7 @@ all_found : map (λ n. type_named (type_name n)) (range_with_len 0 24) ≡ map S
 unfolding types type_named
 all_found = refl
 
+-- each type is found by its name
 pub found_by_name : (n m : ℕ) → n ≡ m → n < 24 → type_named (type_name m) ≡ Some m
 found_by_name n m same known =
     let low : m < 24 = omega (arith, same, known) in

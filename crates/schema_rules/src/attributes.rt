@@ -4,6 +4,7 @@ ghost use Rattle.std.specs.List.{AllPass, filter_map, list_any, list_all};
 ghost use Rattle.std.specs.Result.{result_err};
 ghost use Rattle.schema_rules.specs.Attributes as spec;
 ghost use Rattle.schema_rules.specs.Fault.{HasCode};
+ghost use Rattle.schema_rules.specs.Keys as key_specs;
 ghost use Rattle.schema_rules.specs.Schema.{type_name, type_named};
 
 use crate::fault::SchemaFault;
@@ -134,12 +135,12 @@ impl Attrs {
         }
     }
 
-    /// Reads attributes as they came. Those of one type are joined in order, at the place of the
-    /// first. The codes, the first of which is reported: of each attribute in order
-    /// undefinedAttributeType where its name names no type, constraintViolation where the type is
-    /// operational, and invalidAttributeSyntax where it has no value or a value that is not of the
-    /// type's syntax; and after all of these attributeOrValueExists where two values of a type have
-    /// one key.
+    /// Reads attributes as they came (RFC 4512, section 2.2). Those of one type are joined in
+    /// order, at the place of the first. The codes, the first of which is reported: of each
+    /// attribute in order undefinedAttributeType where its name names no type, constraintViolation
+    /// where the type is operational, and invalidAttributeSyntax where it has no value or a value
+    /// that is not of the type's syntax; and after all of these attributeOrValueExists where two
+    /// values of a type have one key. It is `NoMemory` where memory runs out.
     #[tactic(auto, unfolding(crate::specs::Attributes::read_attributes))]
     pub fn read(alloc: Global, raw: &RawList) -> Result<Attrs, SchemaFault>
         ensures ok { IfOk result (λ attrs. spec.read_attributes raw.now ≡ Ok attrs) }
@@ -203,7 +204,7 @@ fn checked_type(alloc: Global, raw: &RawAttribute) -> Result<AttributeType, Sche
 }
 
 /// Puts values of a type, which it takes over, after its other values, or after all attributes.
-/// After an `Err` the list is as before.
+/// After an `Err` the list is as before. It is `NoMemory` where memory runs out.
 pub fn add_values(
     attributes: &mut Vec<Attribute>,
     kind: AttributeType,
@@ -232,7 +233,22 @@ fn place_of(attributes: &[Attribute], kind: AttributeType) -> Option<usize>
 fn repeats_value(alloc: Global, attribute: &Attribute) -> Result<bool, NoMemory>
     ensures { IfOk result (λ repeats. repeats ≡ spec.repeats_value attribute.now) }
 {
-    let keys = keys_of(alloc, attribute.kind, attribute.values.list())?;
+    has_equal_values(alloc, attribute.kind, attribute.values.list())
+}
+
+/// Whether two of the values have one key. A value alone needs none.
+pub fn has_equal_values(
+    alloc: Global,
+    kind: AttributeType,
+    values: &[Octets],
+) -> Result<bool, NoMemory>
+    ensures { IfOk result (λ equal.
+        equal ≡ spec.has_duplicates (key_specs.keys_of kind values.now)) }
+{
+    if values.len() < 2 {
+        return Ok(false);
+    }
+    let keys = keys_of(alloc, kind, values)?;
     Ok(has_duplicates(&keys))
 }
 

@@ -16,7 +16,7 @@ use std::alloc::Global;
 /// more than one value, else objectClassViolation where objectClass or a structural class is
 /// missing, where the structural classes given are not on one line of superiors, where a type that
 /// a class asks for is missing, or where no class allows a type. The superiors of a class count as
-/// given.
+/// given. It is `NoMemory` where memory runs out.
 #[tactic(auto, unfolding(crate::specs::Attributes::entry_code))]
 pub fn check_entry(alloc: Global, attrs: &Attrs) -> Result<(), SchemaFault>
     ensures ok { OnOk result (spec.entry_code attrs.now ≡ None) }

@@ -1,5 +1,5 @@
 //! Keys of values, by the rules of their types.
-ghost use Rattle.std.specs.Prelude.{◌≡◌, ◌≢◌, false, None, Some, IfOk, IfErr};
+ghost use Rattle.std.specs.Prelude.{◌≡◌, ◌≢◌, false, true, None, Some, is_some, IfOk, IfErr, IsTrue};
 ghost use Rattle.std.specs.List.{list_all};
 ghost use Rattle.text_keys.specs.Fault.{IsFaultOf};
 ghost use Rattle.schema_rules.specs.Attributes.{is_of_syntax};
@@ -11,7 +11,9 @@ use crate::types::{AttributeType, Rule};
 use ldap_ber::{NoMemory, Octets};
 use std::alloc::{AllocError, Global};
 use std::str;
-use text_keys::{KeyFault, boolean_key, exact_key, ignore_case_key, integer_key, time_key};
+use text_keys::{
+    KeyFault, boolean_key, exact_key, ignore_case_key, integer_key, is_plain, time_key,
+};
 
 /// The key of a value: two values of a type match exactly where their keys are the same bytes (RFC
 /// 4512, section 2.5.1). It is `NotUtf8` or `NotOfSyntax` where the value is not of the type's
@@ -77,7 +79,7 @@ fn is_ascii(value: &[u8]) -> bool
     value.iter().all(|byte| *byte < 128)
 }
 
-/// The keys of those values that have one.
+/// The keys of those values that have one. It is `NoMemory` where memory runs out.
 pub fn keys_of(
     alloc: Global,
     kind: AttributeType,
@@ -85,7 +87,7 @@ pub fn keys_of(
 ) -> Result<Vec<Octets>, NoMemory>
     ensures { IfOk result (λ keys. keys.items ≡ spec.keys_of kind values.now) }
 {
-    let mut keys = Vec::new(alloc);
+    let mut keys = Vec::with_capacity(alloc, values.len())?;
     for value in values {
         if let Some(key) = known_key(alloc, kind, value.as_slice())? {
             keys.push(key)?;
@@ -94,7 +96,7 @@ pub fn keys_of(
     Ok(keys)
 }
 
-/// Whether each value is of the type's syntax.
+/// Whether each value is of the type's syntax. It is `NoMemory` where memory runs out.
 pub fn are_of_syntax(
     alloc: Global,
     kind: AttributeType,
@@ -103,14 +105,41 @@ pub fn are_of_syntax(
     ensures { IfOk result (λ all. all ≡ list_all (is_of_syntax kind) values.now) }
 {
     for value in values {
-        if known_key(alloc, kind, value.as_slice())?.is_none() {
+        if !is_of_syntax(alloc, kind, value.as_slice())? {
             return Ok(false);
         }
     }
     Ok(true)
 }
 
-/// The key of a value, or nothing where the value has none.
+/// Whether the value is of the type's syntax.
+fn is_of_syntax(alloc: Global, kind: AttributeType, value: &[u8]) -> Result<bool, NoMemory>
+    ensures { IfOk result (λ is_of. is_of ≡ is_of_syntax kind value.now) }
+{
+    if shows_syntax(kind, value) {
+        return Ok(true);
+    }
+    Ok(known_key(alloc, kind, value)?.is_some())
+}
+
+/// Whether the value is seen to be of the type's syntax without its key, as the name of a class is,
+/// and most text.
+fn shows_syntax(kind: AttributeType, value: &[u8]) -> bool
+    ensures { IsTrue result → is_some (spec.key_of kind value.now) ≡ true }
+{
+    match kind.rule() {
+        Rule::Class => ObjectClass::find(value).is_some(),
+        Rule::Folded => is_plain(value),
+        Rule::FoldedAscii => is_plain(value),
+        Rule::ExactAscii => is_plain(value),
+        Rule::Whole => false,
+        Rule::Flag => false,
+        Rule::Time => false,
+        Rule::Operational => false,
+    }
+}
+
+/// The key of a value, or nothing where the value has none. It is `NoMemory` where memory runs out.
 #[tactic(auto, unfolding(crate::specs::Keys::key_of))]
 pub fn known_key(
     alloc: Global,

@@ -63,6 +63,13 @@ impl RawList {
         }
     }
 
+    /// The list of these attributes, which takes them over, and no memory.
+    pub fn of(items: Vec<RawAttribute>) -> RawList
+        ensures { result ≡ items.items }
+    {
+        RawList { items }
+    }
+
     /// Makes an empty list with room for n attributes. It is `NoMemory` where memory runs out.
     pub fn with_room(alloc: Global, count: usize) -> Result<RawList, NoMemory>
         ensures { IfOk result (λ list. list ≡ []) }
@@ -71,7 +78,8 @@ impl RawList {
         Ok(RawList { items })
     }
 
-    /// Puts the attribute at the end.
+    /// Puts the attribute at the end. It is `NoMemory` where memory runs out, and the list is as
+    /// before.
     pub fn push(&mut self, item: RawAttribute) -> Result<(), NoMemory>
         ensures ok { OnOk result (self.new ≡ self.old ++ item ∷ []) }
         ensures err { OnErr result (self.new ≡ self.old) }
@@ -121,7 +129,7 @@ impl EditList {
         Ok(EditList { items })
     }
 
-    /// Puts the edit at the end.
+    /// Puts the edit at the end. It is `NoMemory` where memory runs out, and the list is as before.
     pub fn push(&mut self, item: RawEdit) -> Result<(), NoMemory>
         ensures ok { OnOk result (self.new ≡ self.old ++ item ∷ []) }
         ensures err { OnErr result (self.new ≡ self.old) }

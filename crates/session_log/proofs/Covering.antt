@@ -29,6 +29,7 @@ uuids_after-low (x ∷ xs) floor number low =
 
 -- ---- each call goes on
 
+-- an empty log is what is left of no notes
 pub IsLogOf-fresh : (limit : ℕ) → IsLogOf [] (fresh limit)
 IsLogOf-fresh limit = record { dropped = []; split = refl; floor = refl }
 
@@ -41,6 +42,7 @@ IsLogOf-limited all dropped notes limit floor split is_floor = record {
   floor = ap (λ n. greatest n (before_last limit notes)) is_floor ∙ sym (greatest-append dropped (before_last limit notes) 0);
 }
 
+-- after one more note it is what is left of all, with this one
 pub IsLogOf-noted : (all : List Note) (log : Log) (number uuid : ℕ) → IsLogOf all log
     → IsLogOf (all ++ (record { number = number; uuid = uuid }) ∷ []) (noted number uuid log)
 IsLogOf-noted all log number uuid h =
@@ -50,6 +52,7 @@ IsLogOf-noted all log number uuid h =
     note : Note
     note = record { number = number; uuid = uuid }
 
+-- after a trim it is still what is left of them
 pub IsLogOf-trimmed : (all : List Note) (log : Log) (limit : ℕ) → IsLogOf all log → IsLogOf all (trimmed limit log)
 IsLogOf-trimmed all log limit h = IsLogOf-limited all h.dropped log.notes limit log.floor h.split h.floor
 
@@ -64,6 +67,7 @@ IsLogOf-calls (Trimmed limit ∷ calls) all log h = IsLogOf-calls calls all (tri
 
 -- ---- and at the floor and above it nothing is missed
 
+-- above the floor the log has every identity that was noted since
 pub since-covered : (all : List Note) (log : Log) (number : ℕ) → IsLogOf all log → log.floor ≤ number
     → since number log ≡ joined [] (uuids_after number all)
 since-covered all log number h above =

@@ -6,6 +6,7 @@ use Rattle.std.proofs.lemmas.List.Elements.{filter-append}
 use Rattle.session_log.specs.declared.note.Note.{Note}
 use Rattle.session_log.specs.Log.{uuids_after}
 
+-- the identities that two lists note since a write are those of the one and then those of the other
 pub uuids_after-append : (number : ℕ) (prefix back : List Note)
     → uuids_after number (prefix ++ back) ≡ uuids_after number prefix ++ uuids_after number back
 uuids_after-append number prefix back =

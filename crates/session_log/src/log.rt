@@ -49,7 +49,7 @@ impl SessionLog {
         }
     }
 
-    /// A log that goes on as this one does.
+    /// A log that goes on as this one does. It is `NoMemory` where memory runs out.
     pub fn copy(&self) -> Result<SessionLog, NoMemory>
         ensures { IfOk result (λ copy. copy.log ≡ self.now.log) }
     {
@@ -64,7 +64,8 @@ impl SessionLog {
         })
     }
 
-    /// Makes room for n notes beyond those that are kept.
+    /// Makes room for n notes beyond those that are kept. It is `NoMemory` where memory runs out,
+    /// and the log is as before.
     pub fn reserve(&mut self, extra: usize) -> Result<(), NoMemory>
         ensures log { self.new.log ≡ self.old.log }
         ensures room { OnOk result (extra ≤ self.new.spare) }
@@ -90,7 +91,8 @@ impl SessionLog {
         self.floor <= number
     }
 
-    /// The identities of the entries that were touched after write `number`, ascending.
+    /// The identities of the entries that were touched after write `number`, ascending. It is
+    /// `NoMemory` where memory runs out.
     pub fn since(&self, number: u64) -> Result<Vec<u128>, NoMemory>
         requires { self.now.log.floor ≤ number }
         ensures exact { IfOk result (λ uuids. uuids.items ≡ spec.since number self.now.log) }

@@ -1,8 +1,9 @@
 -- Each reply of the provider is the one that is due at the port that called, and other ports know of what it adds.
 use Rattle.std.proofs.Common.{◌≡◌, ◌≢◌, ◌≤◌, ◌<◌, ℕ, zero, suc, ◌+◌, Bool, true, false, cond, nat_eq, List, [], ◌∷◌, ◌++◌, take, set, length, Option, Some, None, refl, ap, sym, ◌∙◌, subst, arith, eqb-true, eq-eqb, append-nil, length-append}
 use Rattle.std.specs.Prelude.{Result, Ok, Err, IfSome, find, not, slice_index, is_some, if◌then◌else◌}
-use Rattle.std.proofs.lemmas.Bool.{false≢true}
+use Rattle.std.proofs.lemmas.Bool.{false≢true, eqb-false, ne_eqb}
 use Rattle.std.proofs.lemmas.List.{map-append, length-map, length-set, take-append-drop, get_or-set_same, get_or-set_other}
+use Rattle.std.proofs.lemmas.Option.{none-some, same_Some}
 use Rattle.dn_names.specs.Names.{is_at_or_below}
 use Rattle.entry_tree.specs.declared.entry.Entry.{Entry}
 use Rattle.entry_tree.specs.declared.op.Op.{Op}
@@ -15,8 +16,8 @@ use Rattle.sync_messages.specs.declared.fault.SyncFault.{SyncFault}
 use Rattle.sync_messages.specs.declared.request.SyncRequest.{SyncRequest}
 use Rattle.sync_provider.specs.Accepting.{numbers_from, numbered, request_code, refused_or_opened}
 use Rattle.sync_provider.specs.Committing.{commit_refusal}
-use Rattle.sync_provider.specs.HandingOut.{Turn, turn_of, has_message}
-use Rattle.sync_provider.specs.HandingOut.Turn.{Hands, Closes, Waits, Unknown}
+use Rattle.sync_provider.specs.HandingOut.{HandOut, turn_of, has_message}
+use Rattle.sync_provider.specs.HandingOut.HandOut.{Hands, Closes, Waits, Unknown}
 use Rattle.sync_provider.specs.Journal.{JournalledProvider, journal_in, followed_in, port_state}
 use Rattle.sync_provider.specs.Machine.{judged_by}
 use Rattle.sync_provider.specs.Opened.{opening_of_ask}
@@ -33,10 +34,12 @@ use Rattle.sync_provider.specs.declared.provider.Kind.TheVariants.{Root, Replica
 use Rattle.sync_provider.specs.declared.writing.CommitFault.{CommitFault}
 use Rattle.sync_provider.specs.declared.writing.CommitFault.TheVariants.{NoMemory, NotAReplica}
 use Rattle.sync_provider.specs.declared.writing.Reply.{Reply}
+use Rattle.sync_provider.proofs.Journals.{find_same}
+use Rattle.sync_provider.proofs.Kept.{find_passes}
 use Rattle.shared_directory.specs.Numbers.{no_openers, numbered_with}
 use Rattle.shared_directory.specs.Desks.{NumberedState, later_in, port_journal, port_in, IsNumbered, IsAnswered, unmade_fault}
 use Rattle.shared_directory.proofs.Numbering.{notes_in, notes-numbered, open_by, open_by_notes}
-use Rattle.shared_directory.proofs.Moves.{Moves, same_moves, wrote_moves, opened_moves, handed_moves, ended_moves, apart, isnt}
+use Rattle.shared_directory.proofs.Moves.{Moves, same_moves, wrote_moves, opened_moves, handed_moves, ended_moves}
 
 -- The numbers are kept, and the port that called is replied to so.
 pub record KeepsNumbers (number : ℕ) (old new : NumberedState) (Replies : PortState → PortState → Type 0) : Type 0 where
@@ -45,27 +48,13 @@ pub record KeepsNumbers (number : ℕ) (old new : NumberedState) (Replies : Port
 
 -- ---- the number of a search that is opened
 
-pub none_is : {X : Type 0} (x : X) → None ≡ Some x → ⊥
-none_is x e = cc
-
-pub some_is : {X : Type 0} (x y : X) → Some x ≡ Some y → x ≡ y
-some_is x y e = cc
-
-find_holds : (p : ℕ → Bool) (xs : List ℕ) (n : ℕ) → find p xs ≡ Some n → p n ≡ true
-find_holds p [] n found = absurd (none_is n found)
-find_holds p (x ∷ xs) n found = by (p x) refl found (find_holds p xs n)
-  where
-    by : (b : Bool) → p x ≡ b → cond b (Some x) (find p xs) ≡ Some n → (find p xs ≡ Some n → p n ≡ true) → p n ≡ true
-    by true holds is rest = ap p (sym (some_is x n is)) ∙ holds
-    by false fails is rest = rest is
-
 find_low : (p : ℕ → Bool) (first count n : ℕ) → find p (numbers_from first count) ≡ Some n → n < first + count
-find_low p first zero n found = absurd (none_is n found)
+find_low p first zero n found = absurd (none-some n found)
 find_low p first (suc count) n found = by (p first) found (find_low p (first + 1) count n)
   where
     by : (b : Bool) → cond b (Some first) (find p (numbers_from (first + 1) count)) ≡ Some n
         → (find p (numbers_from (first + 1) count) ≡ Some n → n < first + 1 + count) → n < first + suc count
-    by true is rest = let same : first ≡ n = some_is first n is in omega (arith, same)
+    by true is rest = let same : first ≡ n = same_Some first n is in omega (arith, same)
     by false is rest = let low : n < first + 1 + count = rest is in omega (arith, low)
 
 -- the number of the search that an answer opens
@@ -77,21 +66,21 @@ opened_number accepted.NoMemory = None
 module _ (d : DirectoryState) (number : ℕ) where
   opened_by_code : (n : ℕ) (code : Option ℕ) → opened_number (refused_or_opened d n code) ≡ Some number → Some n ≡ Some number
   opened_by_code n None is = is
-  opened_by_code n (Some code) is = absurd (none_is number is)
+  opened_by_code n (Some code) is = absurd (none-some number is)
 
   opened_free : (request : SyncRequest) (free : Option ℕ) → opened_number (numbered d request free) ≡ Some number → free ≡ Some number
-  opened_free request None is = absurd (none_is number is)
+  opened_free request None is = absurd (none-some number is)
   opened_free request (Some n) is = opened_by_code n (request_code d request) is
 
   opened_in_suffix : (request : SyncRequest) (free : Option ℕ) (b : Bool)
       → opened_number (if b then numbered d request free else accepted.Refused NO_SUCH_OBJECT) ≡ Some number → free ≡ Some number
   opened_in_suffix request free true is = opened_free request free is
-  opened_in_suffix request free false is = absurd (none_is number is)
+  opened_in_suffix request free false is = absurd (none-some number is)
 
   -- it was free
   was_free : (ask : SyncSearch) (free : Option ℕ) (read : Result SyncRequest SyncFault)
       → opened_number (answer_by d free ask read) ≡ Some number → free ≡ Some number
-  was_free ask free (Err fault) is = absurd (none_is number is)
+  was_free ask free (Err fault) is = absurd (none-some number is)
   was_free ask free (Ok request) is = opened_in_suffix request free (is_at_or_below ask.spec.base d.suffix) is
 
 -- the numbered journal has the entries of the provider's
@@ -163,7 +152,7 @@ module _ (number : ℕ) (d : NumberedState) (is : IsNumbered d) (v : JournalledP
               number = clause.number;
             })
         by false isnt_other =
-            let other : reply.code ≢ OTHER = apart reply.code OTHER isnt_other in
+            let other : reply.code ≢ OTHER = eqb-false reply.code OTHER isnt_other in
             answered (λ p. wrote_in p (judged_by d.provider.state.kind d.provider.state.directory op now)) (λ p q. WriteReplies p op now reply q)
             (wrote_or_same (judged_by d.provider.state.kind d.provider.state.directory op now) (clause.state other))
             (λ ports own. record {
@@ -215,10 +204,6 @@ module _ (number : ℕ) (d : NumberedState) (is : IsNumbered d) (v : JournalledP
   open_same : (n : ℕ) → is_open (port_journal d) n ≡ is_open old.journal n
   open_same n = open_by_notes n false (port_journal d) ∙ ap (open_by n false) (notes_same d) ∙ sym (open_by_notes n false old.journal)
 
-  find_same : (p q : ℕ → Bool) → ((n : ℕ) → p n ≡ q n) → (xs : List ℕ) → find p xs ≡ find q xs
-  find_same p q same [] = refl
-  find_same p q same (x ∷ xs) = λ i. cond (same x i) (Some x) (find_same p q same xs i)
-
   free_same : free_in (port_journal d) ≡ free_in old.journal
   free_same =
       find_same (λ n. not (is_open (port_journal d) n)) (λ n. not (is_open old.journal n)) (λ n. ap not (open_same n)) (numbers_from 1 64)
@@ -229,7 +214,7 @@ module _ (number : ℕ) (d : NumberedState) (is : IsNumbered d) (v : JournalledP
   -- an answer that opens none
   pub accept_same : (ask : SyncSearch) (result : Accepted) → opened_number result ≡ None → numbers ≡ d.numbers → openers ≡ d.openers
       → AcceptReplies old ask result new → KeepsNumbers number d after (λ p q. AcceptReplies p ask result q)
-  accept_same ask (accepted.Opened n writes) none nums ops clause = absurd (none_is n (sym none))
+  accept_same ask (accepted.Opened n writes) none nums ops clause = absurd (none-some n (sym none))
   accept_same ask (accepted.Refused code) none nums ops clause =
       answered (λ p. p) (λ p q. AcceptReplies p ask (accepted.Refused code) q)
       (same_moves number d is v numbers openers clause.state nums ops)
@@ -248,7 +233,7 @@ module _ (number : ℕ) (d : NumberedState) (is : IsNumbered d) (v : JournalledP
     opened_low = find_low (λ m. not (is_open old.journal m)) 1 64 n free
 
     not_open : is_open old.journal n ≡ false
-    not_open = by (is_open old.journal n) (find_holds (λ m. not (is_open old.journal m)) (numbers_from 1 64) n free)
+    not_open = by (is_open old.journal n) (find_passes (λ m. not (is_open old.journal m)) (numbers_from 1 64) n free)
       where
         by : (b : Bool) → not b ≡ true → b ≡ false
         by true h = absurd (false≢true h)
@@ -269,7 +254,7 @@ module _ (number : ℕ) (d : NumberedState) (is : IsNumbered d) (v : JournalledP
     own_followed : (ports : ℕ) → (port_in number ports d).followed k ≡ old.followed k
     own_followed ports = ap (λ b. cond b (old.followed k) None) (eq-eqb (slice_index d.openers k) number opener)
 
-    turned : (f : Option FollowedSearch) (t : Option Turn) → old.followed k ≡ f → new ≡ after_turn_in old k f t
+    turned : (f : Option FollowedSearch) (t : Option HandOut) → old.followed k ≡ f → new ≡ after_turn_in old k f t
         → Moves number d after (λ p. after_turn_in p k f t)
     turned None None found is_new = same_moves number d is v numbers openers is_new nums ops
     turned (Some f) None found is_new = same_moves number d is v numbers openers is_new nums ops
@@ -380,12 +365,12 @@ module _ (number : ℕ) (d : NumberedState) where
   module _ (k : ℕ) (other : slice_index d.openers k ≢ number) where
     -- a search that this port did not open is none of its own
     not_followed : (ports : ℕ) → (port_in number ports d).followed k ≡ None
-    not_followed ports = ap (λ b. cond b (followed_in d.provider k) None) (isnt (slice_index d.openers k) number other)
+    not_followed ports = ap (λ b. cond b (followed_in d.provider k) None) (ne_eqb (slice_index d.openers k) number other)
 
     pub hand_out_unknown : IsAnswered number d d (λ p q. HandOutReplies p k handed.NoSuchSearch q)
     hand_out_unknown = unchanged (λ p q. HandOutReplies p k handed.NoSuchSearch q) (λ ports. record {
       turn = sym (ap (turn_in d.provider.state.directory) (not_followed ports));
-      memory = λ same. absurd (none_is Unknown (sym (ap turn_of same)));
+      memory = λ same. absurd (none-some Unknown (sym (ap turn_of same)));
       state = sym (ap (λ f. after_turn_in (port_in number ports d) k f (Some Unknown)) (not_followed ports));
     })
 

@@ -2,6 +2,8 @@
 use Rattle.std.proofs.Common.{◌≡◌, ◌≤◌, ◌<◌, ℕ, zero, suc, ◌+◌, cond, nat_eq, List, [], ◌∷◌, ◌++◌, map, drop, get_or, length, Some, None, refl, ap, sym, ◌∙◌, subst, arith, append-nil}
 use Rattle.std.specs.Prelude.{slice_get, slice_index, replicate}
 use Rattle.std.proofs.lemmas.List.{map-append, take_all, drop_all, length-map, length-replicate, replicate_more}
+use Rattle.std.proofs.lemmas.Option.{none-some, same_Some}
+use Rattle.std.proofs.lemmas.Bool.{ne_eqb}
 use Rattle.atomic_table.specs.Seated.{TableId}
 use Rattle.turn_cell.specs.declared.pass.Pass.{Pass}
 use Rattle.turn_cell.specs.Journals.{Every}
@@ -10,12 +12,11 @@ use Rattle.sync_provider.specs.HandingOut.{search_at}
 use Rattle.sync_provider.specs.Journal.{JournalledProvider, journal_of, journal_in, followed_as, followed_in, handed_at, IsJournalled}
 use Rattle.sync_provider.specs.Ports.{Journal}
 use Rattle.sync_provider.specs.declared.journal_note.JournalNote.{JournalNote}
+use Rattle.sync_provider.proofs.Journals.{some_map}
 use Rattle.shared_directory.specs.Numbers.{no_openers, numbered_with, openers_of, kept_count}
 use Rattle.shared_directory.specs.Desks.{NumberedState, HeldState, first_state, first_held, port_journal, port_in, IsNumbered, HasCome, HaveCome, entries_of, left_by, listed}
 use Rattle.shared_directory.specs.Passes.{journal_left, port_left, port_of, first_port, IsUpToDate, AreFirst}
-use Rattle.shared_directory.proofs.Answered.{none_is, some_is}
 use Rattle.shared_directory.proofs.Turns.{come_at_once}
-use Rattle.shared_directory.proofs.Moves.{isnt, some_map}
 
 zeros : (m n : ℕ) → ◌≡◌ {A = ℕ} (get_or (replicate m 0) n 0) 0
 zeros zero n = refl
@@ -28,8 +29,8 @@ get-replicate (suc m) zero x low = refl
 get-replicate (suc m) (suc n) x low = get-replicate m n x (omega (arith, low))
 
 got-replicate : {X : Type 0} (m n : ℕ) (x y : X) → slice_get (replicate m x) n ≡ Some y → x ≡ y
-got-replicate zero n x y is = absurd (none_is y is)
-got-replicate (suc m) zero x y is = some_is x y is
+got-replicate zero n x y is = absurd (none-some y is)
+got-replicate (suc m) zero x y is = same_Some x y is
 got-replicate (suc m) (suc n) x y is = got-replicate m n x y is
 
 -- one more that is mapped to the same
@@ -91,7 +92,7 @@ module _ (v : JournalledProvider) where
       none : (n : ℕ) → cond (nat_eq (slice_index (replicate 65 0) n) number) (followed_in v n) None ≡ None
       none n =
           ap (λ o. cond (nat_eq o number) (followed_in v n) None) (zeros 65 n)
-          ∙ ap (λ b. cond b (followed_in v n) None) (isnt 0 number (λ same. absurd (omega (arith, same, low))))
+          ∙ ap (λ b. cond b (followed_in v n) None) (ne_eqb 0 number (λ same. absurd (omega (arith, same, low))))
 
   every_zero : (notes : List JournalNote) → Every (λ (e : JournalNote × ℕ). e.1 ≡ 0) (map (λ note. (note, 0)) notes)
   every_zero [] = tt

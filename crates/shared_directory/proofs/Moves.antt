@@ -1,7 +1,7 @@
 -- What a call of one port does to a provider with the numbers of ports: at that port, and at any other one.
 use Rattle.std.proofs.Common.{◌≡◌, ◌≢◌, ◌≤◌, ℕ, ◌+◌, Bool, true, false, cond, nat_eq, List, [], ◌∷◌, ◌++◌, take, drop, length, Option, Some, None, refl, ap, sym, ◌∙◌, subst, arith, eqb-true, eq-eqb, append_assoc, append-nil, length-append}
 use Rattle.std.specs.Prelude.{is_some, option_map, slice_index}
-use Rattle.std.proofs.lemmas.Bool.{false≢true}
+use Rattle.std.proofs.lemmas.Bool.{false≢true, eqb-false, ne_eqb}
 use Rattle.std.proofs.lemmas.List.{take-append-le, drop-append-le}
 use Rattle.entry_tree.specs.declared.op.Write.{Write}
 use Rattle.sync_provider.specs.Journal.{JournalledProvider, port_state}
@@ -10,29 +10,13 @@ use Rattle.sync_provider.specs.Ports.{FollowedSearch, PortState, is_open, follow
 use Rattle.sync_provider.specs.declared.journal_note.ClosedSearch.{ClosedSearch}
 use Rattle.sync_provider.specs.declared.journal_note.JournalNote.{JournalNote}
 use Rattle.sync_provider.specs.declared.journal_note.JournalNote.TheVariants.{Wrote, Opened, Closed}
-use Rattle.sync_provider.proofs.Journals.{open_more}
+use Rattle.sync_provider.proofs.Journals.{open_more, some_map}
+use Rattle.sync_provider.proofs.JournalSteps.{at_one}
 use Rattle.shared_directory.specs.Numbers.{Openers, no_openers, first_number, port_of_note, openers_after, numbered_with, openers_of, kept_of, kept_count}
 use Rattle.shared_directory.specs.Desks.{NumberedState, later_in, port_journal, port_in, IsNumbered, IsCalled}
 use Rattle.shared_directory.proofs.Numbering.{numbered-entry, openers-entry, count-entry, numbered-kept, openers-kept}
 
 -- ---- what is changed under one number
-
-pub apart : (n k : ℕ) → nat_eq n k ≡ false → n ≢ k
-apart n k far same = false≢true (sym far ∙ eq-eqb n k same)
-
-pub isnt : (n k : ℕ) → n ≢ k → nat_eq n k ≡ false
-isnt n k differs = by (nat_eq n k) refl
-  where
-    by : (b : Bool) → nat_eq n k ≡ b → nat_eq n k ≡ false
-    by true same = absurd (differs (eqb-true n k same))
-    by false far = far
-
-at_one : {X : Type 0} (f g : ℕ → X) (k : ℕ) (x : X) → f k ≡ x → ((n : ℕ) → n ≢ k → f n ≡ g n) → (n : ℕ) → f n ≡ cond (nat_eq n k) x (g n)
-at_one f g k x own others n = by (nat_eq n k) refl
-  where
-    by : (b : Bool) → nat_eq n k ≡ b → f n ≡ cond b x (g n)
-    by true here = ap f (eqb-true n k here) ∙ own
-    by false far = others n (apart n k far)
 
 cond_none : {X : Type 0} (b : Bool) → ◌≡◌ {A = Option X} (cond b None None) None
 cond_none true = refl
@@ -45,10 +29,6 @@ cond_map f false x = refl
 some_cond : {X : Type 0} (b : Bool) (y x : Option X) → is_some (cond b y x) ≡ cond b (is_some y) (is_some x)
 some_cond true y x = refl
 some_cond false y x = refl
-
-pub some_map : {X Y : Type 0} (f : X → Y) (x : Option X) → is_some (option_map f x) ≡ is_some x
-some_map f None = refl
-some_map f (Some x) = refl
 
 -- The port with this number opened the search under k, as the openers are now. What is known of that search is changed.
 module _ {X : Type 0} (k number : ℕ) (was now : List ℕ) (own : slice_index now k ≡ number)
@@ -63,7 +43,7 @@ module _ {X : Type 0} (k number : ℕ) (was now : List ℕ) (own : slice_index n
       by true here =
           ap (λ m. cond (nat_eq m number) fresh None) (ap (slice_index now) (eqb-true n k here) ∙ own)
           ∙ ap (λ b. cond b fresh None) (eq-eqb number number refl)
-      by false far = ap (λ m. cond (nat_eq m number) (old n) None) (others n (apart n k far))
+      by false far = ap (λ m. cond (nat_eq m number) (old n) None) (others n (eqb-false n k far))
 
   -- at another one, which does not follow it before
   changed_other : (m : ℕ) → m ≢ number → cond (nat_eq (slice_index was k) m) (old k) None ≡ None
@@ -75,9 +55,9 @@ module _ {X : Type 0} (k number : ℕ) (was now : List ℕ) (own : slice_index n
           ≡ cond (nat_eq (slice_index was n) m) (old n) None
       by true here =
           ap (λ o. cond (nat_eq o m) fresh None) (ap (slice_index now) (eqb-true n k here) ∙ own)
-          ∙ ap (λ b. cond b fresh None) (isnt number m (λ same. differs (sym same)))
+          ∙ ap (λ b. cond b fresh None) (ne_eqb number m (λ same. differs (sym same)))
           ∙ sym (ap (λ o. cond (nat_eq (slice_index was o) m) (old o) None) (eqb-true n k here) ∙ none)
-      by false far = ap (λ o. cond (nat_eq o m) (old n) None) (others n (apart n k far))
+      by false far = ap (λ o. cond (nat_eq o m) (old n) None) (others n (eqb-false n k far))
 
 -- ---- calls
 
@@ -328,7 +308,7 @@ module _ (number : ℕ) (d : NumberedState) (is : IsNumbered d) (v : JournalledP
     others_own : (m : ℕ) → m ≢ number → cond (nat_eq (slice_index d.openers k) m) (old.followed k) None ≡ None
     others_own m differs =
         ap (λ o. cond (nat_eq o m) (old.followed k) None) opener
-        ∙ ap (λ b. cond b (old.followed k) None) (isnt number m (λ same. differs (sym same)))
+        ∙ ap (λ b. cond b (old.followed k) None) (ne_eqb number m (λ same. differs (sym same)))
 
     handed_other : (m : ℕ) → m ≢ number → (ports : ℕ) → port_in m ports after ≡ port_in m ports d
     handed_other m differs ports = λ i. record {
@@ -420,7 +400,7 @@ module _ (number : ℕ) (d : NumberedState) (is : IsNumbered d) (v : JournalledP
         none : cond (nat_eq (slice_index d.openers k) m) (old.followed k) None ≡ None
         none =
             ap (λ o. cond (nat_eq o m) (old.followed k) None) opener
-            ∙ ap (λ b. cond b (old.followed k) None) (isnt number m (λ same. differs (sym same)))
+            ∙ ap (λ b. cond b (old.followed k) None) (ne_eqb number m (λ same. differs (sym same)))
 
         followed : ◌≡◌ {A = ℕ → Option FollowedSearch} (λ n. cond (nat_eq (slice_index openers n) m) (new.followed n) None)
             (λ n. cond (nat_eq (slice_index d.openers n) m) (old.followed n) None)

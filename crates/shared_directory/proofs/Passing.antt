@@ -2,13 +2,13 @@
 use Rattle.std.proofs.Common.{◌≡◌, ◌<◌, ℕ, zero, suc, true, List, [], ◌∷◌, ◌++◌, map, length, Some, refl, ap, sym, ◌∙◌, subst, arith}
 use Rattle.std.proofs.lemmas.List.{append_cancel_left}
 use Rattle.std.specs.Prelude.{slice_get, slice_index_or, is_some}
+use Rattle.std.proofs.lemmas.Option.{none-some, same_Some}
 use Rattle.turn_cell.specs.Journals.{Every}
 use Rattle.turn_cell.specs.Passes.{Continues}
 use Rattle.turn_cell.specs.Rule.{IsOther}
 use Rattle.sync_provider.specs.Ports.{Journal, PortState, IsLater, IsReplied}
 use Rattle.shared_directory.specs.Desks.{NumberedState, HeldState, port_journal, port_in, HasCome, HaveCome, IsTurnOf, entries_of, left_by}
 use Rattle.shared_directory.specs.Passes.{DirectoryView, journal_left, port_left, port_of, IsUpToDate}
-use Rattle.shared_directory.proofs.Answered.{none_is, some_is}
 use Rattle.shared_directory.proofs.Turns.{listed-one}
 
 at-each : {X : Type 0} (P : X → Type 0) (xs : List X) → Every P xs → (k : ℕ) (x : X) → k < length xs → P (slice_index_or xs k x)
@@ -29,7 +29,7 @@ module _ (view : DirectoryView) (found : HeldState) (last : NumberedState) (cont
     entries = come.entries;
     others = λ k e low.
         let other = at-each (IsOther view) come.entries (subst (Every (IsOther view)) same continues.others) k e low in
-        (other.0, other.1.1);
+        (other.0, other.1.0, other.1.1);
     is = come.port view.seats;
   }
     where
@@ -40,9 +40,9 @@ module _ (view : DirectoryView) (found : HeldState) (last : NumberedState) (cont
 -- the one that it left
 pub the_last : (share : List NumberedState) (seen : Journal) → journal_left share ≡ Some seen
     → (last : NumberedState) × (share ≡ last ∷ []) × (port_journal last ≡ seen)
-the_last [] seen is = absurd (none_is seen is)
-the_last (last ∷ []) seen is = (last, refl, some_is (port_journal last) seen is)
-the_last (last ∷ other ∷ more) seen is = absurd (none_is seen is)
+the_last [] seen is = absurd (none-some seen is)
+the_last (last ∷ []) seen is = (last, refl, same_Some (port_journal last) seen is)
+the_last (last ∷ other ∷ more) seen is = absurd (none-some seen is)
 
 module _ (view : DirectoryView) (found : HeldState) (continues : Continues (entries_of found) (left_by found view.number) view) (up_to_date : IsUpToDate view) where
   -- it has a place

@@ -1,12 +1,11 @@
 -- What the cell has after a turn, and as each pass left it.
 use Rattle.std.proofs.Common.{◌≡◌, ◌≢◌, ◌<◌, ℕ, zero, suc, Bool, true, false, nat_eq, List, [], ◌∷◌, ◌++◌, map, set, length, Option, Some, None, refl, ap, sym, ◌∙◌, subst, arith, eqb-true, append_assoc, append-nil}
 use Rattle.std.specs.Prelude.{slice_get, is_some}
-use Rattle.std.proofs.lemmas.Bool.{false≢true}
+use Rattle.std.proofs.lemmas.Bool.{false≢true, eqb-false}
+use Rattle.std.proofs.lemmas.Option.{same_Some}
 use Rattle.turn_cell.specs.Rule.{Grows}
 use Rattle.sync_provider.specs.Ports.{Journal, PortState, noted, noted_all}
 use Rattle.shared_directory.specs.Desks.{NumberedState, HeldState, port_journal, port_in, IsAnswered, HasCome, HaveCome, IsTurnOf, entries_of, left_by, listed}
-use Rattle.shared_directory.proofs.Moves.{apart}
-use Rattle.shared_directory.proofs.Answered.{some_is}
 
 noted_all-append : (p : PortState) (xs ys : Journal) → noted_all p (xs ++ ys) ≡ noted_all (noted_all p xs) ys
 noted_all-append p [] ys = refl
@@ -80,10 +79,10 @@ module _ (number : ℕ) (old : HeldState) (now : NumberedState) (last : List Num
       by : (b : Bool) → nat_eq other number ≡ b → HasCome other was now
       by true same =
           let own : slice_get last number ≡ Some was = ap (slice_get last) (sym (eqb-true other number same)) ∙ left in
-          let is : now ≡ was = some_is now was (sym own_last ∙ own) in
+          let is : now ≡ was = same_Some now was (sym own_last ∙ own) in
           subst (λ w. HasCome other w now) is (come_at_once other now)
       by false far =
-          let differs : other ≢ number = apart other number far in
+          let differs : other ≢ number = eqb-false other number far in
           come_on other was differs (come other was (sym (other_last other differs) ∙ left))
 
   pub turn_grows : Grows entries_of left_by number old new

@@ -1,17 +1,31 @@
 -- The passes of a shared directory, and what the port of each knows.
 use Rattle.std.specs.Prelude.{◌≡◌, ℕ, suc, List, [], ◌∷◌, Option, Some, None}
 use Rattle.atomic_table.specs.Seated.{TableId}
-use Rattle.turn_cell.specs.declared.cell.TurnCell.{TurnCell}
 use Rattle.turn_cell.specs.declared.pass.Pass.{Pass}
 use Rattle.turn_cell.specs.declared.table.PassView.{PassView}
 use Rattle.turn_cell.specs.Journals.{Every, HasGrown}
-use Rattle.turn_cell.specs.Passes.{cell_of, opened_with, seats_of, view_of}
+use Rattle.turn_cell.specs.Passes.{cell_id, cell_of, opened_with, seats_of, view_of}
 use Rattle.turn_cell.specs.Rule.{first_pass}
 use Rattle.sync_provider.specs.Journal.{JournalledProvider, journal_in, fresh_port}
 use Rattle.sync_provider.specs.Ports.{Journal, PortState, IsLater}
 use Rattle.sync_provider.specs.declared.journal_note.JournalNote.{JournalNote}
 use Rattle.sync_provider.specs.declared.provider.Kind.TheVariants.{Root}
 use Rattle.shared_directory.specs.Desks.{NumberedState, HeldState, port_journal, port_in}
+use Rattle.shared_directory.specs.declared.directory.SharedDirectory.{SharedDirectory}
+
+-- ---- a directory
+
+-- which directory it is
+abbrev pub directory_id : SharedDirectory → TableId
+directory_id directory = cell_id directory.cell
+
+-- how many ports it has
+abbrev pub ports_of : SharedDirectory → ℕ
+ports_of directory = seats_of directory.cell
+
+-- what it was made with
+abbrev pub made_with : SharedDirectory → HeldState
+made_with directory = opened_with directory.cell
 
 -- ---- what a pass has seen
 
@@ -37,7 +51,7 @@ port_of view = port_left view.number view.seats view.share
 abbrev pub IsUpToDate : DirectoryView → Type 0
 IsUpToDate view = journal_left view.share ≡ Some view.seen
 
--- a pass of this cell
+-- a pass of the directory with this cell
 abbrev pub IsPassOf : {g : _} → TableId → Pass HeldState JournalNote NumberedState g → Type 0
 IsPassOf cell pass = (cell_of pass ≡ cell) × IsUpToDate (view_of pass)
 
@@ -76,9 +90,11 @@ AreFirst cell ports v number (pass ∷ passes) =
 
 -- The provider is as the ports of these passes left it: since the last call of each, entries of
 -- others came in. Each entry since the ports were made has the number of one of them.
-pub record IsGivenBack (cell : TurnCell HeldState JournalNote NumberedState)
-    (views : List DirectoryView) (v : JournalledProvider) : Type 0 where
+pub record IsGivenBack
+    (directory : SharedDirectory) (views : List DirectoryView)
+    (v : JournalledProvider) : Type 0 where
   pub last : NumberedState
   pub provider : last.provider ≡ v
   pub ports : Every (λ view. IsLater (port_of view) (port_in view.number view.seats last)) views
-  pub numbers : HasGrown (seats_of cell) (port_journal (opened_with cell).now) (port_journal last)
+  pub numbers :
+      HasGrown (ports_of directory) (port_journal (made_with directory).now) (port_journal last)

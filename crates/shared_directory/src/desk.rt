@@ -2,8 +2,15 @@
 
 ghost use Rattle.std.specs.Prelude.{◌≡◌, true, length, is_some};
 ghost use Rattle.sync_provider.specs.Ports.{IsReplied};
-ghost use Rattle.turn_cell.specs.Passes.{cell_id, view_of};
-ghost use Rattle.shared_directory.specs.Passes.{port_of, view_or, cell_or, IsPassOf, IsUpToDate};
+ghost use Rattle.turn_cell.specs.Passes.{view_of};
+ghost use Rattle.shared_directory.specs.Passes.{
+  directory_id,
+  port_of,
+  view_or,
+  cell_or,
+  IsPassOf,
+  IsUpToDate,
+};
 
 use crate::calls::Call;
 use crate::directory::{DirectoryPass, SharedDirectory};
@@ -18,7 +25,7 @@ pub struct Desk<'a, R: Wait> {
     /// It is there between two calls.
     pub(crate) pass: Option<DirectoryPass>,
     ghost has: { is_some pass ≡ true },
-    ghost seated: { cell_or (cell_id directory.now.cell) pass ≡ cell_id directory.now.cell },
+    ghost seated: { cell_or (directory_id directory.now) pass ≡ directory_id directory.now },
     ghost up_to_date: { IsUpToDate (view_or pass) },
 }
 
@@ -50,7 +57,7 @@ impl<'a, R: Wait> Desk<'a, R> {
 
     /// Gives the pass back. Its searches stay open.
     pub fn leave(self) -> DirectoryPass
-        ensures pass { IsPassOf (cell_id self.entry.directory.now.cell) result }
+        ensures pass { IsPassOf (directory_id self.entry.directory.now) result }
         ensures port { port_of (view_of result) ≡ port_of (view_or self.entry.pass) }
     {
         let Desk {

@@ -2,8 +2,18 @@
 
 ghost use Rattle.std.specs.Prelude.{◌≡◌, ◌-◌, ◌<◌, ◌≤◌, ◌↔◌, map, length, IsErr, IfOk, IfErr};
 ghost use Rattle.turn_cell.specs.Journals.{Every};
-ghost use Rattle.turn_cell.specs.Passes.{cell_id, seats_of, view_of};
-ghost use Rattle.shared_directory.specs.Passes.{port_of, view_or, IsPassOf, AreFirst, IsGivenBack};
+ghost use Rattle.turn_cell.specs.Passes.{view_of};
+ghost use Rattle.shared_directory.specs.Desks.{first_held};
+ghost use Rattle.shared_directory.specs.Passes.{
+  directory_id,
+  made_with,
+  ports_of,
+  port_of,
+  view_or,
+  IsPassOf,
+  AreFirst,
+  IsGivenBack,
+};
 
 use crate::desk::Desk;
 use crate::held::HeldDirectory;
@@ -35,9 +45,10 @@ impl SharedDirectory {
     ) -> Result<(SharedDirectory, Vec<DirectoryPass>), (NoMemory, Provider)>
         requires { (1 ≤ seats) × (seats ≤ 1024) }
         ensures count { IfOk result (λ made.
-            (seats_of made.0.cell ≡ seats) × (length made.1.items ≡ seats)) }
+            (ports_of made.0 ≡ seats) × (length made.1.items ≡ seats)) }
+        ensures opened { IfOk result (λ made. made_with made.0 ≡ first_held provider seats) }
         ensures passes { IfOk result (λ made.
-            AreFirst (cell_id made.0.cell) seats provider 1 made.1.items) }
+            AreFirst (directory_id made.0) seats provider 1 made.1.items) }
         ensures err { IfErr result (λ refused. refused.1 ≡ provider) }
     {
         let held = match HeldDirectory::new(alloc, provider, seats) {
@@ -52,7 +63,7 @@ impl SharedDirectory {
 
     /// The port of a pass.
     pub fn desk<'a, R: Wait>(&'a self, rt: &'a R, pass: DirectoryPass) -> Desk<'a, R>
-        requires { IsPassOf (cell_id self.now.cell) pass }
+        requires { IsPassOf (directory_id self.now) pass }
         ensures home { result.directory.now ≡ self.now }
         ensures port { port_of (view_or result.pass) ≡ port_of (view_of pass) }
     {
@@ -69,12 +80,12 @@ impl SharedDirectory {
         self,
         passes: Vec<DirectoryPass>,
     ) -> Result<Provider, (CloseFault, SharedDirectory, Vec<DirectoryPass>)>
-        requires { Every (λ pass. IsPassOf (cell_id self.cell) pass) passes.items }
+        requires { Every (λ pass. IsPassOf (directory_id self) pass) passes.items }
         ensures given { IfOk result (λ provider.
-            IsGivenBack self.cell (map view_of passes.items) provider) }
-        ensures out { IsErr result ↔ (length passes.items < seats_of self.cell) }
+            IsGivenBack self (map view_of passes.items) provider) }
+        ensures out { IsErr result ↔ (length passes.items < ports_of self) }
         ensures fault { IfErr result (λ refused.
-            refused.0 ≡ CloseFault.PassesOut (seats_of self.cell - length passes.items)) }
+            refused.0 ≡ CloseFault.PassesOut (ports_of self - length passes.items)) }
         ensures err { IfErr result (λ refused. (refused.1 ≡ self) × (refused.2 ≡ passes)) }
     {
         let SharedDirectory { cell } = self;

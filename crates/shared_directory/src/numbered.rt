@@ -10,6 +10,7 @@ ghost use Rattle.shared_directory.specs.Desks.{first_state, port_journal, IsAnsw
 
 use dn_names::Dn;
 use entry_tree::{EntryList, Op};
+use ldap_ber::discard;
 use ldap_constants::OTHER;
 use std::alloc::Global;
 use std::marker::Model;
@@ -227,6 +228,3 @@ fn unmade_fault(kind: Kind) -> CommitFault
         Kind::Replica => CommitFault::NoMemory,
     }
 }
-
-/// Lets the value go.
-fn discard<T: Drop>(_value: T) {}

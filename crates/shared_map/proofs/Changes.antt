@@ -13,7 +13,6 @@ use Rattle.std.proofs.lemmas.Map as maps
 use Rattle.std.proofs.lemmas.Map.Keys.{IsDistinct-from_sorted}
 use Rattle.shared_map.specs.Queries.{IsQuery}
 use Rattle.shared_map.proofs.Keys.{each_key}
-use Rattle.shared_map.proofs.Parts.{lookup-none}
 
 -- the keys at which a query is are equal to one another, and to no other key
 key_test : {K : Type 0} {cmp : K → K → Ordering} {compare : K → Ordering} → IsQuery cmp compare
@@ -66,36 +65,6 @@ module _ {K X : Type 0} {cmp : K → K → Ordering} (total : IsTotalOrder cmp) 
             (total.antisymm e.0 key ∙ ap ordering_reverse greater) ascends.0,
         rest,
       )
-
-  -- there is one pair more where the key is new
-  pub length-insert_entry : (es : List (K × X)) → IsStrictlySortedBy cmp (keys_of es)
-      → length (insert_entry cmp es key value)
-      ≡ cond (is_some (lookup (is_at (cmp key)) es)) (length es) (length es + 1)
-  unfolding IsStrictlySortedBy
-  length-insert_entry [] ascends = refl
-  length-insert_entry (e ∷ es) ascends =
-      by (cmp key e.0) refl (length-insert_entry es ascends.1)
-    where
-      by : (o : Ordering) → cmp key e.0 ≡ o
-          → length (insert_entry cmp es key value)
-          ≡ cond (is_some (lookup (is_at (cmp key)) es)) (length es) (length es + 1)
-          → length (match_ordering o ((key, value) ∷ e ∷ es) ((e.0, value) ∷ es)
-          (e ∷ insert_entry cmp es key value))
-          ≡ cond (is_some (cond (is_eq o) (Some e.1) (lookup (is_at (cmp key)) es)))
-          (length (e ∷ es)) (length (e ∷ es) + 1)
-      by Less less rest =
-          let none = lookup-none (is_at (cmp key)) es (each_key
-          (λ other lt. ap is_eq (total.trans key e.0 other less lt)) (keys_of es) ascends.0) in
-          rw none (omega arith)
-      by Equal equal rest = refl
-      by Greater greater rest = more (is_some (lookup (is_at (cmp key)) es)) rest
-        where
-          more : (b : Bool)
-              → length (insert_entry cmp es key value) ≡ cond b (length es) (length es + 1)
-              → length (e ∷ insert_entry cmp es key value)
-              ≡ cond b (length (e ∷ es)) (length (e ∷ es) + 1)
-          more true rest = omega arith
-          more false rest = omega arith
 
   -- a query for the key finds the value, and any other what it found before
   pub lookup-insert_entry : {compare : K → Ordering} → IsQuery cmp compare → (es : List (K × X))

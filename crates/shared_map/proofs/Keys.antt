@@ -5,6 +5,7 @@ use Rattle.std.specs.List.Sorted.{IsStrictlySortedBy}
 use Rattle.std.specs.Map.{keys_of}
 
 module _ {K : Type 0} {P Q : K → Type 0} (implies : (key : K) → P key → Q key) where
+  -- a fact of each key that follows from another one
   pub each_key : (keys : List K) → AllByRecursion P keys → AllByRecursion Q keys
   each_key [] all = tt
   each_key (key ∷ keys) all = (implies key all.0, each_key keys all.1)
@@ -49,6 +50,7 @@ module _ {K X : Type 0} (cmp : K → K → Ordering) where
   below_pair (e ∷ l) x r ascends =
       ((keys_after (λ key. cmp e.0 key ≡ Less) l (x ∷ r) ascends.0).0, below_pair l x r ascends.1)
 
+  -- the keys after a pair are greater than its own
   pub above_pair : (l : List (K × X)) (x : K × X) (r : List (K × X))
       → IsStrictlySortedBy cmp (keys_of (l ++ x ∷ r))
       → AllByRecursion (λ key. cmp x.0 key ≡ Less) (keys_of r)

@@ -1,5 +1,6 @@
 pub mod Around
 pub mod Changes
+pub mod Counts
 pub mod Keys
 pub mod Opened
 pub mod Parts

@@ -40,6 +40,7 @@ module _ {K X : Type 0} (test : K → Bool) where
       by true rest = refl
       by false rest = rest
 
+  -- what is looked up is not among pairs whose keys fail the test
   pub lookup_entry-after : (l r : List (K × X)) → NoKey test l
       → lookup_entry test (l ++ r) ≡ lookup_entry test r
   lookup_entry-after [] r fails = refl
@@ -70,12 +71,14 @@ module _ {K X : Type 0} (test : K → Bool) where
       ap (λ b. cond b (l ++ r) (e ∷ remove_entry test (l ++ r))) fails.0
       ∙ ap (λ rest. e ∷ rest) (remove_entry-after l r fails.1)
 
+  -- of pairs whose keys all fail a test none is left
   pub filter-none : (es : List (K × X)) → NoKey test es → filter (λ e. test e.0) es ≡ []
   filter-none [] fails = refl
   filter-none (e ∷ es) fails =
       ap (λ b. cond b (e ∷ filter (λ e. test e.0) es) (filter (λ e. test e.0) es)) fails.0
       ∙ filter-none es fails.1
 
+  -- and of those whose keys all pass it all are
   pub filter-each : (es : List (K × X)) → AllByRecursion (λ key. test key ≡ true) (keys_of es)
       → filter (λ e. test e.0) es ≡ es
   filter-each [] each = refl
@@ -83,6 +86,7 @@ module _ {K X : Type 0} (test : K → Bool) where
       ap (λ b. cond b (e ∷ filter (λ e. test e.0) es) (filter (λ e. test e.0) es)) each.0
       ∙ ap (λ rest. e ∷ rest) (filter-each es each.1)
 
+  -- what passes a test in two lists is what passes it in the one and then in the other
   pub filter-append : (l r : List (K × X))
       → filter (λ e. test e.0) (l ++ r) ≡ filter (λ e. test e.0) l ++ filter (λ e. test e.0) r
   filter-append [] r = refl

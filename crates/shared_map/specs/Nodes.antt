@@ -1,5 +1,5 @@
 -- What nodes hold.
-use Rattle.std.specs.Prelude.{List, [], ◌∷◌, ◌++◌}
+use Rattle.std.specs.Prelude.{ℕ, ◌+◌, Bool, List, [], ◌∷◌, ◌++◌, if◌then◌else◌}
 use Rattle.shared_map.specs.declared.nodes.Nodes.{Nodes}
 use Rattle.shared_map.specs.declared.nodes.Nodes.TheVariants.{Nothing, Fork'}
 use Rattle.shared_map.specs.declared.nodes.Node.{Node}
@@ -17,3 +17,7 @@ pairs (Fork' p lower pair higher height) = pairs lower ++ pair_of pair ∷ pairs
 -- the pairs of a node
 abbrev pub pairs_of : {K V : Type 0} → Node K V → List (K × V)
 pairs_of node = pairs node.lower ++ pair_of node.pair ∷ pairs node.higher
+
+-- how many pairs there are after one is put in, whose key is new or was there
+abbrev pub count_with : Bool → ℕ → ℕ
+count_with is_new count = if is_new then count + 1 else count

@@ -11,10 +11,12 @@ fn sends<T: Send>(value: T) -> T
     value
 }
 
+/// A map may be read by several threads at once where its keys and values may.
 pub fn map_is_shared<K: Ord + Send + Sync, V: Send + Sync>(map: &SharedMap<K, V>) {
     shares(map)
 }
 
+/// A map may be given to another thread where its keys and values may. The answer is the map.
 pub fn map_is_sent<K: Ord + Send + Sync, V: Send + Sync>(map: SharedMap<K, V>) -> SharedMap<K, V>
     ensures { result ≡ map }
 {

@@ -1,9 +1,11 @@
 //! Ordered maps whose copies share their nodes: a copy counts one reference up, and a change makes
-//! the nodes on the way to its place anew, so that the other copies stay what they were.
+//! the nodes on the way to its place anew, so that the other copies stay what they were. Nodes that
+//! no other map shares are changed where they stand by an insertion.
 #![tactic(auto)]
 
 mod balance;
 mod crossing;
+mod in_place;
 mod nodes;
 mod ordered;
 mod placing;

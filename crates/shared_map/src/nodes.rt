@@ -1,6 +1,6 @@
 //! The nodes in which a map keeps its pairs.
 ghost use Rattle.std.specs.Prelude.{◌≡◌, ◌++◌, ◌∷◌, IfOk};
-ghost use Rattle.shared_map.specs.Nodes.{pair_of, pairs};
+ghost use Rattle.shared_map.specs.Nodes.{pair_of, pairs, pairs_of};
 
 use std::alloc::{AllocError, Global};
 use std::sync::Arc;
@@ -59,6 +59,42 @@ impl<K: Drop, V: Drop> Nodes<K, V> {
             Nodes::Nothing => Ok(Nodes::Nothing),
             Nodes::Fork(node) => Ok(Nodes::Fork(node.clone()?)),
         }
+    }
+}
+
+impl<K, V> Node<K, V> {
+    /// Whether no side is more than one level longer than the other, as far as the heights say.
+    pub(crate) fn is_level(&self) -> bool {
+        let lower = self.lower.height();
+        let higher = self.higher.height();
+        lower <= higher.saturating_add(1) && higher <= lower.saturating_add(1)
+    }
+
+    fn measure(&mut self)
+        ensures { pairs_of self.new ≡ pairs_of self.old }
+    {
+        let below = self.lower.height().max(self.higher.height());
+        self.height = below.saturating_add(1);
+    }
+}
+
+impl<K: Drop, V: Drop> Node<K, V> {
+    /// Has these lower nodes from now on.
+    pub(crate) fn set_lower(&mut self, lower: Nodes<K, V>)
+        ensures { pairs_of self.new
+            ≡ pairs lower ++ pair_of self.old.pair ∷ pairs self.old.higher }
+    {
+        self.lower = lower;
+        self.measure();
+    }
+
+    /// Has these higher nodes from now on.
+    pub(crate) fn set_higher(&mut self, higher: Nodes<K, V>)
+        ensures { pairs_of self.new
+            ≡ pairs self.old.lower ++ pair_of self.old.pair ∷ pairs higher }
+    {
+        self.higher = higher;
+        self.measure();
     }
 }
 

@@ -5,19 +5,23 @@ ghost use Rattle.std.specs.List.{filter};
 ghost use Rattle.std.specs.List.Sorted.{IsStrictlySortedBy};
 ghost use Rattle.std.specs.Map.{keys_of, values_of, lookup, lookup_entry, remove_entry};
 ghost use Rattle.std.specs.BTreeMap.{is_at, insert_entry};
-ghost use Rattle.shared_map.specs.Nodes.{pair_of};
+ghost use Rattle.shared_map.specs.Nodes.{count_with, pair_of};
 
+use crate::in_place::put_into;
 use crate::nodes::{Nodes, Pair};
-use crate::placing::with_pair;
 use crate::queries::Query;
 use crate::seeking::{first_pair, last_pair, pair_after, pair_from, value_at};
 use crate::taking::without;
 use crate::walking::{push_values, push_values_after};
 use std::alloc::{AllocError, Global};
 use std::marker::Model;
+use std::mem;
 use std::sync::Arc;
 
 const MOST_PAIRS: usize = 0x7fff_ffff_ffff_ffff;
+
+/// Down to how many levels a pair is put in where it goes: as many as a height can say.
+const MOST_LEVELS: u8 = 255;
 
 /// Pairs of a key and a value in ascending order of key, one pair at most for a key.
 #[derive(Drop)]
@@ -62,6 +66,7 @@ impl<K: Ord, V> SharedMap<K, V> {
         self.len
     }
 
+    /// Whether there is no pair.
     pub fn is_empty(&self) -> bool
         ensures { IsTrue result ↔ (self.now ≡ []) }
     {
@@ -81,12 +86,14 @@ impl<K: Ord, V> SharedMap<K, V> {
         value_at(&self.root, key)
     }
 
+    /// The pair of the lowest key.
     pub fn first(&self) -> Option<(&K, &V)>
         ensures { option_map (λ pair. (pair.0.now, pair.1.now)) result ≡ slice_get self.now 0 }
     {
         lent(first_pair(&self.root))
     }
 
+    /// The pair of the highest key.
     pub fn last(&self) -> Option<(&K, &V)>
         ensures { option_map (λ pair. (pair.0.now, pair.1.now)) result
             ≡ slice_get self.now (length self.now - 1) }
@@ -110,7 +117,7 @@ impl<K: Ord, V> SharedMap<K, V> {
         lent(pair_after(&self.root, key))
     }
 
-    /// The values in the order of their keys.
+    /// The values in the order of their keys. It is `AllocError` where memory runs out.
     pub fn values(&self) -> Result<Vec<&V>, AllocError>
         ensures { IfOk result (λ list. map (λ value. value.now) list.items ≡ values_of self.now) }
     {
@@ -119,7 +126,8 @@ impl<K: Ord, V> SharedMap<K, V> {
         Ok(list)
     }
 
-    /// The values of the keys above what the query stands for, in their order.
+    /// The values of the keys above what the query stands for, in their order. It is `AllocError`
+    /// where memory runs out.
     pub fn values_after<Q: Query<K>>(&self, key: Q) -> Result<Vec<&V>, AllocError>
         ensures { IfOk result (λ list. map (λ value. value.now) list.items
             ≡ values_of (filter (λ pair. is_lt (Q.compare key pair.0)) self.now)) }
@@ -128,24 +136,10 @@ impl<K: Ord, V> SharedMap<K, V> {
         push_values_after(&mut list, &self.root, key)?;
         Ok(list)
     }
-
-    /// The number of pairs with one at the key.
-    fn len_with(&self, key: &K) -> Result<usize, AllocError>
-        ensures { IfOk result (λ number. (number < 2 ^ 63)
-            × ((value : V) → number ≡ length (insert_entry K.cmp self.now key.now value))) }
-    {
-        if self.get(key).is_some() {
-            return Ok(self.len);
-        }
-        if self.len == MOST_PAIRS {
-            return Err(AllocError);
-        }
-        Ok(self.len + 1)
-    }
 }
 
 impl<K: Ord + Drop, V: Drop> SharedMap<K, V> {
-    /// The same map. It shares all nodes.
+    /// The same map. It shares all nodes. It is `AllocError` where no more copies can be counted.
     pub fn copy(&self) -> Result<SharedMap<K, V>, AllocError>
         ensures { IfOk result (λ copy. copy ≡ self.now) }
     {
@@ -156,19 +150,25 @@ impl<K: Ord + Drop, V: Drop> SharedMap<K, V> {
         })
     }
 
-    /// Puts the value at the key. A key that is there stays.
+    /// Puts the value at the key. A key that is there stays. The nodes on the way to it are made
+    /// anew only where another map shares them. It is `AllocError` where memory runs out, and the
+    /// map is as before.
     pub fn insert(&mut self, key: K, value: V) -> Result<(), AllocError>
         ensures ok { OnOk result (self.new ≡ insert_entry K.cmp self.old key value) }
         ensures err { OnErr result (self.new ≡ self.old) }
     {
-        let len = self.len_with(&key)?;
+        if self.len == MOST_PAIRS {
+            return Err(AllocError);
+        }
         let pair = Pair {
             key: Arc::new(self.alloc, key)?,
             value: Arc::new(self.alloc, value)?,
         };
-        let root = with_pair(self.alloc, &self.root, pair)?;
+        let root = mem::replace(&mut self.root, Nodes::Nothing);
+        let (root, answer) = put_into(self.alloc, MOST_LEVELS, root, pair);
         self.root = root;
-        self.len = len;
+        let is_new = answer?;
+        self.len = count_with(self.len, is_new);
         Ok(())
     }
 
@@ -186,6 +186,14 @@ impl<K: Ord + Drop, V: Drop> SharedMap<K, V> {
         self.len -= 1;
         Ok(())
     }
+}
+
+/// How many pairs there are with one more, or with one whose key was there.
+fn count_with(count: usize, is_new: bool) -> usize
+    requires { count < 2 ^ 63 }
+    ensures { result ≡ count_with is_new count }
+{
+    if is_new { count + 1 } else { count }
 }
 
 fn lent<'a, K, V>(pair: Option<&'a Pair<K, V>>) -> Option<(&'a K, &'a V)>

@@ -5,7 +5,7 @@ use Rattle.std.specs.Option.{option_and_then}
 use Rattle.entry_tree.specs.declared.entry.Entry.{Entry}
 use Rattle.sync_model.specs.Copy.{Stage, effected, put_or_dropped, slot}
 use Rattle.sync_consumer.specs.declared.stage.StagedChange.{StagedChange}
-use Rattle.sync_consumer.specs.Holding.{Names, stays, ForgetsFor, IsPathed, Notes, NotesAll}
+use Rattle.sync_consumer.specs.Holding.{HeldNames, stays, ForgetsFor, IsPathed, Notes, NotesAll}
 use Rattle.sync_consumer.specs.Staging.{change_of, changes_in, entry_staged, rises}
 use Rattle.sync_consumer.proofs.Effecting.{changes_from, alone_from}
 use Rattle.sync_consumer.proofs.Noting.{forgets_more, notes_more}
@@ -33,14 +33,14 @@ module _ (changes : List (Bor StagedChange)) (k left : ℕ) (change : Bor Staged
     alone = alone_from changes k change up low is
 
     -- the name that its identity had is taken away, unless it stays
-    pub forgets_from : (held : List Entry) (old new : Names) → ForgetsFor held (change_of change.now) old new → Notes old (stays held (changes_in (drop left changes)))
+    pub forgets_from : (held : List Entry) (old new : HeldNames) → ForgetsFor held (change_of change.now) old new → Notes old (stays held (changes_in (drop left changes)))
         → Notes new (stays held (changes_in (drop k changes)))
     forgets_from held old new gone notes =
         subst (λ (s : Stage). Notes new (stays held s)) (sym from)
         (forgets_more held old new (change_of change.now) rest alone gone (subst (λ (s : Stage). Notes old (stays held s)) later notes))
 
     -- the name that it puts is noted
-    pub notes_from : (held : List Entry) (old mid new : Names) (others own : Bool) → NotesAll held old mid (changes_in (drop left changes)) others
+    pub notes_from : (held : List Entry) (old mid new : HeldNames) (others own : Bool) → NotesAll held old mid (changes_in (drop left changes)) others
         → NotesAll held mid new (change_of change.now ∷ []) own → NotesAll held old new (changes_in (drop k changes)) (others && own)
     notes_from held old mid new others own first last =
         subst (λ (s : Stage). NotesAll held old new s (others && own)) (sym from)

@@ -11,7 +11,7 @@ use Rattle.entry_tree.proofs.Putting.{total_put}
 use Rattle.sync_model.specs.Copy.{Stage, effected, put_or_dropped, puts_of, slot}
 use Rattle.sync_model.specs.Within.{against}
 use Rattle.sync_model.proofs.Taking.{IsOwn, IsKeyed, ascends-effected}
-use Rattle.sync_consumer.specs.Holding.{MayHold, Names, IsEntryMap}
+use Rattle.sync_consumer.specs.Holding.{MayHold, HeldNames, IsEntryMap}
 use Rattle.sync_consumer.specs.Staging.{change_of, changes_in, rises}
 use Rattle.sync_consumer.specs.declared.stage.StagedChange.{StagedChange}
 use Rattle.sync_consumer.specs.declared.stage.StagedChange.TheVariants.{AddOrModify, Delete}
@@ -32,16 +32,16 @@ after_held held after stage up within is = (ap (λ es. ascends es) is ∙ ascend
 -- ---- with their names
 
 -- no entries have no names
-pub nothing_mapped : (entries : List Entry) (names : Names) → entries ≡ [] → names ≡ [] → IsEntryMap entries names
+pub nothing_mapped : (entries : List Entry) (names : HeldNames) → entries ≡ [] → names ≡ [] → IsEntryMap entries names
 nothing_mapped entries names none unnamed =
     subst (λ (es : List Entry). IsEntryMap es names) (sym none)
-    (subst (λ (ns : Names). IsEntryMap [] ns) (sym unnamed)
+    (subst (λ (ns : HeldNames). IsEntryMap [] ns) (sym unnamed)
     (record { held = nothing_held; index = record { exact = λ path uuid. refl; pathed = λ uuid. tt } }))
 
 -- equal entries have equal names
-pub same_mapped : (entries entries' : List Entry) (names names' : Names) → entries' ≡ entries → names' ≡ names → IsEntryMap entries names → IsEntryMap entries' names'
+pub same_mapped : (entries entries' : List Entry) (names names' : HeldNames) → entries' ≡ entries → names' ≡ names → IsEntryMap entries names → IsEntryMap entries' names'
 same_mapped entries entries' names names' same alike is =
-    subst (λ (es : List Entry). IsEntryMap es names') (sym same) (subst (λ (ns : Names). IsEntryMap entries ns) (sym alike) is)
+    subst (λ (es : List Entry). IsEntryMap es names') (sym same) (subst (λ (ns : HeldNames). IsEntryMap entries ns) (sym alike) is)
 
 -- ---- changes from the last to the first
 

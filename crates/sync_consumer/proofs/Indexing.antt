@@ -4,7 +4,7 @@ use Rattle.std.specs.Prelude.{option_map}
 use Rattle.std.specs.Cmp.Lexicographic.{bytes_decides}
 use Rattle.std.specs.List.{All}
 use Rattle.std.specs.Option.{option_and_then, option_or, unwrap_or}
-use Rattle.std.proofs.lemmas.Bool.{and_parts, eqb-true, eq-eqb, ltb-true, false≢true}
+use Rattle.std.proofs.lemmas.Bool.{and_parts, eqb-true, ltb-true, false≢true}
 use Rattle.std.proofs.lemmas.List.Elements.{All-head, All-tail}
 use Rattle.dn_names.specs.Names.{same_name}
 use Rattle.dn_names.specs.Paths.{path_key}
@@ -12,18 +12,19 @@ use Rattle.dn_names.proofs.PathKeys.{equal_is_same, path_key-from_same}
 use Rattle.entry_tree.specs.declared.entry.Entry.{Entry}
 use Rattle.entry_tree.specs.State.{ascends, entry_at, entry_named, is_named, same_named}
 use Rattle.entry_tree.proofs.Identities.{above, none_at}
+use Rattle.entry_tree.proofs.Order.{at_head}
+use Rattle.entry_tree.proofs.Changing.{own_uuid}
 use Rattle.sync_model.specs.Copy.{Stage, effected, slot}
-use Rattle.sync_model.proofs.Maps.{entry_at-uuid}
 use Rattle.sync_model.proofs.Taking.{IsKeyed, at-effected, ascends-effected}
 use Rattle.sync_consumer.specs.Committing.{AreNamedApart}
-use Rattle.sync_consumer.specs.Holding.{Names, id_at, is_id, has_path, between, stays, after_stage, HasLeft, Notes, NotesAll, ArePathsApart, IsIndex, IsPathed}
+use Rattle.sync_consumer.specs.Holding.{HeldNames, id_at, is_id, has_path, between, stays, after_stage, HasLeft, Notes, NotesAll, ArePathsApart, IsIndexOf, IsPathed}
 use Rattle.sync_consumer.specs.Staging.{entry_staged}
 use Rattle.sync_consumer.proofs.Naming.{all_apart}
 
 -- ---- path keys that are apart
 
 -- at one path key one identity stands
-pub apart_by_notes : (names : Names) (entry_of : ℕ → Option Entry) → Notes names entry_of → ArePathsApart entry_of
+pub apart_by_notes : (names : HeldNames) (entry_of : ℕ → Option Entry) → Notes names entry_of → ArePathsApart entry_of
 apart_by_notes names entry_of notes path one other has has' = by (id_at names path) (notes path one ∙ has) (notes path other ∙ has')
   where
     by : (found : Option ℕ) → is_id found one ≡ true → is_id found other ≡ true → one ≡ other
@@ -41,9 +42,6 @@ later_at x es far u e is = by (nat_eq x.uuid u) refl where
   by true same = let none : entry_at es u ≡ None = none_at es u (ap (λ n. above n es) (sym (eqb-true x.uuid u same)) ∙ far) in absurd (cc)
   by false other = is
 
-first_at : (x : Entry) (es : List Entry) → entry_at (x ∷ es) x.uuid ≡ Some x
-first_at x es = ap (λ b. cond b (Some x) (entry_at es x.uuid)) (eq-eqb x.uuid x.uuid refl)
-
 module _ (entry_of : ℕ → Option Entry) (far : ArePathsApart entry_of) where
   -- no later entry has the name
   unnamed : (e : Entry) (es : List Entry) → entry_of e.uuid ≡ Some e → above e.uuid es ≡ true → ascends es ≡ true
@@ -56,7 +54,7 @@ module _ (entry_of : ℕ → Option Entry) (far : ArePathsApart entry_of) where
     where
       by : (b : Bool) → is_named e.dn x ≡ b → e.uuid < x.uuid → entry_named es e.dn ≡ None → cond b (Some x) (entry_named es e.dn) ≡ None
       by true same less rest =
-          let there : entry_of x.uuid ≡ Some x = among x.uuid x (first_at x es) in
+          let there : entry_of x.uuid ≡ Some x = among x.uuid x (at_head x es) in
           let one : e.uuid ≡ x.uuid =
           far (path_key e.dn) e.uuid x.uuid (own_path e (entry_of e.uuid) has)
           (ap (λ text. has_path text (entry_of x.uuid)) (sym (path_key-from_same x.dn e.dn same)) ∙ own_path x (entry_of x.uuid) there) in
@@ -68,7 +66,7 @@ module _ (entry_of : ℕ → Option Entry) (far : ArePathsApart entry_of) where
   each_unnamed (e ∷ es) up among =
       let p = and_parts (above e.uuid es) (ascends es) up in
       let rest : (u : ℕ) (x : Entry) → entry_at es u ≡ Some x → entry_of u ≡ Some x = λ u x is. among u x (later_at e es p.0 u x is) in
-      ap (λ found. option_or (option_map (λ (other : Entry). (e.uuid, other.uuid)) found) (same_named es)) (unnamed e es (among e.uuid e (first_at e es)) p.0 p.1 rest)
+      ap (λ found. option_or (option_map (λ (other : Entry). (e.uuid, other.uuid)) found) (same_named es)) (unnamed e es (among e.uuid e (at_head e es)) p.0 p.1 rest)
       ∙ each_unnamed es p.1 rest
 
 -- entries whose path keys are apart have no name twice
@@ -97,7 +95,7 @@ paths_apart es none pathed path one other has has' = by (entry_at es one) refl (
         let all : AreNamedApart es = all_apart es none in
         let first : All (λ (y : Entry). same_name e.dn y.dn ≡ true → e ≡ y) es = all_at (λ (z : Entry). All (λ (y : Entry). same_name z.dn y.dn ≡ true → z ≡ y) es) es one e all is in
         let one_is : e ≡ x = all_at (λ (y : Entry). same_name e.dn y.dn ≡ true → e ≡ y) es other x first is' same in
-        sym (entry_at-uuid es one e is) ∙ ap (λ (y : Entry). y.uuid) one_is ∙ entry_at-uuid es other x is'
+        sym (own_uuid es one e is) ∙ ap (λ (y : Entry). y.uuid) one_is ∙ own_uuid es other x is'
 
 -- ---- after a stage
 
@@ -117,14 +115,14 @@ module _ (held : List Entry) (stage : Stage) (up : ascends held ≡ true) (keyed
   after_is = λ i u. after_stays held stage u up keyed i
 
   -- the names of what a stage leaves, where no name was there
-  notes_after : (left names : Names) (are_free : Bool) → Notes left (stays held stage) → NotesAll held left names stage are_free
+  notes_after : (left names : HeldNames) (are_free : Bool) → Notes left (stays held stage) → NotesAll held left names stage are_free
       → (are_free ≡ true) ⊎ ArePathsApart (λ u. entry_at (effected held stage) u) → Notes names (λ u. entry_at (effected held stage) u)
   notes_after left names are_free notes all how =
       subst (λ (f : ℕ → Option Entry). Notes names f) after_is
       (all (stays held stage) notes (stays_left held stage) (subst (λ (f : ℕ → Option Entry). (are_free ≡ true) ⊎ ArePathsApart f) (sym after_is) how))
 
   -- where none was there, no two entries have one name
-  pub none_named_twice : (left names : Names) (are_free : Bool) → Notes left (stays held stage) → NotesAll held left names stage are_free → are_free ≡ true
+  pub none_named_twice : (left names : HeldNames) (are_free : Bool) → Notes left (stays held stage) → NotesAll held left names stage are_free → are_free ≡ true
       → same_named (effected held stage) ≡ None
   none_named_twice left names are_free notes all free =
       named_apart_by_paths (effected held stage) (ascends-effected stage held up)
@@ -138,8 +136,8 @@ module _ (held : List Entry) (stage : Stage) (up : ascends held ≡ true) (keyed
       by (Some o) p = p
 
   -- where no two entries have one name, the names are theirs
-  pub index_after : (old left names : Names) (are_free : Bool) → IsIndex old held → ((u : ℕ) → IsPathed (entry_staged stage u)) → Notes left (stays held stage)
-      → NotesAll held left names stage are_free → same_named (effected held stage) ≡ None → IsIndex names (effected held stage)
+  pub index_after : (old left names : HeldNames) (are_free : Bool) → IsIndexOf old held → ((u : ℕ) → IsPathed (entry_staged stage u)) → Notes left (stays held stage)
+      → NotesAll held left names stage are_free → same_named (effected held stage) ≡ None → IsIndexOf names (effected held stage)
   index_after old left names are_free index put notes all none =
       let pathed = pathed_after index.pathed put in
       record {

@@ -2,16 +2,15 @@
 use Rattle.std.proofs.Common.{◌≡◌, ℕ, Bool, true, false, not, ◌&&◌, cond, nat_eq, List, [], ◌∷◌, length, Option, Some, None, Vec, Global, Bor, refl, sym, ap, subst, ◌∙◌, ◌⊎◌, inl, inr, arith}
 use Rattle.std.specs.Prelude.{bytes_eq, is_some, is_none, option_copied}
 use Rattle.std.specs.Bool.{MatchBool}
-use Rattle.std.specs.BTreeMap.{insert_entry, is_at}
+use Rattle.std.specs.BTreeMap.{insert_entry}
 use Rattle.std.specs.Cmp.{nat_eq_equiv}
 use Rattle.std.specs.BTreeMap.Comparable.{le_lt_trans}
 use Rattle.std.specs.Cmp.Lexicographic.{slice_cmp, bytes_decides, nat_list_cmp_total, nat_list_eq_equiv, on_texts}
 use Rattle.std.specs.List.{AllByRecursion}
 use Rattle.std.specs.List.Sorted.{IsStrictlySortedBy}
-use Rattle.std.specs.Map.{keys_of, lookup, remove_entry}
+use Rattle.std.specs.Map.{keys_of, remove_entry}
 use Rattle.std.specs.Option.{unwrap_or}
 use Rattle.std.specs.Ordering.{nat_cmp, is_eq}
-use Rattle.std.specs.declared.cmp.Ordering.{Ordering}
 use Rattle.std.specs.declared.cmp.Ordering.TheVariants.{Less}
 use Rattle.std.proofs.lemmas.Bool.{and_parts, eqb-true, eq-eqb, false≢true}
 use Rattle.std.proofs.lemmas.Map.Keys.{sorted_head, sorted_tail}
@@ -19,25 +18,13 @@ use Rattle.std.proofs.lemmas.Map.Text.{is_eq-slice_cmp}
 use Rattle.shared_map.specs.Queries.{IsQuery}
 use Rattle.shared_map.proofs.Changes.{lookup-insert_entry}
 use Rattle.dn_names.specs.Paths.{path_key}
+use Rattle.entry_tree.proofs.NameKeys.{key_cmp, is_key, key_is, same_bytes}
 use Rattle.entry_tree.specs.declared.entry.Entry.{Entry}
 use Rattle.entry_tree.specs.State.{entry_at}
 use Rattle.sync_model.specs.Copy.{Stage, slot}
-use Rattle.sync_consumer.specs.Holding.{Names, id_at, is_id, has_path, keeps_name, between, stays, after_stage, Forgets, ForgetsFor, HasLeft, Notes, NotesAll, SetsId, ArePathsApart}
+use Rattle.sync_consumer.specs.Holding.{HeldNames, id_at, is_id, has_path, keeps_name, between, stays, after_stage, Forgets, ForgetsFor, HasLeft, Notes, NotesAll, SetsId, ArePathsApart}
 
-abbrev pub key_cmp : Vec ℕ Global → Vec ℕ Global → Ordering
-key_cmp one other = slice_cmp nat_cmp one.items other.items
-
-abbrev stands : List ℕ → Vec ℕ Global → Bool
-stands path = is_at (λ (key : Vec ℕ Global). slice_cmp nat_cmp path key.items)
-
-same_bytes : (one other : List ℕ) → bytes_eq one other ≡ true → one ≡ other
-same_bytes one other same = (bytes_decides one other).0 same
-
--- a path key stands at itself
-stands_is : (path : List ℕ) (key : Vec ℕ Global) → stands path key ≡ true → path ≡ key.items
-stands_is path key here = same_bytes path key.items (sym (is_eq-slice_cmp path key.items) ∙ here)
-
-tests_bytes : (path : List ℕ) (key : Vec ℕ Global) → stands path key ≡ bytes_eq key.items path
+tests_bytes : (path : List ℕ) (key : Vec ℕ Global) → is_key path key ≡ bytes_eq key.items path
 tests_bytes path key = is_eq-slice_cmp path key.items ∙ nat_list_eq_equiv.symm path key.items
 
 -- of two tests that do not both hold either may come first
@@ -50,7 +37,7 @@ swapped false false a found rest never = refl
 -- ---- one path key
 
 -- what stands at the path keys after one is noted
-pub id_inserted : (names : Names) (key : Vec ℕ Global) (uuid : ℕ) (path : List ℕ)
+pub id_inserted : (names : HeldNames) (key : Vec ℕ Global) (uuid : ℕ) (path : List ℕ)
     → id_at (insert_entry key_cmp names key uuid) path ≡ cond (bytes_eq key.items path) (Some uuid) (id_at names path)
 id_inserted names key uuid path =
     lookup-insert_entry (on_texts (λ (k : Vec ℕ Global). k.items)) key uuid query names ∙ ap (λ b. cond b (Some uuid) (id_at names path)) (tests_bytes path key)
@@ -62,50 +49,50 @@ id_inserted names key uuid path =
     }
 
 -- nothing stands at a path key below all
-none_beyond : (names : Names) (key : Vec ℕ Global) → AllByRecursion (λ (other : Vec ℕ Global). key_cmp key other ≡ Less) (keys_of names) → id_at names key.items ≡ None
+none_beyond : (names : HeldNames) (key : Vec ℕ Global) → AllByRecursion (λ (other : Vec ℕ Global). key_cmp key other ≡ Less) (keys_of names) → id_at names key.items ≡ None
 none_beyond [] key below = refl
 none_beyond (e ∷ names) key below = ap (λ o. cond (is_eq o) (Some e.1) (id_at names key.items)) below.0 ∙ none_beyond names key below.1
 
 -- what stands at the path keys after one is taken away
-pub id_removed : (names : Names) (path other : List ℕ) → IsStrictlySortedBy key_cmp (keys_of names)
-    → id_at (remove_entry (stands path) names) other ≡ cond (bytes_eq path other) None (id_at names other)
+pub id_removed : (names : HeldNames) (path other : List ℕ) → IsStrictlySortedBy key_cmp (keys_of names)
+    → id_at (remove_entry (is_key path) names) other ≡ cond (bytes_eq path other) None (id_at names other)
 id_removed [] path other up = by (bytes_eq path other) where
   by : (b : Bool) → ◌≡◌ {A = Option ℕ} None (cond b None None)
   by true = refl
   by false = refl
 id_removed (e ∷ names) path other up =
-    by (stands path e.0) refl (sorted_head key_cmp e.0 (keys_of names) up) (id_removed names path other (sorted_tail key_cmp e.0 (keys_of names) up))
+    by (is_key path e.0) refl (sorted_head key_cmp e.0 (keys_of names) up) (id_removed names path other (sorted_tail key_cmp e.0 (keys_of names) up))
   where
     here : path ≡ e.0.items → AllByRecursion (λ (key : Vec ℕ Global). key_cmp e.0 key ≡ Less) (keys_of names) → (b : Bool) → bytes_eq path other ≡ b
-        → id_at names other ≡ cond b None (cond (stands other e.0) (Some e.1) (id_at names other))
+        → id_at names other ≡ cond b None (cond (is_key other e.0) (Some e.1) (id_at names other))
     here is below true same = ap (id_at names) (sym (same_bytes path other same) ∙ is) ∙ none_beyond names e.0 below
     here is below false differ =
         sym (ap (λ b. cond b (Some e.1) (id_at names other)) (tests_bytes other e.0 ∙ ap (λ text. bytes_eq text other) (sym is) ∙ differ))
 
-    by : (b : Bool) → stands path e.0 ≡ b → AllByRecursion (λ (key : Vec ℕ Global). key_cmp e.0 key ≡ Less) (keys_of names)
-        → id_at (remove_entry (stands path) names) other ≡ cond (bytes_eq path other) None (id_at names other)
-        → id_at (cond b names (e ∷ remove_entry (stands path) names)) other ≡ cond (bytes_eq path other) None (cond (stands other e.0) (Some e.1) (id_at names other))
-    by true is below rest = here (stands_is path e.0 is) below (bytes_eq path other) refl
+    by : (b : Bool) → is_key path e.0 ≡ b → AllByRecursion (λ (key : Vec ℕ Global). key_cmp e.0 key ≡ Less) (keys_of names)
+        → id_at (remove_entry (is_key path) names) other ≡ cond (bytes_eq path other) None (id_at names other)
+        → id_at (cond b names (e ∷ remove_entry (is_key path) names)) other ≡ cond (bytes_eq path other) None (cond (is_key other e.0) (Some e.1) (id_at names other))
+    by true is below rest = here (key_is path e.0 is) below (bytes_eq path other) refl
     by false off below rest =
-        ap (λ found. cond (stands other e.0) (Some e.1) found) rest
-        ∙ swapped (bytes_eq path other) (stands other e.0) e.1 None (id_at names other)
-        (λ same there. false≢true (sym off ∙ ap (λ text. stands text e.0) (same_bytes path other same) ∙ there))
+        ap (λ found. cond (is_key other e.0) (Some e.1) found) rest
+        ∙ swapped (bytes_eq path other) (is_key other e.0) e.1 None (id_at names other)
+        (λ same there. false≢true (sym off ∙ ap (λ text. is_key text e.0) (same_bytes path other same) ∙ there))
 
 -- the path key of a name that was noted, or taken away
-pub sets_inserted : (old new : Names) (key : Vec ℕ Global) (path : List ℕ) (uuid : ℕ) → key.items ≡ path → new ≡ insert_entry key_cmp old key uuid → SetsId old new path (Some uuid)
+pub sets_inserted : (old new : HeldNames) (key : Vec ℕ Global) (path : List ℕ) (uuid : ℕ) → key.items ≡ path → new ≡ insert_entry key_cmp old key uuid → SetsId old new path (Some uuid)
 sets_inserted old new key path uuid is inserted other =
-    ap (λ (names : Names). id_at names other) inserted
+    ap (λ (names : HeldNames). id_at names other) inserted
     ∙ id_inserted old key uuid other
     ∙ ap (λ text. cond (bytes_eq text other) (Some uuid) (id_at old other)) is
 
-pub sets_removed : (old new : Names) (text path : List ℕ) → text ≡ path → IsStrictlySortedBy key_cmp (keys_of old) → new ≡ remove_entry (stands text) old → SetsId old new path None
+pub sets_removed : (old new : HeldNames) (text path : List ℕ) → text ≡ path → IsStrictlySortedBy key_cmp (keys_of old) → new ≡ remove_entry (is_key text) old → SetsId old new path None
 sets_removed old new text path is up removed other =
-    ap (λ (names : Names). id_at names other) removed
+    ap (λ (names : HeldNames). id_at names other) removed
     ∙ id_removed old text other up
     ∙ ap (λ t. cond (bytes_eq t other) None (id_at old other)) is
 
 -- without names none stands anywhere
-pub sets_empty : (names : Names) (path : List ℕ) → length names ≡ 0 → SetsId names names path None
+pub sets_empty : (names : HeldNames) (path : List ℕ) → length names ≡ 0 → SetsId names names path None
 sets_empty [] path none other = by (bytes_eq path other) where
   by : (b : Bool) → ◌≡◌ {A = Option ℕ} None (cond b None None)
   by true = refl
@@ -113,7 +100,7 @@ sets_empty [] path none other = by (bytes_eq path other) where
 sets_empty (e ∷ names) path none other = absurd (omega (arith, none))
 
 -- a path key is free where no identity is found at it
-pub free_is : (found : Option (Bor ℕ)) (is_free : Bool) (names : Names) (text path : List ℕ) → is_some found ≡ not is_free → option_copied found ≡ id_at names text → text ≡ path
+pub free_is : (found : Option (Bor ℕ)) (is_free : Bool) (names : HeldNames) (text path : List ℕ) → is_some found ≡ not is_free → option_copied found ≡ id_at names text → text ≡ path
     → is_free ≡ is_none (id_at names path)
 free_is found is_free names text path reports is same = by found is_free reports ∙ ap is_none (is ∙ ap (id_at names) same)
   where
@@ -131,7 +118,7 @@ other_id (Some v) k u is off =
     ap (λ n. nat_eq n u) (eqb-true v k is) ∙ nat_eq_equiv.symm k u ∙ off
 
 -- the name of an identity is taken away
-pub forgets : (old new : Names) (entry_of after : ℕ → Option Entry) (e : Entry) (k : ℕ) → Notes old entry_of → entry_of k ≡ Some e → SetsId old new (path_key e.dn) None
+pub forgets : (old new : HeldNames) (entry_of after : ℕ → Option Entry) (e : Entry) (k : ℕ) → Notes old entry_of → entry_of k ≡ Some e → SetsId old new (path_key e.dn) None
     → ((u : ℕ) → after u ≡ cond (nat_eq u k) None (entry_of u)) → Notes new after
 forgets old new entry_of after e k notes has sets is path u =
     ap (λ found. is_id found u) (sets path)
@@ -149,7 +136,7 @@ forgets old new entry_of after e k notes has sets is path u =
     by false off false other = notes path u
 
 -- an identity without an entry has no name
-pub untouched : (names : Names) (entry_of after : ℕ → Option Entry) (k : ℕ) → Notes names entry_of → entry_of k ≡ None
+pub untouched : (names : HeldNames) (entry_of after : ℕ → Option Entry) (k : ℕ) → Notes names entry_of → entry_of k ≡ None
     → ((u : ℕ) → after u ≡ cond (nat_eq u k) None (entry_of u)) → Notes names after
 untouched names entry_of after k notes none is path u = notes path u ∙ ap (has_path path) (by (nat_eq u k) refl ∙ sym (is u))
   where
@@ -158,7 +145,7 @@ untouched names entry_of after k notes none is path u = notes path u ∙ ap (has
     by false other = refl
 
 -- the name of an identity is noted at a path key at which nothing stands
-pub notes_name : (old new : Names) (entry_of after : ℕ → Option Entry) (e : Entry) → Notes old entry_of → entry_of e.uuid ≡ None → id_at old (path_key e.dn) ≡ None
+pub notes_name : (old new : HeldNames) (entry_of after : ℕ → Option Entry) (e : Entry) → Notes old entry_of → entry_of e.uuid ≡ None → id_at old (path_key e.dn) ≡ None
     → SetsId old new (path_key e.dn) (Some e.uuid) → ((u : ℕ) → after u ≡ cond (nat_eq u e.uuid) (Some e) (entry_of u)) → Notes new after
 notes_name old new entry_of after e notes none free sets is path u =
     ap (λ found. is_id found u) (sets path)
@@ -183,7 +170,7 @@ kept_path (Some w) None path kept = absurd (false≢true kept)
 kept_path (Some w) (Some e) path kept = ap (λ text. bytes_eq text path) (sym (same_bytes (path_key w.dn) (path_key e.dn) kept))
 
 -- the names of one identity more are taken away, but for one that stays
-pub forgets_more : (held : List Entry) (old new : Names) (c : ℕ × Option Entry) (rest : Stage) → slot rest c.0 ≡ None → ForgetsFor held c old new → Notes old (stays held rest)
+pub forgets_more : (held : List Entry) (old new : HeldNames) (c : ℕ × Option Entry) (rest : Stage) → slot rest c.0 ≡ None → ForgetsFor held c old new → Notes old (stays held rest)
     → Notes new (stays held (c ∷ rest))
 forgets_more held old new c rest none gone notes = by (keeps_name (entry_at held c.0) c.1) refl gone
   where
@@ -212,12 +199,12 @@ forgets_more held old new c rest none gone notes = by (keeps_name (entry_at held
 
     left : keeps_name (entry_at held c.0) c.1 ≡ false → (found : Option Entry) → entry_at held c.0 ≡ found → Forgets old new found → Notes new (stays held (c ∷ rest))
     left off None is same =
-        subst (λ (names : Names). Notes names (stays held (c ∷ rest))) (sym same) (untouched old (stays held rest) (stays held (c ∷ rest)) c.0 notes (was ∙ is) (after off))
+        subst (λ (names : HeldNames). Notes names (stays held (c ∷ rest))) (sym same) (untouched old (stays held rest) (stays held (c ∷ rest)) c.0 notes (was ∙ is) (after off))
     left off (Some e) is sets = forgets old new (stays held rest) (stays held (c ∷ rest)) e c.0 notes (was ∙ is) sets (after off)
 
     by : (b : Bool) → keeps_name (entry_at held c.0) c.1 ≡ b → MatchBool b (new ≡ old) (Forgets old new (entry_at held c.0)) → Notes new (stays held (c ∷ rest))
     by true is same =
-        subst (λ (names : Names). Notes names (stays held (c ∷ rest))) (sym same) (λ path u. notes path u ∙ kept is path u)
+        subst (λ (names : HeldNames). Notes names (stays held (c ∷ rest))) (sym same) (λ path u. notes path u ∙ kept is path u)
     by false off forgotten = left off (entry_at held c.0) refl forgotten
 
 -- ---- one change
@@ -231,7 +218,7 @@ nothing_left held entry_of c off left u same =
     ∙ ap (λ k. cond k c.1 None) off
 
 -- a change that keeps the name of its identity notes nothing
-pub notes_kept : (held : List Entry) (names : Names) (c : ℕ × Option Entry) → keeps_name (entry_at held c.0) c.1 ≡ true → NotesAll held names names (c ∷ []) true
+pub notes_kept : (held : List Entry) (names : HeldNames) (c : ℕ × Option Entry) → keeps_name (entry_at held c.0) c.1 ≡ true → NotesAll held names names (c ∷ []) true
 notes_kept held names c kept entry_of notes left how path u = notes path u ∙ ap (has_path path) (by (nat_eq u c.0) refl)
   where
     by : (b : Bool) → nat_eq u c.0 ≡ b → entry_of u ≡ unwrap_or (cond {A = Option (Option Entry)} b (Some c.1) None) (entry_of u)
@@ -243,7 +230,7 @@ notes_kept held names c kept entry_of notes left how path u = notes path u ∙ a
     by false other = refl
 
 -- nothing is put
-pub notes_none : (held : List Entry) (names : Names) (uuid : ℕ) → keeps_name (entry_at held uuid) None ≡ false → NotesAll held names names ((uuid, None) ∷ []) true
+pub notes_none : (held : List Entry) (names : HeldNames) (uuid : ℕ) → keeps_name (entry_at held uuid) None ≡ false → NotesAll held names names ((uuid, None) ∷ []) true
 notes_none held names uuid off entry_of notes left how path u = notes path u ∙ ap (has_path path) (by (nat_eq u uuid) refl)
   where
     by : (b : Bool) → nat_eq u uuid ≡ b → entry_of u ≡ unwrap_or (cond {A = Option (Option Entry)} b (Some None) None) (entry_of u)
@@ -251,7 +238,7 @@ notes_none held names uuid off entry_of notes left how path u = notes path u ∙
     by false other = refl
 
 -- an entry is put
-pub notes_put : (held : List Entry) (old new : Names) (e : Entry) (is_free : Bool) → keeps_name (entry_at held e.uuid) (Some e) ≡ false → is_free ≡ is_none (id_at old (path_key e.dn))
+pub notes_put : (held : List Entry) (old new : HeldNames) (e : Entry) (is_free : Bool) → keeps_name (entry_at held e.uuid) (Some e) ≡ false → is_free ≡ is_none (id_at old (path_key e.dn))
     → SetsId old new (path_key e.dn) (Some e.uuid) → NotesAll held old new ((e.uuid, Some e) ∷ []) is_free
 notes_put held old new e is_free off was sets entry_of notes left how =
     notes_name old new entry_of (after_stage entry_of ((e.uuid, Some e) ∷ [])) e notes none (absent how) sets (λ u. put u (nat_eq u e.uuid))
@@ -297,7 +284,7 @@ notes_put held old new e is_free off was sets entry_of notes left how =
 -- ---- a change more
 
 -- the names of one change are noted after those of the others
-pub notes_more : (held : List Entry) (old mid new : Names) (c : ℕ × Option Entry) (rest : Stage) (others own : Bool) → slot rest c.0 ≡ None
+pub notes_more : (held : List Entry) (old mid new : HeldNames) (c : ℕ × Option Entry) (rest : Stage) (others own : Bool) → slot rest c.0 ≡ None
     → NotesAll held old mid rest others → NotesAll held mid new (c ∷ []) own → NotesAll held old new (c ∷ rest) (others && own)
 notes_more held old mid new c rest others own none first last entry_of notes left how path u =
     last before (first entry_of notes rest_left (earlier how)) own_left (later how) path u
@@ -354,5 +341,5 @@ notes_more held old mid new c rest others own none first last entry_of notes lef
         inr (λ path one other has has'. far path one other (sym (ap (has_path path) (same one (nat_eq one c.0))) ∙ has) (sym (ap (has_path path) (same other (nat_eq other c.0))) ∙ has'))
 
 -- no changes note nothing
-pub notes_nothing : (held : List Entry) (names : Names) (others : Bool) → NotesAll held names names [] others
+pub notes_nothing : (held : List Entry) (names : HeldNames) (others : Bool) → NotesAll held names names [] others
 notes_nothing held names others entry_of notes left how = notes

@@ -24,7 +24,7 @@ use Rattle.sync_consumer.specs.declared.session.SearchStep.TheVariants.{Goes, En
 use Rattle.std.specs.List.{list_all}
 use Rattle.sync_consumer.specs.Staging.{is_above, up_to}
 use Rattle.sync_consumer.proofs.Prefixes.{prefix_effected}
-use Rattle.sync_consumer.specs.SyncSession.{session_of, copy_of, copy_with, within, IsTakenAs, refused_by, Refuses, StepsBy, decoded_by_search, taken_by_id, taken_by_search}
+use Rattle.sync_consumer.specs.SyncSession.{session_of, copy_of, copy_with, within, IsTakenAs, refused_by, Refuses, StepsOn, decoded_by_search, taken_by_id, taken_by_search}
 use Rattle.sync_consumer.specs.Taking.{refusal_of, taken_fault, taken_commit, answer_taken, taken_refusal, without_search, taken_as, taken_by, taken_of, Takes, KeepsPrefix, KeepsEntries, KeepsCookie}
 
 -- ---- what stays
@@ -152,7 +152,7 @@ answered_takes result after held session message said_is own is same answers =
 
 step_takes : (step : SearchStep) (held : HeldContent) (session : SyncSession) (held' : HeldContent) (session' : SyncSession) (message : Message) (said_is : SyncMessage)
     → message.id ≡ session.id → said session.persisting message ≡ Ok said_is
-    → StepsBy held session held' session' (Ok step) said_is → Takes (copy_with held session) message (after_step step held' session') (answered_by step)
+    → StepsOn held session held' session' (Ok step) said_is → Takes (copy_with held session) message (after_step step held' session') (answered_by step)
 step_takes (Goes taken) held session held' session' message said_is own is step =
     answered_takes taken (copy_of held' (Some (session_of session'))) held session message said_is own is step.0 step.1
 step_takes (Ends taken) held session held' session' message said_is own is step =

@@ -23,7 +23,7 @@ use Rattle.sync_consumer.specs.declared.fault.Refusal.{Refusal}
 use Rattle.sync_consumer.specs.declared.fault.Refusal.TheVariants as refusal
 use Rattle.sync_consumer.specs.declared.held.HeldContent.{HeldContent}
 use Rattle.sync_consumer.specs.declared.session.SyncSession as own
-use Rattle.sync_consumer.specs.Committing.{AreNamedApart, IsCommit, CanBeCommitted, IsReady, IsKept, stage_in}
+use Rattle.sync_consumer.specs.Committing.{AreNamedApart, IsCommit, CanBeCommitted, IsReady, IsReadyOn, stage_in}
 use Rattle.sync_consumer.specs.Holding.{MayHold}
 use Rattle.sync_consumer.specs.SyncSession.{copy_with}
 use Rattle.sync_consumer.specs.Taking.{PutsFit, Takes, KeepsEntries, KeepsCookie, refusal_of, taken_commit, answer_taken, taken_refusal, without_search, taken_as, taken_by, taken_of}
@@ -38,23 +38,23 @@ held_same : (before after : List Entry) → after ≡ before → MayHold before 
 held_same before after same held = subst (λ (es : List Entry). MayHold es) (sym same) held
 
 -- a consumer without entries keeps its invariant
-pub nothing_kept : (entries : List Entry) → entries ≡ [] → IsKept entries []
+pub nothing_kept : (entries : List Entry) → entries ≡ [] → IsReadyOn entries []
 nothing_kept entries none = record { held = held_same [] entries none nothing_held; staged = none_ready }
 
 -- the invariant holds without a search
-pub idle_kept : (entries : List Entry) (stage : model.Stage) → IsKept entries stage → IsKept entries []
+pub idle_kept : (entries : List Entry) (stage : model.Stage) → IsReadyOn entries stage → IsReadyOn entries []
 idle_kept entries stage kept = record { held = kept.held; staged = none_ready }
 
 -- the invariant holds when a search begins
-pub begun_kept : (entries : List Entry) (stage : model.Stage) (id : ℕ) (persists : Bool) (copy : Copy) (session : Option SyncSession) → IsKept entries stage
-    → session ≡ (model.asked id persists copy).session → IsKept entries (stage_in session)
-begun_kept entries stage id persists copy session kept is = subst (λ (r : Option SyncSession). IsKept entries (stage_in r)) (sym is) (idle_kept entries stage kept)
+pub begun_kept : (entries : List Entry) (stage : model.Stage) (id : ℕ) (persists : Bool) (copy : Copy) (session : Option SyncSession) → IsReadyOn entries stage
+    → session ≡ (model.asked id persists copy).session → IsReadyOn entries (stage_in session)
+begun_kept entries stage id persists copy session kept is = subst (λ (r : Option SyncSession). IsReadyOn entries (stage_in r)) (sym is) (idle_kept entries stage kept)
 
 -- the invariant holds of an equal consumer
-pub same_kept : (entries entries' : List Entry) (session session' : Option SyncSession) → entries' ≡ entries → session' ≡ session → IsKept entries (stage_in session)
-    → IsKept entries' (stage_in session')
+pub same_kept : (entries entries' : List Entry) (session session' : Option SyncSession) → entries' ≡ entries → session' ≡ session → IsReadyOn entries (stage_in session)
+    → IsReadyOn entries' (stage_in session')
 same_kept entries entries' session session' is same kept =
-    subst (λ (es : List Entry). IsKept es (stage_in session')) (sym is) (subst (λ (r : Option SyncSession). IsKept entries (stage_in r)) (sym same) kept)
+    subst (λ (es : List Entry). IsReadyOn es (stage_in session')) (sym is) (subst (λ (r : Option SyncSession). IsReadyOn entries (stage_in r)) (sym same) kept)
 
 -- ---- the entries may be held
 
@@ -80,7 +80,8 @@ limits_held : (puts : Bool) (before : Copy) (found : Option model.Fault) (outcom
 limits_held puts before None outcome is keeps held = answer_held puts before outcome.0 outcome.1 keeps is held
 limits_held puts before (Some found) outcome is keeps held = held
 
-message_held : (id : ℕ) (copy : Copy) (message : SyncMessage) → MayHold copy.held → MayHold (taken_within id copy message).0.held
+-- what a copy holds after a message may be held
+pub message_held : (id : ℕ) (copy : Copy) (message : SyncMessage) → MayHold copy.held → MayHold (taken_within id copy message).0.held
 message_held id copy message held =
     limits_held (puts_entry message) copy (limit_fault (puts_entry message) (taken id copy message).0 (taken id copy message).1) (taken id copy message) refl
     (taking_keeps id copy message) held
@@ -88,7 +89,7 @@ message_held id copy message held =
 -- ---- and what takes effect can be committed
 
 record Upholds (before : Copy) (outcome : Copy × Taken) : Type 0 where
-  pub kept : MayHold before.held → IsKept outcome.0.held (stage_in outcome.0.session)
+  pub kept : MayHold before.held → IsReadyOn outcome.0.held (stage_in outcome.0.session)
   pub fit : PutsFit outcome.1
   pub committed : MayHold before.held → CanBeCommitted before outcome.0 outcome.1
 
@@ -154,14 +155,14 @@ pub record IsTaken (before : Copy) (message : Message) (after : Copy) (result : 
   pub names : AreNamedApart after.held
   pub clear : may_be_held after.held ≡ true
   pub committed : CanBeCommitted before after result
-  pub kept : IsKept after.held (stage_in after.session)
+  pub kept : IsReadyOn after.held (stage_in after.session)
 
-pub all_taken : (result : Taken) (before : Copy) (message : Message) (after : Copy) → Takes before message after result → IsKept before.held (stage_in before.session)
+pub all_taken : (result : Taken) (before : Copy) (message : Message) (after : Copy) → Takes before message after result → IsReadyOn before.held (stage_in before.session)
     → IsTaken before message after result
 all_taken result before message after is was =
     let stays = takes_keeps result before message after is in
     let upholds : Upholds before (after, result) = takes_upholds result before message after is was.staged in
-    let now : IsKept after.held (stage_in after.session) = upholds.kept was.held in
+    let now : IsReadyOn after.held (stage_in after.session) = upholds.kept was.held in
     record {
       exact = is;
       entries = stays.0;
@@ -176,6 +177,6 @@ all_taken result before message after is was =
 -- what a search that runs makes of a message is all that `Consumer::take` promises
 pub search_taken : (result : Taken) (held : HeldContent) (session : own.SyncSession) (message : Message) (before after : Copy)
     → before ≡ copy_with held session → Takes (copy_with held session) message after result
-    → IsKept before.held (stage_in before.session) → IsTaken before message after result
+    → IsReadyOn before.held (stage_in before.session) → IsTaken before message after result
 search_taken result held session message before after was is had =
     all_taken result before message after (subst (λ (b : Copy). Takes b message after result) (sym was) is) had

@@ -1,5 +1,5 @@
 -- Maps of entries by their identities, as lists of entries.
-use Rattle.std.proofs.Common.{◌≡◌, ◌<◌, ◌≤◌, ◌-◌, ◌+◌, ◌^◌, ℕ, zero, suc, Bool, true, false, not, cond, nat_eq, nat_lt, List, [], ◌∷◌, ◌++◌, length, Option, Some, None, refl, sym, ap, subst, ◌∙◌, ◌⊎◌, inl, inr, arith}
+use Rattle.std.proofs.Common.{◌≡◌, ◌<◌, ◌≤◌, ◌-◌, ◌+◌, ◌^◌, ℕ, zero, suc, Bool, true, false, not, cond, nat_eq, nat_lt, List, [], ◌∷◌, length, Option, Some, None, refl, sym, ap, subst, ◌∙◌, ◌⊎◌, inl, inr, arith}
 use Rattle.std.specs.Prelude.{filter, option_map, slice_get}
 use Rattle.std.specs.BTreeMap.{insert_entry, is_at}
 use Rattle.std.specs.Cmp.{nat_cmp_is, nat_eq_equiv, unsigned_ties}
@@ -7,7 +7,7 @@ use Rattle.std.specs.Map.{values_of, lookup, remove_entry}
 use Rattle.std.specs.Ordering.{nat_cmp, is_eq, is_lt, match_ordering}
 use Rattle.std.specs.declared.cmp.Ordering.{Ordering}
 use Rattle.std.specs.declared.cmp.Ordering.TheVariants.{Less, Equal, Greater}
-use Rattle.std.proofs.lemmas.Bool.{and_parts, eqb-true, ne_eqb, lt-ltb, le-ltb, ltb-true, cases_order}
+use Rattle.std.proofs.lemmas.Bool.{and_parts, eqb-true, cases_order}
 use Rattle.std.proofs.lemmas.Map.Entries.{length-values_of, sum_by-remove_entry}
 use Rattle.std.proofs.lemmas.List.Sums.{sum_by-cons}
 use Rattle.std.proofs.lemmas.Option.{slice_get-map}
@@ -15,10 +15,11 @@ use Rattle.schema_rules.specs.Attributes.{weight_of}
 use Rattle.entry_tree.specs.declared.entry.Entry.{Entry}
 use Rattle.entry_tree.specs.State.{ascends, entry_at, found_weight, is_identified, put, total_weight}
 use Rattle.entry_tree.proofs.Directory.{ascends_filter}
-use Rattle.entry_tree.proofs.Identities.{above, above_all}
-use Rattle.entry_tree.proofs.Putting.{none_lower, all_higher, ascends_put, total_put}
+use Rattle.entry_tree.proofs.Identities.{above}
+use Rattle.entry_tree.proofs.Putting.{ascends_put, total_put, put_after, put_there, put_before}
+use Rattle.entry_tree.proofs.ByIdentity.{all_stay}
 use Rattle.sync_consumer.specs.Holding.{IsWeighed}
-use Rattle.sync_consumer.specs.Staging.{lower, higher, up_to}
+use Rattle.sync_consumer.specs.Staging.{higher, up_to}
 use Rattle.sync_consumer.proofs.Prefixes.{all_prefix}
 use Rattle.sync_consumer.proofs.Keyed.{AreOwn, head_own, own-insert, own-remove}
 
@@ -109,23 +110,6 @@ none_last (e ∷ es) none = absurd (some (e ∷ es) e (length es) (omega arith) 
 
 -- ---- an entry that is put
 
-put_after : (e x : Entry) (es : List Entry) → x.uuid < e.uuid → put e (x ∷ es) ≡ x ∷ put e es
-put_after e x es less =
-    ap (λ b. cond b (x ∷ lower e.uuid es) (lower e.uuid es) ++ e ∷ higher e.uuid (x ∷ es)) (lt-ltb x.uuid e.uuid less)
-    ∙ ap (λ b. (x ∷ lower e.uuid es) ++ e ∷ cond b (x ∷ higher e.uuid es) (higher e.uuid es)) (le-ltb e.uuid x.uuid (omega (arith, less)))
-
-put_there : (e x : Entry) (es : List Entry) → x.uuid ≡ e.uuid → above x.uuid es ≡ true → put e (x ∷ es) ≡ e ∷ es
-put_there e x es same later =
-    let far : above e.uuid es ≡ true = ap (λ n. above n es) (sym same) ∙ later in
-    ap (λ b. cond b (x ∷ lower e.uuid es) (lower e.uuid es) ++ e ∷ higher e.uuid (x ∷ es)) (le-ltb x.uuid e.uuid (omega (arith, same)))
-    ∙ ap (λ b. lower e.uuid es ++ e ∷ cond b (x ∷ higher e.uuid es) (higher e.uuid es)) (le-ltb e.uuid x.uuid (omega (arith, same)))
-    ∙ (λ i. none_lower e.uuid es far i ++ e ∷ all_higher e.uuid es far i)
-
-put_before : (e x : Entry) (es : List Entry) → e.uuid < x.uuid → above x.uuid es ≡ true → put e (x ∷ es) ≡ e ∷ x ∷ es
-put_before e x es less later =
-    let far = above_all e.uuid x es less later in
-    λ i. none_lower e.uuid (x ∷ es) far i ++ e ∷ all_higher e.uuid (x ∷ es) far i
-
 -- an entry that is put into the map by its identity
 pub put_pairs : (e : Entry) (es : Pairs) → AreOwn uuid_of es → ascends (values_of es) ≡ true → values_of (insert_entry nat_cmp es e.uuid e) ≡ put e (values_of es)
 put_pairs e [] own up = refl
@@ -150,14 +134,6 @@ put_pairs e (x ∷ es) own up =
 
 -- ---- an entry that is removed
 
-none_identified : (u : ℕ) (es : List Entry) → above u es ≡ true → filter (λ entry. not (is_identified u entry)) es ≡ es
-none_identified u [] h = refl
-none_identified u (x ∷ es) h =
-    let p = and_parts (nat_lt u x.uuid) (above u es) h in
-    let far : u < x.uuid = ltb-true u x.uuid p.0 in
-    let rest = filter (λ entry. not (is_identified u entry)) es in
-    ap (λ b. cond (not b) (x ∷ rest) rest) (ne_eqb x.uuid u (λ same. omega (arith, far, same))) ∙ ap (λ xs. x ∷ xs) (none_identified u es p.1)
-
 -- an entry that is removed from the map by its identity
 pub removed_pairs : (u : ℕ) (es : Pairs) → AreOwn uuid_of es → ascends (values_of es) ≡ true
     → values_of (remove_entry (is_at (nat_cmp u)) es) ≡ filter (λ entry. not (is_identified u entry)) (values_of es)
@@ -173,7 +149,7 @@ removed_pairs u (x ∷ es) own up =
 
     by : (b : Bool) → nat_eq (uuid_of x.1) u ≡ b → above (uuid_of x.1) (values_of es) ≡ true → values_of (remove_entry (is_at (nat_cmp u)) es) ≡ left
         → values_of (cond b es (x ∷ remove_entry (is_at (nat_cmp u)) es)) ≡ cond (not b) (x.1 ∷ left) left
-    by true same later rest = sym (none_identified u (values_of es) (ap (λ n. above n (values_of es)) (sym (eqb-true (uuid_of x.1) u same)) ∙ later))
+    by true same later rest = sym (all_stay u (values_of es) (ap (λ n. above n (values_of es)) (sym (eqb-true (uuid_of x.1) u same)) ∙ later))
     by false other later rest = ap (λ xs. x.1 ∷ xs) rest
 
 -- ---- with their weight

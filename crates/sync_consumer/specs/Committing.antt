@@ -61,6 +61,6 @@ pub record IsReady (stage : model.Stage) : Type 0 where
   pub fit : AreFit (model.puts_of stage)
 
 -- the entries may be held, and what is staged is ready to take effect
-pub record IsKept (entries : List Entry) (stage : model.Stage) : Type 0 where
+pub record IsReadyOn (entries : List Entry) (stage : model.Stage) : Type 0 where
   pub held : MayHold entries
   pub staged : IsReady stage

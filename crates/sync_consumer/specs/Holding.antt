@@ -28,11 +28,11 @@ pub record IsWeighed (entries : List (ℕ × Entry)) (weight : ℕ) : Type 0 whe
 
 -- ---- identities by the path keys of names
 
-abbrev pub Names : Type 0
-Names = List (Vec ℕ Global × ℕ)
+abbrev pub HeldNames : Type 0
+HeldNames = List (Vec ℕ Global × ℕ)
 
 -- the identity that stands at a path key
-abbrev pub id_at : Names → List ℕ → Option ℕ
+abbrev pub id_at : HeldNames → List ℕ → Option ℕ
 id_at names path = lookup (is_at (λ (key : Vec ℕ Global). slice_cmp nat_cmp path key.items)) names
 
 -- it is this identity
@@ -50,29 +50,29 @@ abbrev pub IsPathed : Option Entry → Type 0
 IsPathed found = IfSome found (λ (e : Entry). HasPath e.dn)
 
 -- an identity stands at a path key exactly where its entry has a name of that path key
-abbrev pub Notes : Names → (ℕ → Option Entry) → Type 0
+abbrev pub Notes : HeldNames → (ℕ → Option Entry) → Type 0
 Notes names entry_of =
     (path : List ℕ) (uuid : ℕ) → is_id (id_at names path) uuid ≡ has_path path (entry_of uuid)
 
 -- the names of these entries, all of which have path keys
-pub record IsIndex (names : Names) (entries : List Entry) : Type 0 where
+pub record IsIndexOf (names : HeldNames) (entries : List Entry) : Type 0 where
   pub exact : Notes names (λ uuid. entry_at entries uuid)
   pub pathed : (uuid : ℕ) → IsPathed (entry_at entries uuid)
 
 -- entries that may be held, with their names
-pub record IsEntryMap (entries : List Entry) (names : Names) : Type 0 where
+pub record IsEntryMap (entries : List Entry) (names : HeldNames) : Type 0 where
   pub held : MayHold entries
-  pub index : IsIndex names entries
+  pub index : IsIndexOf names entries
 
 -- ---- names that changes take away and bring
 
 -- this stands at the path key, or nothing does, and all else is as it was
-abbrev pub SetsId : Names → Names → List ℕ → Option ℕ → Type 0
+abbrev pub SetsId : HeldNames → HeldNames → List ℕ → Option ℕ → Type 0
 SetsId old new path found =
     (other : List ℕ) → id_at new other ≡ cond (bytes_eq path other) found (id_at old other)
 
 -- the name of the entry is taken away, where there is one
-abbrev pub Forgets : Names → Names → Option Entry → Type 0
+abbrev pub Forgets : HeldNames → HeldNames → Option Entry → Type 0
 Forgets old new None = new ≡ old
 Forgets old new (Some e) = SetsId old new (path_key e.dn) None
 
@@ -83,7 +83,7 @@ keeps_name (Some was) None = false
 keeps_name (Some was) (Some put) = bytes_eq (path_key was.dn) (path_key put.dn)
 
 -- the name that the identity of the change has is taken away, unless the change keeps it
-abbrev pub ForgetsFor : List Entry → ℕ × Option Entry → Names → Names → Type 0
+abbrev pub ForgetsFor : List Entry → ℕ × Option Entry → HeldNames → HeldNames → Type 0
 ForgetsFor entries change old new =
     MatchBool (keeps_name (entry_at entries change.0) change.1) (new ≡ old)
     (Forgets old new (entry_at entries change.0))
@@ -117,7 +117,7 @@ HasLeft entries entry_of stage =
 
 -- the names of what the stage puts are noted beside those of all others: exactly, where none was
 -- there before but those that stay, or where no two are of one path key after it
-abbrev pub NotesAll : List Entry → Names → Names → Stage → Bool → Type 0
+abbrev pub NotesAll : List Entry → HeldNames → HeldNames → Stage → Bool → Type 0
 NotesAll entries old new stage are_free =
     (entry_of : ℕ → Option Entry)
     → Notes old entry_of

@@ -111,10 +111,10 @@ message_of (decoded.Done code control) = Done code (control_said control)
 message_of decoded.Ignored = Ignored
 
 -- the step that a message of the search leads to
-abbrev pub StepsBy :
+abbrev pub StepsOn :
     HeldContent → SyncSession → HeldContent → SyncSession → Result SearchStep Refusal → SyncMessage
     → Type 0
-StepsBy held session held' session' result message =
+StepsOn held session held' session' result message =
     StepsTo held session held' session' result
     (within (puts_entry message) held session
     (model.taken_in (copy_with held session) (session_of session) message))
@@ -125,7 +125,7 @@ abbrev pub decoded_by_search :
 decoded_by_search held session held' session' result (Err found) =
     (held' ≡ held) × (result ≡ Err (refusal_of found))
 decoded_by_search held session held' session' result (Ok message) =
-    StepsBy held session held' session' result message
+    StepsOn held session held' session' result message
 
 -- a message of this search, or of another one
 abbrev pub taken_by_id :

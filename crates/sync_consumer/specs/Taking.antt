@@ -30,7 +30,7 @@ use Rattle.sync_consumer.specs.declared.fault.Refusal.{Refusal}
 use Rattle.sync_consumer.specs.declared.fault.Refusal.TheVariants as refusal
 
 -- what is wanted, whether it is taken as new where the cookie does not serve, and the copy
-pub record Following : Type 0 where
+pub record ConsumerState : Type 0 where
   pub spec : Search
   pub reload : Bool
   pub copy : model.Copy
@@ -41,7 +41,7 @@ nothing = record { held = []; cookie = None; session = None }
 
 -- the same entries, of which another search reports from now on: no cookie reports what it
 -- selected, and no search runs
-abbrev pub wanting : Following → Search → Following
+abbrev pub wanting : ConsumerState → Search → ConsumerState
 wanting following search =
     record following {
       spec = search;
@@ -51,11 +51,11 @@ wanting following search =
 -- ---- the request
 
 -- what is asked for with its control
-abbrev pub asked_of : Following → Mode → SyncRequest
+abbrev pub asked_of : ConsumerState → Mode → SyncRequest
 asked_of following mode =
     record { mode = mode; cookie = following.copy.cookie; reload_hint = following.reload }
 
-abbrev pub request_of : Following → ℕ → Mode → Whole
+abbrev pub request_of : ConsumerState → ℕ → Mode → Whole
 request_of following id mode =
     search_request following.spec id mode following.reload following.copy.cookie
 

@@ -59,11 +59,11 @@ impl Model for Consumer {
     ghost use Rattle.std.specs.Coded.{codes};
     ghost use Rattle.entry_tree.specs.FilterCode.{tree_code};
     ghost use Rattle.entry_tree.specs.Selection.{search_of};
-    ghost use Rattle.sync_consumer.specs.Committing.{IsKept, stage_in};
+    ghost use Rattle.sync_consumer.specs.Committing.{IsReadyOn, stage_in};
     ghost use Rattle.sync_consumer.specs.SyncSession.{session_of, copy_of};
-    ghost use Rattle.sync_consumer.specs.Taking.{Following};
+    ghost use Rattle.sync_consumer.specs.Taking.{ConsumerState};
 
-    ghost Value = { Following };
+    ghost Value = { ConsumerState };
 
     ghost coded = { Prim.hlevel (codes, tree_code) };
 
@@ -73,12 +73,13 @@ impl Model for Consumer {
       copy = copy_of c.held (option_map session_of c.session);
     } };
 
-    ghost invariant = { λ c. IsKept c.held.entries (stage_in (option_map session_of c.session)) };
+    ghost invariant = { λ c. IsReadyOn c.held.entries
+        (stage_in (option_map session_of c.session)) };
 }
 
 impl Consumer {
     /// A consumer of what the specification selects, without entries, a cookie and a search. Each
-    /// of its requests has this reloadHint (RFC 4533, section 2.2).
+    /// of its requests has this reloadHint (RFC 4533, section 2.2). It takes no memory.
     #[tactic(auto, using(crate::proofs::Upholding::nothing_kept))]
     pub fn new(alloc: Global, spec: Spec, reload_hint: bool) -> Result<Consumer, NoMemory>
         ensures { result
@@ -192,7 +193,7 @@ impl Consumer {
     }
 
     /// Wants this from now on, in place of what was wanted. The entries stay, up to the refresh
-    /// that reports which of them are wanted now. The cookie is lost, since it reports of what was
+    /// that reports which of them are wanted now. The cookie is lost, since it speaks of what was
     /// wanted before, and a search that runs is ended, with what is staged. It takes no memory.
     pub fn respec(&mut self, spec: Spec)
         ensures { self.new ≡ taking.wanting self.old (search_of spec) }

@@ -86,7 +86,8 @@ impl EntryMap {
         self.entries.get(uuid)
     }
 
-    /// The entries above an identity, in ascending order of identity.
+    /// The entries above an identity, in ascending order of identity. It is `NoMemory` where memory
+    /// runs out.
     #[tactic(auto, using(crate::proofs::Prefixes::both_sides))]
     pub fn above(&self, uuid: u128) -> Result<Vec<&Entry>, NoMemory>
         ensures value { IfOk result (λ above. map (λ e. e.now) above.items ≡ higher uuid self.now) }
@@ -106,7 +107,7 @@ impl EntryMap {
         self.entries.greatest()
     }
 
-    /// The entries, in ascending order of identity.
+    /// The entries, in ascending order of identity. It is `NoMemory` where memory runs out.
     pub fn list(&self) -> Result<Vec<&Entry>, NoMemory>
         ensures value { IfOk result (λ list. map (λ e. e.now) list.items ≡ self.now) }
         ensures ascends { ascends self.now ≡ true }

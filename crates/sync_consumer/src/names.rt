@@ -6,7 +6,7 @@ ghost use Rattle.dn_names.specs.Paths.{path_key, HasPath};
 ghost use Rattle.entry_tree.specs.declared.entry.Entry.{Entry};
 ghost use Rattle.entry_tree.specs.State.{ascends, entry_at, same_named};
 ghost use Rattle.sync_model.specs.Copy.{effected};
-ghost use Rattle.sync_consumer.specs.Holding.{id_at, keeps_name, stays, Forgets, ForgetsFor, IsIndex, IsPathed, Notes, NotesAll, SetsId};
+ghost use Rattle.sync_consumer.specs.Holding.{id_at, keeps_name, stays, Forgets, ForgetsFor, IsIndexOf, IsPathed, Notes, NotesAll, SetsId};
 ghost use Rattle.sync_consumer.specs.Staging.{change_of, changes_in, entry_staged, rises};
 
 use crate::stage::StagedChange;
@@ -25,14 +25,14 @@ pub(crate) fn names_after(
     held: &WeighedEntries,
     changes: &[&StagedChange],
 ) -> Result<(Names, bool), NoMemory>
-    requires index { IsIndex names.now held.now }
+    requires index { IsIndexOf names.now held.now }
     requires ascends { ascends held.now ≡ true }
     requires ordered { rises (keys_of (changes_in changes.now)) ≡ true }
     ensures apart { IfOk result (λ after.
         IsTrue after.1 → same_named (effected held.now (changes_in changes.now)) ≡ None) }
     ensures index { IfOk result (λ after.
         same_named (effected held.now (changes_in changes.now)) ≡ None
-        → IsIndex after.0 (effected held.now (changes_in changes.now))) }
+        → IsIndexOf after.0 (effected held.now (changes_in changes.now))) }
 {
     let mut after = names.copy()?;
     forget_each(&mut after, held, changes)?;

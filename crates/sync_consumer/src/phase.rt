@@ -6,7 +6,7 @@ ghost use Rattle.sync_model.specs.Copy.{ends_phase, taken_info};
 ghost use Rattle.sync_model.specs.Message.SyncMessage.{Done};
 ghost use Rattle.sync_wire.specs.Decoding.{control_said};
 ghost use Rattle.sync_wire.specs.Requesting.{persists};
-ghost use Rattle.sync_consumer.specs.SyncSession.{session_of, copy_with, within, refresh_ended, StepsTo, StepsBy};
+ghost use Rattle.sync_consumer.specs.SyncSession.{session_of, copy_with, within, refresh_ended, StepsTo, StepsOn};
 ghost use Rattle.sync_consumer.specs.declared.consumer.Taken.TheVariants.{Stored, Copied, Over};
 ghost use Rattle.sync_consumer.specs.declared.session.SearchStep.TheVariants.{Goes, Ends};
 
@@ -68,7 +68,7 @@ impl SyncSession {
         code: i64,
         control: Option<SyncDone>,
     ) -> Result<SearchStep, Refusal>
-        ensures { StepsBy held.old self.old held.new self.new result
+        ensures { StepsOn held.old self.old held.new self.new result
             (Done code (control_said control)) }
     {
         if self.is_over(code) {

@@ -4,7 +4,7 @@ ghost use Rattle.std.specs.Prelude.{◌≡◌, [], true, false, None, Some, IfOk
 ghost use Rattle.sync_model.specs.Copy as model;
 ghost use Rattle.sync_model.specs.Message.SyncMessage.{AddOrModify, IdSet};
 ghost use Rattle.sync_wire.specs.Requesting.{persists};
-ghost use Rattle.sync_consumer.specs.SyncSession.{session_of, copy_with, within, message_of, taken_by_search, StepsTo, StepsBy};
+ghost use Rattle.sync_consumer.specs.SyncSession.{session_of, copy_with, within, message_of, taken_by_search, StepsTo, StepsOn};
 
 use crate::consumer::Taken;
 use crate::fault::{PeerFault, Refusal};
@@ -98,7 +98,7 @@ impl SyncSession {
         held: &mut HeldContent,
         decoded: SyncEvent,
     ) -> Result<SearchStep, Refusal>
-        ensures { StepsBy held.old self.old held.new self.new result (message_of decoded) }
+        ensures { StepsOn held.old self.old held.new self.new result (message_of decoded) }
     {
         match decoded {
             SyncEvent::AddOrModify(entry, cookie) => self.put(held, entry, cookie),
@@ -126,21 +126,25 @@ impl SyncSession {
         }
     }
 
-    /// Stages an entry.
+    /// Stages an entry. Before the end of the refresh it goes into the stage as it stands.
     fn put(
         &mut self,
         held: &mut HeldContent,
         entry: Entry,
         cookie: Option<Octets>,
     ) -> Result<SearchStep, Refusal>
-        ensures { StepsBy held.old self.old held.new self.new result
+        ensures { StepsOn held.old self.old held.new self.new result
             (AddOrModify true entry cookie) }
     {
         if !self.stage.has_room(&entry) {
             return Err(Refusal::Fault(PeerFault::StageFull));
         }
-        let stage = self.stage.with_entry(entry)?;
-        self.take_stage(held, stage, cookie)
+        if self.persisting {
+            let stage = self.stage.with_entry(entry)?;
+            return self.take_stage(held, stage, cookie);
+        }
+        self.stage.put(entry)?;
+        Ok(SearchStep::Goes(Taken::Staged))
     }
 
     /// Stages that these identities have no entry.
@@ -150,7 +154,7 @@ impl SyncSession {
         uuids: &[u128],
         cookie: Option<Octets>,
     ) -> Result<SearchStep, Refusal>
-        ensures { StepsBy held.old self.old held.new self.new result (IdSet true uuids.now cookie) }
+        ensures { StepsOn held.old self.old held.new self.new result (IdSet true uuids.now cookie) }
     {
         let stage = self.stage.without_each(uuids)?;
         self.take_stage(held, stage, cookie)
@@ -158,7 +162,7 @@ impl SyncSession {
 
     /// Notes that these identities have an entry as before.
     fn name(&mut self, held: &HeldContent, uuids: &[u128]) -> Result<SearchStep, Refusal>
-        ensures { StepsBy held.now self.old held.now self.new result (IdSet false uuids.now None) }
+        ensures { StepsOn held.now self.old held.now self.new result (IdSet false uuids.now None) }
     {
         if self.persisting {
             return Err(Refusal::OutOfPlace);

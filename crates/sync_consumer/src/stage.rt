@@ -1,6 +1,6 @@
 //! What a search has sent and what has not taken effect yet.
 
-ghost use Rattle.std.specs.Prelude.{◌≡◌, ◌+◌, ◌≤◌, [], Some, None, true, false, not, length, IfOk, OnOk};
+ghost use Rattle.std.specs.Prelude.{◌≡◌, ◌+◌, ◌≤◌, [], Some, None, true, false, not, length, IfOk, OnOk, OnErr};
 ghost use Rattle.std.specs.Map.{keys_of};
 ghost use Rattle.std.specs.Option.{option_copied};
 ghost use Rattle.entry_tree.specs.State.{found_weight, most_weight, total_weight};
@@ -143,15 +143,22 @@ impl Stage {
         requires { is_crowded (puts_of (staged entry.uuid (Some entry) self.now)) ≡ false }
         ensures { IfOk result (λ stage. stage ≡ staged entry.uuid (Some entry) self.now) }
     {
+        let mut stage = self.copy()?;
+        stage.put(entry)?;
+        Ok(stage)
+    }
+
+    /// Stages the entry, in place of what is staged of its identity.
+    pub(crate) fn put(&mut self, entry: Entry) -> Result<(), NoMemory>
+        requires { is_crowded (puts_of (staged entry.uuid (Some entry) self.old)) ≡ false }
+        ensures ok { OnOk result (self.new ≡ staged entry.uuid (Some entry) self.old) }
+        ensures err { OnErr result (self.new ≡ self.old) }
+    {
         let uuid = entry.uuid;
         let load = self.load_with(&entry);
-        let mut changes = self.changes.copy()?;
-        changes.insert(uuid, StagedChange::AddOrModify(entry))?;
-        Ok(Stage {
-            alloc: self.alloc,
-            changes,
-            load,
-        })
+        self.changes.insert(uuid, StagedChange::AddOrModify(entry))?;
+        self.load = load;
+        Ok(())
     }
 
     /// What is staged with these identities without an entry.

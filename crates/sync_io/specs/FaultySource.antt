@@ -9,7 +9,7 @@ use Rattle.sync_io.specs.declared.faulty_source.Step.{Step}
 use Rattle.sync_io.specs.declared.faulty_source.Step.TheVariants.{Give, Quiet, Fail}
 
 -- the steps that are left, whether the source waits, and how many reads have failed
-pub record Script : Type 0 where
+pub record StepsLeft : Type 0 where
   pub steps : List Step
   pub waits : Bool
   pub faults : ℕ

@@ -9,7 +9,7 @@ abbrev pub FitsPiece : Put → List ℕ → Type 0
 FitsPiece (Wrote count) piece = (1 ≤ count) × (count ≤ length piece)
 FitsPiece Failed piece = ⊤
 
--- the prefix of the piece was appended, or nothing
+-- a prefix of the piece was appended, or nothing
 abbrev pub AppendsPiece : Option (List ℕ) → Option (List ℕ) → Put → List ℕ → Type 0
 AppendsPiece old new (Wrote count) piece = Appends old new (take count piece)
 AppendsPiece old new Failed piece = Keeps old new

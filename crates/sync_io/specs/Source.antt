@@ -11,14 +11,14 @@ FitsBuffer Quiet buffer = ⊤
 FitsBuffer End buffer = ⊤
 FitsBuffer Failed buffer = ⊤
 
--- the prefix of the buffer was the next of the bytes left, and any other answer leaves them
+-- the beginning of the buffer was the next of the bytes left, and any other answer leaves them
 abbrev pub GivesNext : Option (List ℕ) → Option (List ℕ) → Piece → List ℕ → Type 0
 GivesNext old new (Got count) buffer = Consumes old new (take count buffer)
 GivesNext old new Quiet buffer = Keeps old new
 GivesNext old new End buffer = Keeps old new
 GivesNext old new Failed buffer = Keeps old new
 
--- the bytes that a read gave: a prefix of the buffer, or none
+-- the bytes that a read gave: the beginning of the buffer, or none
 abbrev pub bytes_given : Piece → List ℕ → List ℕ
 bytes_given (Got count) buffer = take count buffer
 bytes_given Quiet buffer = []

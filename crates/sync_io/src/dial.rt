@@ -1,7 +1,7 @@
 //! Links to others, asked for by address.
-ghost use Rattle.std.specs.Prelude.{◌≡◌, ◌+◌, ◌<◌, ◌≤◌, ℕ, Bool, Option, List, Some, IfOk, IfSome, IsErrOf, IsSome, is_ok, option_map, length};
+ghost use Rattle.std.specs.Prelude.{◌≡◌, ◌+◌, ◌<◌, ◌≤◌, ℕ, Option, IfOk, IfSome, IsErrOf, is_ok, option_map, length};
 
-use crate::{Sink, Source};
+use crate::Link;
 
 /// Why no link came.
 #[derive(Clone, Copy, Debug, PartialEq, Eq)]
@@ -14,7 +14,7 @@ pub enum NetFault {
 
 /// What gives links to others, by their addresses.
 pub trait Dial {
-    type Link: Source + Sink + Send + Drop;
+    type Link: Link;
 
     ghost use Rattle.sync_io.specs.Faults.{Rose, one_more};
     ghost use Rattle.sync_io.specs.Dial.{Dialled, dials, hangs_up};
@@ -59,21 +59,4 @@ pub trait Dial {
 
     /// No more links are hung up than came.
     ghost within: { (d : Self) → IfSome (dialled d) (λ all. length all.hung_up ≤ all.came) };
-
-    /// A read of a link leaves its side where bytes go out as it was.
-    ghost reads_apart: { (l : Self.Link) → Self.Link.sink_side l
-        ≡ Some (record { held = Self.Link.bytes_held l; faults = Self.Link.write_fault_count l }) };
-
-    /// A write on a link leaves its side where bytes come in as it was.
-    ghost writes_apart: { (l : Self.Link) → Self.Link.source_side l
-        ≡ Some (record {
-          left = Self.Link.bytes_left l;
-          read = Self.Link.bytes_read l;
-          waits = Self.Link.waits l;
-          faults = Self.Link.read_fault_count l;
-        }) };
-
-    /// A link that reports the bytes left reports those that were read from it.
-    ghost reads_reported: { (l : Self.Link)
-        → IsSome (Self.Link.bytes_left l) → IsSome (Self.Link.bytes_read l) };
 }

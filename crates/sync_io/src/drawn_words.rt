@@ -1,5 +1,6 @@
 //! Two words that were drawn from the system.
 ghost use Rattle.std.specs.Prelude.{◌≡◌, ◌≤◌, IsSome, IsNone};
+ghost use Rattle.std.specs.Option.{option_map};
 ghost use Rattle.sync_io.specs.Faults.{one_more};
 
 use crate::Words;
@@ -38,7 +39,13 @@ impl Words for DrawnWords {
         self.faults
     }
 
-    fn next_word(&mut self) -> Option<u64> {
+    fn next_word(&mut self) -> Option<u64>
+        ensures word { result ≡ option_map (λ drawn. drawn.0) self.old.words }
+        ensures other { self.new.words ≡ option_map (λ drawn. (drawn.1, drawn.0)) self.old.words }
+        ensures failed { IsNone result → self.new.faults ≡ one_more self.old.faults }
+        ensures sound { IsSome result → self.new.faults ≡ self.old.faults }
+        ensures later { self.old.faults ≤ self.new.faults }
+    {
         match self.words {
             Some((next, other)) => {
                 self.words = Some((other, next));

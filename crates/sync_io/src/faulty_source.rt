@@ -54,10 +54,10 @@ pub struct FaultySource {
 }
 
 impl Model for FaultySource {
-    ghost use Rattle.sync_io.specs.FaultySource.{Script, ArePlayable, with_gift};
+    ghost use Rattle.sync_io.specs.FaultySource.{StepsLeft, ArePlayable, with_gift};
     ghost use Rattle.std.specs.Vec.Iter.{into_iter_items};
 
-    ghost Value = { Script };
+    ghost Value = { StepsLeft };
 
     ghost view = { λ s. record {
       steps = with_gift s.gift (into_iter_items s.steps);
@@ -134,7 +134,11 @@ fn has_quiet(steps: &[Step]) -> bool
 }
 
 impl Source for FaultySource {
-    ghost use Rattle.sync_io.specs.FaultySource.{bytes_of};
+    ghost use Rattle.std.specs.Io.KnownBytes.{IsAtEnd};
+    ghost use Rattle.sync_io.specs.Faults.{Rose};
+    ghost use Rattle.sync_io.specs.FaultySource.{bytes_of, faults_after, Plays};
+    ghost use Rattle.sync_io.specs.Source.{GivesNext};
+    ghost use Rattle.sync_io.specs.declared.source.Piece.TheVariants.{End, Failed};
 
     ghost bytes_left = { λ s. Some (bytes_of s.steps) };
 
@@ -150,7 +154,24 @@ impl Source for FaultySource {
         self.faults
     }
 
-    fn read(&mut self, buffer: &mut [u8]) -> Piece {
+    /// A read plays the first of the steps that are left.
+    fn read(&mut self, buffer: &mut [u8]) -> Piece
+        requires room { 0 < length buffer.old }
+
+        ensures step { Plays self.old.steps self.new.steps result buffer.new }
+        ensures faults { self.new.faults ≡ faults_after result self.old.faults }
+
+        ensures count { FitsBuffer result buffer.new }
+        ensures bytes { GivesNext (Some (bytes_of self.old.steps)) (Some (bytes_of self.new.steps))
+            result buffer.new }
+        ensures end { result ≡ End → IsAtEnd (Some (bytes_of self.new.steps)) }
+
+        ensures quiet { result ≡ Quiet → IsTrue self.old.waits }
+        ensures waits { self.new.waits ≡ self.old.waits }
+
+        ensures failed { result ≡ Failed → Rose self.old.faults self.new.faults }
+        ensures later { self.old.faults ≤ self.new.faults }
+    {
         self.play(buffer)
     }
 }

@@ -2,7 +2,8 @@
 //! answer that reports a failure comes only where the object's own count of faults has risen.
 //!
 //! - [`Source`] and [`Sink`] are what the program is written against, and with them [`Shelf`] for
-//!   files, [`Net`] and [`Dial`] for links, [`Clock`] and [`Words`].
+//!   files, [`Net`] and [`Dial`] for links, [`Clock`] and [`Words`]. A [`Link`] is a source and a
+//!   sink in one.
 //! - [`Reading`] and [`Writing`] make a source or a sink of any reader or writer of std.
 //!   [`FileShelf`], [`TcpNet`], [`TcpDial`], [`SystemClock`] and [`DrawnWords`] are the system's.
 //! - [`MemorySource`] and [`MemorySink`] hold their bytes in memory, and so report them, as
@@ -19,6 +20,7 @@ mod faults;
 mod faulty_sink;
 mod faulty_source;
 mod file_shelf;
+mod link;
 mod memory_dial;
 mod memory_link;
 mod memory_net;
@@ -43,6 +45,7 @@ pub use drawn_words::DrawnWords;
 pub use faulty_sink::FaultySink;
 pub use faulty_source::{FaultySource, Step};
 pub use file_shelf::FileShelf;
+pub use link::Link;
 pub use memory_dial::{Asked, MemoryDial};
 pub use memory_link::{LinkPlan, MemoryLink};
 pub use memory_net::{MemoryDoor, MemoryNet};

@@ -1,5 +1,5 @@
 //! A dialler in memory.
-ghost use Rattle.std.specs.Prelude.{◌≡◌, ◌<◌, ◌≤◌, [], Some, IfOk, IsOk, OnOk, length, map, string_bytes, vec_capacity, vec_len, refl};
+ghost use Rattle.std.specs.Prelude.{◌≡◌, ◌<◌, ◌≤◌, [], Some, IfOk, OnOk, length, map, string_bytes, vec_capacity, vec_len};
 ghost use Rattle.std.specs.Vec.Iter.{into_iter_items};
 
 use crate::faults::count_fault;
@@ -31,6 +31,7 @@ impl MemoryDial {
     pub fn new(alloc: Global, plans: Vec<LinkPlan>) -> MemoryDial
         ensures plans { into_iter_items result.plans ≡ plans.items }
         ensures asked { result.asked.items ≡ [] }
+        ensures came { result.came ≡ 0 }
         ensures hung_up { result.hung_up.items ≡ [] }
         ensures faults { result.faults ≡ 0 }
     {
@@ -124,10 +125,4 @@ impl Dial for MemoryDial {
     }
 
     ghost within = { λ d. d.within };
-
-    ghost reads_apart = { λ l. refl };
-
-    ghost writes_apart = { λ l. refl };
-
-    ghost reads_reported = { λ l left. refl };
 }

@@ -1,7 +1,8 @@
 //! A link in memory.
-ghost use Rattle.std.specs.Prelude.{◌≡◌, [], filter, Some};
+ghost use Rattle.std.specs.Prelude.{◌≡◌, [], filter, Some, refl};
+ghost use Rattle.std.specs.List.{list_any};
 
-use crate::{FaultySink, FaultySource, Piece, Put, Sink, Source, Step};
+use crate::{FaultySink, FaultySource, Link, Piece, Put, Sink, Source, Step};
 use std::alloc::Global;
 use std::marker::Model;
 
@@ -30,12 +31,15 @@ impl Model for MemoryLink {
 }
 
 impl MemoryLink {
-    ghost use Rattle.sync_io.specs.FaultySource.{is_played};
+    ghost use Rattle.sync_io.specs.FaultySource.{is_played, is_quiet};
 
-    /// A link from which nothing was read and to which nothing was written.
+    /// A link from which nothing was read and to which nothing was written. It is one that waits
+    /// where one of the steps is `Quiet`.
     pub fn new(alloc: Global, plan: LinkPlan) -> MemoryLink
         ensures steps { result.source.steps ≡ filter is_played plan.steps.items }
+        ensures waits { result.source.waits ≡ list_any is_quiet plan.steps.items }
         ensures failing { result.sink.failing ≡ plan.failing.items }
+        ensures calls { result.sink.calls ≡ 0 }
         ensures read { result.read ≡ [] }
         ensures held { result.sink.contents.bytes ≡ [] }
         ensures read_faults { result.source.faults ≡ 0 }
@@ -99,7 +103,13 @@ impl Source for MemoryLink {
 }
 
 impl Sink for MemoryLink {
+    ghost use Rattle.std.specs.Prelude.{◌<◌, ◌≤◌, IsTrue, length, not};
+    ghost use Rattle.std.specs.Bool.{OnFalse};
+    ghost use Rattle.sync_io.specs.Faults.{one_more, Rose};
+    ghost use Rattle.sync_io.specs.FaultySink.{fails_next};
     ghost use Rattle.sync_io.specs.FaultySource.{bytes_of};
+    ghost use Rattle.sync_io.specs.Sink.{AppendsPiece, FitsPiece};
+    ghost use Rattle.sync_io.specs.declared.sink.Put.TheVariants.{Failed};
 
     ghost bytes_held = { λ l. Some l.sink.contents.bytes };
 
@@ -116,11 +126,49 @@ impl Sink for MemoryLink {
         self.sink.write_faults()
     }
 
-    fn write(&mut self, piece: &[u8]) -> Put {
+    /// A write whose number was chosen fails, as does one that finds no memory.
+    fn write(&mut self, piece: &[u8]) -> Put
+        requires nonempty { 0 < length piece.now }
+
+        ensures count { FitsPiece result piece.now }
+        ensures bytes { AppendsPiece (Some self.old.sink.contents.bytes)
+            (Some self.new.sink.contents.bytes) result piece.now }
+        ensures source { self.new.source ≡ self.old.source }
+        ensures read { self.new.read ≡ self.old.read }
+
+        ensures chosen { IsTrue (fails_next self.old.sink) → result ≡ Failed }
+        ensures failed { result ≡ Failed
+            → Rose self.old.sink.contents.faults self.new.sink.contents.faults }
+        ensures later { self.old.sink.contents.faults ≤ self.new.sink.contents.faults }
+
+        ensures calls { self.new.sink.calls ≡ one_more self.old.sink.calls }
+        ensures failing { self.new.sink.failing ≡ self.old.sink.failing }
+    {
         self.sink.write(piece)
     }
 
-    fn flush(&mut self) -> bool {
+    /// A flush fails where its number was chosen, and nowhere else.
+    fn flush(&mut self) -> bool
+        ensures bytes { self.new.sink.contents.bytes ≡ self.old.sink.contents.bytes }
+        ensures source { self.new.source ≡ self.old.source }
+        ensures read { self.new.read ≡ self.old.read }
+
+        ensures chosen { result ≡ not (fails_next self.old.sink) }
+        ensures failed { OnFalse result
+            (Rose self.old.sink.contents.faults self.new.sink.contents.faults) }
+        ensures later { self.old.sink.contents.faults ≤ self.new.sink.contents.faults }
+
+        ensures calls { self.new.sink.calls ≡ one_more self.old.sink.calls }
+        ensures failing { self.new.sink.failing ≡ self.old.sink.failing }
+    {
         self.sink.flush()
     }
+}
+
+impl Link for MemoryLink {
+    ghost reads_apart = { λ l. refl };
+
+    ghost writes_apart = { λ l. refl };
+
+    ghost reads_reported = { λ l left. refl };
 }

@@ -1,5 +1,5 @@
 //! A net in memory.
-ghost use Rattle.std.specs.Prelude.{◌≡◌, ◌+◌, ◌<◌, ◌≤◌, [], Some, IfOk, OnOk, length, map, string_bytes, vec_capacity, refl};
+ghost use Rattle.std.specs.Prelude.{◌≡◌, ◌+◌, ◌<◌, ◌≤◌, [], Some, OnOk, length, map, string_bytes, vec_capacity};
 ghost use Rattle.std.specs.Vec.Iter.{into_iter_items};
 
 use crate::faults::count_fault;
@@ -185,10 +185,4 @@ impl Net for MemoryNet {
     ghost links_within = { λ n. n.links_within };
 
     ghost callers_within = { λ n. n.callers_within };
-
-    ghost reads_apart = { λ l. refl };
-
-    ghost writes_apart = { λ l. refl };
-
-    ghost reads_reported = { λ l left. refl };
 }

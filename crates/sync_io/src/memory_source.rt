@@ -31,7 +31,8 @@ impl MemorySource {
         MemorySource { bytes, place: 0 }
     }
 
-    /// Moves as many of the bytes as the buffer has room for to its prefix, and gives their number.
+    /// Moves as many of the bytes as the buffer has room for to its beginning, and gives their
+    /// number.
     pub(crate) fn fill(&mut self, buffer: &mut [u8]) -> usize
         ensures count { result ≡ min (length self.old) (length buffer.new) }
         ensures bytes { take result buffer.new ≡ take result self.old }

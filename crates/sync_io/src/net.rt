@@ -1,13 +1,13 @@
 //! A net: links that others ask for, and callers that ask others for links.
-ghost use Rattle.std.specs.Prelude.{◌≡◌, ◌+◌, ◌<◌, ◌≤◌, ℕ, Option, Some, IfOk, IfSome, IsErrOf, IsSome, is_ok, option_map, length};
+ghost use Rattle.std.specs.Prelude.{◌≡◌, ◌+◌, ◌<◌, ◌≤◌, ℕ, Option, IfOk, IfSome, IsErrOf, is_ok, option_map, length};
 
-use crate::{Dial, NetFault, Sink, Source};
+use crate::{Dial, Link, NetFault};
 
 /// Where a program listens for links, and what gives it callers.
 pub trait Net {
     type Door: Drop;
 
-    type Link: Source + Sink + Send + Drop;
+    type Link: Link;
 
     type Caller: Dial + Send + Drop;
 
@@ -75,7 +75,8 @@ pub trait Net {
 
     /// Takes back a caller. It counts a fault exactly where the caller has counted one.
     fn retire(&mut self, caller: Self::Caller)
-        requires given { IfSome (served self.old) (λ s. length s.retired + length s.gone < s.callers) }
+        requires given { IfSome (served self.old)
+            (λ s. length s.retired + length s.gone < s.callers) }
 
         ensures served { served self.new ≡ option_map (retires caller) (served self.old) }
 
@@ -87,7 +88,8 @@ pub trait Net {
 
     /// Takes back a caller, and counts none of its faults.
     fn let_go(&mut self, caller: Self::Caller)
-        requires given { IfSome (served self.old) (λ s. length s.retired + length s.gone < s.callers) }
+        requires given { IfSome (served self.old)
+            (λ s. length s.retired + length s.gone < s.callers) }
 
         ensures served { served self.new ≡ option_map (lets_go caller) (served self.old) }
         ensures faults { net_fault_count self.new ≡ net_fault_count self.old };
@@ -99,21 +101,4 @@ pub trait Net {
     /// No more callers come back than were given.
     ghost callers_within: { (n : Self) →
         IfSome (served n) (λ s. length s.retired + length s.gone ≤ s.callers) };
-
-    /// A read of a link leaves its side where bytes go out as it was.
-    ghost reads_apart: { (l : Self.Link) → Self.Link.sink_side l
-        ≡ Some (record { held = Self.Link.bytes_held l; faults = Self.Link.write_fault_count l }) };
-
-    /// A write on a link leaves its side where bytes come in as it was.
-    ghost writes_apart: { (l : Self.Link) → Self.Link.source_side l
-        ≡ Some (record {
-          left = Self.Link.bytes_left l;
-          read = Self.Link.bytes_read l;
-          waits = Self.Link.waits l;
-          faults = Self.Link.read_fault_count l;
-        }) };
-
-    /// A link that reports the bytes left reports those that were read from it.
-    ghost reads_reported: { (l : Self.Link)
-        → IsSome (Self.Link.bytes_left l) → IsSome (Self.Link.bytes_read l) };
 }

@@ -5,7 +5,7 @@ ghost use Rattle.std.specs.Bool.{OnTrue, OnFalse};
 /// What one write did.
 #[derive(Clone, Copy, Debug, PartialEq, Eq)]
 pub enum Put {
-    /// So many bytes from the prefix of the piece, one at least, were appended.
+    /// This many bytes from the beginning of the piece, one at least, were appended.
     Wrote(usize),
     /// The write failed, and appended nothing.
     Failed,
@@ -32,7 +32,7 @@ pub trait Sink {
     fn write_faults(&self) -> u64
         ensures { result ≡ write_fault_count self.now };
 
-    /// Appends bytes from the prefix of the piece.
+    /// Appends bytes from the beginning of the piece.
     fn write(&mut self, piece: &[u8]) -> Put
         requires nonempty { 0 < length piece.now }
 

@@ -4,7 +4,7 @@ ghost use Rattle.std.specs.Prelude.{◌≡◌, ◌<◌, ◌≤◌, List, ℕ, Op
 /// What one read gave.
 #[derive(Clone, Copy, Debug, PartialEq, Eq)]
 pub enum Piece {
-    /// So many bytes, one at least, at the start of the buffer.
+    /// This many bytes, one at least, at the beginning of the buffer.
     Got(usize),
     /// No byte came yet, though more may come.
     Quiet,
@@ -41,7 +41,7 @@ pub trait Source {
     fn read_faults(&self) -> u64
         ensures { result ≡ read_fault_count self.now };
 
-    /// Moves the next bytes to the prefix of the buffer.
+    /// Moves the next bytes to the beginning of the buffer.
     fn read(&mut self, buffer: &mut [u8]) -> Piece
         requires room { 0 < length buffer.old }
 

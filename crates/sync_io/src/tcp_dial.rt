@@ -1,5 +1,5 @@
 //! Links over TCP, asked for by address.
-ghost use Rattle.std.specs.Prelude.{◌≡◌, ◌≤◌, None, refl, IsSome};
+ghost use Rattle.std.specs.Prelude.{◌≡◌, ◌≤◌, None};
 ghost use Rattle.sync_io.specs.declared.dial.NetFault.TheVariants.{Failed};
 ghost use Rattle.sync_io.specs.Faults.{Rose};
 
@@ -68,10 +68,4 @@ impl<'a, R: net::Net<Listener = TcpListener, Stream = TcpStream>> Dial for TcpDi
     }
 
     ghost within = { λ _. tt };
-
-    ghost reads_apart = { λ _. refl };
-
-    ghost writes_apart = { λ _. refl };
-
-    ghost reads_reported = { λ _ left. left };
 }

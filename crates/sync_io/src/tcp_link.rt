@@ -1,9 +1,9 @@
 //! A link over TCP.
-ghost use Rattle.std.specs.Prelude.{◌≡◌, None, Some, true};
+ghost use Rattle.std.specs.Prelude.{◌≡◌, None, Some, true, refl};
 ghost use Rattle.std.specs.Io.{ReadsAtMost};
 
 use crate::faults::count_fault;
-use crate::{Piece, Put, Sink, Source};
+use crate::{Link, Piece, Put, Sink, Source};
 use std::io;
 use std::io::{ErrorKind, Read, Write};
 use std::net::TcpStream;
@@ -134,4 +134,12 @@ impl Sink for TcpLink {
             }
         }
     }
+}
+
+impl Link for TcpLink {
+    ghost reads_apart = { λ _. refl };
+
+    ghost writes_apart = { λ _. refl };
+
+    ghost reads_reported = { λ _ left. left };
 }

@@ -1,5 +1,5 @@
 //! A net over TCP.
-ghost use Rattle.std.specs.Prelude.{◌≡◌, None, refl};
+ghost use Rattle.std.specs.Prelude.{◌≡◌, None};
 
 use crate::faults::count_fault;
 use crate::tcp_dial::net_fault;
@@ -95,10 +95,4 @@ impl<'a, R: net::Net<Listener = TcpListener, Stream = TcpStream> + Sync> Net for
     ghost links_within = { λ _. tt };
 
     ghost callers_within = { λ _. tt };
-
-    ghost reads_apart = { λ _. refl };
-
-    ghost writes_apart = { λ _. refl };
-
-    ghost reads_reported = { λ _ left. left };
 }

@@ -1,5 +1,5 @@
 //! Random words.
-ghost use Rattle.std.specs.Prelude.{◌≡◌, ◌≤◌, ℕ, IsNone};
+ghost use Rattle.std.specs.Prelude.{◌≡◌, ◌≤◌, ℕ, [], IsNone, IsSome};
 ghost use Rattle.sync_io.specs.Faults.{one_more};
 
 use crate::faults::count_fault;
@@ -65,7 +65,9 @@ impl Words for FixedWords {
 
     fn next_word(&mut self) -> Option<u64>
         ensures word { self.old.words ≡ option_to_list result ++ self.new.words }
+        ensures spent { IsNone result → self.old.words ≡ [] }
         ensures failed { IsNone result → self.new.faults ≡ one_more self.old.faults }
+        ensures sound { IsSome result → self.new.faults ≡ self.old.faults }
         ensures later { self.old.faults ≤ self.new.faults }
     {
         let word = self.words.next();

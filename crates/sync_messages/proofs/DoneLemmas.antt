@@ -42,5 +42,6 @@ canonical done small =
 pub done_spelled : {E : Type 0} (result : Result (List ℕ) E) (done : SyncDone) → IfOk result (λ o. o ≡ done_octets done) → IfOk result IsSmall → IfOk result (λ o. DoneForm o done [])
 done_spelled result done is small = if_written result (done_octets done) (λ o. DoneForm o done []) is small (canonical done)
 
+-- what is written of a Sync Done value is read again as the value
 pub done_read_again : {E : Type 0} (result : Result (List ℕ) E) (done : SyncDone) → IfOk result (λ o. o ≡ done_octets done) → IfOk result IsSmall → IfOk result (λ o. done_of o ≡ Ok done)
 done_read_again result done is small = if_written result (done_octets done) (λ o. done_of o ≡ Ok done) is small (λ s. done_read (done_octets done) done (canonical done s))

@@ -127,6 +127,7 @@ canonical (IdSet c b ids) in_range small =
 pub info_spelled : {E : Type 0} (result : Result (List ℕ) E) (info : SyncInfo) → IfOk result (λ o. o ≡ info_octets info) → IfOk result IsSmall → IfOk result (λ o. IsInRange info) → IfOk result (λ o. InfoForm o info [])
 info_spelled result info is small in_range = if_written_soundly result (info_octets info) (IsInRange info) (λ o. InfoForm o info []) is small in_range (canonical info)
 
+-- what is written of a Sync Info value is read again as the value
 pub info_read_again : {E : Type 0} (result : Result (List ℕ) E) (info : SyncInfo) → IfOk result (λ o. o ≡ info_octets info) → IfOk result IsSmall → IfOk result (λ o. IsInRange info) → IfOk result (λ o. info_of o ≡ Ok info)
 info_read_again result info is small in_range = if_written_soundly result (info_octets info) (IsInRange info) (λ o. info_of o ≡ Ok info) is small in_range (λ r s. info_read (info_octets info) info (canonical info r s))
 

@@ -104,5 +104,6 @@ canonical state in_range small =
 pub state_spelled : {E : Type 0} (result : Result (List ℕ) E) (state : SyncState) → IfOk result (λ o. o ≡ state_octets state) → IfOk result IsSmall → IfOk result (λ o. state.uuid < 2 ^ 128) → IfOk result (λ o. StateForm o state [])
 state_spelled result state is small in_range = if_written_soundly result (state_octets state) (state.uuid < 2 ^ 128) (λ o. StateForm o state []) is small in_range (canonical state)
 
+-- what is written of a Sync State value is read again as the value
 pub state_read_again : {E : Type 0} (result : Result (List ℕ) E) (state : SyncState) → IfOk result (λ o. o ≡ state_octets state) → IfOk result IsSmall → IfOk result (λ o. state.uuid < 2 ^ 128) → IfOk result (λ o. state_of o ≡ Ok state)
 state_read_again result state is small in_range = if_written_soundly result (state_octets state) (state.uuid < 2 ^ 128) (λ o. state_of o ≡ Ok state) is small in_range (λ r s. state_read (state_octets state) state (canonical state r s))

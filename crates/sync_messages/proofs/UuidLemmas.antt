@@ -21,6 +21,7 @@ byte_and_rest n p = omega (arith, nat.div-div-eq-div-mul n p 256)
 joined_16 : (d0 d1 d2 d3 d4 d5 d6 d7 d8 d9 d10 d11 d12 d13 d14 d15 n p1 p2 p3 p4 p5 p6 p7 p8 p9 p10 p11 p12 p13 p14 p15 : ℕ) → n ≡ d0 + p1 * 256 → p1 ≡ d1 + p2 * 256 → p2 ≡ d2 + p3 * 256 → p3 ≡ d3 + p4 * 256 → p4 ≡ d4 + p5 * 256 → p5 ≡ d5 + p6 * 256 → p6 ≡ d6 + p7 * 256 → p7 ≡ d7 + p8 * 256 → p8 ≡ d8 + p9 * 256 → p9 ≡ d9 + p10 * 256 → p10 ≡ d10 + p11 * 256 → p11 ≡ d11 + p12 * 256 → p12 ≡ d12 + p13 * 256 → p13 ≡ d13 + p14 * 256 → p14 ≡ d14 + p15 * 256 → p15 ≡ d15 → d15 * 1329227995784915872903807060280344576 + d14 * 5192296858534827628530496329220096 + d13 * 20282409603651670423947251286016 + d12 * 79228162514264337593543950336 + d11 * 309485009821345068724781056 + d10 * 1208925819614629174706176 + d9 * 4722366482869645213696 + d8 * 18446744073709551616 + d7 * 72057594037927936 + d6 * 281474976710656 + d5 * 1099511627776 + d4 * 4294967296 + d3 * 16777216 + d2 * 65536 + d1 * 256 + d0 ≡ n
 joined_16 d0 d1 d2 d3 d4 d5 d6 d7 d8 d9 d10 d11 d12 d13 d14 d15 n p1 p2 p3 p4 p5 p6 p7 p8 p9 p10 p11 p12 p13 p14 p15 a0 a1 a2 a3 a4 a5 a6 a7 a8 a9 a10 a11 a12 a13 a14 a15 = omega arith
 
+-- sixteen octets of a number are read as the number
 pub from_be_bytes-to_be_bytes_16 : (n : ℕ) → n < 2 ^ 128 → from_be_bytes w128 (to_be_bytes w128 n) ≡ n
 from_be_bytes-to_be_bytes_16 n fits =
     let low : n ≡ n % 256 + n / 256 * 256 = omega arith in

@@ -28,8 +28,8 @@ pub struct SyncDone {
 impl SyncDone {
     ghost use Rattle.sync_messages.specs.declared.done.SyncDone.{SyncDone};
 
-    /// Reads the value that all of the bytes spell. Where they spell none it is the first fault
-    /// from left to right, or `NoMemory`.
+    /// Reads the value that all of the bytes spell (RFC 4533, section 2.4). Where they spell none
+    /// it is the first fault from left to right, or `NoMemory`.
     #[tactic(auto, using(crate::proofs::DoneLemmas::done_found))]
     pub fn read(alloc: Global, value: &[u8]) -> Result<SyncDone, SyncFault>
         ensures exact { Gives Fails (λ done. Ok done) result (done_of value.now) }
@@ -40,7 +40,8 @@ impl SyncDone {
         done_of(alloc, value)
     }
 
-    /// Writes the canonical spelling, which is read again as the same value.
+    /// Writes the canonical spelling, which is read again as the same value (RFC 4533, section
+    /// 2.4). It is `NoMemory` where memory runs out.
     #[tactic(auto, using(crate::proofs::DoneLemmas::done_spelled, crate::proofs::DoneLemmas::done_read_again))]
     pub fn write(&self, alloc: Global) -> Result<Octets, NoMemory>
         ensures canonical { IfOk result (λ octets. octets ≡ done_octets self.now) }

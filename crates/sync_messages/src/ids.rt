@@ -38,7 +38,8 @@ impl IdList {
         Ok(IdList { items })
     }
 
-    /// Puts the identity at the end.
+    /// Puts the identity at the end. It is `NoMemory` where memory runs out, and the list is as
+    /// before.
     pub fn push(&mut self, id: u128) -> Result<(), NoMemory>
         ensures ok { OnOk result (self.new ≡ self.old ++ id ∷ []) }
         ensures err { OnErr result (self.new ≡ self.old) }

@@ -48,8 +48,8 @@ pub enum SyncInfo {
 impl SyncInfo {
     ghost use Rattle.sync_messages.specs.declared.info.SyncInfo.{SyncInfo};
 
-    /// Reads the value that all of the bytes spell. Where they spell none it is the first fault
-    /// from left to right, or `NoMemory`.
+    /// Reads the value that all of the bytes spell (RFC 4533, section 2.5). Where they spell none
+    /// it is the first fault from left to right, or `NoMemory`.
     #[tactic(auto, using(crate::proofs::InfoLemmas::info_found))]
     pub fn read(alloc: Global, value: &[u8]) -> Result<SyncInfo, SyncFault>
         ensures exact { Gives Fails (λ info. Ok info) result (info_of value.now) }
@@ -60,7 +60,8 @@ impl SyncInfo {
         info_of(alloc, value)
     }
 
-    /// Writes the canonical spelling, which is read again as the same value.
+    /// Writes the canonical spelling, which is read again as the same value (RFC 4533, section
+    /// 2.5). It is `NoMemory` where memory runs out.
     #[tactic(auto, using(crate::proofs::InfoLemmas::info_spelled, crate::proofs::InfoLemmas::info_read_again))]
     pub fn write(&self, alloc: Global) -> Result<Octets, NoMemory>
         ensures canonical { IfOk result (λ octets. octets ≡ info_octets self.now) }

@@ -42,8 +42,8 @@ pub struct SyncRequest {
 impl SyncRequest {
     ghost use Rattle.sync_messages.specs.declared.request.SyncRequest.{SyncRequest};
 
-    /// Reads the value that all of the bytes spell. Where they spell none it is the first fault
-    /// from left to right, or `NoMemory`.
+    /// Reads the value that all of the bytes spell (RFC 4533, section 2.2). Where they spell none
+    /// it is the first fault from left to right, or `NoMemory`.
     #[tactic(auto, using(crate::proofs::RequestLemmas::request_found))]
     pub fn read(alloc: Global, value: &[u8]) -> Result<SyncRequest, SyncFault>
         ensures exact { Gives Fails (λ request. Ok request) result (request_of value.now) }
@@ -54,7 +54,8 @@ impl SyncRequest {
         request_of(alloc, value)
     }
 
-    /// Writes the canonical spelling, which is read again as the same value.
+    /// Writes the canonical spelling, which is read again as the same value (RFC 4533, section
+    /// 2.2). It is `NoMemory` where memory runs out.
     #[tactic(auto, using(crate::proofs::RequestLemmas::request_spelled, crate::proofs::RequestLemmas::request_read_again))]
     pub fn write(&self, alloc: Global) -> Result<Octets, NoMemory>
         ensures canonical { IfOk result (λ octets. octets ≡ request_octets self.now) }

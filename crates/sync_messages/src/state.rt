@@ -44,8 +44,8 @@ pub struct SyncState {
 impl SyncState {
     ghost use Rattle.sync_messages.specs.declared.state.SyncState.{SyncState};
 
-    /// Reads the value that all of the bytes spell. Where they spell none it is the first fault
-    /// from left to right, or `NoMemory`.
+    /// Reads the value that all of the bytes spell (RFC 4533, section 2.3). Where they spell none
+    /// it is the first fault from left to right, or `NoMemory`.
     #[tactic(auto, using(crate::proofs::StateLemmas::state_found))]
     pub fn read(alloc: Global, value: &[u8]) -> Result<SyncState, SyncFault>
         ensures exact { Gives Fails (λ state. Ok state) result (state_of value.now) }
@@ -56,7 +56,8 @@ impl SyncState {
         state_of(alloc, value)
     }
 
-    /// Writes the canonical spelling, which is read again as the same value.
+    /// Writes the canonical spelling, which is read again as the same value (RFC 4533, section
+    /// 2.3). It is `NoMemory` where memory runs out.
     #[tactic(auto, using(crate::proofs::StateLemmas::state_spelled, crate::proofs::StateLemmas::state_read_again))]
     pub fn write(&self, alloc: Global) -> Result<Octets, NoMemory>
         ensures canonical { IfOk result (λ octets. octets ≡ state_octets self.now) }

@@ -14,7 +14,7 @@ use Rattle.sync_model.specs.Stream.{SyncOperation, Start, RefreshPiece, content_
 use Rattle.sync_model.specs.Copy.{Stage, Copy, Answer, staged, effected, asked, goes_on, taken, taken_all, answers}
 use Rattle.sync_model.specs.Copy.Answer.{Staged, Stored, Copied, Over, Refused}
 use Rattle.sync_model.specs.Within.{puts_entry, against, limit_fault, refused_by, taken_within, taken_all_within, answers_within}
-use Rattle.sync_model.specs.Law.{Ascending, IsCut, Begins, settled, cookie_after, IsWithin}
+use Rattle.sync_model.specs.Law.{Ascending, IsCut, MayBegin, settled, cookie_after, IsWithinLimits}
 use Rattle.sync_model.proofs.Limits.{within_filter, nothing_against, Fits, fits-staged, fits-all_dropped, fits-none, puts_fit, no_room_needed, among_now}
 use Rattle.sync_model.proofs.Steps.{over_none}
 use Rattle.sync_model.proofs.Gather.{Each, IsPart, EachM, each-gathered}
@@ -71,7 +71,7 @@ fits-staged_by (Done code control) deletes P Q target stage part there fits = ab
 fits-staged_by Ignored deletes P Q target stage part there fits = absurd part
 
 module _ (deletes : Bool) (P : Entry → Type 0) (Q : ℕ → Type 0) (target : List Entry) (there : (entry : Entry) → P entry → entry_at target entry.uuid ≡ Some entry)
-    (ascending : ascends target ≡ true) (within : IsWithin target) where
+    (ascending : ascends target ≡ true) (within : IsWithinLimits target) where
   part_fits : (messages : List SyncMessage) (id : ℕ) (held : List Entry) (cookie : Option CookieText) (persists ended : Bool) (named : List ℕ) (stage : Stage)
       → EachM deletes P Q messages → (deletes ≡ false → (u : ℕ) → Q u → is_some (entry_at held u) ≡ true) → Fits target stage
       → AllFit id (refreshing id held cookie persists ended named stage) messages
@@ -92,14 +92,14 @@ end_puts_none true true cookie = refl
 end_puts_none true false cookie = refl
 end_puts_none false deletes cookie = refl
 
-end_fits : (persists deletes : Bool) (cookie : CookieText) (id : ℕ) (copy : Copy) → IsWithin (taken_all id copy (end_of persists deletes cookie ∷ [])).held → AllFit id copy (end_of persists deletes cookie ∷ [])
+end_fits : (persists deletes : Bool) (cookie : CookieText) (id : ℕ) (copy : Copy) → IsWithinLimits (taken_all id copy (end_of persists deletes cookie ∷ [])).held → AllFit id copy (end_of persists deletes cookie ∷ [])
 end_fits persists deletes cookie id copy within =
     let outcome : Copy × Answer = taken id copy (end_of persists deletes cookie) in
     (ap (λ puts. limit_fault puts outcome.0 outcome.1) (end_puts_none persists deletes cookie) ∙ no_put outcome.0 outcome.1 (nothing_against outcome.0.held within), tt)
 
 -- ---- a later write
 
-module _ (target : List Entry) (ascending : ascends target ≡ true) (within : IsWithin target) (new : CookieText) where
+module _ (target : List Entry) (ascending : ascends target ≡ true) (within : IsWithinLimits target) (new : CookieText) where
   touches_fit : (entry_changes : List EntryChange) (entry_change : EntryChange) (id : ℕ) (ended : Bool) (held : List Entry) (cookie : Option CookieText) (stage : Stage)
       → Each IsStep (entry_change ∷ entry_changes) → Each (λ (t : EntryChange). t.after ≡ entry_at target t.uuid) (entry_change ∷ entry_changes) → Fits target stage
       → effected held (staged_all stage (entry_change ∷ entry_changes)) ≡ target
@@ -126,7 +126,7 @@ module _ (target : List Entry) (ascending : ascends target ≡ true) (within : I
             (touches_fit entry_changes other id ended held cookie next steps.1 now.1 more ends),
       )
 
-between_fits : (id : ℕ) (ended : Bool) (old new : List Entry) (cookie : Option CookieText) (next : CookieText) → ascends old ≡ true → ascends new ≡ true → IsWithin new
+between_fits : (id : ℕ) (ended : Bool) (old new : List Entry) (cookie : Option CookieText) (next : CookieText) → ascends old ≡ true → ascends new ≡ true → IsWithinLimits new
     → AllFit id (settled id true ended old cookie) (notified_between next old new)
 between_fits id ended old new cookie next before after within = step (touched old new) (effected-touched old new before after) (each-touched old new) (each-now old new) where
   step : (entry_changes : List EntryChange) → effected old (staged_all [] entry_changes) ≡ new → Each IsStep entry_changes → Each (λ (t : EntryChange). t.after ≡ entry_at new t.uuid) entry_changes
@@ -136,8 +136,9 @@ between_fits id ended old new cookie next before after within = step (touched ol
 
 -- ---- all messages
 
-module _ (operation : SyncOperation) (ascending : Ascending operation) (within : (number : ℕ) → IsWithin (operation.states number)) where
-  content_within : (number : ℕ) → IsWithin (content_after operation number)
+module _ (operation : SyncOperation) (ascending : Ascending operation) (within : (number : ℕ) → IsWithinLimits (operation.states number)) where
+  -- each content of a session is within the limits
+  pub content_within : (number : ℕ) → IsWithinLimits (content_after operation number)
   content_within number = within_filter (is_selected operation.selection) (operation.states number) (within number)
 
   later_fits : (count id from : ℕ) (ended : Bool) (cookie : Option CookieText) → AllFit id (settled id true ended (content_after operation from) cookie) (later operation from count)
@@ -171,7 +172,7 @@ module _ (operation : SyncOperation) (ascending : Ascending operation) (within :
       let mark : sent.mark ≡ accepted = omega (arith, sent.from, sent.upto) in
       ap (λ number. entry_at (content_after operation number) entry.uuid) (sym mark) ∙ sent.is
 
-  refresh_fits : (id : ℕ) (start : Start) (accepted : ℕ) (copy : Copy) → Begins operation start accepted copy.held → AllFit id (asked id operation.persists copy) (refresh operation start accepted (one_piece start accepted))
+  refresh_fits : (id : ℕ) (start : Start) (accepted : ℕ) (copy : Copy) → MayBegin operation start accepted copy.held → AllFit id (asked id operation.persists copy) (refresh operation start accepted (one_piece start accepted))
   refresh_fits id start accepted copy begins =
       let cut : IsCut operation start accepted (one_piece start accepted) = one_cut start accepted in
       let walked : List SyncMessage = walk_part start accepted in
@@ -187,9 +188,9 @@ module _ (operation : SyncOperation) (ascending : Ascending operation) (within :
       (part_fits (is_delete_phase start) (Sent operation ascending accepted accepted) (Named operation ascending start accepted accepted) (content_after operation accepted) (sent_there accepted)
       (ascends-content operation ascending accepted) (content_within accepted) walked id copy.held copy.cookie operation.persists false [] [] part
       (known operation ascending start accepted accepted copy.held begins) (fits-none (content_after operation accepted)))
-      (end_fits operation.persists (is_delete_phase start) (operation.cookies accepted) id (taken_all id (asked id operation.persists copy) walked) (subst IsWithin (sym held) (content_within accepted))))
+      (end_fits operation.persists (is_delete_phase start) (operation.cookies accepted) id (taken_all id (asked id operation.persists copy) walked) (subst IsWithinLimits (sym held) (content_within accepted))))
 
-  stream_fits : (id : ℕ) (start : Start) (accepted count : ℕ) (copy : Copy) → Begins operation start accepted copy.held
+  stream_fits : (id : ℕ) (start : Start) (accepted count : ℕ) (copy : Copy) → MayBegin operation start accepted copy.held
       → AllFit id (asked id operation.persists copy) (stream operation start accepted (one_piece start accepted) count)
   stream_fits id start accepted count copy begins =
       let ends = refresh_ends operation ascending id start accepted (one_piece start accepted) copy (one_cut start accepted) begins in
@@ -202,7 +203,7 @@ module _ (operation : SyncOperation) (ascending : Ascending operation) (within :
       past false ended = tt
 
   -- no prefix of what is sent in one piece meets a limit of the copy
-  pub prefix_fits : (id : ℕ) (start : Start) (accepted count : ℕ) (copy : Copy) (prefix rest : List SyncMessage) → Begins operation start accepted copy.held
+  pub prefix_fits : (id : ℕ) (start : Start) (accepted count : ℕ) (copy : Copy) (prefix rest : List SyncMessage) → MayBegin operation start accepted copy.held
       → prefix ++ rest ≡ stream operation start accepted (one_piece start accepted) count
       → (taken_all_within id (asked id operation.persists copy) prefix ≡ taken_all id (asked id operation.persists copy) prefix)
       × (answers_within id (asked id operation.persists copy) prefix ≡ answers id (asked id operation.persists copy) prefix)

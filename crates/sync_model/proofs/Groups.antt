@@ -6,7 +6,7 @@ use Rattle.entry_tree.specs.declared.entry.Entry.{Entry}
 use Rattle.entry_tree.specs.declared.touched.EntryChange.{EntryChange}
 use Rattle.sync_model.specs.Copy.{Stage, Copy, Answer, staged, puts_of, effected, commit_of, taken}
 use Rattle.sync_model.specs.Copy.Answer.{Staged, Stored}
-use Rattle.sync_model.specs.Law.{IsWithin, settled}
+use Rattle.sync_model.specs.Law.{IsWithinLimits, settled}
 use Rattle.sync_model.specs.Message.{CookieText}
 use Rattle.sync_model.specs.Within.{is_crowded, puts_entry, against, limit_fault, refused_by, taken_within}
 use Rattle.sync_model.proofs.Gather.{Each, each-prefix}
@@ -44,7 +44,7 @@ fits-staged_all (entry_change ∷ entry_changes) target stage each fits =
 
 -- ---- the messages of one write
 
-module _ (old new : List Entry) (earlier : ascends old ≡ true) (later : ascends new ≡ true) (within : IsWithin new) where
+module _ (old new : List Entry) (earlier : ascends old ≡ true) (later : ascends new ≡ true) (within : IsWithinLimits new) where
   abbrev pub At : List EntryChange → List EntryChange → Type 0
   At before after = touched old new ≡ before ++ after
 

@@ -1,5 +1,5 @@
 -- From a cookie only what was touched since is sent whole, and later messages are about what their write changed.
-use Rattle.std.proofs.Common.{◌≡◌, ◌≤◌, ℕ, zero, suc, ◌+◌, ◌-◌, Bool, true, false, List, [], ◌∷◌, ◌++◌, map, refl, sym, ap, ◌∙◌, arith, Some, None, Option, inl, inr, ⊎_elim, subst}
+use Rattle.std.proofs.Common.{◌≡◌, ◌≤◌, ℕ, zero, suc, ◌+◌, ◌-◌, Bool, true, false, List, [], ◌∷◌, ◌++◌, map, refl, sym, ap, ◌∙◌, arith, Some, None, Option, inl, inr, ⊎_elim, subst, cond}
 use Rattle.std.specs.Prelude.{not, ◌||◌, ⊤, flat_map, filter_map, All}
 use Rattle.std.proofs.lemmas.Bool.{cases_Bool, eq-eqb, false≢true, or_cases, or_right}
 use Rattle.std.proofs.lemmas.List.{append-nil}
@@ -16,13 +16,18 @@ use Rattle.sync_model.specs.Stream.{SyncOperation, Start, RefreshPiece, content_
 use Rattle.sync_model.specs.Stream.Start.{InitialContent, DeletePhase, PresentPhase}
 use Rattle.sync_model.specs.Law.{Ascending, MarksRise, IsCut}
 use Rattle.sync_model.specs.Incremental.{number_of, sent_entry, about}
-use Rattle.sync_model.proofs.Maps.{entry_at-uuid}
 use Rattle.entry_tree.proofs.Same.{one_found-same}
+use Rattle.entry_tree.proofs.Changing.{own_uuid}
 use Rattle.sync_model.proofs.Steps.{differing, among-differing, same_outside, over_none, among-over_more, over_split}
 use Rattle.sync_model.proofs.Gather.{Each, EachD, EachM, each-append, eachd-append, each-gathered}
 use Rattle.sync_model.proofs.Refresh.{marks-last, found, found_from_state}
 use Rattle.sync_model.proofs.Taking.{IsOwn}
 use Rattle.sync_model.proofs.Later.{IsStep, each-touched}
+
+-- in either phase a search begins with the number of its cookie
+pub number_of-phase : (b : Bool) (n : ℕ) → number_of (cond b (DeletePhase n) (PresentPhase n)) ≡ Some n
+number_of-phase true n = refl
+number_of-phase false n = refl
 
 -- ---- entries that are sent
 
@@ -121,11 +126,11 @@ module _ (operation : SyncOperation) (ascending : Ascending operation) where
   -- all that a delete phase sends of a touched identity is touched
   sends_touched : (a e u : ℕ) (x : Option Entry) (entries : List Entry) → entry_at entries u ≡ x → IsTouched a e u → EachD (IsEntryTouched a e) (λ v. ⊤) (decided true true u x)
   sends_touched a e u None entries is h = (tt, tt)
-  sends_touched a e u (Some entry) entries is h = (subst (IsTouched a e) (sym (entry_at-uuid entries u entry is)) h, tt)
+  sends_touched a e u (Some entry) entries is h = (subst (IsTouched a e) (sym (own_uuid entries u entry is)) h, tt)
 
   names_or_sends : (a e u : ℕ) (x : Option Entry) (sent : Bool) (entries : List Entry) → entry_at entries u ≡ x → (sent ≡ true → IsTouched a e u) → EachD (IsEntryTouched a e) (λ v. ⊤) (decided false sent u x)
   names_or_sends a e u None sent entries is h = tt
-  names_or_sends a e u (Some entry) true entries is h = (subst (IsTouched a e) (sym (entry_at-uuid entries u entry is)) (h refl), tt)
+  names_or_sends a e u (Some entry) true entries is h = (subst (IsTouched a e) (sym (own_uuid entries u entry is)) (h refl), tt)
   names_or_sends a e u (Some entry) false entries is h = (tt, tt)
 
   -- what is known of an identity of the walk

@@ -15,8 +15,9 @@ use Rattle.sync_model.specs.Stream.{SyncOperation, content_after, among, notifie
 use Rattle.sync_model.specs.Copy.{Stage, SyncSession, Copy, Answer, slot, staged, effected, goes_on, commit_of, with_cookie, taken_in, taken, taken_all}
 use Rattle.sync_model.specs.Copy.Answer.{Stored}
 use Rattle.sync_model.specs.Law.{Ascending, settled, cookie_after, is_nil}
-use Rattle.sync_model.proofs.Maps.{slot-staged, entry_at-uuid}
+use Rattle.sync_model.proofs.Maps.{slot-staged}
 use Rattle.entry_tree.proofs.Order.{same_entries}
+use Rattle.entry_tree.proofs.Changing.{own_uuid}
 use Rattle.sync_model.proofs.Steps.{differing, same_outside}
 use Rattle.sync_model.proofs.Gather.{Each}
 use Rattle.sync_model.proofs.Taking.{IsOwn, IsKeyed, keyed-staged, taken-own, at-effected, ascends-effected}
@@ -105,7 +106,7 @@ touches_taken (next ∷ entry_changes) entry_change new id ended held cookie sta
 
 own_of : (entries : List Entry) (uuid : ℕ) (found : Option Entry) → entry_at entries uuid ≡ found → IsOwn uuid found
 own_of entries uuid None is = tt
-own_of entries uuid (Some entry) is = entry_at-uuid entries uuid entry is
+own_of entries uuid (Some entry) is = own_uuid entries uuid entry is
 
 -- what differs between two states is in steps
 pub each-touched : (old new : List Entry) → Each IsStep (touched old new)

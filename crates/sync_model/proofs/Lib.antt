@@ -1,4 +1,5 @@
 -- Lemmas of the crate.
+pub mod Bare
 pub mod Examples
 pub mod FewNames
 pub mod Fitting
@@ -15,6 +16,7 @@ pub mod Maps
 pub mod NextMessages
 pub mod Pigeons
 pub mod Refresh
+pub mod ResultCodes
 pub mod Stages
 pub mod Steps
 pub mod Taking

@@ -16,14 +16,14 @@ use Rattle.entry_tree.proofs.Identities.{above, none_at}
 use Rattle.sync_model.specs.Copy.{Stage, slot, is_put, staged, all_dropped, puts_of, Fault}
 use Rattle.sync_model.specs.Copy.Fault.{StageFull, DuplicateName}
 use Rattle.sync_model.specs.Within.{is_crowded, same_named, against}
-use Rattle.sync_model.specs.Law.{IsWithin}
-use Rattle.sync_model.proofs.Maps.{entry_at-uuid}
+use Rattle.sync_model.specs.Law.{IsWithinLimits}
 use Rattle.entry_tree.proofs.Order.{entry_at-filter, same_entries}
+use Rattle.entry_tree.proofs.Changing.{own_uuid}
 use Rattle.sync_model.proofs.Gather.{Each, each_weaker}
 
 -- ---- entries within the limits
 
-not_crowded : (entries : List Entry) → IsWithin entries → is_crowded entries ≡ false
+not_crowded : (entries : List Entry) → IsWithinLimits entries → is_crowded entries ≡ false
 not_crowded entries within =
     ap (λ b. b || nat_lt most_weight (total_weight entries)) (le-ltb most_entries (length entries) within.few) ∙ le-ltb most_weight (total_weight entries) within.light
 
@@ -59,7 +59,7 @@ apart_filter test (entry ∷ entries) apart =
     step false none ih = ih
 
 -- a part of entries that are within the limits is within them
-pub within_filter : (test : Entry → Bool) (entries : List Entry) → IsWithin entries → IsWithin (filter test entries)
+pub within_filter : (test : Entry → Bool) (entries : List Entry) → IsWithinLimits entries → IsWithinLimits (filter test entries)
 within_filter test entries within = record {
   few = omega (arith, length-filter_both test (λ e. not (test e)) (λ e. refl) entries, within.few);
   light = omega (arith, total_parts test entries, within.light);
@@ -67,7 +67,7 @@ within_filter test entries within = record {
 }
 
 -- entries within the limits are refused by none of them
-pub nothing_against : (entries : List Entry) → IsWithin entries → against entries ≡ None
+pub nothing_against : (entries : List Entry) → IsWithinLimits entries → against entries ≡ None
 nothing_against entries within =
     ap (λ b. cond b (Some StageFull) (option_map (λ (pair : ℕ × ℕ). DuplicateName pair.0 pair.1) (same_named entries))) (not_crowded entries within)
     ∙ ap (option_map (λ (pair : ℕ × ℕ). DuplicateName pair.0 pair.1)) within.apart
@@ -135,7 +135,7 @@ above-puts [] target u among below = refl
 above-puts (s ∷ stage) target u among below = step s.1 among.0 (above-puts stage target u among.1 below.1) where
   step : (change : Option Entry) → IsAmong target s.0 change → above u (puts_of stage) ≡ true → above u (cons_option change (puts_of stage)) ≡ true
   step None is ih = ih
-  step (Some entry) is ih = and_from (nat_lt u entry.uuid) (above u (puts_of stage)) (lt-ltb u entry.uuid (subst (λ k. u < k) (sym (entry_at-uuid target s.0 entry is)) below.0)) ih
+  step (Some entry) is ih = and_from (nat_lt u entry.uuid) (above u (puts_of stage)) (lt-ltb u entry.uuid (subst (λ k. u < k) (sym (own_uuid target s.0 entry is)) below.0)) ih
 
 ascends-puts : (stage : Stage) (target : List Entry) → Fits target stage → ascends (puts_of stage) ≡ true
 ascends-puts [] target fits = refl
@@ -143,7 +143,7 @@ ascends-puts (s ∷ stage) target fits = step s.1 fits.among.0 (ascends-puts sta
   step : (change : Option Entry) → IsAmong target s.0 change → ascends (puts_of stage) ≡ true → ascends (cons_option change (puts_of stage)) ≡ true
   step None is ih = ih
   step (Some entry) is ih =
-      let own : entry.uuid ≡ s.0 = entry_at-uuid target s.0 entry is in
+      let own : entry.uuid ≡ s.0 = own_uuid target s.0 entry is in
       and_from (above entry.uuid (puts_of stage)) (ascends (puts_of stage)) (ap (λ u. above u (puts_of stage)) own ∙ above-puts stage target s.0 fits.among.1 fits.ordered.0) ih
 
 -- what a slot puts
@@ -159,9 +159,9 @@ at-puts (s ∷ stage) target u fits = step s.1 (nat_eq u s.0) refl fits.among.0 
   step None true here is ih =
       none_at (puts_of stage) u (ap (λ k. above k (puts_of stage)) (eqb-true u s.0 here) ∙ above-puts stage target s.0 fits.among.1 fits.ordered.0)
   step None false off is ih = ih
-  step (Some entry) true here is ih = cond-true _ _ _ (eq-eqb entry.uuid u (entry_at-uuid target s.0 entry is ∙ sym (eqb-true u s.0 here)))
+  step (Some entry) true here is ih = cond-true _ _ _ (eq-eqb entry.uuid u (own_uuid target s.0 entry is ∙ sym (eqb-true u s.0 here)))
   step (Some entry) false off is ih =
-      cond-false _ _ _ (ne_eqb entry.uuid u (λ same. eqb-false u s.0 off (sym same ∙ entry_at-uuid target s.0 entry is))) ∙ ih
+      cond-false _ _ _ (ne_eqb entry.uuid u (λ same. eqb-false u s.0 off (sym same ∙ own_uuid target s.0 entry is))) ∙ ih
 
 among-slot : (stage : Stage) (target : List Entry) (u : ℕ) (change : Option Entry) → Each (λ (c : ℕ × Option Entry). IsAmong target c.0 c.1) stage → slot stage u ≡ Some change → IsAmong target u change
 among-slot [] target u change among h = let never : ⊥ = cc in absurd never
@@ -183,17 +183,17 @@ puts_are stage target ascending fits =
 
     not_put : (u : ℕ) → is_put (slot stage u) ≡ false → (found : Option Entry) → entry_at target u ≡ found → option_filter test found ≡ None
     not_put u off None is = refl
-    not_put u off (Some entry) is = cond-false _ _ _ (ap (λ k. is_put (slot stage k)) (entry_at-uuid target u entry is) ∙ off)
+    not_put u off (Some entry) is = cond-false _ _ _ (ap (λ k. is_put (slot stage k)) (own_uuid target u entry is) ∙ off)
 
     at : (u : ℕ) (change : Option (Option Entry)) → slot stage u ≡ change → put_in change ≡ option_filter test (entry_at target u)
     at u None is = sym (not_put u (ap is_put is) (entry_at target u) refl)
     at u (Some None) is = sym (not_put u (ap is_put is) (entry_at target u) refl)
     at u (Some (Some entry)) is =
         let there : entry_at target u ≡ Some entry = among-slot stage target u (Some entry) fits.among is in
-        sym (ap (option_filter test) there ∙ cond-true _ _ _ (ap (λ k. is_put (slot stage k)) (entry_at-uuid target u entry there) ∙ ap is_put is))
+        sym (ap (option_filter test) there ∙ cond-true _ _ _ (ap (λ k. is_put (slot stage k)) (own_uuid target u entry there) ∙ ap is_put is))
 
 -- what a stage puts is within the limits where all of its target is
-pub puts_fit : (stage : Stage) (target : List Entry) → ascends target ≡ true → IsWithin target → Fits target stage → is_crowded (puts_of stage) ≡ false
+pub puts_fit : (stage : Stage) (target : List Entry) → ascends target ≡ true → IsWithinLimits target → Fits target stage → is_crowded (puts_of stage) ≡ false
 puts_fit stage target ascending within fits =
     ap is_crowded (puts_are stage target ascending fits)
     ∙ not_crowded (filter (λ entry. is_put (slot stage entry.uuid)) target) (within_filter (λ entry. is_put (slot stage entry.uuid)) target within)

@@ -1,8 +1,7 @@
 -- What is at one identity after a change of a list by identities.
-use Rattle.std.proofs.Common.{◌≡◌, ℕ, Bool, true, false, cond, nat_eq, List, [], ◌∷◌, ◌++◌, refl, sym, ap, ◌∙◌, arith, Some, None, Option}
-use Rattle.std.specs.Prelude.{not, ◌||◌, ◌&&◌, filter, is_some}
+use Rattle.std.proofs.Common.{◌≡◌, ℕ, Bool, cond, nat_eq, List, [], ◌∷◌, ◌++◌, refl, arith, Some, None, Option}
+use Rattle.std.specs.Prelude.{not, ◌||◌, ◌&&◌, filter}
 use Rattle.std.proofs.lemmas.Bool.Decides.{nat_tests}
-use Rattle.std.proofs.lemmas.Bool.{eqb-true}
 use Rattle.std.specs.BTreeSet.{insert_key}
 use Rattle.std.specs.Ordering.{nat_cmp}
 use Rattle.entry_tree.specs.declared.entry.Entry.{Entry}
@@ -32,23 +31,10 @@ pub among-filter : (test : ℕ → Bool) (xs : List ℕ) (u : ℕ) → among u (
 among-filter test [] u = refl
 among-filter test (x ∷ xs) u = grind (arith, nat_tests, among-filter test xs u)
 
--- an identity is among those of some entries where one of them has it
-pub among-identities : (entries : List Entry) (u : ℕ) → among u (identities entries) ≡ is_some (entry_at entries u)
-among-identities [] u = refl
-among-identities (e ∷ entries) u = grind (arith, nat_tests, among-identities entries u)
-
 -- each identity but one stays
 pub entry_at-dropped : (entries : List Entry) (v u : ℕ) → entry_at (filter (λ entry. not (is_identified v entry)) entries) u ≡ cond (nat_eq u v) None (entry_at entries u)
 entry_at-dropped [] v u = grind (arith, nat_tests)
 entry_at-dropped (e ∷ entries) v u = grind (arith, nat_tests, entry_at-dropped entries v u)
-
--- an entry is found by its own identity
-pub entry_at-uuid : (entries : List Entry) (u : ℕ) (found : Entry) → entry_at entries u ≡ Some found → found.uuid ≡ u
-entry_at-uuid [] u found h = cc
-entry_at-uuid (e ∷ entries) u found h = step (nat_eq e.uuid u) refl (entry_at-uuid entries u found) h where
-  step : (b : Bool) → nat_eq e.uuid u ≡ b → (entry_at entries u ≡ Some found → found.uuid ≡ u) → cond b (Some e) (entry_at entries u) ≡ Some found → found.uuid ≡ u
-  step true here rest k = let same : e ≡ found = cc in ap (λ (x : Entry). x.uuid) (sym same) ∙ eqb-true e.uuid u here
-  step false off rest k = rest k
 
 -- what is staged of an identity after some are dropped
 pub slot-all_dropped : (us : List ℕ) (stage : Stage) (u : ℕ) → slot (all_dropped stage us) u ≡ cond (among u us) (Some None) (slot stage u)

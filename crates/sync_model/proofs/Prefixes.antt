@@ -15,7 +15,7 @@ use Rattle.sync_model.specs.Copy.{SyncSession, Copy, Fault, Answer, asked, stage
 use Rattle.sync_model.specs.Copy.Fault.{OutOfPlace, PresentUnknown}
 use Rattle.entry_tree.specs.Touched.{joined, touched}
 use Rattle.sync_model.specs.Copy.Answer.{Staged, Stored, Copied, Over, Refused}
-use Rattle.sync_model.specs.Law.{Ascending, IsCut, Begins, settled, cookie_after, is_nil, ShowsContent, ShowsAsBefore, Shows}
+use Rattle.sync_model.specs.Law.{Ascending, IsCut, MayBegin, settled, cookie_after, is_nil, ShowsContent, ShowsAsBefore, Shows}
 use Rattle.sync_model.proofs.Gather.{Each, EachM, each-append, each-prefix, each-gathered}
 use Rattle.sync_model.proofs.Refresh.{refresh_ends, marks-last, ascends-content}
 use Rattle.sync_model.proofs.Later.{IsStep, each-touched, notified_between, group_taken, later_ends, taken_all-append}
@@ -294,7 +294,7 @@ module _ (operation : SyncOperation) (ascending : Ascending operation) where
 
   -- a prefix is quiet, or the copy has the content after some of the writes, with its cookie
   pub prefix_cases : (id : ℕ) (start : Start) (accepted : ℕ) (pieces : List RefreshPiece) (count : ℕ) (copy : Copy) (prefix rest : List SyncMessage)
-      → IsCut operation start accepted pieces → Begins operation start accepted copy.held
+      → IsCut operation start accepted pieces → MayBegin operation start accepted copy.held
       → prefix ++ rest ≡ stream operation start accepted pieces count
       → AllQuiet prefix ⊎ ShowsContent operation accepted (last_mark accepted pieces + count) (taken_all id (asked id operation.persists copy) prefix)
   prefix_cases id start accepted pieces count copy prefix rest cut begins h = ⊎_elim
@@ -332,7 +332,7 @@ module _ (operation : SyncOperation) (ascending : Ascending operation) where
 
   -- after any prefix of a search a copy is as before it, or has some later content with its cookie
   pub prefix_shows : (id : ℕ) (start : Start) (accepted : ℕ) (pieces : List RefreshPiece) (count : ℕ) (copy : Copy) (prefix rest : List SyncMessage)
-      → IsCut operation start accepted pieces → Begins operation start accepted copy.held
+      → IsCut operation start accepted pieces → MayBegin operation start accepted copy.held
       → prefix ++ rest ≡ stream operation start accepted pieces count
       → Shows operation copy accepted (last_mark accepted pieces + count) (taken_all id (asked id operation.persists copy) prefix)
   prefix_shows id start accepted pieces count copy prefix rest cut begins h = ⊎_elim

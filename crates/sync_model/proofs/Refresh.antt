@@ -16,9 +16,11 @@ use Rattle.sync_model.specs.Stream.{SyncOperation, Start, RefreshPiece, WalkDeci
 use Rattle.sync_model.specs.Stream.Start.{InitialContent, DeletePhase, PresentPhase}
 use Rattle.sync_model.specs.Message.SyncMessage.{RefreshPresent}
 use Rattle.sync_model.specs.Copy.{Stage, Copy, Answer, slot, asked, taken_in, taken_all, effected, present_ended}
-use Rattle.sync_model.specs.Law.{Ascending, MarksRise, IsCut, Begins, settled}
-use Rattle.sync_model.proofs.Maps.{among-append, among-identities, entry_at-uuid}
+use Rattle.sync_model.specs.Law.{Ascending, MarksRise, IsCut, MayBegin, settled}
+use Rattle.sync_model.proofs.Maps.{among-append}
 use Rattle.entry_tree.proofs.Order.{entry_at-filter, same_entries}
+use Rattle.entry_tree.proofs.Changing.{own_uuid}
+use Rattle.entry_tree.proofs.Taking.{among_identities}
 use Rattle.sync_model.proofs.Steps.{steady_within}
 use Rattle.sync_model.proofs.Gather.{EachD, EachM, meant, meant_d, eachd-append, meant_d-append, each-gathered, meant-gathered}
 use Rattle.sync_model.proofs.Taking.{refreshing, session_in, names_after, stage_after, taken-own, taken-part, at-effected, ascends-effected, IsKeyed, keyed-present_ended, keyed-stage_after, Fine, Right, fine_once, stage_untouched, names_untouched, staged_last, ended_fine, ended_clear}
@@ -50,7 +52,7 @@ module _ (operation : SyncOperation) (asc : Ascending operation) where
   found_from_state m n u h = found_in_state m u ∙ ap (option_filter (is_selected operation.selection)) h ∙ sym (found_in_state n u)
 
   found_uuid : (n u : ℕ) (x : Entry) → found n u ≡ Some x → x.uuid ≡ u
-  found_uuid n u x h = entry_at-uuid (content_after operation n) u x h
+  found_uuid n u x h = own_uuid (content_after operation n) u x h
 
   found_own : (n u : ℕ) (x : Entry) → found n u ≡ Some x → found n x.uuid ≡ Some x
   found_own n u x h = ap (found n) (found_uuid n u x h) ∙ h
@@ -67,6 +69,7 @@ module _ (operation : SyncOperation) (asc : Ascending operation) where
   NamedAt (DeletePhase a) m u = found m u ≡ None
   NamedAt (PresentPhase a) m u = (is_some (found m u) ≡ true) × (among u (differing_over operation.states a (m - a)) ≡ false)
 
+  -- an identity is named as deleted, or as present, at the number of writes of some piece
   pub record Named (start : Start) (r e : ℕ) (u : ℕ) : Type 0 where
     pub mark : ℕ
     pub from : r ≤ mark
@@ -168,7 +171,7 @@ module _ (operation : SyncOperation) (asc : Ascending operation) where
   kept_in_state : (a n m u : ℕ) → a ≤ n → n ≤ m → among u (differing_over operation.states a (m - a)) ≡ false → entry_at (operation.states n) u ≡ entry_at (operation.states m) u
   kept_in_state a n m u from most off = steady_within operation.states a m n u from most off ∙ sym (steady_within operation.states a m m u (omega (arith, from, most)) (omega arith) off)
 
-  right-walk : (start : Start) (r e u : ℕ) (held : List Entry) → Begins operation start r held → among u (late_uuids operation r e) ≡ false
+  right-walk : (start : Start) (r e u : ℕ) (held : List Entry) → MayBegin operation start r held → among u (late_uuids operation r e) ≡ false
       → Right (is_delete_phase start) (Sent r e) (Named start r e) held (found e u) u
   right-walk InitialContent r e u held b out = record {
     sent = λ x h own. sym (same_at_marks r e h.mark u h.from h.upto out) ∙ ap (found h.mark) (sym own) ∙ h.is;
@@ -245,7 +248,7 @@ after_walk_ends operation false e (u ∷ us) P Q id held old named stage a =
 
 module _ (operation : SyncOperation) (asc : Ascending operation) where
   -- where no log covers the cookie, an identity that is named as present is held
-  pub known : (start : Start) (r e : ℕ) (held : List Entry) → Begins operation start r held → is_delete_phase start ≡ false → (u : ℕ) → Named operation asc start r e u → is_some (entry_at held u) ≡ true
+  pub known : (start : Start) (r e : ℕ) (held : List Entry) → MayBegin operation start r held → is_delete_phase start ≡ false → (u : ℕ) → Named operation asc start r e u → is_some (entry_at held u) ≡ true
   known InitialContent r e held b c u h = absurd h.is
   known (DeletePhase a) r e held b c u h = absurd (true≢false c)
   known (PresentPhase a) r e held b c u h =
@@ -259,12 +262,12 @@ module _ (operation : SyncOperation) (asc : Ascending operation) where
   not_walked start r e u ps le rise last same cut out quiet = elim (cases_Bool (among u (flat_map (λ p. p.uuids) ps))) [
     | inl here ↦ (let n : (n : ℕ) × (r ≤ n) × (n ≤ e) × (found operation asc n u ≡ None) = silent-pieces operation asc ps start r e r u (omega arith) rise last quiet here in
         sym (same_at_marks operation asc r e n.0 u n.1 n.2 out) ∙ n.3)
-    | inr off ↦ (let gone : entry_at (operation.states r) u ≡ None = none_from_false _ (sym (among-identities (operation.states r) u) ∙ ap (among u) (sym (cut ∙ same)) ∙ off) in
+    | inr off ↦ (let gone : entry_at (operation.states r) u ≡ None = none_from_false _ (sym (among_identities (operation.states r) u) ∙ ap (among u) (sym (cut ∙ same)) ∙ off) in
         sym (same_at_marks operation asc r e r u (omega arith) le out) ∙ found_in_state operation asc r u ∙ ap (option_filter (is_selected operation.selection)) gone)
   ]
 
   -- the outcome at an identity of which the walk says nothing
-  unsaid : (start : Start) (r e u : ℕ) (ps : List RefreshPiece) (held : List Entry) (named : List ℕ) (stage : Stage) → r ≤ e → Begins operation start r held → MarksRise r ps → last_mark r ps ≤ e
+  unsaid : (start : Start) (r e u : ℕ) (ps : List RefreshPiece) (held : List Entry) (named : List ℕ) (stage : Stage) → r ≤ e → MayBegin operation start r held → MarksRise r ps → last_mark r ps ≤ e
       → flat_map (λ p. p.uuids) ps ≡ walk operation start r → among u (late_uuids operation r e) ≡ false
       → meant_d u (flat_map (decide_piece operation start) ps) ≡ false → slot stage u ≡ None → among u named ≡ false
       → unwrap_or (slot (phase (is_delete_phase start) named stage held) u) (entry_at held u) ≡ found operation asc e u
@@ -286,7 +289,7 @@ module _ (operation : SyncOperation) (asc : Ascending operation) where
   said (PresentPhase a) t held named stage u fine = ended_fine held t named stage u fine
 
   -- the outcome at an identity that does not change between r and e
-  walked : (start : Start) (r e u : ℕ) (ps : List RefreshPiece) (held : List Entry) → r ≤ e → Begins operation start r held → MarksRise r ps → last_mark r ps ≤ e
+  walked : (start : Start) (r e u : ℕ) (ps : List RefreshPiece) (held : List Entry) → r ≤ e → MayBegin operation start r held → MarksRise r ps → last_mark r ps ≤ e
       → flat_map (λ p. p.uuids) ps ≡ walk operation start r → among u (late_uuids operation r e) ≡ false
       → (w : List SyncMessage) → w ≡ gathered (is_delete_phase start) (flat_map (decide_piece operation start) ps)
       → unwrap_or (slot (phase (is_delete_phase start) (names_after [] w) (stage_after [] w) held) u) (entry_at held u) ≡ found operation asc e u
@@ -303,7 +306,7 @@ module _ (operation : SyncOperation) (asc : Ascending operation) where
             (names_untouched (is_delete_phase start) (Sent operation asc r e) (Named operation asc start r e) held (found operation asc e u) u w [] all off)
       ]
 
-  begins_ascending : (start : Start) (r : ℕ) (held : List Entry) → Begins operation start r held → ascends held ≡ true
+  begins_ascending : (start : Start) (r : ℕ) (held : List Entry) → MayBegin operation start r held → ascends held ≡ true
   begins_ascending InitialContent r held b = b
   begins_ascending (DeletePhase a) r held b = ap ascends b.same ∙ ascends-content operation asc b.number
   begins_ascending (PresentPhase a) r held b = ap ascends b.same ∙ ascends-content operation asc b.number
@@ -332,7 +335,7 @@ module _ (operation : SyncOperation) (asc : Ascending operation) where
       ]
 
   -- the whole law of a refresh
-  pub refresh_ends : (id : ℕ) (start : Start) (r : ℕ) (ps : List RefreshPiece) (copy : Copy) → IsCut operation start r ps → Begins operation start r copy.held
+  pub refresh_ends : (id : ℕ) (start : Start) (r : ℕ) (ps : List RefreshPiece) (copy : Copy) → IsCut operation start r ps → MayBegin operation start r copy.held
       → (ended : Bool) × (taken_all id (asked id operation.persists copy) (refresh operation start r ps)
       ≡ settled id operation.persists ended (content_after operation (last_mark r ps)) (Some (operation.cookies (last_mark r ps))))
   refresh_ends id start r ps copy pieces b =

@@ -19,6 +19,7 @@ use Rattle.sync_model.proofs.Gather.{Each}
 use Rattle.sync_model.proofs.Later.{IsStep, staged_all}
 use Rattle.sync_model.proofs.Limits.{Ordered, option_or-none, ordered-staged}
 use Rattle.entry_tree.proofs.Order.{same_entries}
+use Rattle.entry_tree.proofs.Changing.{or_none}
 use Rattle.sync_model.proofs.Taking.{IsOwn, IsKeyed, keyed-staged, staged_by, stage_after, ascends-effected, at-effected}
 
 -- ---- a stage is in ascending order, with each put under its entry's identity
@@ -80,10 +81,6 @@ at_last e puts u = ap (λ xs. entry_at xs u) (reverse-append (e ∷ []) puts) �
 none_above : (stage : Stage) (v : ℕ) → Each (λ (later : ℕ × Option Entry). v < later.0) stage → slot stage v ≡ None
 none_above [] v above = refl
 none_above (s ∷ stage) v above = cond-false _ _ _ (ne_eqb v s.0 (λ same. let never : ⊥ = omega (arith, same, above.0) in never)) ∙ none_above stage v above.1
-
-or_none : (found : Option Entry) → option_or found None ≡ found
-or_none None = refl
-or_none (Some e) = refl
 
 slot_left : (stage : Stage) (u : ℕ) (was : Option Entry) → Ordered stage → IsKeyed stage → left_at stage u was ≡ unwrap_or (slot stage u) was
 slot_left [] u was ordered keyed = refl

@@ -9,8 +9,9 @@ use Rattle.entry_tree.specs.State.{entry_at}
 use Rattle.entry_tree.specs.Touched.{identities, joined, change_at, is_change, touched}
 use Rattle.entry_tree.specs.History.{differing_over}
 use Rattle.sync_model.specs.Stream.{among}
-use Rattle.sync_model.proofs.Maps.{among-joined, among-filter, among-identities}
+use Rattle.sync_model.proofs.Maps.{among-joined, among-filter}
 use Rattle.entry_tree.proofs.Same.{one_found-true}
+use Rattle.entry_tree.proofs.Taking.{among_identities}
 
 -- the identities that differ between two states
 abbrev pub differing : List Entry → List Entry → List ℕ
@@ -33,20 +34,21 @@ uuids_touched old new (x ∷ xs) = step (differs old new x) (uuids_touched old n
 pub differing-filter : (old new : List Entry) → differing old new ≡ filter (differs old new) (joined (identities old) (identities new))
 differing-filter old new = uuids_touched old new (joined (identities old) (identities new))
 
+-- entries of one identity differ only where there is one
+pub found_there : (x y : Option Entry) → ((is_some x || is_some y) && not (is_one_found x y)) ≡ not (is_one_found x y)
+found_there None None = refl
+found_there None (Some b) = refl
+found_there (Some a) None = refl
+found_there (Some a) (Some b) = refl
+
 -- an identity is among those that differ exactly where its entries differ
 pub among-differing : (old new : List Entry) (u : ℕ) → among u (differing old new) ≡ differs old new u
 among-differing old new u =
     ap (among u) (differing-filter old new)
     ∙ among-filter (differs old new) (joined (identities old) (identities new)) u
     ∙ ap (λ b. b && differs old new u)
-    (among-joined (identities new) (identities old) u ∙ ap (λ b. b || among u (identities new)) (among-identities old u) ∙ ap (λ b. is_some (entry_at old u) || b) (among-identities new u))
-    ∙ step (entry_at old u) (entry_at new u)
-  where
-    step : (x y : Option Entry) → ((is_some x || is_some y) && not (is_one_found x y)) ≡ not (is_one_found x y)
-    step None None = refl
-    step None (Some b) = refl
-    step (Some a) None = refl
-    step (Some a) (Some b) = refl
+    (among-joined (identities new) (identities old) u ∙ ap (λ b. b || among u (identities new)) (among_identities old u) ∙ ap (λ b. is_some (entry_at old u) || b) (among_identities new u))
+    ∙ found_there (entry_at old u) (entry_at new u)
 
 -- what does not differ is the same
 pub same_outside : (old new : List Entry) (u : ℕ) → among u (differing old new) ≡ false → entry_at old u ≡ entry_at new u

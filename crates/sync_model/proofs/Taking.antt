@@ -12,11 +12,12 @@ use Rattle.entry_tree.specs.State.{ascends, entry_at, is_identified}
 use Rattle.entry_tree.specs.Touched.{identities, joined}
 use Rattle.entry_tree.proofs.Directory.{ascends_filter}
 use Rattle.entry_tree.proofs.Putting.{ascends_put, entry_at_put}
+use Rattle.entry_tree.proofs.Taking.{among_identities}
 use Rattle.sync_model.specs.Message.{CookieText, SyncMessage}
 use Rattle.sync_model.specs.Message.SyncMessage.{AddOrModify, Delete, Present, IdSet, NewCookie, RefreshDelete, RefreshPresent, Done, Ignored}
 use Rattle.sync_model.specs.Stream.{among}
 use Rattle.sync_model.specs.Copy.{Stage, SyncSession, Copy, Answer, slot, is_put, is_known, staged, all_dropped, put_or_dropped, effected, unmentioned, present_ended, named_unless, goes_on, taken_in, taken_by, taken, taken_all}
-use Rattle.sync_model.proofs.Maps.{slot-staged, slot-all_dropped, among-joined, among-filter, among-identities, entry_at-dropped}
+use Rattle.sync_model.proofs.Maps.{slot-staged, slot-all_dropped, among-joined, among-filter, entry_at-dropped}
 use Rattle.sync_model.proofs.Gather.{Each, IsPart, EachM, meant, meant_by, each-among}
 
 -- a search that runs, with these names and this stage
@@ -178,7 +179,7 @@ pub slot-present_ended : (named : List ℕ) (stage : Stage) (held : List Entry) 
 slot-present_ended named stage held u =
     slot-all_dropped (unmentioned named stage held) stage u
     ∙ ap (λ b. cond b (Some None) (slot stage u))
-    (among-filter (λ v. not (among v named || is_put (slot stage v))) (identities held) u ∙ ap (λ b. b && not (among u named || is_put (slot stage u))) (among-identities held u))
+    (among-filter (λ v. not (among v named || is_put (slot stage v))) (identities held) u ∙ ap (λ b. b && not (among u named || is_put (slot stage u))) (among_identities held u))
 
 -- the slot at u is as it is to be: t comes out, and the end of a present phase leaves it
 pub record Fine (held : List Entry) (t : Option Entry) (named : List ℕ) (stage : Stage) (u : ℕ) : Type 0 where

@@ -8,7 +8,7 @@ use Rattle.sync_model.specs.Copy.Answer.{Staged, Stored, Copied, Over, Refused}
 use Rattle.sync_model.specs.Within.{taken_within}
 
 -- the entries and the cookie are as before
-pub record IsAsBefore (before after : Copy) : Type 0 where
+pub record KeepsEntriesAndCookie (before after : Copy) : Type 0 where
   pub held : after.held ≡ before.held
   pub cookie : after.cookie ≡ before.cookie
 
@@ -21,7 +21,7 @@ pub record IsEffected (before after : Copy) (commit : Commit) : Type 0 where
 -- the entries change only where a stage takes effect, and the cookie only with it, or
 -- where it is of no use
 abbrev pub Keeps : Copy → Copy → Answer → Type 0
-Keeps before after Staged = IsAsBefore before after
+Keeps before after Staged = KeepsEntriesAndCookie before after
 Keeps before after (Stored commit) =
     IsEffected before after commit × (after.cookie ≡ commit.cookie) × (is_some commit.cookie ≡ true)
 Keeps before after (Copied commit) =

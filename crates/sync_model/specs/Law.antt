@@ -42,10 +42,11 @@ pub record IsContentWithin
 
 -- what is held before a refresh: with a cookie the content of its number or of a later one,
 -- without one anything
-abbrev pub Begins : SyncOperation → Start → ℕ → List Entry → Type 0
-Begins operation InitialContent accepted held = ascends held ≡ true
-Begins operation (DeletePhase number) accepted held = IsContentWithin operation number accepted held
-Begins operation (PresentPhase number) accepted held =
+abbrev pub MayBegin : SyncOperation → Start → ℕ → List Entry → Type 0
+MayBegin operation InitialContent accepted held = ascends held ≡ true
+MayBegin operation (DeletePhase number) accepted held =
+    IsContentWithin operation number accepted held
+MayBegin operation (PresentPhase number) accepted held =
     IsContentWithin operation number accepted held
 
 -- what runs after the end of a refresh
@@ -72,7 +73,7 @@ RefreshEnds =
     (operation : SyncOperation) → Ascending operation
     → (id : ℕ) (start : Start) (accepted : ℕ) (pieces : List RefreshPiece) (copy : Copy)
     → IsCut operation start accepted pieces
-    → Begins operation start accepted copy.held
+    → MayBegin operation start accepted copy.held
     → (ended : Bool)
     × (taken_all id (asked id operation.persists copy) (refresh operation start accepted pieces)
     ≡ settled id operation.persists ended (content_after operation (last_mark accepted pieces))
@@ -124,7 +125,7 @@ PrefixShows =
     → (id : ℕ) (start : Start) (accepted : ℕ) (pieces : List RefreshPiece) (count : ℕ) (copy : Copy)
     (prefix rest : List SyncMessage)
     → IsCut operation start accepted pieces
-    → Begins operation start accepted copy.held
+    → MayBegin operation start accepted copy.held
     → prefix ++ rest ≡ stream operation start accepted pieces count
     → Shows operation copy accepted (last_mark accepted pieces + count)
     (taken_all id (asked id operation.persists copy) prefix)
@@ -133,7 +134,7 @@ PrefixShows =
 
 -- the entries that a directory may have: not too many, not too heavy, and each
 -- with a name of its own
-pub record IsWithin (entries : List Entry) : Type 0 where
+pub record IsWithinLimits (entries : List Entry) : Type 0 where
   pub few : length entries ≤ most_entries
   pub light : total_weight entries ≤ most_weight
   pub apart : same_named entries ≡ None
@@ -142,9 +143,9 @@ pub record IsWithin (entries : List Entry) : Type 0 where
 abbrev pub PrefixFits : Type 0
 PrefixFits =
     (operation : SyncOperation) → Ascending operation
-    → ((number : ℕ) → IsWithin (operation.states number))
+    → ((number : ℕ) → IsWithinLimits (operation.states number))
     → (id : ℕ) (start : Start) (accepted count : ℕ) (copy : Copy) (prefix rest : List SyncMessage)
-    → Begins operation start accepted copy.held
+    → MayBegin operation start accepted copy.held
     → prefix ++ rest
     ≡ stream operation start accepted
     (record { uuids = walk operation start accepted; mark = accepted } ∷ []) count

@@ -4,8 +4,8 @@ use Rattle.std.specs.Prelude.{◌≡◌, ℕ, Some}
 use Rattle.sync_model.specs.Message.{SyncMessage}
 use Rattle.sync_model.specs.Message.SyncMessage.{AddOrModify, Delete, Present, IdSet, NewCookie, RefreshDelete, RefreshPresent, Done, Ignored}
 use Rattle.sync_model.proofs.Groups.{tails}
-use Rattle.sync_provider.specs.HandingOut.{Turn, turn_of_message, without_first, search_at}
-use Rattle.sync_provider.specs.HandingOut.Turn.{Hands, Closes, Waits, Unknown}
+use Rattle.sync_provider.specs.HandingOut.{HandOut, turn_of_message, without_first, search_at}
+use Rattle.sync_provider.specs.HandingOut.HandOut.{Hands, Closes, Waits, Unknown}
 use Rattle.sync_provider.specs.Machine.{ProviderState}
 use Rattle.sync_provider.specs.Search.{SearchState, busy_end, pending, advanced}
 
@@ -68,7 +68,7 @@ Searches = List (ℕ × SearchState)
 -- ---- how much is pending
 
 -- nothing is handed out where nothing is pending
-abbrev pub IsIdle : Turn → Type 0
+abbrev pub IsIdle : HandOut → Type 0
 IsIdle (Hands whole) = ⊥
 IsIdle (Closes code whole) = ⊥
 IsIdle Waits = Unit {0}

@@ -6,7 +6,7 @@ use Rattle.std.specs.Option.{option_or}
 use Rattle.std.proofs.lemmas.Bool.{and_parts}
 use Rattle.std.proofs.lemmas.List.{length_push}
 use Rattle.sync_provider.specs.Answering.{CommitLeaves, CommitsLeave}
-use Rattle.sync_provider.specs.Committing.{commit_refusal, Opposes}
+use Rattle.sync_provider.specs.Committing.{commit_refusal, RejectsCommit}
 use Rattle.sync_provider.specs.Machine.{ProviderState, committed_each, refusal_of_each}
 use Rattle.sync_provider.specs.declared.committing.StagedCommit.{StagedCommit}
 use Rattle.sync_provider.specs.declared.writing.CommitFault.{CommitFault}
@@ -20,16 +20,17 @@ only_is (first ∷ rest) commits commit is one = absurd (omega (arith, ap length
 pub only_holds : (f : StagedCommit → Bool) (commits : List StagedCommit) (commit : StagedCommit) → commits ≡ commit ∷ [] → list_all f commits ≡ true → f commit ≡ true
 only_holds f commits commit is each = (and_parts (f commit) true (ap (list_all f) (sym is) ∙ each)).0
 
-or_none : (found : Option CommitFault) → option_or found None ≡ found
+-- nothing in place of something missing changes nothing
+pub or_none : {X : Type 0} (found : Option X) → option_or found None ≡ found
 or_none None = refl
-or_none (Some fault) = refl
+or_none (Some x) = refl
 
 -- what one commit answers and leaves is what a list of it does
 pub only_leaves : (p new : ProviderState) (commits : List StagedCommit) (commit : StagedCommit) (now : ℕ) (result : Result ℕ CommitFault) → commits ≡ commit ∷ []
     → CommitLeaves p commit.puts commit.drops now result new → CommitsLeave p commits now result new
 only_leaves p new commits commit now result is leaves = record {
   accepted = subst (λ found. OnOk result (found ≡ None)) (sym refusal) leaves.accepted;
-  refused = subst (λ found. IfErr result (Opposes found)) (sym refusal) leaves.refused;
+  refused = subst (λ found. IfErr result (RejectsCommit found)) (sym refusal) leaves.refused;
   state = subst (λ all. OnOk result (new ≡ committed_each p all now)) (sym is) leaves.state;
   err = leaves.err;
   number = leaves.number;

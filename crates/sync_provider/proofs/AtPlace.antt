@@ -13,8 +13,8 @@ use Rattle.sync_model.specs.Message.SyncMessage.{Done}
 use Rattle.sync_model.specs.Stream.{end_of}
 use Rattle.sync_wire.specs.Sending.{sent}
 use Rattle.directory_writes.proofs.Keyed.{kept_at, closed_at, put_on}
-use Rattle.sync_provider.specs.HandingOut.{Turn, turn_of_message, turn_of_pending, turn_of_found, turn_of_place, turn_at, turn_at_place, has_message, is_closing, after_own_turn, without_first, after_turn}
-use Rattle.sync_provider.specs.HandingOut.Turn.{Hands, Closes, Waits, Unknown}
+use Rattle.sync_provider.specs.HandingOut.{HandOut, turn_of_message, turn_of_pending, turn_of_found, turn_of_place, turn_at, turn_at_place, has_message, is_closing, after_own_turn, without_first, after_turn}
+use Rattle.sync_provider.specs.HandingOut.HandOut.{Hands, Closes, Waits, Unknown}
 use Rattle.sync_provider.specs.Search.{SearchState, busy_end, pending, advanced, is_end, message_of, messages_of, first_of}
 use Rattle.sync_provider.specs.Staging.{HeldSearch, searches_of}
 use Rattle.sync_provider.specs.declared.refresh_item.RefreshItem.{RefreshItem}
@@ -192,7 +192,7 @@ remade s over rest due = record s { over = over; rest = rest; due = due }
 pub goes_past : (s : SearchState) → is_closing (Some (turn_of_pending s.id (pending s))) ≡ false → without_first s ≡ after_own_turn s (Some (turn_of_pending s.id (pending s)))
 goes_past s goes = by s.over s.rest s.due goes
   where
-    first : (t : SearchState) (turn : Turn) → is_closing (Some turn) ≡ false → has_message turn ≡ true → without_first t ≡ after_own_turn t (Some turn)
+    first : (t : SearchState) (turn : HandOut) → is_closing (Some turn) ≡ false → has_message turn ≡ true → without_first t ≡ after_own_turn t (Some turn)
     first t (Hands whole) goes there = refl
     first t (Closes code whole) goes there = absurd (true≢false goes)
     first t Waits goes there = absurd (false≢true there)

@@ -7,7 +7,7 @@ use Rattle.entry_tree.specs.State.{ascends}
 use Rattle.entry_tree.specs.declared.entry.Entry.{Entry}
 use Rattle.sync_model.specs.Copy.{Copy, Answer}
 use Rattle.sync_model.specs.Copy.Answer.{Staged}
-use Rattle.sync_model.specs.Law.{Ascending, IsWithin, settled}
+use Rattle.sync_model.specs.Law.{Ascending, IsWithinLimits, settled}
 use Rattle.sync_model.specs.Message.{SyncMessage}
 use Rattle.sync_model.specs.Stream.{SyncOperation, Start, content_after, is_delete_phase, end_of, later}
 use Rattle.sync_model.specs.Within.{taken_within}
@@ -20,7 +20,7 @@ use Rattle.sync_provider.proofs.Past.{StoresContent, IsMidway, IsDone, Comes, pa
 use Rattle.sync_provider.proofs.RefreshTaken.{part, last, follows, midst_sent, midst_staged, end_stored}
 use Rattle.sync_provider.proofs.Whereabouts.{InRefresh, IsPast, IsWhere}
 
-module _ (operation : SyncOperation) (ascending : Ascending operation) (within : (number : ℕ) → IsWithin (operation.states number)) (sent : (number : ℕ) → All CanBeSent (operation.states number))
+module _ (operation : SyncOperation) (ascending : Ascending operation) (within : (number : ℕ) → IsWithinLimits (operation.states number)) (sent : (number : ℕ) → All CanBeSent (operation.states number))
     (texts : (number : ℕ) → (cookie : csns.Cookie) × (operation.cookies number ≡ cookie_text cookie)) (start : Start) (opened count : ℕ) where
   -- it is staged, and the search goes on
   pub record StagesOne (entries : List Entry) (held : Copy) (taken ahead : List SyncMessage) (outcome : Copy × Answer) : Type 0 where

@@ -1,16 +1,15 @@
 -- A commit by what rejects it.
-use Rattle.std.proofs.Common.{◌≡◌, ℕ, List, Option, Some, None, refl}
-use Rattle.std.specs.Prelude.{option_map}
+use Rattle.std.proofs.Common.{◌≡◌, ℕ, List, Option, Some, None}
 use Rattle.entry_tree.specs.declared.entry.Entry.{Entry}
 use Rattle.entry_tree.specs.declared.op.Op.{Op}
 use Rattle.directory_writes.specs.Commits as directory
 use Rattle.directory_writes.specs.Directory.{DirectoryState, judged}
-use Rattle.directory_writes.specs.declared.commit.DirectoryFault.{DirectoryFault}
 use Rattle.sync_provider.specs.Committing.{fault_of, commit_refusal}
 use Rattle.sync_provider.specs.Machine.{ProviderState, after_judged, after_commit}
 use Rattle.sync_provider.specs.declared.provider.Kind.{Kind}
 use Rattle.sync_provider.specs.declared.provider.Kind.TheVariants.{Root, Replica}
 use Rattle.sync_provider.specs.declared.writing.CommitFault.{CommitFault}
+use Rattle.sync_model.proofs.Limits.{option_map-none}
 
 -- what holds of a provider, and of it after a write, holds after a commit
 pub commit_case : (P : ProviderState → Type 0) (p : ProviderState) (op : Op) (now : ℕ) (refusal : Option CommitFault)
@@ -18,12 +17,8 @@ pub commit_case : (P : ProviderState → Type 0) (p : ProviderState) (op : Op) (
 commit_case P p op now None before after = after
 commit_case P p op now (Some fault) before after = before
 
--- nothing rejects it where nothing rejects it at the directory
-none_of : (refusal : Option DirectoryFault) → option_map fault_of refusal ≡ None → refusal ≡ None
-none_of None is = refl
-none_of (Some fault) is = let never : ⊥ = cc in absurd never
-
+-- where nothing rejects a commit, its directory has nothing against it
 pub unopposed : (kind : Kind) (d : DirectoryState) (puts : List Entry) (drops : List ℕ) (now : ℕ) → commit_refusal kind d puts drops now ≡ None
     → directory.commit_refusal d puts drops now ≡ None
 unopposed Root d puts drops now is = let never : ⊥ = cc in absurd never
-unopposed Replica d puts drops now is = none_of (directory.commit_refusal d puts drops now) is
+unopposed Replica d puts drops now is = option_map-none fault_of (directory.commit_refusal d puts drops now) is

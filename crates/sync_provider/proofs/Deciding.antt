@@ -23,12 +23,11 @@ use Rattle.csn_cookie.specs.Cookie.{cookie_text}
 use Rattle.sync_model.specs.Stream.{SyncOperation, Start, among, is_delete_phase, decided, decide, gathered, end_of}
 use Rattle.sync_model.specs.Stream.Start.{InitialContent, DeletePhase, PresentPhase}
 use Rattle.sync_model.proofs.Gather.{Each}
-use Rattle.sync_model.proofs.Histories.{ascends-state_of}
 use Rattle.entry_tree.proofs.Order.{entry_at-filter}
 use Rattle.sync_model.proofs.Steps.{over_none}
 use Rattle.directory_writes.specs.Directory.{DirectoryState, entries_of, cookie_at, cookie_of}
 use Rattle.sync_provider.specs.Gathering.{AreOf}
-use Rattle.directory_writes.specs.Starting.{IsServed}
+use Rattle.directory_writes.specs.Starting.{CanBegin}
 use Rattle.sync_provider.specs.Refreshing.{all_identities, walked, item_of, item_at, planned, sends, said_all}
 use Rattle.sync_provider.specs.Search.{cookie_after, session_of, messages_of, refresh_from}
 use Rattle.directory_writes.specs.Touches.{last_touch}
@@ -36,7 +35,7 @@ use Rattle.sync_provider.specs.declared.refresh_item.RefreshItem.{RefreshItem}
 use Rattle.directory_writes.proofs.Keyed.{less_cmp}
 use Rattle.sync_provider.proofs.Refreshes.{decided_all, refresh_from-is}
 use Rattle.directory_writes.proofs.Notified.{last-shows}
-use Rattle.directory_writes.proofs.Writes.{state_now, csn_now}
+use Rattle.directory_writes.proofs.Writes.{state_now, csn_now, ascends_now}
 
 -- ---- identities in ascending order
 
@@ -66,8 +65,7 @@ items_sorted d search us sorted = subst (IsStrictlySortedBy nat_cmp) (sym (items
 
 pub all_sorted : (d : DirectoryState) → IsStrictlySortedBy nat_cmp (all_identities d)
 all_sorted d =
-    sorted_identities (entries_of d)
-    (ap ascends (sym (state_now d d.writes [] (append-nil d.writes))) ∙ ascends-state_of d.history d.writes (length d.writes))
+    sorted_identities (entries_of d) (ascends_now d)
 
 -- each of these is among them
 abbrev Delivery : List ℕ → List ℕ → Type 0
@@ -137,11 +135,8 @@ module _ (persists : Bool) (d : DirectoryState) (search : Search) where
   now : state_of d.history d.writes (length d.writes) ≡ entries_of d
   now = state_now d d.writes [] (append-nil d.writes)
 
-  sorted : ascends (entries_of d) ≡ true
-  sorted = ap ascends (sym now) ∙ ascends-state_of d.history d.writes (length d.writes)
-
   found_in : (u : ℕ) → option_filter (is_selected search) (entry_at (entries_of d) u) ≡ entry_at (select search (state_of d.history d.writes (length d.writes))) u
-  found_in u = sym (entry_at-filter (is_selected search) (entries_of d) u sorted) ∙ ap (λ xs. entry_at (select search xs) u) (sym now)
+  found_in u = sym (entry_at-filter (is_selected search) (entries_of d) u (ascends_now d)) ∙ ap (λ xs. entry_at (select search xs) u) (sym now)
 
   all_blank : (us : List ℕ) → said_all (entries_of d) (presents.planned None (map (item_at d search) us)) ≡ flat_map (decide operation InitialContent (length d.writes)) us
   all_blank [] = refl
@@ -163,7 +158,7 @@ module _ (persists : Bool) (d : DirectoryState) (search : Search) where
       delete_said a u (entry_at (entries_of d) u) refl (late a u le each.0 (entry_at (entries_of d) u)) (deletes.planned a (map (item_at d search) us))
       ∙ (λ i. decided true true u (found_in u i) ++ all_deleted a le us each.1 i)
 
-  decisions-are : (start : Start) → IsServed d start
+  decisions-are : (start : Start) → CanBegin d start
       → said_all (entries_of d) (planned start (map (item_at d search) (walked d start))) ≡ decided_all operation start (length d.writes)
   decisions-are InitialContent served =
       all_blank (all_identities d) ∙ ap (λ xs. flat_map (decide operation InitialContent (length d.writes)) (identities xs)) (sym now)
@@ -176,7 +171,7 @@ module _ (persists : Bool) (d : DirectoryState) (search : Search) where
   cookie = ap (λ csn. cookie_text (cookie_at d.sid d.history csn)) (sym (csn_now d d.writes [] (append-nil d.writes)))
 
   -- the parts that the code makes are the Stream's refresh
-  pub refresh_is : (start : Start) (parts : List RefreshItem) → IsServed d start
+  pub refresh_is : (start : Start) (parts : List RefreshItem) → CanBegin d start
       → AreOf (said_all (entries_of d) (planned start (map (item_at d search) (walked d start)))) parts
       → messages_of persists (is_delete_phase start) parts (cookie_of d) ≡ refresh_from (session_of persists d.sid d.history search d.writes) start (length d.writes)
   refresh_is start parts served made =

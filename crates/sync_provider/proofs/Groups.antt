@@ -24,15 +24,15 @@ use Rattle.sync_model.specs.Message.{CookieText, SyncMessage}
 use Rattle.sync_model.specs.Message.SyncMessage.{AddOrModify, Delete}
 use Rattle.sync_model.specs.Stream.{among, notified, notified_all}
 use Rattle.sync_model.proofs.Gather.{Each}
-use Rattle.sync_model.proofs.Histories.{ascends-state_of}
 use Rattle.sync_model.proofs.Later.{IsStep, each-touched}
-use Rattle.sync_model.proofs.Maps.{among-joined, among-filter, among-identities}
+use Rattle.sync_model.proofs.Maps.{among-joined, among-filter}
 use Rattle.entry_tree.proofs.Order.{entry_at-filter}
 use Rattle.entry_tree.proofs.Same.{one_entry-true, one_found-same}
-use Rattle.sync_model.proofs.Steps.{differs}
+use Rattle.entry_tree.proofs.Taking.{among_identities}
+use Rattle.sync_model.proofs.Steps.{differs, found_there}
 use Rattle.directory_writes.specs.Directory.{DirectoryState, cookie_at, entries_of, entries_after, last_csn, with_write}
 use Rattle.directory_writes.proofs.SortedIdentities.{sorted-filter, sorted-identities, sorted-joined}
-use Rattle.directory_writes.proofs.Writes.{state_now, csn_now, last_csn-push}
+use Rattle.directory_writes.proofs.Writes.{state_now, csn_now, last_csn-push, ascends_now}
 use Rattle.sync_provider.specs.Queueing.{group_of}
 use Rattle.sync_provider.specs.Search.{SearchState}
 use Rattle.sync_provider.specs.Staging.{chosen, notified_of_change, notified_of_changes, with_cookie, last_with_cookie, messages_for}
@@ -142,16 +142,10 @@ module _ (spec : Search) (old new : List Entry) (asc_old : ascends old ≡ true)
   differs_there (Some a) None = refl
   differs_there (Some a) (Some b) = refl
 
-  found_there : (was now : Option Entry) → ((is_some was || is_some now) && not (is_one_found was now)) ≡ not (is_one_found was now)
-  found_there None None = refl
-  found_there None (Some b) = refl
-  found_there (Some a) None = refl
-  found_there (Some a) (Some b) = refl
-
   among-two : (one other : List Entry) (u : ℕ) → among u (joined (identities one) (identities other)) ≡ (is_some (entry_at one u) || is_some (entry_at other u))
   among-two one other u =
       among-joined (identities other) (identities one) u
-      ∙ (λ i. among-identities one u i || among-identities other u i)
+      ∙ (λ i. among_identities one u i || among_identities other u i)
 
   among_all : (u : ℕ) → among u (filter (differs kept_old kept_new) all_uuids) ≡ differs kept_old kept_new u
   among_all u =
@@ -234,9 +228,6 @@ last_notified (t ∷ u ∷ entry_changes) cookie steps =
     ∙ ap (λ ms. ms ++ notified_all cookie (u ∷ entry_changes)) (sym one.plainly)
 
 -- ---- a write of a directory
-
-ascends_now : (d : DirectoryState) → ascends (entries_of d) ≡ true
-ascends_now d = ap ascends (sym (state_now d d.writes [] (append-nil d.writes))) ∙ ascends-state_of d.history d.writes (length d.writes)
 
 pub group_is : (d : DirectoryState) (s : SearchState) (w : Write)
     → messages_for s.spec (touched (entries_of d) (entries_after d.history (d.writes ++ w ∷ []))) (cookie_text (cookie_at d.sid d.history w.csn)) ≡ group_of d s w

@@ -117,6 +117,7 @@ later_like s0 s d count writes same i =
 
 -- ---- a search among the open ones after a write
 
+-- under its number an open search is after a write what the write makes of it
 pub informed_at : (limit : ℕ) (d : DirectoryState) (w : Write) (es : List (ℕ × SearchState)) (number : ℕ) (s : SearchState) → search_at es number ≡ Some s
     → search_at (each_informed limit d w es) number ≡ Some (informed limit d w s)
 informed_at limit d w es number s found =

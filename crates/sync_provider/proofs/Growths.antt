@@ -9,9 +9,9 @@ use Rattle.std.proofs.lemmas.List.{append-nil}
 use Rattle.entry_tree.specs.declared.op.Op.TheVariants.{Commit}
 use Rattle.entry_tree.specs.declared.op.Write.{Write}
 use Rattle.directory_writes.specs.Directory.{DirectoryState, judged}
-use Rattle.directory_writes.specs.Snapshot.{Snapshot, IsSnapshotOf, back_at}
-use Rattle.sync_provider.specs.Committing.{commit_refusal, Opposes}
-use Rattle.sync_provider.specs.Growing.{HasGrown}
+use Rattle.directory_writes.specs.Snapshot.{SnapshotState, IsSnapshotOf, back_at}
+use Rattle.sync_provider.specs.Committing.{commit_refusal, RejectsCommit}
+use Rattle.sync_provider.specs.Growing.{HasMoreWrites}
 use Rattle.sync_provider.specs.Machine.{ProviderState, after_judged, committed, committed_each, refusal_of_each}
 use Rattle.sync_provider.specs.Search.{SearchState}
 use Rattle.sync_provider.specs.declared.committing.StagedCommit.{StagedCommit}
@@ -21,7 +21,7 @@ use Rattle.sync_provider.proofs.Commits.{commit_case}
 
 -- ---- what commits leave as it was
 
-pub grown_itself : (p : ProviderState) → HasGrown p p
+pub grown_itself : (p : ProviderState) → HasMoreWrites p p
 grown_itself p = record {
   later = [];
   kind = refl;
@@ -32,7 +32,7 @@ grown_itself p = record {
   writes = sym (append-nil p.directory.writes);
 }
 
-pub grown_both : (one two three : ProviderState) → HasGrown one two → HasGrown two three → HasGrown one three
+pub grown_both : (one two three : ProviderState) → HasMoreWrites one two → HasMoreWrites two three → HasMoreWrites one three
 grown_both one two three first second = record {
   later = first.later ++ second.later;
   kind = second.kind ∙ first.kind;
@@ -43,7 +43,7 @@ grown_both one two three first second = record {
   writes = second.writes ∙ ap (λ writes. writes ++ second.later) first.writes ∙ append_assoc one.directory.writes first.later second.later;
 }
 
-judged_grown : (p : ProviderState) (outcome : Result Write ℕ) → HasGrown p (after_judged p outcome)
+judged_grown : (p : ProviderState) (outcome : Result Write ℕ) → HasMoreWrites p (after_judged p outcome)
 judged_grown p (Ok write) = record {
   later = write ∷ [];
   kind = refl;
@@ -55,16 +55,16 @@ judged_grown p (Ok write) = record {
 }
 judged_grown p (Err code) = grown_itself p
 
-pub committed_grown : (p : ProviderState) (commit : StagedCommit) (now : ℕ) → HasGrown p (committed p commit.puts commit.drops now)
+pub committed_grown : (p : ProviderState) (commit : StagedCommit) (now : ℕ) → HasMoreWrites p (committed p commit.puts commit.drops now)
 committed_grown p commit now =
-    commit_case (HasGrown p) p (Commit commit.puts commit.drops) now (commit_refusal p.kind p.directory commit.puts commit.drops now) (grown_itself p)
+    commit_case (HasMoreWrites p) p (Commit commit.puts commit.drops) now (commit_refusal p.kind p.directory commit.puts commit.drops now) (grown_itself p)
     (judged_grown p (judged p.directory (Commit commit.puts commit.drops) now))
 
 -- ---- one after another
 
 -- what these commits leave, and what rejects them, is what those that are left make of where they go on
 pub record GoesOn (now : ℕ) (first p : ProviderState) (commits left : List StagedCommit) : Type 0 where
-  pub grown : HasGrown first p
+  pub grown : HasMoreWrites first p
   pub leaves : committed_each first commits now ≡ committed_each p left now
   pub refusal : refusal_of_each first commits now ≡ refusal_of_each p left now
 
@@ -82,7 +82,7 @@ pub next_commit : (now : ℕ) (first p after : ProviderState) (commits : List St
 next_commit now first p after commits k commit low is none done so_far =
     let rest : drop k commits ≡ commit ∷ drop (suc k) commits = drop-cons commits k commit low ∙ ap (λ c. c ∷ drop (suc k) commits) (sym is) in
     record {
-      grown = grown_both first p after so_far.grown (subst (HasGrown p) (sym done) (committed_grown p commit now));
+      grown = grown_both first p after so_far.grown (subst (HasMoreWrites p) (sym done) (committed_grown p commit now));
       leaves = so_far.leaves ∙ ap (λ cs. committed_each p cs now) rest ∙ ap (λ q. committed_each q (drop (suc k) commits) now) (sym done);
       refusal = so_far.refusal ∙ ap (λ cs. refusal_of_each p cs now) rest
           ∙ ap (λ found. option_or found (refusal_of_each (committed p commit.puts commit.drops now) (drop (suc k) commits) now)) none
@@ -91,8 +91,8 @@ next_commit now first p after commits k commit low is none done so_far =
 
 -- what rejects one that is not refused before rejects them all
 pub refused_all : (now : ℕ) (first p : ProviderState) (commits : List StagedCommit) (k : ℕ) (commit : StagedCommit) (found : CommitFault) → k < length commits → commit ≡ get_or commits k commit
-    → Opposes (commit_refusal p.kind p.directory commit.puts commit.drops now) found
-    → GoesOn now first p commits (drop k commits) → Opposes (refusal_of_each first commits now) found
+    → RejectsCommit (commit_refusal p.kind p.directory commit.puts commit.drops now) found
+    → GoesOn now first p commits (drop k commits) → RejectsCommit (refusal_of_each first commits now) found
 refused_all now first p commits k commit found low is refused so_far = by found refused
   where
     rest : drop k commits ≡ commit ∷ drop (suc k) commits
@@ -103,7 +103,7 @@ refused_all now first p commits k commit found low is refused so_far = by found 
         so_far.refusal ∙ ap (λ cs. refusal_of_each p cs now) rest
         ∙ ap (λ o. option_or o (refusal_of_each (committed p commit.puts commit.drops now) (drop (suc k) commits) now)) some
 
-    by : (fault : CommitFault) → Opposes (commit_refusal p.kind p.directory commit.puts commit.drops now) fault → Opposes (refusal_of_each first commits now) fault
+    by : (fault : CommitFault) → RejectsCommit (commit_refusal p.kind p.directory commit.puts commit.drops now) fault → RejectsCommit (refusal_of_each first commits now) fault
     by (DuplicateName one other) some = whole (DuplicateName one other) some
     by (LimitReached limit) some = whole (LimitReached limit) some
     by NoMemory some = tt
@@ -112,19 +112,19 @@ refused_all now first p commits k commit found low is refused so_far = by found 
 -- ---- the way back
 
 -- a directory that only got writes, back at its moment
-back_is : (old new : DirectoryState) (snapshot : Snapshot) (later : List Write) → IsSnapshotOf old snapshot → new.suffix ≡ old.suffix → new.sid ≡ old.sid → new.history ≡ old.history → new.writes ≡ old.writes ++ later
+back_is : (old new : DirectoryState) (snapshot : SnapshotState) (later : List Write) → IsSnapshotOf old snapshot → new.suffix ≡ old.suffix → new.sid ≡ old.sid → new.history ≡ old.history → new.writes ≡ old.writes ++ later
     → back_at snapshot new ≡ old
 back_is old new snapshot later is suffix sid history writes =
     let cut : take snapshot.count new.writes ≡ old.writes = ap (λ n. take n new.writes) is.counted ∙ ap (take (length old.writes)) writes ∙ take-append_seam old.writes later in
     λ i. record { suffix = suffix i; sid = sid i; history = history i; writes = cut i; log = is.same_log i }
 
-pub back_snapshot : (old new : ProviderState) (snapshot : Snapshot) → IsSnapshotOf old.directory snapshot → HasGrown old new → IsSnapshotOf (back_at snapshot new.directory) snapshot
+pub back_snapshot : (old new : ProviderState) (snapshot : SnapshotState) → IsSnapshotOf old.directory snapshot → HasMoreWrites old new → IsSnapshotOf (back_at snapshot new.directory) snapshot
 back_snapshot old new snapshot is grown =
     subst (λ (d : DirectoryState). IsSnapshotOf d snapshot)
     (sym (back_is old.directory new.directory snapshot grown.later is grown.suffix grown.sid grown.history grown.writes)) is
 
 -- a provider, back as it stood
-pub back_whole : (old new : ProviderState) (snapshot : Snapshot) (searches : List (ℕ × SearchState)) → IsSnapshotOf old.directory snapshot → searches ≡ old.searches → HasGrown old new
+pub back_whole : (old new : ProviderState) (snapshot : SnapshotState) (searches : List (ℕ × SearchState)) → IsSnapshotOf old.directory snapshot → searches ≡ old.searches → HasMoreWrites old new
     → record new { directory = back_at snapshot new.directory; searches = searches } ≡ old
 back_whole old new snapshot searches is opens grown =
     let directory = back_is old.directory new.directory snapshot grown.later is grown.suffix grown.sid grown.history grown.writes in

@@ -4,6 +4,7 @@ use Rattle.std.specs.Prelude.{All, filter_map, take, Result, Ok, Err}
 use Rattle.std.specs.List.{cons_option}
 use Rattle.std.proofs.lemmas.List.{append-nil}
 use Rattle.std.proofs.lemmas.List.Elements.{All-nil, All-cons, All-head, All-tail}
+use Rattle.std.proofs.Math.Seq.{take-append_seam}
 use Rattle.csn_cookie.specs.Csn.{upto}
 use Rattle.csn_cookie.specs.Cookie.{cookie_of_text}
 use Rattle.csn_cookie.specs.declared.cookie.Cookie.{Cookie}
@@ -31,7 +32,7 @@ use Rattle.sync_provider.specs.declared.searches.Accepted.TheVariants.{Opened}
 use Rattle.sync_provider.specs.declared.searches.SyncSearch.{SyncSearch}
 use Rattle.sync_provider.proofs.Followed.{delivers_its_stream}
 use Rattle.sync_provider.proofs.Kept.{opened_free}
-use Rattle.sync_model.proofs.Groups.{heads}
+use Rattle.sync_model.proofs.Groups.{heads, tails}
 use Rattle.directory_writes.proofs.Csns.{upto_low}
 
 -- ---- a search begins with no more writes than there are
@@ -90,16 +91,9 @@ more_sends P m ms left sends rest = by (sent_entry m) sends where
       All-cons P entry (filter_map sent_entry ms) (All-head P entry (filter_map sent_entry left) each)
       (rest (All-tail P entry (filter_map sent_entry left) each))
 
-take_all : (xs ys : List SyncMessage) → take (length xs) (xs ++ ys) ≡ xs
-take_all [] ys = refl
-take_all (x ∷ xs) ys = ap (λ l. x ∷ l) (take_all xs ys)
-
 take_none : (n : ℕ) → take {A = SyncMessage} n [] ≡ []
 take_none zero = refl
 take_none (suc n) = refl
-
-tails : (x m : SyncMessage) (xs ms : List SyncMessage) → x ∷ xs ≡ m ∷ ms → xs ≡ ms
-tails x m xs ms e = cc
 
 -- a refresh of which a prefix is reported, and then the end with the code busy
 cut_sends : (P : Entry → Type 0) (refresh prefix left later : List SyncMessage) → prefix ++ left ≡ refresh ++ later → Sends P refresh
@@ -114,7 +108,7 @@ cut_sends P (m ∷ refresh) (x ∷ prefix) left later split sends =
 
 notified_sends : (P : Entry → Type 0) (over : Bool) (messages refresh later : List SyncMessage) → Delivers over messages (refresh ++ later) → Sends P refresh
     → Sends P (take (length refresh) messages)
-notified_sends P false messages refresh later shows sends = subst (Sends P) (sym (ap (take (length refresh)) shows ∙ take_all refresh later)) sends
+notified_sends P false messages refresh later shows sends = subst (Sends P) (sym (ap (take (length refresh)) shows ∙ take-append_seam refresh later)) sends
 notified_sends P true messages refresh later shows sends =
     subst (λ ms. Sends P (take (length refresh) ms)) (sym shows.is) (cut_sends P refresh shows.prefix shows.left later shows.split sends)
 

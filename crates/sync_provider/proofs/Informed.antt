@@ -13,11 +13,13 @@ use Rattle.sync_provider.specs.Search.{SearchState, busy_end, pending}
 pub pending_open : (s : SearchState) → s.over ≡ false → pending s ≡ s.rest ++ s.due
 pending_open s off = ap (λ o. cond o (busy_end ∷ []) (s.rest ++ s.due)) off
 
+-- the end with busy is all that is pending of a search that is over
 pub pending_over : (s : SearchState) → s.over ≡ true → pending s ≡ busy_end ∷ []
 pending_over s on = ap (λ o. cond o (busy_end ∷ []) (s.rest ++ s.due)) on
 
 -- ---- it is the same search
 
+-- what a write leaves of a search as it was
 pub record IsSame (s after : SearchState) : Type 0 where
   pub id : after.id ≡ s.id
   pub spec : after.spec ≡ s.spec
@@ -46,6 +48,7 @@ pushed_same limit (m ∷ messages) s = by (is_full limit (s.due ++ m ∷ message
     by true = same_search s [] [] true
     by false = same_search s s.rest (s.due ++ m ∷ messages) s.over
 
+-- a write leaves each search the same search
 pub informed_same : (limit : ℕ) (d : DirectoryState) (w : Write) (s : SearchState) → IsSame s (informed limit d w s)
 informed_same limit d w s = by (s.persists && not s.over)
   where
@@ -97,6 +100,7 @@ cut_longer messages stream more cut = record {
   is = cut.is;
 }
 
+-- what a search that is over delivers is cut short of a longer stream too
 pub delivers_longer : (over : Bool) (messages stream more : List SyncMessage) → over ≡ true → Delivers over messages stream → Delivers over messages (stream ++ more)
 delivers_longer over messages stream more on delivers =
     subst (λ o. Delivers o messages (stream ++ more)) (sym on) (cut_longer messages stream more (subst (λ o. Delivers o messages stream) on delivers))
@@ -121,6 +125,7 @@ module _ (limit : ℕ) (d : DirectoryState) (w : Write) (s : SearchState) (befor
       (subst (λ ms. IsCutShort (before ++ ms) ahead) (pending_over s on) (subst (λ o. Delivers o (before ++ pending s) ahead) on delivers))
   over_then false off = record { prefix = before; left = s.rest ++ (s.due ++ sent); split = whole off; is = refl }
 
+  -- one write, and the search is still at its place, or cut short
   pub informed_delivers : Delivers after.over (before ++ pending after) (ahead ++ sent)
   informed_delivers = by after.over refl
     where

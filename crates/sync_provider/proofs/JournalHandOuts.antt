@@ -8,10 +8,11 @@ use Rattle.std.proofs.lemmas.Map.{length-set_value}
 use Rattle.ldap_messages.specs.Whole.{Whole}
 use Rattle.sync_model.specs.Message.{SyncMessage}
 use Rattle.sync_model.specs.Message.SyncMessage.{AddOrModify, Delete, Present, IdSet, NewCookie, RefreshDelete, RefreshPresent, Done, Ignored}
+use Rattle.sync_model.proofs.Refresh.{none_from_false}
 use Rattle.directory_writes.proofs.Keyed.{put_on}
 use Rattle.sync_provider.specs.Answering.{HandOutLeaves, DropLeaves}
-use Rattle.sync_provider.specs.HandingOut.{Turn, search_at, turn_of, turn_of_message, turn_of_pending, turn_of_found, turn_at, has_message, is_closing, without_first, closed, handed_on, after_answer}
-use Rattle.sync_provider.specs.HandingOut.Turn.{Hands, Closes, Waits, Unknown}
+use Rattle.sync_provider.specs.HandingOut.{HandOut, search_at, turn_of, turn_of_message, turn_of_pending, turn_of_found, turn_at, has_message, is_closing, without_first, closed, handed_on, after_a_turn}
+use Rattle.sync_provider.specs.HandingOut.HandOut.{Hands, Closes, Waits, Unknown}
 use Rattle.sync_provider.specs.Journal.{handed_at, JournalState, IsCounted, IsEnded, JournalledProvider, with_journal, followed_as, followed_in, port_state, HasJournal}
 use Rattle.sync_provider.specs.Law.{over_of}
 use Rattle.sync_provider.specs.Machine.{ProviderState, dropped}
@@ -25,6 +26,7 @@ use Rattle.sync_provider.proofs.JournalReplies.{IsAnswered}
 use Rattle.sync_provider.proofs.JournalSteps.{IsPort, message_goes, end_goes}
 use Rattle.sync_provider.proofs.JournalTurns.{turn_is}
 use Rattle.sync_provider.proofs.Tables.{closed_none}
+use Rattle.sync_provider.proofs.Journals.{some_map}
 
 -- ---- how many searches are open
 
@@ -38,10 +40,6 @@ closed_length (e ∷ es) k there = by (closed_length es k) (is_at (nat_cmp k) e.
     by rest false miss =
         let more : length (closed es k) + 1 ≡ length es = rest (sym (ap (λ b. is_some (cond b (Some e.1) (search_at es k))) miss) ∙ there) in
         omega (arith, more)
-
-none_found : (found : Option SearchState) → is_some found ≡ false → found ≡ None
-none_found None none = refl
-none_found (Some s) none = absurd (true≢false none)
 
 moved_length : (es : List (ℕ × SearchState)) (k : ℕ) (found : Option SearchState) → length (handed_on es k found) ≡ length es
 moved_length es k None = refl
@@ -75,21 +73,21 @@ hands_first id (m ∷ rest) whole turn = record { first = m; rest = rest; is = r
     by Ignored h = refl
 
 -- nothing is handed out
-abbrev pub is_quiet : Option Turn → Bool
+abbrev pub is_quiet : Option HandOut → Bool
 is_quiet None = true
 is_quiet (Some (Hands message)) = false
 is_quiet (Some (Closes code message)) = false
 is_quiet (Some Waits) = true
 is_quiet (Some Unknown) = true
 
-quiet_searches : (es : List (ℕ × SearchState)) (k : ℕ) (t : Option Turn) → is_quiet t ≡ true → after_answer es k t ≡ es
+quiet_searches : (es : List (ℕ × SearchState)) (k : ℕ) (t : Option HandOut) → is_quiet t ≡ true → after_a_turn es k t ≡ es
 quiet_searches es k None quiet = refl
 quiet_searches es k (Some (Hands message)) quiet = absurd (false≢true quiet)
 quiet_searches es k (Some (Closes code message)) quiet = absurd (false≢true quiet)
 quiet_searches es k (Some Waits) quiet = refl
 quiet_searches es k (Some Unknown) quiet = refl
 
-quiet_port : (p : PortState) (k : ℕ) (found : Option FollowedSearch) (t : Option Turn) → is_quiet t ≡ true → after_turn_in p k found t ≡ p
+quiet_port : (p : PortState) (k : ℕ) (found : Option FollowedSearch) (t : Option HandOut) → is_quiet t ≡ true → after_turn_in p k found t ≡ p
 quiet_port p k found None quiet = refl
 quiet_port p k found (Some (Hands message)) quiet = absurd (false≢true quiet)
 quiet_port p k found (Some (Closes code message)) quiet = absurd (false≢true quiet)
@@ -144,7 +142,7 @@ module _ (old : JournalledProvider) (p : ProviderState) (j : JournalState) (seen
   abbrev was : JournalledProvider
   was = with_journal p j
 
-  reported : (t : Option Turn) → IfSome t (λ x. x ≡ turn_at p.searches number) → IfSome t (λ x. x ≡ turn_in p.directory (followed_in was number))
+  reported : (t : Option HandOut) → IfSome t (λ x. x ≡ turn_at p.searches number) → IfSome t (λ x. x ≡ turn_in p.directory (followed_in was number))
   reported None h = tt
   reported (Some x) h = h ∙ turn_is was has.journalled number
 
@@ -161,11 +159,11 @@ module _ (old : JournalledProvider) (p : ProviderState) (j : JournalState) (seen
         };
       })
 
-  turn_now : (turn : Turn) → turn_of result ≡ Some turn → turn ≡ turn_at p.searches number
+  turn_now : (turn : HandOut) → turn_of result ≡ Some turn → turn ≡ turn_at p.searches number
   turn_now turn is = subst (λ t. IfSome t (λ x. x ≡ turn_at p.searches number)) is leaves.turn
 
-  left_by : (t : Option Turn) → turn_of result ≡ t → new ≡ record p { searches = after_answer p.searches number t }
-  left_by t is = leaves.state ∙ ap (λ x. record p { searches = after_answer p.searches number x }) is
+  left_by : (t : Option HandOut) → turn_of result ≡ t → new ≡ record p { searches = after_a_turn p.searches number t }
+  left_by t is = leaves.state ∙ ap (λ x. record p { searches = after_a_turn p.searches number x }) is
 
   -- nothing
   pub quiet_seen : is_quiet (turn_of result) ≡ true → IsAnswered new j (HandOutReplies (port_state old) number result)
@@ -228,10 +226,6 @@ module _ (old : JournalledProvider) (p : ProviderState) (j : JournalState) (seen
 
 -- ---- a drop
 
-same_some : (number count : ℕ) (found : Option SearchState) → is_some found ≡ is_some (option_map (followed_as number count) found)
-same_some number count None = refl
-same_some number count (Some s) = refl
-
 module _ (old : JournalledProvider) (p : ProviderState) (j : JournalState) (seen : with_journal p j ≡ old) (has : HasJournal p j) (number : ℕ) (new : ProviderState) where
   abbrev before : JournalledProvider
   before = with_journal p j
@@ -243,13 +237,13 @@ module _ (old : JournalledProvider) (p : ProviderState) (j : JournalState) (seen
       (record {
         kept = subst (λ s. HasJournal s j) (sym same) has;
         replies = record {
-          was_open = leaves.was_open ∙ same_some number (handed_at j.handed number) (search_at p.searches number);
+          was_open = leaves.was_open ∙ sym (some_map (followed_as number (handed_at j.handed number)) (search_at p.searches number));
           state = ap (λ s. port_state (with_journal s j)) same ∙ port_by (search_at p.searches number) (sym leaves.was_open);
         };
       })
     where
       same : new ≡ p
-      same = leaves.state ∙ ap (λ es. record p { searches = es }) (closed_none p.searches number (none_found (search_at p.searches number) (sym leaves.was_open)))
+      same = leaves.state ∙ ap (λ es. record p { searches = es }) (closed_none p.searches number (none_from_false (search_at p.searches number) (sym leaves.was_open)))
 
       port_by : (found : Option SearchState) → is_some found ≡ false
           → port_state before ≡ dropped_in (port_state before) number (option_map (followed_as number (handed_at j.handed number)) found)
@@ -265,7 +259,7 @@ module _ (old : JournalledProvider) (p : ProviderState) (j : JournalState) (seen
       (record {
         kept = both.0;
         replies = record {
-          was_open = leaves.was_open ∙ same_some number (handed_at j.handed number) (search_at p.searches number);
+          was_open = leaves.was_open ∙ sym (some_map (followed_as number (handed_at j.handed number)) (search_at p.searches number));
           state = both.1;
         };
       })

@@ -1,12 +1,12 @@
 -- What a write, an opened search, a message that is handed out, and the end of a search make of a provider's journal,
 -- and of what it knows as a port.
-use Rattle.std.proofs.Common.{◌≡◌, ◌≢◌, ℕ, ◌+◌, Bool, true, false, cond, nat_eq, List, [], ◌∷◌, ◌++◌, length, Option, Some, None, refl, ap, sym, ◌∙◌, subst, arith, eqb-true, eq-eqb, length-append}
+use Rattle.std.proofs.Common.{◌≡◌, ◌≢◌, ℕ, ◌+◌, Bool, true, false, cond, nat_eq, List, [], ◌∷◌, ◌++◌, length, Option, Some, None, refl, ap, sym, ◌∙◌, subst, arith, eqb-true, length-append}
 use Rattle.std.specs.Prelude.{Ok, is_some, option_map, ◌||◌, ◌&&◌}
 use Rattle.std.specs.BTreeMap.{insert_entry, is_at}
 use Rattle.std.specs.Ordering.{nat_cmp}
-use Rattle.std.proofs.lemmas.Bool.{false≢true}
+use Rattle.std.proofs.lemmas.Bool.{eqb-false}
 use Rattle.std.proofs.lemmas.Map.Made.{lookup-map_values}
-use Rattle.std.proofs.lemmas.Option.{none-some}
+use Rattle.std.proofs.lemmas.Option.{none-some, same_Some}
 use Rattle.entry_tree.specs.declared.op.Write.{Write}
 use Rattle.sync_model.specs.Message.{SyncMessage}
 use Rattle.directory_writes.specs.Directory.{DirectoryState, with_write}
@@ -27,7 +27,7 @@ use Rattle.sync_provider.specs.declared.journal_note.SearchEvent.{SearchEvent}
 use Rattle.sync_provider.specs.declared.searches.Accepted.TheVariants as accepted
 use Rattle.sync_provider.specs.declared.searches.SyncSearch.{SyncSearch}
 use Rattle.sync_provider.proofs.Informed.{IsSame, pending_open}
-use Rattle.sync_provider.proofs.Journals.{in_order_more, in_order_snoc, noted_write, noted_event, open_more}
+use Rattle.sync_provider.proofs.Journals.{in_order_more, in_order_snoc, noted_write, noted_event, open_more, some_map}
 use Rattle.sync_provider.proofs.Kept.{opened_free}
 use Rattle.sync_provider.proofs.Overflows.{Matches, informed_match, asked_matches}
 use Rattle.sync_provider.proofs.Places.{IsNext, next_place}
@@ -37,9 +37,6 @@ use Rattle.sync_provider.proofs.Streams.{not_over, advanced_same}
 pub record IsPort (v : JournalledProvider) (p : PortState) : Type 0 where
   pub journalled : IsJournalled v
   pub port : port_state v ≡ p
-
-some_is : {X : Type 0} (x y : X) → Some x ≡ Some y → x ≡ y
-some_is x y e = cc
 
 -- the same search was opened so
 same_opening : (number : ℕ) (s after : SearchState) → IsSame s after → opening_of_search number after ≡ opening_of_search number s
@@ -99,11 +96,7 @@ module _ (v : JournalledProvider) (is : IsJournalled v) (w : Write) where
           → s.over ≡ false → HasHandedOut (with_write d w) s (handed_at v.handed n)
       by None none is_there = absurd (none-some s is_there)
       by (Some was) found is_there =
-          subst (λ x. x.over ≡ false → HasHandedOut (with_write d w) x (handed_at v.handed n)) (some_is (informed limit d w was) s is_there) (matched n was found).counted
-
-  still_some : (found : Option SearchState) → is_some (option_map (informed limit d w) found) ≡ is_some found
-  still_some None = refl
-  still_some (Some s) = refl
+          subst (λ x. x.over ≡ false → HasHandedOut (with_write d w) x (handed_at v.handed n)) (same_Some (informed limit d w was) s is_there) (matched n was found).counted
 
   pub write_goes : IsPort after_write (noted (port_state v) (notes.Wrote w) 0)
   write_goes = record {
@@ -111,7 +104,7 @@ module _ (v : JournalledProvider) (is : IsJournalled v) (w : Write) where
       ordered = in_order_more 0 (length d.writes) (length (d.writes ++ w ∷ [])) v.events (omega (arith, length-append d.writes (w ∷ []))) is.ordered;
       counted = counted_write;
       only = λ n.
-          ap is_some (seen n) ∙ still_some (search_at v.state.searches n) ∙ is.only n
+          ap is_some (seen n) ∙ some_map (informed limit d w) (search_at v.state.searches n) ∙ is.only n
           ∙ sym (ap (λ j. is_open j n) (noted_write v is w) ∙ open_more (journal_in v) (notes.Wrote w) n);
     };
     port = λ i. record {
@@ -127,15 +120,13 @@ module _ (v : JournalledProvider) (is : IsJournalled v) (w : Write) where
 
 -- ---- a change under one number
 
-apart : (n number : ℕ) → nat_eq n number ≡ false → n ≢ number
-apart n number far same = false≢true (sym far ∙ eq-eqb n number same)
-
-at_one : {X : Type 0} (f g : ℕ → X) (k : ℕ) (x : X) → f k ≡ x → ((n : ℕ) → n ≢ k → f n ≡ g n) → (n : ℕ) → f n ≡ cond (nat_eq n k) x (g n)
+-- a function that takes one value at a number, and another function's values elsewhere
+pub at_one : {X : Type 0} (f g : ℕ → X) (k : ℕ) (x : X) → f k ≡ x → ((n : ℕ) → n ≢ k → f n ≡ g n) → (n : ℕ) → f n ≡ cond (nat_eq n k) x (g n)
 at_one f g k x own others n = by (nat_eq n k) refl
   where
     by : (b : Bool) → nat_eq n k ≡ b → f n ≡ cond b x (g n)
     by true here = ap f (eqb-true n k here) ∙ own
-    by false far = others n (apart n k far)
+    by false far = others n (eqb-false n k far)
 
 -- the search of a number is another one, or none, of which n messages were handed out
 module _ (v : JournalledProvider) (is : IsJournalled v) (number : ℕ) (found : Option SearchState) (count : ℕ) (searches : List (ℕ × SearchState)) (handed : List ℕ)
@@ -158,7 +149,7 @@ module _ (v : JournalledProvider) (is : IsJournalled v) (number : ℕ) (found : 
           let same : n ≡ number = eqb-true n number hit in
           subst (HasHandedOut v.state.directory s) (sym (ap (handed_at handed) same ∙ own)) (new s (sym here ∙ ap (search_at searches) (sym same) ∙ is_there) off)
       by false far s is_there off =
-          subst (HasHandedOut v.state.directory s) (sym (others n (apart n number far))) (is.counted n s (sym (there n (apart n number far)) ∙ is_there) off)
+          subst (HasHandedOut v.state.directory s) (sym (others n (eqb-false n number far))) (is.counted n s (sym (there n (eqb-false n number far)) ∙ is_there) off)
 
   open_changed : (n : ℕ) → is_some (search_at searches n) ≡ cond (nat_eq n number) (is_some found) (is_open (journal_in v) n)
   open_changed n =
@@ -198,7 +189,7 @@ module _ (v : JournalledProvider) (is : IsJournalled v) (ask : SyncSearch) (numb
   journal = noted_event v is event counted
 
   begun : (s : SearchState) → Some search ≡ Some s → s.over ≡ false → HasHandedOut v.state.directory s 0
-  begun s same = subst (λ x. x.over ≡ false → HasHandedOut v.state.directory x 0) (some_is search s same) (asked_matches v.state ask).counted
+  begun s same = subst (λ x. x.over ≡ false → HasHandedOut v.state.directory x 0) (same_Some search s same) (asked_matches v.state ask).counted
 
   pub open_goes : IsPort after_open (opened_in (port_state v) opening)
   open_goes = record {
@@ -253,7 +244,7 @@ module _ (v : JournalledProvider) (is : IsJournalled v) (number : ℕ) (s : Sear
       let was : HasHandedOut v.state.directory s (handed_at v.handed number) = is.counted number s found (not_over s m ms first goes) in
       let next : IsNext v.state.directory left (length was.now.handed + length was.now.handed_later) =
       next_place v.state.directory s was.now m ms (sym (pending_open s (not_over s m ms first goes)) ∙ first) in
-      subst (λ x. HasHandedOut v.state.directory x (handed_at v.handed number + 1)) (some_is left after same)
+      subst (λ x. HasHandedOut v.state.directory x (handed_at v.handed number + 1)) (same_Some left after same)
       (record { now = next.now; counted = ap (λ n. n + 1) was.counted ∙ sym next.counted })
 
   still_open : (n : ℕ) → cond (nat_eq n number) true (is_open (journal_in v) n) ≡ is_open (journal_in v) n

@@ -1,6 +1,6 @@
 -- The journal of a provider as a list: the order of its events, its length, and what an entry adds to it.
-use Rattle.std.proofs.Common.{◌≡◌, ◌≤◌, ℕ, zero, suc, ◌+◌, ◌-◌, Bool, false, cond, List, [], ◌∷◌, ◌++◌, length, map, take, drop, Some, None, refl, ap, sym, ◌∙◌, subst, arith, append_assoc, length-append}
-use Rattle.std.specs.Prelude.{is_some, not, find, slice_get, Result, Ok, Err}
+use Rattle.std.proofs.Common.{◌≡◌, ◌≤◌, ℕ, zero, suc, ◌+◌, ◌-◌, Bool, false, cond, List, [], ◌∷◌, ◌++◌, length, map, take, drop, Some, None, refl, ap, sym, ◌∙◌, subst, arith, append_assoc, length-append, Option}
+use Rattle.std.specs.Prelude.{is_some, not, find, slice_get, Result, Ok, Err, option_map}
 use Rattle.std.proofs.lemmas.List.{length-map, map-append, length-drop, take-append-drop, take-append-le, drop-append-le, take_all, drop_all}
 use Rattle.entry_tree.specs.declared.op.Write.{Write}
 use Rattle.sync_messages.specs.Request.{request_of}
@@ -159,6 +159,11 @@ journal_counts writes events = sym (journal_length events 0 writes)
 
 -- ---- the open searches of the journal
 
+-- what is made of something is there where that is
+pub some_map : {X Y : Type 0} (f : X → Y) (x : Option X) → is_some (option_map f x) ≡ is_some x
+some_map f None = refl
+some_map f (Some x) = refl
+
 open_append : (n : ℕ) (b : Bool) (xs ys : Journal) → open_from n b (xs ++ ys) ≡ open_from n (open_from n b xs) ys
 open_append n b [] ys = refl
 open_append n b (x ∷ xs) ys = open_append n (open_after n b x.0) xs ys
@@ -166,7 +171,8 @@ open_append n b (x ∷ xs) ys = open_append n (open_after n b x.0) xs ys
 pub open_more : (journal : Journal) (note : JournalNote) (n : ℕ) → is_open (journal ++ (note, 0) ∷ []) n ≡ open_after n (is_open journal n) note
 open_more journal note n = open_append n false journal ((note, 0) ∷ [])
 
-find_same : (p q : ℕ → Bool) → ((n : ℕ) → p n ≡ q n) → (xs : List ℕ) → find p xs ≡ find q xs
+-- tests that agree find the same
+pub find_same : (p q : ℕ → Bool) → ((n : ℕ) → p n ≡ q n) → (xs : List ℕ) → find p xs ≡ find q xs
 find_same p q same [] = refl
 find_same p q same (x ∷ xs) = λ i. cond (same x i) (Some x) (find_same p q same xs i)
 
@@ -175,7 +181,8 @@ free_is : (v : JournalledProvider) → IsJournalled v → free_number v.state.se
 free_is v is =
     find_same (λ n. not (is_some (search_at v.state.searches n))) (λ n. not (is_open (journal_in v) n)) (λ n. ap not (is.only n)) (numbers_from 1 64)
 
-answer_by_is : (d : DirectoryState) (es : List (ℕ × SearchState)) (ask : SyncSearch) (read : Result SyncRequest SyncFault)
+-- the answer to a search by its request, where the free number of the searches is free
+pub answer_by_is : (d : DirectoryState) (es : List (ℕ × SearchState)) (ask : SyncSearch) (read : Result SyncRequest SyncFault)
     → answer_to_request d es ask read ≡ answer_by d (free_number es) ask read
 answer_by_is d es ask (Err fault) = refl
 answer_by_is d es ask (Ok request) = refl

@@ -15,8 +15,8 @@ use Rattle.directory_writes.specs.Directory.{DirectoryState}
 use Rattle.directory_writes.proofs.Keyed.{opened-same, opened-other, closed-other, put_on-same, put_on-other}
 use Rattle.sync_provider.specs.Accepting as accepting
 use Rattle.sync_provider.specs.Accepting.{is_free, numbers_from, free_number, request_code, refused_or_opened, numbered, answer_to_request, answer_to}
-use Rattle.sync_provider.specs.HandingOut.{Turn, turn_of_message, turn_of_pending, turn_of_found, turn_at, search_at, without_first, handed_on, after_turn}
-use Rattle.sync_provider.specs.HandingOut.Turn.{Hands, Closes, Waits, Unknown}
+use Rattle.sync_provider.specs.HandingOut.{HandOut, turn_of_message, turn_of_pending, turn_of_found, turn_at, search_at, without_first, handed_on, after_turn}
+use Rattle.sync_provider.specs.HandingOut.HandOut.{Hands, Closes, Waits, Unknown}
 use Rattle.sync_provider.specs.Law.{asked}
 use Rattle.sync_provider.specs.Machine.{ProviderState, accepted}
 use Rattle.sync_provider.specs.Search.{SearchState, pending, is_end}
@@ -26,7 +26,8 @@ use Rattle.sync_provider.specs.declared.searches.SyncSearch.{SyncSearch}
 
 -- ---- what is accepted had a free number
 
-find_passes : {X : Type 0} (p : X → Bool) (xs : List X) (x : X) → find p xs ≡ Some x → p x ≡ true
+-- what is found passes the test
+pub find_passes : {X : Type 0} (p : X → Bool) (xs : List X) (x : X) → find p xs ≡ Some x → p x ≡ true
 find_passes p [] x h = absurd (far h)
   where
     far : None ≡ Some x → ⊥
@@ -106,7 +107,8 @@ on_other : (es : List (ℕ × SearchState)) (k q : ℕ) (found : Option SearchSt
 on_other es k q None far = refl
 on_other es k q (Some s) far = put_on-other es k q (without_first s) far
 
-pub turn_other : (es : List (ℕ × SearchState)) (k q : ℕ) (turn : Turn) → q ≢ k → search_at (after_turn es k turn) q ≡ search_at es q
+-- a hand-out leaves the other searches
+pub turn_other : (es : List (ℕ × SearchState)) (k q : ℕ) (turn : HandOut) → q ≢ k → search_at (after_turn es k turn) q ≡ search_at es q
 turn_other es k q (Hands message) far = on_other es k q (search_at es k) far
 turn_other es k q (Closes code message) far = closed-other es k q far
 turn_other es k q Waits far = refl

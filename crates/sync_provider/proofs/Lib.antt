@@ -1,15 +1,20 @@
 -- Lemmas of the crate.
+pub mod AddedWrites
 pub mod Advanced
 pub mod Alone
 pub mod Asking
+pub mod Ascending
 pub mod AtPlace
+pub mod ClosedAgain
 pub mod Coming
 pub mod Commits
 pub mod Comparisons
 pub mod Copying
+pub mod CountedCalls
 pub mod Deciding
 pub mod Filling
 pub mod Followed
+pub mod FreeNumbers
 pub mod Groups
 pub mod Growing
 pub mod Growths
@@ -26,6 +31,7 @@ pub mod Kept
 pub mod Known
 pub mod Longer
 pub mod Looking
+pub mod Nearer
 pub mod Numbers
 pub mod Overflows
 pub mod Past
@@ -37,6 +43,7 @@ pub mod Refusals
 pub mod Returns
 pub mod Rooted
 pub mod Saying
+pub mod SearchCalls
 pub mod Sets
 pub mod StreamTurns
 pub mod Streams

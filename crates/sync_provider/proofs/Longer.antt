@@ -6,7 +6,7 @@ use Rattle.entry_tree.specs.Touched.{touched}
 use Rattle.entry_tree.specs.declared.entry.Entry.{Entry}
 use Rattle.entry_tree.specs.declared.op.Write.{Write}
 use Rattle.sync_model.specs.Copy.{Copy}
-use Rattle.sync_model.specs.Law.{Begins, IsContentWithin}
+use Rattle.sync_model.specs.Law.{MayBegin, IsContentWithin}
 use Rattle.sync_model.specs.Message.{SyncMessage}
 use Rattle.sync_model.specs.Stream.{SyncOperation, Start, content_after, notified_all, group, later}
 use Rattle.sync_model.specs.Stream.Start.{InitialContent, DeletePhase, PresentPhase}
@@ -52,13 +52,13 @@ module _ (number : ℕ) (persists : Bool) (search : Search) (writes : List Write
       let prefix : refresh_from new first opened ≡ refresh_from old first opened = refresh_same first opened (omega (arith, low)) in
       λ i. prefix i ++ cond persists (later_same count opened low i) []
 
-  begins_same : (first : Start) (opened : ℕ) (held : List Entry) → opened ≤ length writes → Begins old first opened held → Begins new first opened held
+  begins_same : (first : Start) (opened : ℕ) (held : List Entry) → opened ≤ length writes → MayBegin old first opened held → MayBegin new first opened held
   begins_same first opened held low begins = by first begins
     where
       content : (least : ℕ) → IsContentWithin old least opened held → IsContentWithin new least opened held
       content least is = record { number = is.number; from = is.from; upto = is.upto; same = is.same ∙ sym (content_same is.number (omega (arith, is.upto, low))) }
 
-      by : (s : Start) → Begins old s opened held → Begins new s opened held
+      by : (s : Start) → MayBegin old s opened held → MayBegin new s opened held
       by InitialContent is = is
       by (DeletePhase n) is = content n is
       by (PresentPhase n) is = content n is

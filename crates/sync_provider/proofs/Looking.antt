@@ -12,6 +12,7 @@ use Rattle.sync_provider.specs.Search.{SearchState}
 abbrev Searches : Type 0
 Searches = List (ℕ × SearchState)
 
+-- what holds of each search, and of one more, holds of all of them
 pub each-opened : (P : SearchState → Type 0) (es : Searches) (k : ℕ) (s : SearchState) → EachSearch P es → P s → EachSearch P (insert_entry nat_cmp es k s)
 each-opened P [] k s each new = (new, tt)
 each-opened P (e ∷ es) k s each new = by (each-opened P es k s each.1 new) (nat_cmp k e.0)
@@ -21,6 +22,7 @@ each-opened P (e ∷ es) k s each new = by (each-opened P es k s each.1 new) (na
     by rest Equal = (new, each.1)
     by rest Greater = (each.0, rest)
 
+-- it holds of those that are left after one is closed
 pub each-closed : (P : SearchState → Type 0) (es : Searches) (k : ℕ) → EachSearch P es → EachSearch P (closed es k)
 each-closed P [] k each = tt
 each-closed P (e ∷ es) k each = by (each-closed P es k each.1) (is_at (nat_cmp k) e.0)
@@ -29,6 +31,7 @@ each-closed P (e ∷ es) k each = by (each-closed P es k each.1) (is_at (nat_cmp
     by rest true = each.1
     by rest false = (each.0, rest)
 
+-- it holds of them where one is put in the place of another
 pub each-put_on : (P : SearchState → Type 0) (es : Searches) (k : ℕ) (s : SearchState) → EachSearch P es → P s → EachSearch P (put_on es k s)
 each-put_on P [] k s each new = tt
 each-put_on P (e ∷ es) k s each new = by (each-put_on P es k s each.1 new) (is_at (nat_cmp k) e.0)
@@ -37,6 +40,7 @@ each-put_on P (e ∷ es) k s each new = by (each-put_on P es k s each.1 new) (is
     by rest true = (new, each.1)
     by rest false = (each.0, rest)
 
+-- it holds of the search that is found under a number
 pub each-at : (P : SearchState → Type 0) (es : Searches) (k : ℕ) (s : SearchState) → EachSearch P es → search_at es k ≡ Some s → P s
 each-at P [] k s each found = absurd (far found)
   where

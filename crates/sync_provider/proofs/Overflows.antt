@@ -5,6 +5,7 @@ use Rattle.std.specs.Prelude.{Result, Ok, Err, not, ◌&&◌, ◌||◌, drop}
 use Rattle.std.proofs.lemmas.Bool.{lt-ltb, le-ltb}
 use Rattle.std.proofs.lemmas.List.{append-nil}
 use Rattle.std.proofs.Math.Bool.{or-false}
+use Rattle.std.proofs.Math.Seq.{drop-append_seam}
 use Rattle.entry_tree.specs.declared.op.Op.TheVariants.{Commit}
 use Rattle.entry_tree.specs.declared.op.Op.{Op}
 use Rattle.entry_tree.specs.declared.op.Write.{Write}
@@ -25,7 +26,7 @@ use Rattle.sync_provider.specs.declared.searches.SyncSearch.{SyncSearch}
 use Rattle.sync_provider.proofs.Advanced.{advanced_is}
 use Rattle.sync_provider.proofs.Growing.{begins_before, refresh_like, later_like, later_grows}
 use Rattle.sync_provider.proofs.Informed.{pending_open, pending_over, IsSame, same_search, same_then, informed_same, informed_queued}
-use Rattle.sync_provider.proofs.Places.{informed_placed, IsNext, next_place, opening_place, limited_placed}
+use Rattle.sync_provider.proofs.Places.{informed_placed, IsNext, next_place, opening_place, limited_placed, some_left}
 use Rattle.sync_provider.proofs.Streams.{not_over, advanced_same}
 
 -- ---- a search and its count
@@ -38,12 +39,9 @@ pub record Matches (s0 : SearchState) (d : DirectoryState) (s : SearchState) (t 
 group_like : (s0 s : SearchState) (d : DirectoryState) (w : Write) → IsSame s0 s → group_of d s0 w ≡ group_of d s w
 group_like s0 s d w same i = group (session_of (sym same.persists i) d.sid d.history (sym same.spec i) (d.writes ++ w ∷ [])) (length d.writes)
 
-itself : (d : DirectoryState) → BeginsWith d d.writes
-itself d = ([], append-nil d.writes)
-
-pub drop_all : (xs ys : List SyncMessage) → drop (length xs) (xs ++ ys) ≡ ys
-drop_all [] ys = refl
-drop_all (x ∷ xs) ys = drop_all xs ys
+-- the writes of a directory begin with themselves
+pub begins_with_own : (d : DirectoryState) → BeginsWith d d.writes
+begins_with_own d = ([], append-nil d.writes)
 
 -- ---- a write
 
@@ -58,7 +56,7 @@ module _ (s0 : SearchState) (limit : ℕ) (d : DirectoryState) (w : Write) (s : 
   over_now = t.over || (s0.persists && is_too_much limit d s0 w t.handed)
 
   begins : BeginsWith after all
-  begins = itself after
+  begins = begins_with_own after
 
   -- the items by the count are those that are due, and what the write sends
   items_are : s.persists ≡ true → (handed handed_later : List SyncMessage) → IsAtItsPlace d s handed handed_later → t.handed ≡ length handed + length handed_later
@@ -66,7 +64,7 @@ module _ (s0 : SearchState) (limit : ℕ) (d : DirectoryState) (w : Write) (s : 
   items_are goes handed handed_later place counted =
       ap (λ ms. drop (t.handed - length (refresh_of after s0 all)) ms) laters
       ∙ ap (λ n. drop n (handed_later ++ (s.due ++ group_of d s w))) (skipped place.ordered)
-      ∙ drop_all handed_later (s.due ++ group_of d s w)
+      ∙ drop-append_seam handed_later (s.due ++ group_of d s w)
     where
       laters : later_of after s0 (length all) all ≡ handed_later ++ (s.due ++ group_of d s w)
       laters =
@@ -121,9 +119,6 @@ module _ (s0 : SearchState) (limit : ℕ) (d : DirectoryState) (w : Write) (s : 
 
 -- ---- a hand-out
 
-some_first : (m : SyncMessage) (ms : List SyncMessage) → m ∷ ms ≡ [] → ⊥
-some_first m ms e = cc
-
 module _ (s0 : SearchState) (p : ProviderState) (s : SearchState) (t : Tally) (matches : Matches s0 p.directory s t) where
   abbrev d : DirectoryState
   d = p.directory
@@ -134,9 +129,9 @@ module _ (s0 : SearchState) (p : ProviderState) (s : SearchState) (t : Tally) (m
       let now : IsPlaced d s = (matches.counted off).now in
       let count : t.handed ≡ length now.handed + length now.handed_later = (matches.counted off).counted in
       let rest : length now.handed + length s.rest ≡ length (refresh_of d s0 d.writes) =
-      sym (length-append now.handed s.rest) ∙ ap length (now.place.rest d.writes (itself d) ∙ sym (refresh_like s0 s d d.writes matches.same)) in
+      sym (length-append now.handed s.rest) ∙ ap length (now.place.rest d.writes (begins_with_own d) ∙ sym (refresh_like s0 s d d.writes matches.same)) in
       let due : length now.handed_later + length s.due ≡ length (later_of d s0 (length d.writes) d.writes) =
-      sym (length-append now.handed_later s.due) ∙ ap length (now.place.due d.writes (itself d) ∙ sym (later_like s0 s d (length d.writes) d.writes matches.same)) in
+      sym (length-append now.handed_later s.due) ∙ ap length (now.place.due d.writes (begins_with_own d) ∙ sym (later_like s0 s d (length d.writes) d.writes matches.same)) in
       let all : length (stream_of d s0 (length d.writes) d.writes) ≡ length (refresh_of d s0 d.writes) + length (later_of d s0 (length d.writes) d.writes) =
       length-append (refresh_of d s0 d.writes) (later_of d s0 (length d.writes) d.writes) in
       let both : length (s.rest ++ s.due) ≡ length s.rest + length s.due = length-append s.rest s.due in
@@ -154,7 +149,7 @@ module _ (s0 : SearchState) (p : ProviderState) (s : SearchState) (t : Tally) (m
   waits_match none = by s.over refl
     where
       by : (o : Bool) → s.over ≡ o → Matches s0 d s (after_hand_out p s0 t)
-      by true on = absurd (some_first busy_end [] (sym (pending_over s on) ∙ none))
+      by true on = absurd (some_left busy_end [] (sym (pending_over s on) ∙ none))
       by false off =
           let nothing : length (s.rest ++ s.due) ≡ 0 = ap length (sym (pending_open s off) ∙ none) in
           subst (Matches s0 d s) (sym (counted_by off false (le-ltb t.handed (length (stream_of d s0 (length d.writes) d.writes)) (omega (arith, nothing, long off))))) matches

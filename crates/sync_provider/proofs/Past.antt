@@ -7,14 +7,12 @@ use Rattle.csn_cookie.specs.declared.cookie.Cookie as csns
 use Rattle.csn_cookie.proofs.SizeLemmas.{IsText}
 use Rattle.entry_tree.specs.Effects.{committed}
 use Rattle.entry_tree.specs.Selection.{is_selected}
-use Rattle.entry_tree.specs.State.{ascends}
 use Rattle.entry_tree.specs.Touched.{touched}
 use Rattle.entry_tree.specs.declared.entry.Entry.{Entry}
 use Rattle.entry_tree.specs.declared.touched.EntryChange.{EntryChange}
-use Rattle.entry_tree.proofs.Directory.{ascends_filter}
 use Rattle.sync_model.specs.Copy.{Copy, Commit, Answer, commit_of, effected}
 use Rattle.sync_model.specs.Copy.Answer.{Staged, Stored}
-use Rattle.sync_model.specs.Law.{Ascending, IsWithin, settled}
+use Rattle.sync_model.specs.Law.{Ascending, IsWithinLimits, settled}
 use Rattle.sync_model.specs.Message.{CookieText, SyncMessage}
 use Rattle.sync_model.specs.Stream.{SyncOperation, content_after, notified, notified_all, group, later}
 use Rattle.sync_model.specs.Within.{taken_within}
@@ -22,14 +20,15 @@ use Rattle.sync_model.proofs.Gather.{Each}
 use Rattle.sync_model.proofs.Groups.{heads, tails, each_one, step_is, midway_staged, last_stored}
 use Rattle.sync_model.proofs.Later.{IsStep, NotifiedOne, notified_one, stepping, staged_all, each-touched, effected-touched}
 use Rattle.sync_model.proofs.LaterWrites.{notified_kind, IsFound, later-first, each-found}
-use Rattle.sync_model.proofs.Limits.{within_filter}
 use Rattle.sync_model.proofs.Stages.{fine-none, fine-touched, stage_commits}
+use Rattle.sync_model.proofs.Refresh.{ascends-content}
+use Rattle.sync_model.proofs.Fitting.{content_within}
 use Rattle.sync_wire.specs.CanBeSent.{CanBeSent}
 use Rattle.sync_wire.specs.Sending as wire
 use Rattle.sync_wire.proofs.Identities.{notified_sent}
 use Rattle.sync_wire.proofs.OfSearch.{IsOfSearch}
 use Rattle.sync_provider.specs.HandingOut.{turn_of_message}
-use Rattle.sync_provider.specs.HandingOut.Turn.{Hands}
+use Rattle.sync_provider.specs.HandingOut.HandOut.{Hands}
 use Rattle.sync_provider.proofs.Whereabouts.{AtWhole, InGroup}
 
 -- it is handed out, and the search goes on
@@ -51,14 +50,8 @@ pub record StoresContent (operation : SyncOperation) (opened count : ℕ) (entri
   pub held : outcome.0.held ≡ content_after operation number
   pub cookie : outcome.0.cookie ≡ Some (operation.cookies number)
 
-module _ (operation : SyncOperation) (ascending : Ascending operation) (within : (number : ℕ) → IsWithin (operation.states number)) (sent : (number : ℕ) → All CanBeSent (operation.states number))
+module _ (operation : SyncOperation) (ascending : Ascending operation) (within : (number : ℕ) → IsWithinLimits (operation.states number)) (sent : (number : ℕ) → All CanBeSent (operation.states number))
     (texts : (number : ℕ) → (cookie : csns.Cookie) × (operation.cookies number ≡ cookie_text cookie)) (opened count : ℕ) where
-  ascends_at : (number : ℕ) → ascends (content_after operation number) ≡ true
-  ascends_at number = ascends_filter (is_selected operation.selection) (operation.states number) (ascending number)
-
-  within_at : (number : ℕ) → IsWithin (content_after operation number)
-  within_at number = within_filter (is_selected operation.selection) (operation.states number) (within number)
-
   sent_at : (number : ℕ) → All CanBeSent (content_after operation number)
   sent_at number = All-filter (is_selected operation.selection) CanBeSent (operation.states number) (sent number)
 
@@ -66,7 +59,7 @@ module _ (operation : SyncOperation) (ascending : Ascending operation) (within :
   pub still : (number : ℕ) → touched (content_after operation number) (content_after operation (number + 1)) ≡ [] → content_after operation number ≡ content_after operation (number + 1)
   still number none =
       ap (λ entry_changes. effected (content_after operation number) (staged_all [] entry_changes)) (sym none)
-      ∙ effected-touched (content_after operation number) (content_after operation (number + 1)) (ascends_at number) (ascends_at (number + 1))
+      ∙ effected-touched (content_after operation number) (content_after operation (number + 1)) (ascends-content operation ascending number) (ascends-content operation ascending (number + 1))
 
   -- the first message of later writes is of the first write that changes the content
   pub first_group : (more number : ℕ) (entries : List Entry) (held : Copy) (m : SyncMessage) (rest : List SyncMessage) (ended : Bool) → opened ≤ number → number + more ≡ opened + count
@@ -131,7 +124,7 @@ module _ (operation : SyncOperation) (ascending : Ascending operation) (within :
     found = each_one (IsFound old new) is.before is.after is.entry_change (subst (Each (IsFound old new)) is.at (each-found old new))
 
     step : IsStep is.entry_change
-    step = step_is old new (ascends_at is.number) (ascends_at (is.number + 1)) (within_at (is.number + 1)) is.before is.after is.entry_change is.at
+    step = step_is old new (ascends-content operation ascending is.number) (ascends-content operation ascending (is.number + 1)) (content_within operation ascending within (is.number + 1)) is.before is.after is.entry_change is.at
 
     of_search : (cookie : Option CookieText) (one : NotifiedOne cookie is.entry_change) → IsText cookie → IsOfSearch one.message
     of_search cookie one can = notified_sent old new cookie is.entry_change one (sent_at is.number) (sent_at (is.number + 1)) can found
@@ -153,10 +146,10 @@ module _ (operation : SyncOperation) (ascending : Ascending operation) (within :
           text = refl;
           staged =
               ap (λ es. committed es now_staged.puts now_staged.drops) is.content
-              ∙ stage_commits old (staged_all [] (is.before ++ is.entry_change ∷ [])) (ascends_at is.number)
+              ∙ stage_commits old (staged_all [] (is.before ++ is.entry_change ∷ [])) (ascends-content operation ascending is.number)
               (fine-touched (is.before ++ is.entry_change ∷ []) [] (subst (Each IsStep) touched_is (each-touched old new)) fine-none)
               ∙ ap (λ entry_changes. effected old (staged_all [] entry_changes)) (sym touched_is)
-              ∙ effected-touched old new (ascends_at is.number) (ascends_at (is.number + 1));
+              ∙ effected-touched old new (ascends-content operation ascending is.number) (ascends-content operation ascending (is.number + 1));
           held = ap (λ (o : Copy × Answer). o.0.held) outcome;
           cookie = ap (λ (o : Copy × Answer). o.0.cookie) outcome;
         };
@@ -195,7 +188,7 @@ module _ (operation : SyncOperation) (ascending : Ascending operation) (within :
         outcome =
             ap (λ c. taken_within 1 c m) same_copy
             ∙ ap (taken_within 1 (stepping 1 is.ended old held.cookie (staged_all [] is.before))) (sym here)
-            ∙ last_stored old new (ascends_at is.number) (ascends_at (is.number + 1)) (within_at (is.number + 1)) is.before is.entry_change text one is.ended held.cookie
+            ∙ last_stored old new (ascends-content operation ascending is.number) (ascends-content operation ascending (is.number + 1)) (content_within operation ascending within (is.number + 1)) is.before is.entry_change text one is.ended held.cookie
             touched_is
 
     more_comes : (next : EntryChange) (after : List EntryChange) → is.after ≡ next ∷ after → Comes entries held m rest
@@ -243,7 +236,7 @@ module _ (operation : SyncOperation) (ascending : Ascending operation) (within :
         outcome =
             ap (λ c. taken_within 1 c m) same_copy
             ∙ ap (taken_within 1 (stepping 1 is.ended old held.cookie (staged_all [] is.before))) (sym here)
-            ∙ midway_staged old new (ascends_at is.number) (ascends_at (is.number + 1)) (within_at (is.number + 1)) is.before is.after is.entry_change one is.ended held.cookie is.at
+            ∙ midway_staged old new (ascends-content operation ascending is.number) (ascends-content operation ascending (is.number + 1)) (content_within operation ascending within (is.number + 1)) is.before is.after is.entry_change one is.ended held.cookie is.at
 
     pub group_comes : Comes entries held m rest
     group_comes = by is.after refl
@@ -272,7 +265,7 @@ module _ (operation : SyncOperation) (ascending : Ascending operation) (within :
   pub group_filled : (entries : List Entry) (held : Copy) → InGroup operation opened count entries held [] → ⊥
   group_filled entries held is =
       empty_all (operation.cookies (is.number + 1)) is.entry_change is.after (later operation (is.number + 1) is.more)
-      (step_is (content_after operation is.number) (content_after operation (is.number + 1)) (ascends_at is.number) (ascends_at (is.number + 1)) (within_at (is.number + 1)) is.before is.after is.entry_change is.at)
+      (step_is (content_after operation is.number) (content_after operation (is.number + 1)) (ascends-content operation ascending is.number) (ascends-content operation ascending (is.number + 1)) (content_within operation ascending within (is.number + 1)) is.before is.after is.entry_change is.at)
       (sym is.beyond)
 
   -- where none is left, the entries are those after all the writes
@@ -293,5 +286,5 @@ module _ (operation : SyncOperation) (ascending : Ascending operation) (within :
       by further (entry_change ∷ after) some =
           absurd
           (empty_all (operation.cookies (number + 1)) entry_change after (later operation (number + 1) more)
-          (step_is (content_after operation number) (content_after operation (number + 1)) (ascends_at number) (ascends_at (number + 1)) (within_at (number + 1)) [] after entry_change some)
+          (step_is (content_after operation number) (content_after operation (number + 1)) (ascends-content operation ascending number) (ascends-content operation ascending (number + 1)) (content_within operation ascending within (number + 1)) [] after entry_change some)
           (ap (λ entry_changes. notified_all (operation.cookies (number + 1)) entry_changes ++ later operation (number + 1) more) (sym some) ∙ whole))

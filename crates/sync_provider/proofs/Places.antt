@@ -9,8 +9,8 @@ use Rattle.sync_model.specs.Stream.{Start}
 use Rattle.directory_writes.specs.Directory.{DirectoryState, judged, with_write, with_judged, with_log_limit}
 use Rattle.sync_provider.specs.Accepting as accepting
 use Rattle.sync_provider.specs.Accepting.{answer_to, start_of_ask, persists_of_ask}
-use Rattle.sync_provider.specs.HandingOut.{Turn, turn_at, search_at, without_first, handed_on, after_turn}
-use Rattle.sync_provider.specs.HandingOut.Turn.{Hands, Closes, Waits, Unknown}
+use Rattle.sync_provider.specs.HandingOut.{HandOut, turn_at, search_at, without_first, handed_on, after_turn}
+use Rattle.sync_provider.specs.HandingOut.HandOut.{Hands, Closes, Waits, Unknown}
 use Rattle.sync_provider.specs.Law.{IsAtItsPlace, IsPlaced, KeepsItsPlace, EachSearch}
 use Rattle.sync_provider.specs.Committing.{commit_refusal}
 use Rattle.sync_provider.specs.Machine.{ProviderState, ProviderCall, each_informed, searches_after, judged_by, called, run}
@@ -94,7 +94,8 @@ answered_places d es ask NoMemory each = each
 
 -- ---- a turn
 
-some_left : (m : SyncMessage) (ms : List SyncMessage) → m ∷ ms ≡ [] → ⊥
+-- a list with a first message is not empty
+pub some_left : (m : SyncMessage) (ms : List SyncMessage) → m ∷ ms ≡ [] → ⊥
 some_left m ms e = cc
 
 -- where something of the refresh is left, nothing of later writes was handed out
@@ -163,7 +164,7 @@ on_places d es number None at each = each
 on_places d es number (Some s) at each =
     each-put_on (KeepsItsPlace d) es number (without_first s) each (advanced_keeps d s (each-at (KeepsItsPlace d) es number s each at))
 
-turn_places : (d : DirectoryState) (es : Searches) (number : ℕ) (turn : Turn) → EachSearch (KeepsItsPlace d) es → EachSearch (KeepsItsPlace d) (after_turn es number turn)
+turn_places : (d : DirectoryState) (es : Searches) (number : ℕ) (turn : HandOut) → EachSearch (KeepsItsPlace d) es → EachSearch (KeepsItsPlace d) (after_turn es number turn)
 turn_places d es number (Hands message) each = on_places d es number (search_at es number) refl each
 turn_places d es number (Closes code message) each = each-closed (KeepsItsPlace d) es number each
 turn_places d es number Waits each = each

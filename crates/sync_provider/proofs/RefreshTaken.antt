@@ -8,7 +8,7 @@ use Rattle.entry_tree.specs.State.{ascends, entry_at}
 use Rattle.entry_tree.specs.declared.entry.Entry.{Entry}
 use Rattle.sync_model.specs.Copy.{Copy, SyncSession, Answer, asked, effected, taken, taken_all, answers, commit_of, ends_phase}
 use Rattle.sync_model.specs.Copy.Answer.{Stored}
-use Rattle.sync_model.specs.Law.{Ascending, Begins, IsCut, IsWithin, settled}
+use Rattle.sync_model.specs.Law.{Ascending, MayBegin, IsCut, IsWithinLimits, settled}
 use Rattle.sync_model.specs.Message.{CookieText, SyncMessage}
 use Rattle.sync_model.specs.Stream.{SyncOperation, Start, RefreshPiece, WalkDecision, content_after, is_delete_phase, walk, gathered, end_of}
 use Rattle.sync_model.specs.Within.{taken_within, taken_all_within, answers_within}
@@ -79,7 +79,7 @@ module _ (operation : SyncOperation) (start : Start) (opened : ℕ) where
 
   -- ---- what a copy makes of it
 
-  module _ (ascending : Ascending operation) (held : List Entry) (begins : Begins operation start opened held) (within : (count : ℕ) → IsWithin (operation.states count)) where
+  module _ (ascending : Ascending operation) (held : List Entry) (begins : MayBegin operation start opened held) (within : (count : ℕ) → IsWithinLimits (operation.states count)) where
     abbrev pieces : List RefreshPiece
     pieces = whole_walk operation start opened
 

@@ -9,8 +9,8 @@ use Rattle.entry_tree.specs.declared.op.Write.{Write}
 use Rattle.directory_writes.specs.Directory.{code_of_judged}
 use Rattle.sync_provider.specs.Accepting as accepting
 use Rattle.sync_provider.specs.HandingOut as handing
-use Rattle.sync_provider.specs.Answering.{WriteLeaves, AcceptLeaves, HandOutLeaves, Answered, Leaves, Leads, calls_of, calls_of_accepted, calls_of_handed}
-use Rattle.sync_provider.specs.Answering.Answered.{Wrote, Committed, CommittedEach, Accepts, HandedOut, Dropped, LimitedLog, LimitedQueue}
+use Rattle.sync_provider.specs.Answering.{WriteLeaves, AcceptLeaves, HandOutLeaves, Answered, MayLeave, Leads, calls_of, calls_of_accepted, calls_of_handed}
+use Rattle.sync_provider.specs.Answering.Answered.{Wrote, Committed, CommittedEach, Accepts, HandedOut, Skipped, Dropped, LimitedLog, LimitedQueue}
 use Rattle.sync_provider.specs.Machine.{ProviderState, ProviderCall, after_judged, judged_by, wrote, run}
 use Rattle.sync_provider.specs.Machine.{ProviderCall as calls}
 use Rattle.sync_provider.specs.declared.handed.Handed.{Handed}
@@ -62,7 +62,7 @@ hand_out_counts old new number handed.NoMemory is = is.state
 
 -- ---- each call
 
-call_counts : (old new : ProviderState) (call : Answered) → Leaves old call new → new ≡ run old (calls_of call)
+call_counts : (old new : ProviderState) (call : Answered) → MayLeave old call new → new ≡ run old (calls_of call)
 call_counts old new (Wrote op now reply) is = write_counts old new op now reply is
 call_counts old new (Committed puts drops now (Ok number)) is = is.state
 call_counts old new (Committed puts drops now (Err fault)) is = is.err
@@ -70,6 +70,7 @@ call_counts old new (CommittedEach commits now (Ok number)) is = is.state
 call_counts old new (CommittedEach commits now (Err fault)) is = is.err
 call_counts old new (Accepts ask result) is = accept_counts old new ask result is
 call_counts old new (HandedOut number result) is = hand_out_counts old new number result is
+call_counts old new (Skipped number) is = is
 call_counts old new (Dropped number result) is = is.state
 call_counts old new (LimitedLog limit) is = is
 call_counts old new (LimitedQueue limit) is = is

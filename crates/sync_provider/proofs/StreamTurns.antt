@@ -12,7 +12,7 @@ use Rattle.sync_model.proofs.LaterWrites.{each_entry, place_in}
 use Rattle.sync_model.proofs.NextMessages.{HasNext, Next, some_next}
 use Rattle.sync_wire.specs.Sending as wire
 use Rattle.sync_provider.specs.HandingOut.{turn_of_message}
-use Rattle.sync_provider.specs.HandingOut.Turn.{Hands, Closes}
+use Rattle.sync_provider.specs.HandingOut.HandOut.{Hands, Closes}
 use Rattle.sync_provider.specs.Search.{whole_walk, refresh_from}
 use Rattle.sync_provider.proofs.Growing.{GoesOn, part_goes, stream_goes}
 use Rattle.sync_provider.proofs.Kept.{hands}

@@ -8,7 +8,7 @@ use Rattle.std.proofs.lemmas.List.{take_more}
 use Rattle.directory_writes.proofs.Keyed.{kept_at, closed_at, put_on, less_cmp, same_cmp, more_cmp, is_at-same, is_at-other}
 use Rattle.entry_tree.specs.declared.touched.EntryChange.{EntryChange}
 use Rattle.sync_model.specs.Message.{CookieText}
-use Rattle.sync_provider.specs.Placing.{HasNoPlace, IsNumber, placed_from, put_back, ComesBack, shown, pushed_at, IsStagedAt, AreStagedAt}
+use Rattle.sync_provider.specs.Placing.{Ascends, HasNoPlace, IsSearchNumber, placed_from, put_back, ComesBack, shown, pushed_at, IsStagedAt, AreStagedAt}
 use Rattle.sync_provider.specs.Staging.{HeldSearch, searches_of, AreStaged, pushed_staged, each_pushed}
 
 abbrev Order : ℕ → ℕ → Type 0
@@ -16,11 +16,8 @@ Order a b = (a ≡ b) ⊎ ((a < b) ⊎ (b < a))
 
 -- ---- numbers that ascend from one on
 
-abbrev pub Ascends : {X : Type 0} → ℕ → List (ℕ × X) → Type 0
-Ascends low [] = ⊤
-Ascends low (e ∷ es) = (low ≤ e.0) × Ascends (suc e.0) es
-
-weaker : {X : Type 0} (es : List (ℕ × X)) (low next : ℕ) → low ≤ next → Ascends next es → Ascends low es
+-- numbers that ascend from a greater one on
+pub weaker : {X : Type 0} (es : List (ℕ × X)) (low next : ℕ) → low ≤ next → Ascends next es → Ascends low es
 weaker [] low next less h = tt
 weaker (e ∷ es) low next less h = (omega (arith, h.0), h.1)
 
@@ -35,8 +32,8 @@ placed_length [] first = omega arith
 placed_length (None ∷ places) first = let rest : length (placed_from (suc first) places) ≤ length places = placed_length places (suc first) in omega (arith, rest)
 placed_length (Some held ∷ places) first = let rest : length (placed_from (suc first) places) ≤ length places = placed_length places (suc first) in omega (arith, rest)
 
--- a number below all
-none_below : {X : Type 0} (es : List (ℕ × X)) (low k : ℕ) → Ascends low es → k < low → kept_at es k ≡ None
+-- nothing is kept at a number below all
+pub none_below : {X : Type 0} (es : List (ℕ × X)) (low k : ℕ) → Ascends low es → k < low → kept_at es k ≡ None
 none_below [] low k h less = refl
 none_below (e ∷ es) low k h less =
     let more : k < e.0 = omega (arith, h.0) in
@@ -121,7 +118,7 @@ closed_none (e ∷ es) k none = by (closed_none es k) (is_at (nat_cmp k) e.0) re
     by rest false miss = ap (λ b. cond b es (e ∷ closed_at es k)) miss ∙ ap (λ xs. e ∷ xs) (rest (sym (ap (λ b. cond b (Some e.1) (kept_at es k)) miss) ∙ none))
 
 -- what is taken out is gone
-gone : {X : Type 0} (es : List (ℕ × X)) (low k : ℕ) → Ascends low es → kept_at (closed_at es k) k ≡ None
+pub gone : {X : Type 0} (es : List (ℕ × X)) (low k : ℕ) → Ascends low es → kept_at (closed_at es k) k ≡ None
 gone [] low k h = refl
 gone (e ∷ es) low k h = by (gone es (suc e.0) k h.1) (cases_order k e.0)
   where
@@ -211,7 +208,7 @@ pub found_at : {X : Type 0} (places : List (Option X)) (number place : ℕ) (x :
 found_at places number place x all at is = kept_from places 1 number place x (omega (arith, at.0)) (omega (arith, at.1)) is
 
 -- it is put there
-pub filled : {X : Type 0} (places : List (Option X)) (number : ℕ) (x : X) → length places ≡ 64 → IsNumber number → placed_from 1 (set places (number - 1) (Some x)) ≡ insert_entry nat_cmp (placed_from 1 places) number x
+pub filled : {X : Type 0} (places : List (Option X)) (number : ℕ) (x : X) → length places ≡ 64 → IsSearchNumber number → placed_from 1 (set places (number - 1) (Some x)) ≡ insert_entry nat_cmp (placed_from 1 places) number x
 filled places number x all is = filled_from places 1 number (number - 1) x (omega (arith, is.first)) (omega (arith, is.first, is.last))
 
 -- and taken out

@@ -15,8 +15,8 @@ use Rattle.sync_model.specs.Message.SyncMessage.{AddOrModify, Delete, Present, I
 use Rattle.sync_model.specs.Stream.{end_of}
 use Rattle.sync_wire.specs.Sending.{sent}
 use Rattle.directory_writes.proofs.Keyed.{kept_at, closed_at, put_on}
-use Rattle.sync_provider.specs.HandingOut.{Turn, turn_of_message, turn_of_pending, turn_at, has_message, search_at, is_closing, after_own_turn, without_first, handed_on, after_answer}
-use Rattle.sync_provider.specs.HandingOut.Turn.{Hands, Closes, Waits, Unknown}
+use Rattle.sync_provider.specs.HandingOut.{HandOut, turn_of_message, turn_of_pending, turn_at, has_message, search_at, is_closing, after_own_turn, without_first, handed_on, after_a_turn}
+use Rattle.sync_provider.specs.HandingOut.HandOut.{Hands, Closes, Waits, Unknown}
 use Rattle.sync_provider.specs.Search.{SearchState, busy_end, pending, advanced, is_end, message_of, messages_of, first_of}
 use Rattle.sync_provider.specs.Staging.{HeldSearch, searches_of}
 use Rattle.sync_provider.specs.declared.refresh_item.RefreshItem.{RefreshItem}
@@ -39,7 +39,7 @@ first_end persists deletes parts handed cookie all = at_drop_all (λ ps. first_o
 
 -- ---- the turn of a search
 
-abbrev turn_now : SearchState → Turn
+abbrev turn_now : SearchState → HandOut
 turn_now s = turn_of_pending s.id (pending s)
 
 pub over_turn : (s : SearchState) → s.over ≡ true → turn_of_pending s.id (pending s) ≡ Closes (pos BUSY) (sent s.id (Done (pos BUSY) None))
@@ -62,6 +62,7 @@ pub part_state : (s : SearchState) (persists deletes : Bool) (parts : List Refre
 part_state s persists deletes [] cookie is some = absurd (true≢false some)
 part_state s persists deletes (p ∷ parts) cookie is some = ap (λ rest. advanced s rest s.due) is
 
+-- the end of the refresh of a search that goes on is a message that leaves the search open
 pub end_hands : (id : ℕ) (deletes : Bool) (cookie : CookieText) → turn_of_message id (end_of true deletes cookie) ≡ Hands (sent id (end_of true deletes cookie))
 end_hands id true cookie = refl
 end_hands id false cookie = refl
@@ -147,15 +148,15 @@ found_has_message es k held found there = ap has_message (turn_found es k held f
 
 -- ---- the open searches after a turn
 
-open_by : (es : List (ℕ × SearchState)) (k : ℕ) (s : SearchState) (turn : Option Turn) → search_at es k ≡ Some s → is_closing turn ≡ false
-    → put_on es k (after_own_turn s turn) ≡ after_answer es k turn
+open_by : (es : List (ℕ × SearchState)) (k : ℕ) (s : SearchState) (turn : Option HandOut) → search_at es k ≡ Some s → is_closing turn ≡ false
+    → put_on es k (after_own_turn s turn) ≡ after_a_turn es k turn
 open_by es k s None found h = set_value_same (is_at (nat_cmp k)) es s found
 open_by es k s (Some (Hands message)) found h = sym (ap (handed_on es k) found)
 open_by es k s (Some (Closes code message)) found h = absurd (true≢false h)
 open_by es k s (Some Waits) found h = set_value_same (is_at (nat_cmp k)) es s found
 open_by es k s (Some Unknown) found h = set_value_same (is_at (nat_cmp k)) es s found
 
-pub closed_after : (es : List (ℕ × HeldSearch)) (k : ℕ) (turn : Option Turn) → is_closing turn ≡ true → searches_of (closed_at es k) ≡ after_answer (searches_of es) k turn
+pub closed_after : (es : List (ℕ × HeldSearch)) (k : ℕ) (turn : Option HandOut) → is_closing turn ≡ true → searches_of (closed_at es k) ≡ after_a_turn (searches_of es) k turn
 closed_after es k (Some (Closes code message)) h = held_closed es k
 closed_after es k None h = absurd (false≢true h)
 closed_after es k (Some (Hands message)) h = absurd (false≢true h)
@@ -163,8 +164,8 @@ closed_after es k (Some Waits) h = absurd (false≢true h)
 closed_after es k (Some Unknown) h = absurd (false≢true h)
 
 -- a search that is taken out for its turn and put back
-pub open_after : (es : List (ℕ × HeldSearch)) (k : ℕ) (old new : HeldSearch) (turn : Option Turn) → kept_at es k ≡ Some old → ((held : HeldSearch) → insert_entry nat_cmp (closed_at es k) k held ≡ put_on es k held)
-    → new.search ≡ after_own_turn old.search turn → is_closing turn ≡ false → searches_of (insert_entry nat_cmp (closed_at es k) k new) ≡ after_answer (searches_of es) k turn
+pub open_after : (es : List (ℕ × HeldSearch)) (k : ℕ) (old new : HeldSearch) (turn : Option HandOut) → kept_at es k ≡ Some old → ((held : HeldSearch) → insert_entry nat_cmp (closed_at es k) k held ≡ put_on es k held)
+    → new.search ≡ after_own_turn old.search turn → is_closing turn ≡ false → searches_of (insert_entry nat_cmp (closed_at es k) k new) ≡ after_a_turn (searches_of es) k turn
 open_after es k old new turn found again same h =
     ap searches_of (again new) ∙ held_put es k new ∙ ap (put_on (searches_of es) k) same ∙ open_by (searches_of es) k old.search turn (search_found es k old found) h
 

@@ -6,7 +6,7 @@ use Rattle.entry_tree.specs.Touched.{touched}
 use Rattle.entry_tree.specs.declared.entry.Entry.{Entry}
 use Rattle.entry_tree.specs.declared.touched.EntryChange.{EntryChange}
 use Rattle.sync_model.specs.Copy.{Copy, SyncSession, taken}
-use Rattle.sync_model.specs.Law.{Begins, settled}
+use Rattle.sync_model.specs.Law.{MayBegin, settled}
 use Rattle.sync_model.specs.Message.{SyncMessage}
 use Rattle.sync_model.specs.Stream.{SyncOperation, Start, content_after, notified_all, later}
 use Rattle.sync_model.proofs.Later.{stepping, staged_all, session_on}
@@ -17,7 +17,7 @@ use Rattle.sync_provider.specs.Search.{refresh_from}
 -- in the refresh: these messages of it were taken, and some are to come, before those of later writes; the entries are
 -- still those of before, and no message is needed of the cookie, which may have changed since
 pub record InRefresh (operation : SyncOperation) (start : Start) (opened count : ℕ) (entries : List Entry) (held : Copy) (taken ahead : List SyncMessage) : Type 0 where
-  pub begins : Begins operation start opened entries
+  pub begins : MayBegin operation start opened entries
   pub rest : List SyncMessage
   pub some : HasNext rest
   pub whole : taken ++ rest ≡ refresh_from operation start opened

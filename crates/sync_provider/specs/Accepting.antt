@@ -97,10 +97,10 @@ abbrev pub answer_to : DirectoryState → List (ℕ × SearchState) → SyncSear
 answer_to d searches ask = answer_to_request d searches ask (request_of ask.control)
 
 -- what a call answered is this, unless memory ran out
-abbrev pub Answers : Accepted → Accepted → Type 0
-Answers NoMemory answer = Unit {0}
-Answers (Refused code) answer = answer ≡ Refused code
-Answers (Opened number writes) answer = answer ≡ Opened number writes
+abbrev pub AnswersAccept : Accepted → Accepted → Type 0
+AnswersAccept NoMemory answer = Unit {0}
+AnswersAccept (Refused code) answer = answer ≡ Refused code
+AnswersAccept (Opened number writes) answer = answer ≡ Opened number writes
 
 -- ---- the searches after it
 

@@ -1,13 +1,13 @@
 -- What the calls of a provider answer, and what they leave. Each call says so of itself by its
--- clause `leaves`, but for the changes of limits, whose only clause is what stands here.
+-- clause `leaves`, but for `skip` and the changes of limits, whose only clause is what stands here.
 use Rattle.std.specs.Prelude.{◌≡◌, ◌≢◌, ◌↔◌, ℕ, ◌+◌, Bool, true, cond, nat_eq, List, [], ◌∷◌, length, flat_map, None, is_some, Result, Ok, Err, IfOk, IfErr, IfSome, OnOk, OnErr, IsErrOf}
 use Rattle.ldap_constants.specs.declared.result_codes.TheConstants.{SUCCESS, OTHER}
 use Rattle.entry_tree.specs.declared.entry.Entry.{Entry}
 use Rattle.entry_tree.specs.declared.op.Op.{Op}
 use Rattle.sync_provider.specs.Accepting as accepting
-use Rattle.sync_provider.specs.Committing.{commit_refusal, Opposes}
+use Rattle.sync_provider.specs.Committing.{commit_refusal, RejectsCommit}
 use Rattle.sync_provider.specs.HandingOut as handing
-use Rattle.sync_provider.specs.Machine.{ProviderState, ProviderCall, wrote, write_code, committed, commit_calls, committed_each, refusal_of_each, dropped, log_limited, queue_limited, run}
+use Rattle.sync_provider.specs.Machine.{ProviderState, ProviderCall, wrote, write_code, committed, commit_calls, committed_each, refusal_of_each, handed_out, dropped, log_limited, queue_limited, run}
 use Rattle.sync_provider.specs.Machine.{ProviderCall as calls}
 use Rattle.sync_provider.specs.declared.committing.StagedCommit.{StagedCommit}
 use Rattle.sync_provider.specs.declared.handed.Handed.{Handed}
@@ -33,7 +33,7 @@ pub record CommitLeaves
     (old : ProviderState) (puts : List Entry) (drops : List ℕ) (now : ℕ)
     (result : Result ℕ CommitFault) (new : ProviderState) : Type 0 where
   pub accepted : OnOk result (commit_refusal old.kind old.directory puts drops now ≡ None)
-  pub refused : IfErr result (Opposes (commit_refusal old.kind old.directory puts drops now))
+  pub refused : IfErr result (RejectsCommit (commit_refusal old.kind old.directory puts drops now))
   pub root : IsErrOf result NotAReplica ↔ old.kind ≡ Root
   pub state : OnOk result (new ≡ committed old puts drops now)
   pub err : OnErr result (new ≡ old)
@@ -44,7 +44,7 @@ pub record CommitsLeave
     (old : ProviderState) (commits : List StagedCommit) (now : ℕ)
     (result : Result ℕ CommitFault) (new : ProviderState) : Type 0 where
   pub accepted : OnOk result (refusal_of_each old commits now ≡ None)
-  pub refused : IfErr result (Opposes (refusal_of_each old commits now))
+  pub refused : IfErr result (RejectsCommit (refusal_of_each old commits now))
   pub state : OnOk result (new ≡ committed_each old commits now)
   pub err : OnErr result (new ≡ old)
   pub number : IfOk result (λ number. number ≡ length new.directory.writes)
@@ -52,7 +52,7 @@ pub record CommitsLeave
 pub record AcceptLeaves
     (old : ProviderState) (ask : SyncSearch) (result : Accepted)
     (new : ProviderState) : Type 0 where
-  pub answer : accepting.Answers result (accepting.answer_to old.directory old.searches ask)
+  pub answer : accepting.AnswersAccept result (accepting.answer_to old.directory old.searches ask)
   pub state :
       new ≡ record old { searches = accepting.after_answer old.directory old.searches ask result }
 
@@ -63,7 +63,7 @@ pub record HandOutLeaves
       result ≡ handed.NoMemory → handing.has_message (handing.turn_at old.searches number) ≡ true
   pub state :
       new
-      ≡ record old { searches = handing.after_answer old.searches number (handing.turn_of result) }
+      ≡ record old { searches = handing.after_a_turn old.searches number (handing.turn_of result) }
 
 pub record DropLeaves
     (old : ProviderState) (number : ℕ) (result : Bool) (new : ProviderState) : Type 0 where
@@ -80,26 +80,28 @@ pub data Answered : Type 0 where
   CommittedEach : (commits : List StagedCommit) (now : ℕ) (result : Result ℕ CommitFault) → Answered
   Accepts : (ask : SyncSearch) (result : Accepted) → Answered
   HandedOut : (number : ℕ) (result : Handed) → Answered
+  Skipped : (number : ℕ) → Answered
   Dropped : (number : ℕ) (result : Bool) → Answered
   LimitedLog : (limit : ℕ) → Answered
   LimitedQueue : (limit : ℕ) → Answered
 
 -- what may be left of a provider where a call answered so
-abbrev pub Leaves : ProviderState → Answered → ProviderState → Type 0
-Leaves old (Wrote op now reply) new = WriteLeaves old op now reply new
-Leaves old (Committed puts drops now result) new = CommitLeaves old puts drops now result new
-Leaves old (CommittedEach commits now result) new = CommitsLeave old commits now result new
-Leaves old (Accepts ask result) new = AcceptLeaves old ask result new
-Leaves old (HandedOut number result) new = HandOutLeaves old number result new
-Leaves old (Dropped number result) new = DropLeaves old number result new
-Leaves old (LimitedLog limit) new = new ≡ log_limited old limit
-Leaves old (LimitedQueue limit) new = new ≡ queue_limited old limit
+abbrev pub MayLeave : ProviderState → Answered → ProviderState → Type 0
+MayLeave old (Wrote op now reply) new = WriteLeaves old op now reply new
+MayLeave old (Committed puts drops now result) new = CommitLeaves old puts drops now result new
+MayLeave old (CommittedEach commits now result) new = CommitsLeave old commits now result new
+MayLeave old (Accepts ask result) new = AcceptLeaves old ask result new
+MayLeave old (HandedOut number result) new = HandOutLeaves old number result new
+MayLeave old (Skipped number) new = new ≡ handed_out old number
+MayLeave old (Dropped number result) new = DropLeaves old number result new
+MayLeave old (LimitedLog limit) new = new ≡ log_limited old limit
+MayLeave old (LimitedQueue limit) new = new ≡ queue_limited old limit
 
 -- what may be left where calls answered so one after another
 abbrev pub Leads : ProviderState → List Answered → ProviderState → Type 0
 Leads old [] new = new ≡ old
 Leads old (call ∷ later) new =
-    (between : ProviderState) × Leaves old call between × Leads between later new
+    (between : ProviderState) × MayLeave old call between × Leads between later new
 
 -- ---- the calls that count
 
@@ -128,6 +130,7 @@ calls_of (Committed puts drops now result) =
 calls_of (CommittedEach commits now result) = calls_of_result (commit_calls commits now) result
 calls_of (Accepts ask result) = calls_of_accepted ask result
 calls_of (HandedOut number result) = calls_of_handed number result
+calls_of (Skipped number) = calls.HandsOut number ∷ []
 calls_of (Dropped number result) = calls.Drops number ∷ []
 calls_of (LimitedLog limit) = calls.SetsLogLimit limit ∷ []
 calls_of (LimitedQueue limit) = calls.SetsQueueLimit limit ∷ []

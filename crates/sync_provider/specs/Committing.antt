@@ -23,8 +23,8 @@ commit_refusal Replica d puts drops now =
     option_map fault_of (directory.commit_refusal d puts drops now)
 
 -- a fault reports what rejects a commit; out of memory reports nothing
-abbrev pub Opposes : Option CommitFault → CommitFault → Type 0
-Opposes refusal (DuplicateName one other) = refusal ≡ Some (DuplicateName one other)
-Opposes refusal (LimitReached limit) = refusal ≡ Some (LimitReached limit)
-Opposes refusal NoMemory = Unit {0}
-Opposes refusal NotAReplica = refusal ≡ Some NotAReplica
+abbrev pub RejectsCommit : Option CommitFault → CommitFault → Type 0
+RejectsCommit refusal (DuplicateName one other) = refusal ≡ Some (DuplicateName one other)
+RejectsCommit refusal (LimitReached limit) = refusal ≡ Some (LimitReached limit)
+RejectsCommit refusal NoMemory = Unit {0}
+RejectsCommit refusal NotAReplica = refusal ≡ Some NotAReplica

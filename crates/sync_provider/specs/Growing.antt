@@ -4,7 +4,7 @@ use Rattle.entry_tree.specs.declared.op.Write.{Write}
 use Rattle.sync_provider.specs.Machine.{ProviderState}
 
 -- some writes came since; its searches and its log may be others, and all else is the same
-pub record HasGrown (old new : ProviderState) : Type 0 where
+pub record HasMoreWrites (old new : ProviderState) : Type 0 where
   pub later : List Write
   pub kind : new.kind ≡ old.kind
   pub queue_limit : new.queue_limit ≡ old.queue_limit

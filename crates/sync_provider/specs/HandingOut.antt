@@ -12,17 +12,17 @@ use Rattle.sync_provider.specs.declared.handed.Handed.{Handed}
 use Rattle.sync_provider.specs.declared.handed.Handed.TheVariants as handed
 
 -- what a hand-out answers
-pub data Turn : Type 0 where
+pub data HandOut : Type 0 where
   -- the next message, after which the search goes on
-  Hands : (message : Whole) → Turn
+  Hands : (message : Whole) → HandOut
   -- the end of the search, with its result code
-  Closes : (code : ℤ) (message : Whole) → Turn
+  Closes : (code : ℤ) (message : Whole) → HandOut
   -- nothing is pending
-  Waits : Turn
+  Waits : HandOut
   -- no such search is open
-  Unknown : Turn
+  Unknown : HandOut
 
-abbrev pub turn_of_message : ℕ → SyncMessage → Turn
+abbrev pub turn_of_message : ℕ → SyncMessage → HandOut
 turn_of_message id (AddOrModify adds entry cookie) = Hands (sent id (AddOrModify adds entry cookie))
 turn_of_message id (Delete uuid name cookie) = Hands (sent id (Delete uuid name cookie))
 turn_of_message id (Present uuid cookie) = Hands (sent id (Present uuid cookie))
@@ -34,11 +34,11 @@ turn_of_message id (Done code control) = Closes code (sent id (Done code control
 turn_of_message id Ignored = Hands (sent id Ignored)
 
 -- the message that is pending first is handed out
-abbrev pub turn_of_pending : ℕ → List SyncMessage → Turn
+abbrev pub turn_of_pending : ℕ → List SyncMessage → HandOut
 turn_of_pending id [] = Waits
 turn_of_pending id (message ∷ rest) = turn_of_message id message
 
-abbrev pub turn_of_found : Option SearchState → Turn
+abbrev pub turn_of_found : Option SearchState → HandOut
 turn_of_found None = Unknown
 turn_of_found (Some s) = turn_of_pending s.id (pending s)
 
@@ -46,26 +46,26 @@ abbrev pub search_at : List (ℕ × SearchState) → ℕ → Option SearchState
 search_at searches number = lookup (is_at (nat_cmp number)) searches
 
 -- the turn of the search with this number
-abbrev pub turn_at : List (ℕ × SearchState) → ℕ → Turn
+abbrev pub turn_at : List (ℕ × SearchState) → ℕ → HandOut
 turn_at searches number = turn_of_found (search_at searches number)
 
 -- the turn of the message with n before it of those that are pending
-abbrev pub turn_of_place : ℕ → Option SearchState → Turn
+abbrev pub turn_of_place : ℕ → Option SearchState → HandOut
 turn_of_place place None = Unknown
 turn_of_place place (Some s) = turn_of_pending s.id (drop place (pending s))
 
-abbrev pub turn_at_place : List (ℕ × SearchState) → ℕ → ℕ → Turn
+abbrev pub turn_at_place : List (ℕ × SearchState) → ℕ → ℕ → HandOut
 turn_at_place searches number place = turn_of_place place (search_at searches number)
 
 -- there is a message in it, which has to be written
-abbrev pub has_message : Turn → Bool
+abbrev pub has_message : HandOut → Bool
 has_message (Hands message) = true
 has_message (Closes code message) = true
 has_message Waits = false
 has_message Unknown = false
 
 -- what a call answered; out of memory is no turn
-abbrev pub turn_of : Handed → Option Turn
+abbrev pub turn_of : Handed → Option HandOut
 turn_of (handed.Message message) = Some (Hands (whole_of message))
 turn_of (handed.Ended code message) = Some (Closes (pos code) (whole_of message))
 turn_of handed.Nothing = Some Waits
@@ -73,7 +73,7 @@ turn_of handed.NoSuchSearch = Some Unknown
 turn_of handed.NoMemory = None
 
 -- it is the end of the search
-abbrev pub is_closing : Option Turn → Bool
+abbrev pub is_closing : Option HandOut → Bool
 is_closing None = false
 is_closing (Some (Hands message)) = false
 is_closing (Some (Closes code message)) = true
@@ -86,7 +86,7 @@ abbrev pub without_first : SearchState → SearchState
 without_first s = advanced s s.rest s.due
 
 -- the search itself after its turn
-abbrev pub after_own_turn : SearchState → Option Turn → SearchState
+abbrev pub after_own_turn : SearchState → Option HandOut → SearchState
 after_own_turn s None = s
 after_own_turn s (Some (Hands message)) = without_first s
 after_own_turn s (Some (Closes code message)) = s
@@ -100,13 +100,13 @@ abbrev pub handed_on : List (ℕ × SearchState) → ℕ → Option SearchState 
 handed_on searches number None = searches
 handed_on searches number (Some s) = set_value (is_at (nat_cmp number)) searches (without_first s)
 
-abbrev pub after_turn : List (ℕ × SearchState) → ℕ → Turn → List (ℕ × SearchState)
+abbrev pub after_turn : List (ℕ × SearchState) → ℕ → HandOut → List (ℕ × SearchState)
 after_turn searches number (Hands message) = handed_on searches number (search_at searches number)
 after_turn searches number (Closes code message) = closed searches number
 after_turn searches number Waits = searches
 after_turn searches number Unknown = searches
 
 -- where memory ran out, all is as before
-abbrev pub after_answer : List (ℕ × SearchState) → ℕ → Option Turn → List (ℕ × SearchState)
-after_answer searches number None = searches
-after_answer searches number (Some turn) = after_turn searches number turn
+abbrev pub after_a_turn : List (ℕ × SearchState) → ℕ → Option HandOut → List (ℕ × SearchState)
+after_a_turn searches number None = searches
+after_a_turn searches number (Some turn) = after_turn searches number turn

@@ -73,7 +73,7 @@ write_code p op now = code_of_judged (judged_by p.kind p.directory op now)
 abbrev pub wrote : ProviderState → Op → ℕ → ProviderState
 wrote p op now = after_judged p (judged_by p.kind p.directory op now)
 
--- the provider after a commit, by what rejects it: where nothing is, it is judged and
+-- the provider after a commit, by what rejects it: where nothing does, it is judged and
 -- reported as each write is
 abbrev pub after_commit : ProviderState → Op → ℕ → Option CommitFault → ProviderState
 after_commit p op now None = after_judged p (judged p.directory op now)

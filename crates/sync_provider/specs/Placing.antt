@@ -9,7 +9,7 @@ use Rattle.sync_provider.specs.Search.{SearchState}
 use Rattle.sync_provider.specs.Staging.{HeldSearch, staged_for, pushed_staged}
 
 -- a number that has a place
-pub record IsNumber (number : ℕ) : Type 0 where
+pub record IsSearchNumber (number : ℕ) : Type 0 where
   pub first : 1 ≤ number
   pub last : number ≤ 64
 
@@ -22,6 +22,11 @@ abbrev pub placed_from : {X : Type 0} → ℕ → List (Option X) → List (ℕ 
 placed_from number [] = []
 placed_from number (None ∷ places) = placed_from (suc number) places
 placed_from number (Some held ∷ places) = (number, held) ∷ placed_from (suc number) places
+
+-- the numbers ascend, from the first on
+abbrev pub Ascends : {X : Type 0} → ℕ → List (ℕ × X) → Type 0
+Ascends first [] = ⊤
+Ascends first (e ∷ es) = (first ≤ e.0) × Ascends (suc e.0) es
 
 -- a map with this value of a key, or with none
 abbrev pub put_back : {X : Type 0} → List (ℕ × X) → ℕ → Option X → List (ℕ × X)

@@ -12,11 +12,11 @@ use Rattle.sync_messages.specs.declared.fault.SyncFault.{SyncFault}
 use Rattle.sync_messages.specs.declared.request.SyncRequest.{SyncRequest}
 use Rattle.sync_model.specs.Message.{SyncMessage}
 use Rattle.directory_writes.specs.Directory.{DirectoryState, entries_of, judged, with_write, code_of_judged, AreAccepted, CsnsRise}
-use Rattle.sync_provider.specs.Accepting.{Answers, numbers_from, numbered}
-use Rattle.sync_provider.specs.Committing.{commit_refusal, Opposes}
+use Rattle.sync_provider.specs.Accepting.{AnswersAccept, numbers_from, numbered}
+use Rattle.sync_provider.specs.Committing.{commit_refusal, RejectsCommit}
 use Rattle.sync_provider.specs.Comparing.{compare_code}
-use Rattle.sync_provider.specs.HandingOut.{Turn, turn_of, turn_of_pending, has_message}
-use Rattle.sync_provider.specs.HandingOut.Turn.{Hands, Closes, Waits, Unknown}
+use Rattle.sync_provider.specs.HandingOut.{HandOut, turn_of, turn_of_pending, has_message}
+use Rattle.sync_provider.specs.HandingOut.HandOut.{Hands, Closes, Waits, Unknown}
 use Rattle.sync_provider.specs.Law.{stream_of, is_too_much}
 use Rattle.sync_provider.specs.Machine.{judged_by}
 use Rattle.sync_provider.specs.Opened.{SearchOpening, opening_of_ask, bare_search}
@@ -90,7 +90,7 @@ stream_in d opened = stream_of d (bare_search opened) (length d.writes) d.writes
 abbrev pub pending_in : DirectoryState → FollowedSearch → List SyncMessage
 pending_in d f = cond f.over (busy_end ∷ []) (drop f.handed (stream_in d f.opened))
 
-abbrev pub turn_in : DirectoryState → Option FollowedSearch → Turn
+abbrev pub turn_in : DirectoryState → Option FollowedSearch → HandOut
 turn_in d None = Unknown
 turn_in d (Some f) = turn_of_pending f.opened.id (pending_in d f)
 
@@ -141,10 +141,11 @@ abbrev pub noted_all : PortState → Journal → PortState
 noted_all p [] = p
 noted_all p (e ∷ journal) = noted_all (noted p e.0 e.1) journal
 
--- entries of other ports came in since
+-- entries of other ports of its directory came in since, whose numbers go from 1 up to how many
+-- ports it has
 pub record IsLater (old new : PortState) : Type 0 where
   pub entries : Journal
-  pub others : All (λ e. (e.1 ≢ old.number) × (e.1 ≤ old.ports)) entries
+  pub others : All (λ e. (e.1 ≢ old.number) × (1 ≤ e.1) × (e.1 ≤ old.ports)) entries
   pub is : new ≡ noted_all old entries
 
 -- a call at a port: entries of other ports come in first, and then it is replied to
@@ -181,7 +182,7 @@ pub record CommitReplies
     (p : PortState) (puts : List Entry) (drops : List ℕ) (now : ℕ)
     (result : Result ℕ CommitFault) (new : PortState) : Type 0 where
   pub accepted : OnOk result (commit_refusal p.kind p.directory puts drops now ≡ None)
-  pub refused : IfErr result (Opposes (commit_refusal p.kind p.directory puts drops now))
+  pub refused : IfErr result (RejectsCommit (commit_refusal p.kind p.directory puts drops now))
   pub root : IsErrOf result NotAReplica ↔ p.kind ≡ Root
   pub state : OnOk result (new ≡ committed_in p puts drops now)
   pub err : OnErr result (new ≡ p)
@@ -238,7 +239,7 @@ accepted_in p ask accepted.NoMemory = p
 
 pub record AcceptReplies
     (p : PortState) (ask : SyncSearch) (result : Accepted) (new : PortState) : Type 0 where
-  pub answer : Answers result (answer_in p ask)
+  pub answer : AnswersAccept result (answer_in p ask)
   pub state : new ≡ accepted_in p ask result
 
 -- one of its messages more was handed out
@@ -259,7 +260,7 @@ abbrev pub end_of : ℕ → (handed : ℕ) → FollowedSearch → ClosedSearch
 end_of number handed f = record { number = number; handed = handed; over = over_at f }
 
 -- out of memory is no turn; only a search that the port follows has a message
-abbrev pub after_turn_in : PortState → ℕ → Option FollowedSearch → Option Turn → PortState
+abbrev pub after_turn_in : PortState → ℕ → Option FollowedSearch → Option HandOut → PortState
 after_turn_in p number search None = p
 after_turn_in p number None (Some turn) = p
 after_turn_in p number (Some f) (Some (Hands message)) = handed_in p number f

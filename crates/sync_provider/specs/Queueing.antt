@@ -12,7 +12,8 @@ use Rattle.directory_writes.specs.Weights.{name_weight}
 
 -- ---- what it may hold
 
--- the name of its entry, as it is written, and the attributes that it carries, without the marks
+-- the name of its entry, as it is written, and the attributes that it carries, but for
+-- the operational ones
 abbrev pub carried_weight : SyncMessage → ℕ
 carried_weight (AddOrModify adds entry cookie) = name_weight entry.dn + weight_of entry.attrs
 carried_weight (Delete uuid name cookie) = length name

@@ -1,14 +1,17 @@
 -- A return of a search to what it was at an earlier moment.
-use Rattle.std.specs.Prelude.{◌≡◌, ⊤, ℕ, List, [], ◌∷◌, ◌++◌, length, map, Option, Some, None}
+use Rattle.std.specs.Prelude.{◌≡◌, ⊤, ℕ, Bool, true, false, cond, nat_eq, List, [], ◌∷◌, ◌++◌, length, Option, Some, None}
 use Rattle.std.specs.List.{slice_get}
 use Rattle.csn_cookie.specs.declared.cookie.Cookie.{Cookie}
 use Rattle.dn_names.specs.Names.{TypeAndValue}
 use Rattle.directory_writes.specs.Directory.{DirectoryState, cookie_at, last_csn_of}
+use Rattle.sync_provider.specs.Accepting.{answer_to}
 use Rattle.sync_provider.specs.HandingOut.{search_at}
 use Rattle.sync_provider.specs.Machine.{ProviderState, ProviderCall, called, run}
 use Rattle.sync_provider.specs.Machine.ProviderCall.{Writes, Commits, Accepts, HandsOut, Drops, SetsLogLimit, SetsQueueLimit}
-use Rattle.sync_provider.specs.Placing.{put_back}
+use Rattle.sync_provider.specs.Placing.{Ascends, put_back}
 use Rattle.sync_provider.specs.Search.{SearchState}
+use Rattle.sync_provider.specs.declared.searches.Accepted.{Accepted}
+use Rattle.sync_provider.specs.declared.searches.Accepted.TheVariants.{Opened, Refused, NoMemory}
 
 -- ---- a moment
 
@@ -41,83 +44,123 @@ snapshot_of p number = record {
 -- ---- calls with returns
 
 -- a call, or a return of the search with a number to what it was n steps ago
-pub data Step : Type 0 where
-  Calls : (call : ProviderCall) → Step
-  Returns : (ago number : ℕ) → Step
+pub data ReturnStep : Type 0 where
+  Calls : (call : ProviderCall) → ReturnStep
+  Returns : (ago number : ℕ) → ReturnStep
 
--- the provider with the search of that number as it was at a moment
-abbrev pub returned : ProviderState → ℕ → Option ProviderState → ProviderState
-returned p number None = p
-returned p number (Some before) =
+-- a call that was made, the number of the search that it opened, handed a message out of or closed,
+-- and whether it counts
+pub record MadeCall : Type 0 where
+  pub call : ProviderCall
+  pub number : Option ℕ
+  pub counts : Bool
+
+-- the number of a search that was opened
+abbrev pub number_of_answer : Accepted → Option ℕ
+number_of_answer (Opened number writes) = Some number
+number_of_answer (Refused code) = None
+number_of_answer NoMemory = None
+
+-- the number of the search that a call opens, hands a message out of or closes
+abbrev pub number_of_call : ProviderState → ProviderCall → Option ℕ
+number_of_call p (Writes op now) = None
+number_of_call p (Commits puts drops now) = None
+number_of_call p (Accepts ask) = number_of_answer (answer_to p.directory p.searches ask)
+number_of_call p (HandsOut number) = Some number
+number_of_call p (Drops number) = Some number
+number_of_call p (SetsLogLimit limit) = None
+number_of_call p (SetsQueueLimit limit) = None
+
+-- a call of a provider counts when it is made
+abbrev pub made : ProviderState → ProviderCall → MadeCall
+made p call = record { call = call; number = number_of_call p call; counts = true }
+
+abbrev pub has_number : ℕ → Option ℕ → Bool
+has_number number None = false
+has_number number (Some other) = nat_eq other number
+
+-- the calls up to now where a search comes back that earlier calls led to: of the calls of its
+-- number those count that counted then, also where the number was free in between or was that
+-- of another search, and of the other calls those that count now
+abbrev pub calls_back : ℕ → (earlier now : List MadeCall) → List MadeCall
+calls_back number earlier [] = []
+calls_back number [] (call ∷ now) =
+    cond (has_number number call.number) (record call { counts = false }) call
+    ∷ calls_back number [] now
+calls_back number (was ∷ earlier) (call ∷ now) =
+    cond (has_number number call.number) was call ∷ calls_back number earlier now
+
+-- the calls that count
+abbrev pub counted : List MadeCall → List ProviderCall
+counted [] = []
+counted (call ∷ calls) = cond call.counts (call.call ∷ counted calls) (counted calls)
+
+-- a provider, and the calls that were made up to then
+pub record ProviderStage : Type 0 where
+  pub provider : ProviderState
+  pub calls : List MadeCall
+
+abbrev pub first_stage : ProviderState → ProviderStage
+first_stage p = record { provider = p; calls = [] }
+
+-- the provider with the search of that number as it was at an earlier stage
+abbrev pub returned : ProviderState → ProviderState → ℕ → ProviderState
+returned p before number =
     record p { searches = put_back p.searches number (search_at before.searches number) }
 
--- the provider after a step, by itself at each moment so far, the last of which comes first
-abbrev pub stepped : List ProviderState → ProviderState → Step → ProviderState
-stepped snapshots p (Calls call) = called p call
-stepped snapshots p (Returns ago number) = returned p number (slice_get snapshots ago)
+-- the calls after a return of a search; where none was open under its number at the earlier stage
+-- the return counts as a call that closes it
+abbrev pub calls_after_return :
+    ProviderStage → List MadeCall → ℕ → Option SearchState → List MadeCall
+calls_after_return stage earlier number None =
+    stage.calls ++ made stage.provider (Drops number) ∷ []
+calls_after_return stage earlier number (Some search) = calls_back number earlier stage.calls
 
--- the provider after steps, by itself at the moments before
-abbrev pub stepped_all : List ProviderState → ProviderState → List Step → ProviderState
-stepped_all before p [] = p
-stepped_all before p (step ∷ steps) = stepped_all (p ∷ before) (stepped (p ∷ before) p step) steps
+abbrev pub returned_to : ProviderStage → ℕ → Option ProviderStage → ProviderStage
+returned_to stage number None = stage
+returned_to stage number (Some before) = record {
+  provider = returned stage.provider before.provider number;
+  calls = calls_after_return stage before.calls number
+      (search_at before.provider.searches number);
+}
 
--- no write came since a moment, and with that search back all are as they were then
-pub record IsOpenTo (p : ProviderState) (number : ℕ) (before : ProviderState) : Type 0 where
-  pub no_write : HasNoWriteSince p.directory (snapshot_of before number)
-  pub others : put_back p.searches number (search_at before.searches number) ≡ before.searches
+-- the stage after a step, by all so far, the last of which comes first
+abbrev pub stepped : List ProviderStage → ProviderStage → ReturnStep → ProviderStage
+stepped stages stage (Calls call) = record {
+  provider = called stage.provider call;
+  calls = stage.calls ++ made stage.provider call ∷ [];
+}
+stepped stages stage (Returns ago number) = returned_to stage number (slice_get stages ago)
 
--- there is such a moment
-abbrev pub MayReturn : ProviderState → ℕ → Option ProviderState → Type 0
+-- the stage after steps, by the ones before
+abbrev pub stepped_all : List ProviderStage → ProviderStage → List ReturnStep → ProviderStage
+stepped_all before stage [] = stage
+stepped_all before stage (step ∷ steps) =
+    stepped_all (stage ∷ before) (stepped (stage ∷ before) stage step) steps
+
+-- there is such a stage, and no write came since
+abbrev pub MayReturn : ProviderState → ℕ → Option ProviderStage → Type 0
 MayReturn p number None = ⊥
-MayReturn p number (Some before) = IsOpenTo p number before
+MayReturn p number (Some before) =
+    HasNoWriteSince p.directory (snapshot_of before.provider number)
 
-abbrev pub MayStep : List ProviderState → ProviderState → Step → Type 0
-MayStep snapshots p (Calls call) = ⊤
-MayStep snapshots p (Returns ago number) = MayReturn p number (slice_get snapshots ago)
+abbrev pub MayStep : List ProviderStage → ProviderStage → ReturnStep → Type 0
+MayStep stages stage (Calls call) = ⊤
+MayStep stages stage (Returns ago number) =
+    MayReturn stage.provider number (slice_get stages ago)
 
--- each return is to a moment since which no write came and no other search changed
-abbrev pub MayStepAll : List ProviderState → ProviderState → List Step → Type 0
-MayStepAll before p [] = ⊤
-MayStepAll before p (step ∷ steps) =
-    MayStep (p ∷ before) p step × MayStepAll (p ∷ before) (stepped (p ∷ before) p step) steps
+-- each return is to a stage since which no write came
+abbrev pub MayStepAll : List ProviderStage → ProviderStage → List ReturnStep → Type 0
+MayStepAll before stage [] = ⊤
+MayStepAll before stage (step ∷ steps) =
+    MayStep (stage ∷ before) stage step
+    × MayStepAll (stage ∷ before) (stepped (stage ∷ before) stage step) steps
 
--- ---- the calls that count
-
--- the change of a limit, which no return takes back
-abbrev pub limits_of : ProviderCall → List ProviderCall
-limits_of (Writes op now) = []
-limits_of (Commits puts drops now) = []
-limits_of (Accepts ask) = []
-limits_of (HandsOut number) = []
-limits_of (Drops number) = []
-limits_of (SetsLogLimit limit) = SetsLogLimit limit ∷ []
-limits_of (SetsQueueLimit limit) = SetsQueueLimit limit ∷ []
-
-abbrev pub limits_of_step : Step → List ProviderCall
-limits_of_step (Calls call) = limits_of call
-limits_of_step (Returns ago number) = []
-
-abbrev pub calls_at : Option (List ProviderCall) → List ProviderCall
-calls_at None = []
-calls_at (Some calls) = calls
-
--- the calls that count after a step, by those that would count after a return to each moment so
--- far, the last of which comes first
-abbrev pub counted : List (List ProviderCall) → List ProviderCall → Step → List ProviderCall
-counted snapshots calls (Calls call) = calls ++ call ∷ []
-counted snapshots calls (Returns ago number) = calls_at (slice_get snapshots ago)
-
--- the calls that count after steps: a return to a moment leaves those that counted then, and each
--- change of a limit since
-abbrev pub counted_all :
-    List (List ProviderCall) → List ProviderCall → List Step → List ProviderCall
-counted_all before calls [] = calls
-counted_all before calls (step ∷ steps) =
-    counted_all (map (λ kept. kept ++ limits_of_step step) (calls ∷ before))
-    (counted (calls ∷ before) calls step) steps
-
--- over every list of calls with returns, the provider is as after the calls that count alone
+-- over every list of calls with returns, the provider, whose searches stand in the order of their
+-- numbers, is as after the calls that count alone
 abbrev pub ReturnsCountAsNone : Type 0
 ReturnsCountAsNone =
-    (p : ProviderState) (steps : List Step) → MayStepAll [] p steps
-    → stepped_all [] p steps ≡ run p (counted_all [] [] steps)
+    (p : ProviderState) (steps : List ReturnStep) → Ascends 0 p.searches
+    → MayStepAll [] (first_stage p) steps
+    → (stepped_all [] (first_stage p) steps).provider
+    ≡ run p (counted (stepped_all [] (first_stage p) steps).calls)

@@ -6,20 +6,20 @@ ghost use Rattle.directory_writes.specs.Snapshot.{IsSnapshotOf, back_at};
 ghost use Rattle.entry_tree.specs.Fitting.{is_light};
 ghost use Rattle.entry_tree.specs.Sound.{is_sound_put};
 ghost use Rattle.sync_provider.specs.Answering.{CommitsLeave};
-ghost use Rattle.sync_provider.specs.Committing.{Opposes};
-ghost use Rattle.sync_provider.specs.Growing.{HasGrown};
+ghost use Rattle.sync_provider.specs.Committing.{RejectsCommit};
+ghost use Rattle.sync_provider.specs.Growing.{HasMoreWrites};
 ghost use Rattle.sync_provider.specs.Machine as machine;
 ghost use Rattle.sync_provider.specs.Staging.{searches_of};
 ghost use Rattle.sync_provider.specs.declared.writing.CommitFault.TheVariants as faults;
 
 use crate::NoMemory;
-use crate::open_search::discard;
 use crate::provider::Kind;
 use crate::search_table::SearchTable;
 use crate::sync_directory::SyncDirectory;
 use crate::writing::CommitFault;
 use directory_writes::DirectorySnapshot;
 use entry_tree::EntryList;
+use ldap_ber::discard;
 use sync_messages::IdList;
 
 /// A commit that is staged: the entries that it puts, each in the place of one of its identity, and
@@ -108,9 +108,9 @@ impl SyncDirectory {
         requires light { list_all (λ commit. list_all is_light commit.puts) commits.items ≡ true }
         ensures accepted { OnOk result (machine.refusal_of_each self.old commits.items now ≡ None) }
         ensures refused { IfErr result
-            (Opposes (machine.refusal_of_each self.old commits.items now)) }
+            (RejectsCommit (machine.refusal_of_each self.old commits.items now)) }
         ensures state { OnOk result (self.new ≡ machine.committed_each self.old commits.items now) }
-        ensures grown { HasGrown self.old self.new }
+        ensures grown { HasMoreWrites self.old self.new }
         ensures count { OnOk result
             (length self.new.directory.writes
             ≡ length self.old.directory.writes + length commits.items) }

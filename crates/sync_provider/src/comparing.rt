@@ -19,11 +19,11 @@ use schema_rules::{Attribute, AttributeType, known_key};
 use std::alloc::Global;
 
 impl SyncDirectory {
-    /// Whether the entry of that name has the value: compareTrue where a value of that type
-    /// matches, compareFalse where none does. Before that come noSuchObject where no entry has the
-    /// name, undefinedAttributeType where the type is not known or is operational,
-    /// invalidAttributeSyntax where the value is not of the type's syntax, and noSuchAttribute
-    /// where the entry has no value of the type. It is other where memory runs out.
+    /// Whether the entry of that name has the value (RFC 4511, section 4.10): compareTrue where a
+    /// value of that type matches, compareFalse where none does. Before that come noSuchObject
+    /// where no entry has the name, undefinedAttributeType where the type is not known or is
+    /// operational, invalidAttributeSyntax where the value is not of the type's syntax, and
+    /// noSuchAttribute where the entry has no value of the type. It is other where memory runs out.
     pub fn compare(&self, dn: &Dn, name: &[u8], value: &[u8]) -> u32
         ensures { result ≢ codes.OTHER
             → result ≡ comparing.compare_code (directory.entries_of self.now.directory)

@@ -66,9 +66,11 @@ pub fn refreshes_are_incremental()
     ensures { RefreshesAreIncremental }
 {}
 
-/// Over every list of calls with returns to the searches of earlier moments, each to a moment since
-/// which no write came, the provider is as after the calls that count alone: those that were
-/// returned over do not, but for changes of limits.
+/// Over every list of calls with returns of searches to earlier moments, each to a moment since
+/// which no write came, the provider is as after the calls that count alone. Once a search is back,
+/// of the calls that opened, handed out or closed one under its number those count that counted at
+/// that moment; those of other searches stay as they were. A return to a moment at which no search
+/// had the number counts as a call that closes it.
 pub fn returns_count_as_none()
     ensures { ReturnsCountAsNone }
 {}

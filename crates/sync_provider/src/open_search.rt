@@ -21,7 +21,7 @@ use crate::refresh_item::RefreshItem;
 use csn_cookie::Cookie;
 use directory_writes::Start;
 use entry_tree::{EntryChange, Spec};
-use ldap_ber::NoMemory;
+use ldap_ber::{NoMemory, discard};
 use ldap_constants::{BUSY, SUCCESS};
 use persist_queues::SearchQueue;
 use std::alloc::{AllocError, Global};
@@ -427,9 +427,6 @@ fn copy_of_rest(rest: &Option<PendingRefresh>) -> Result<Option<PendingRefresh>,
         Some(rest) => Ok(Some(rest.copy()?)),
     }
 }
-
-/// Lets the value go.
-pub(crate) fn discard<T: Drop>(_value: T) {}
 
 /// The same messages in a queue of their own.
 #[tactic(auto, using(crate::proofs::Copying::taken_next))]

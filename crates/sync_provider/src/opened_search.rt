@@ -55,6 +55,7 @@ impl OpenedSearch {
         self.id
     }
 
+    /// Lends its specification: base, scope and filter.
     pub fn spec(&self) -> &Spec
         ensures { search_of result.now ≡ self.now.spec }
     {

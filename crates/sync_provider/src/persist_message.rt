@@ -126,8 +126,8 @@ impl PersistMessage {
     }
 }
 
-/// The length of the name as it is written and the weight of the attributes without the marks, and
-/// 64. The greatest number stands for all sums above it.
+/// The length of the name as it is written, the weight of the attributes but for the operational
+/// ones, and 64. The greatest number stands for all sums above it.
 fn weight_of(change: &ContentChange) -> u64
     ensures { result ≡ counted_weight (message_of_change change.now None) }
 {

@@ -20,7 +20,6 @@ use crate::NoMemory;
 use crate::handed::Handed;
 use crate::journal::Journal;
 use crate::journal_note::SearchEvent;
-use crate::open_search::discard;
 use crate::search_table::MOST_SEARCHES;
 use crate::searches::{Accepted, SyncSearch};
 use crate::searching::{PlainSearch, SearchReply};
@@ -29,6 +28,7 @@ use crate::writing::{CommitFault, Reply};
 use csn_cookie::Csn;
 use dn_names::Dn;
 use entry_tree::{EntryList, Op, Spec, Tree, Write};
+use ldap_ber::discard;
 use std::alloc::Global;
 use std::marker::Model;
 use sync_messages::IdList;
@@ -66,7 +66,8 @@ impl Model for Provider {
 
 impl Provider {
     /// A provider without writes and searches. Its number, which its CSNs carry, is below 4096; its
-    /// history is what reports its cookies from those of another one.
+    /// history is what distinguishes its cookies from those of another one. It is `NoMemory` where
+    /// memory runs out.
     pub fn new(
         alloc: Global,
         suffix: Dn,
@@ -88,8 +89,9 @@ impl Provider {
     }
 
     /// Applies a write of a client where the clock shows `now`, in microseconds from the first
-    /// moment of 1970 on, and reports it to the searches that go on and whose content it changes. A
-    /// write that is not accepted leaves all as it was. A replica accepts none.
+    /// moment of 1970 on, and reports it to the searches that go on and whose content it changes
+    /// (RFC 4511, sections 4.6 to 4.9). A write that is not accepted leaves all as it was. A
+    /// replica accepts none.
     pub fn write(&mut self, op: Op, now: u64) -> Reply
         requires sound { is_sound_op op ≡ true }
         requires asked { is_commit op ≡ false }
@@ -102,7 +104,9 @@ impl Provider {
     /// Adds one write that puts these entries, each in the place of one of its identity, and drops
     /// these identities, where the clock shows `now`. It is reported as a client's write is. The
     /// answer is the number of accepted writes after it. The entries keep their CSNs; the write has
-    /// a CSN of this directory. A commit that is refused leaves all as it was.
+    /// a CSN of this directory. A commit that is refused leaves all as it was. It is `NotAReplica`
+    /// at a root, then `LimitReached` with the limit or `DuplicateName` with both identities, or
+    /// `NoMemory`.
     pub fn commit(&mut self, puts: EntryList, drops: IdList, now: u64) -> Result<u64, CommitFault>
         requires sound { list_all is_sound_put puts ≡ true }
         requires light { list_all is_light puts ≡ true }
@@ -113,8 +117,8 @@ impl Provider {
         self.directory.commit(puts, drops, now)
     }
 
-    /// The entries that the specification selects after all writes, in ascending order of
-    /// identity. They share their names and attributes with those of the directory.
+    /// The entries that the specification selects after all writes, in ascending order of identity
+    /// (RFC 4511, section 4.5). They share their names and attributes with those of the directory.
     pub fn search(&self, ask: &PlainSearch) -> SearchReply
         ensures { result ≢ SearchReply.NoMemory
             → result ≡ reply_to (directory.entries_of self.now.state.directory) ask.now }
@@ -122,9 +126,9 @@ impl Provider {
         self.directory.search(ask)
     }
 
-    /// Whether the entry of that name has the value: compareTrue where a value of that type
-    /// matches, compareFalse where none does, or the first code that rejects the question; other
-    /// where memory runs out.
+    /// Whether the entry of that name has the value (RFC 4511, section 4.10): compareTrue where a
+    /// value of that type matches, compareFalse where none does, or the first code that rejects the
+    /// question; other where memory runs out.
     pub fn compare(&self, dn: &Dn, name: &[u8], value: &[u8]) -> u32
         ensures { result ≢ codes.OTHER
             → result ≡ compare_code (directory.entries_of self.now.state.directory)
@@ -168,8 +172,9 @@ impl Provider {
         }
     }
 
-    /// The next message of the search with this number. Where memory runs out the same message is
-    /// still pending; where there is no message none is asked for.
+    /// The next message of the search with this number (RFC 4533, sections 3.3 and 3.4). Where
+    /// memory runs out the same message is still pending; where there is no message none is asked
+    /// for.
     pub fn hand_out(&mut self, number: u64) -> Handed
         ensures leaves { HandOutLeaves self.old.state number result self.new.state }
         ensures journal { HandOutReplies (port_state self.old) number result (port_state self.new) }
@@ -300,7 +305,7 @@ impl Provider {
         self.directory.upto(csn)
     }
 
-    /// Gives the number that reports the cookies of this directory from those of another one.
+    /// Gives the number that distinguishes the cookies of this directory from those of another.
     pub fn history(&self) -> u128
         ensures { result ≡ self.now.state.directory.history }
     {

@@ -9,7 +9,7 @@ ghost use Rattle.sync_model.specs.Stream.{is_delete_phase};
 ghost use Rattle.directory_writes.specs.Directory.{cookie_of, entries_of};
 ghost use Rattle.sync_provider.specs.Gathering.{Gathers, AreOf};
 ghost use Rattle.sync_provider.specs.Refreshing as refreshing;
-ghost use Rattle.directory_writes.specs.Starting.{start_of, IsServed};
+ghost use Rattle.directory_writes.specs.Starting.{start_of, CanBegin};
 ghost use Rattle.sync_provider.specs.Search.{messages_of, session_of, refresh_from};
 
 use crate::NoMemory;
@@ -30,7 +30,7 @@ pub(crate) fn refresh(
     spec: &Spec,
     start: Start,
 ) -> Result<Vec<RefreshItem>, NoMemory>
-    requires { IsServed directory.now (start_of start) }
+    requires { CanBegin directory.now (start_of start) }
     ensures { IfOk result (λ parts. (persists : Bool)
         → messages_of persists (is_delete_phase (start_of start)) parts.items
         (cookie_of directory.now)
@@ -48,7 +48,7 @@ pub(crate) fn refresh(
 /// The identities that it goes through: those that were touched since, where these are known,
 /// else all, in ascending order.
 fn walk(alloc: Global, directory: &Directory, start: Start) -> Result<Vec<u128>, NoMemory>
-    requires { IsServed directory.now (start_of start) }
+    requires { CanBegin directory.now (start_of start) }
     ensures exact { IfOk result (λ uuids.
         uuids.items ≡ refreshing.walked directory.now (start_of start)) }
     ensures ascends { IfOk result (λ uuids. IsStrictlySortedBy nat_cmp uuids.items) }

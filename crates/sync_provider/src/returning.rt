@@ -1,7 +1,7 @@
 //! A search of a provider as it stood at an earlier moment.
 
 ghost use Rattle.std.specs.Prelude.{◌≡◌, IfOk, IfSome};
-ghost use Rattle.sync_provider.specs.Placing.{ComesBack, IsNumber, put_back};
+ghost use Rattle.sync_provider.specs.Placing.{ComesBack, IsSearchNumber, put_back};
 ghost use Rattle.sync_provider.specs.Returning.{snapshot_of, HasNoWriteSince};
 
 use crate::NoMemory;
@@ -26,7 +26,7 @@ impl Model for SearchSnapshot {
     ghost use Rattle.std.specs.Prelude.{IfSome};
     ghost use Rattle.std.specs.Coded.{codes};
     ghost use Rattle.entry_tree.specs.FilterCode.{tree_code};
-    ghost use Rattle.sync_provider.specs.Placing.{IsNumber, shown};
+    ghost use Rattle.sync_provider.specs.Placing.{IsSearchNumber, shown};
     ghost use Rattle.sync_provider.specs.Returning.{KeptSearch};
 
     ghost Value = { KeptSearch };
@@ -41,13 +41,14 @@ impl Model for SearchSnapshot {
       search = shown s.search;
     } };
 
-    ghost invariant = { λ s. IfSome s.search (λ search. IsNumber s.number) };
+    ghost invariant = { λ s. IfSome s.search (λ search. IsSearchNumber s.number) };
 }
 
 impl SyncDirectory {
-    /// The search with this number as it stands now, for a later return to this moment.
+    /// The search with this number as it stands now, for a later return to this moment. It is
+    /// `NoMemory` where memory runs out.
     #[tactic(auto, using(crate::proofs::Held::search_back, crate::proofs::Held::search_held))]
-    pub fn open_search(&self, number: u64) -> Result<SearchSnapshot, NoMemory>
+    pub fn search_snapshot(&self, number: u64) -> Result<SearchSnapshot, NoMemory>
         ensures value { IfOk result (λ snapshot. snapshot ≡ snapshot_of self.now number) }
         ensures back { ComesBack self.now.searches number }
     {

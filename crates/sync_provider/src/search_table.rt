@@ -5,13 +5,14 @@ ghost use Rattle.std.specs.BTreeMap.{insert_entry, is_at};
 ghost use Rattle.std.specs.Map.{lookup, remove_entry, set_value};
 ghost use Rattle.std.specs.Ordering.{nat_cmp};
 ghost use Rattle.csn_cookie.specs.Cookie.{cookie_text};
-ghost use Rattle.sync_provider.specs.Placing.{ComesBack, HasNoPlace, IsNumber, AreStagedAt, IsStagedAt, put_back, shown, pushed_at};
+ghost use Rattle.sync_provider.specs.Placing.{ComesBack, HasNoPlace, IsSearchNumber, AreStagedAt, IsStagedAt, put_back, shown, pushed_at};
 ghost use Rattle.sync_provider.specs.Staging.{HeldSearch, searches_of, each_pushed, AreStaged};
 
 use crate::NoMemory;
-use crate::open_search::{OpenSearch, discard};
+use crate::open_search::OpenSearch;
 use csn_cookie::Cookie;
 use entry_tree::EntryChange;
+use ldap_ber::discard;
 use std::alloc::Global;
 use std::marker::Model;
 use std::mem;
@@ -67,7 +68,7 @@ impl SearchTable {
     #[tactic(auto, using(crate::proofs::Tables::none_at, crate::proofs::Tables::found_at))]
     pub(crate) fn get(&self, number: u64) -> Option<&OpenSearch>
         ensures value { option_copied result ≡ lookup (is_at (nat_cmp number)) self.now }
-        ensures number { IfSome result (λ search. IsNumber number) }
+        ensures number { IfSome result (λ search. IsSearchNumber number) }
     {
         let places = &self.places;
         let Some(place) = place_of(number) else {
@@ -84,7 +85,7 @@ impl SearchTable {
     pub(crate) fn copy_at(&self, number: u64) -> Result<Option<OpenSearch>, NoMemory>
         ensures search { IfOk result (λ copy.
             shown copy ≡ shown (lookup (is_at (nat_cmp number)) self.now)) }
-        ensures number { IfOk result (λ copy. IfSome copy (λ search. IsNumber number)) }
+        ensures number { IfOk result (λ copy. IfSome copy (λ search. IsSearchNumber number)) }
         ensures back { ComesBack self.now number }
     {
         let places = &self.places;
@@ -104,7 +105,7 @@ impl SearchTable {
     /// Puts the search into the place of this number.
     #[tactic(auto, using(crate::proofs::Tables::filled))]
     pub(crate) fn put(&mut self, number: u64, search: OpenSearch)
-        requires { IsNumber number }
+        requires { IsSearchNumber number }
         ensures { self.new ≡ insert_entry nat_cmp self.old number search }
     {
         self.places[number as usize - 1] = Some(search);
@@ -117,7 +118,7 @@ impl SearchTable {
         ensures entries { self.new ≡ remove_entry (is_at (nat_cmp number)) self.old }
         ensures unchanged { IfNone result (self.new ≡ self.old) }
         ensures gone { lookup (is_at (nat_cmp number)) self.new ≡ None }
-        ensures number { IfSome result (λ search. IsNumber number) }
+        ensures number { IfSome result (λ search. IsSearchNumber number) }
         ensures again { IfSome result (λ was. (held : HeldSearch)
             → insert_entry nat_cmp (remove_entry (is_at (nat_cmp number)) self.old) number held
             ≡ set_value (is_at (nat_cmp number)) self.old held) }
@@ -131,7 +132,7 @@ impl SearchTable {
 
     /// Puts back what had this number, or leaves its place free.
     pub(crate) fn put_back(&mut self, number: u64, search: Option<OpenSearch>)
-        requires { IfSome search (λ held. IsNumber number) }
+        requires { IfSome search (λ held. IsSearchNumber number) }
         ensures { self.new ≡ put_back self.old number search }
     {
         let Some(search) = search else {

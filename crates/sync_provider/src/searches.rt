@@ -8,20 +8,20 @@ ghost use Rattle.sync_wire.specs.Requesting.{persists};
 ghost use Rattle.std.specs.BTreeMap.{insert_entry};
 ghost use Rattle.sync_provider.specs.Accepting as accepting;
 ghost use Rattle.sync_provider.specs.Answering.{AcceptLeaves};
-ghost use Rattle.directory_writes.specs.Starting.{IsServed};
+ghost use Rattle.directory_writes.specs.Starting.{CanBegin};
 ghost use Rattle.directory_writes.specs.Starting.{start_of};
-ghost use Rattle.sync_provider.specs.Placing.{IsNumber};
+ghost use Rattle.sync_provider.specs.Placing.{IsSearchNumber};
 ghost use Rattle.sync_provider.specs.Search.{opening};
 ghost use Rattle.sync_provider.specs.declared.searches.Accepted.TheVariants.{Opened, Refused};
 
-use crate::open_search::{Asked, OpenSearch, discard};
+use crate::open_search::{Asked, OpenSearch};
 use crate::refreshing::refresh;
 use crate::search_table::MOST_SEARCHES;
 use crate::sync_directory::SyncDirectory;
 use csn_cookie::is_blank;
 use directory_writes::Start;
 use entry_tree::Spec;
-use ldap_ber::{NoMemory, Octets};
+use ldap_ber::{NoMemory, Octets, discard};
 use ldap_constants::{
     ADMIN_LIMIT_EXCEEDED, E_SYNC_REFRESH_REQUIRED, NO_SUCH_OBJECT, PROTOCOL_ERROR,
 };
@@ -82,7 +82,7 @@ impl SyncDirectory {
     /// The same, with the request that the control's value spells.
     fn accept_request(&mut self, request: &SyncRequest, ask: SyncSearch) -> Accepted
         requires { request_of ask.control ≡ Ok request.now }
-        ensures answer { accepting.Answers result
+        ensures answer { accepting.AnswersAccept result
             (accepting.answer_to_request self.old.directory self.old.searches ask
             (Ok request.now)) }
         ensures state { self.new ≡ record self.old {
@@ -118,8 +118,8 @@ impl SyncDirectory {
             ≡ Opened found.number (length self.now.directory.writes)) }
         ensures start { IfOk result (λ found.
             start_of found.start ≡ accepting.start_of_request self.now.directory request.now) }
-        ensures served { IfOk result (λ found. IsServed self.now.directory (start_of found.start)) }
-        ensures number { IfOk result (λ found. IsNumber found.number) }
+        ensures served { IfOk result (λ found. CanBegin self.now.directory (start_of found.start)) }
+        ensures number { IfOk result (λ found. IsSearchNumber found.number) }
         ensures code { IfErr result (λ code.
             accepting.answer_to_request self.now.directory self.now.searches ask.now
             (Ok request.now)
@@ -142,8 +142,8 @@ impl SyncDirectory {
     /// Opens a search with this number, and answers how many writes the directory has.
     #[tactic(auto, using(crate::proofs::Held::held_opened))]
     fn open(&mut self, number: u64, asked: Asked) -> Result<u64, NoMemory>
-        requires served { IsServed self.old.directory (start_of asked.start) }
-        requires number { IsNumber number }
+        requires served { CanBegin self.old.directory (start_of asked.start) }
+        requires number { IsSearchNumber number }
         ensures writes { IfOk result (λ writes. writes ≡ length self.old.directory.writes) }
         ensures ok { OnOk result (self.new ≡ record self.old {
           searches = insert_entry nat_cmp self.old.searches number
@@ -171,7 +171,7 @@ impl SyncDirectory {
     #[tactic(auto, using(crate::proofs::Numbers::found_here, crate::proofs::Numbers::found_later, crate::proofs::Numbers::found_none))]
     fn free_number(&self) -> Option<u64>
         ensures value { result ≡ accepting.free_number self.now.searches }
-        ensures number { IfSome result IsNumber }
+        ensures number { IfSome result IsSearchNumber }
     {
         for number in 1..=MOST_SEARCHES {
             if !self.searches.contains(number) {

@@ -31,8 +31,8 @@ pub enum SearchReply {
 }
 
 impl SyncDirectory {
-    /// The entries that the specification selects after all writes, in ascending order of
-    /// identity. They share their names and attributes with those of the directory.
+    /// The entries that the specification selects after all writes, in ascending order of identity
+    /// (RFC 4511, section 4.5). They share their names and attributes with those of the directory.
     #[tactic(auto, using(crate::proofs::PlainSearches::no_base, crate::proofs::PlainSearches::with_base))]
     pub fn search(&self, ask: &PlainSearch) -> SearchReply
         ensures { result ≢ SearchReply.NoMemory

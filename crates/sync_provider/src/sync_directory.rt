@@ -9,13 +9,13 @@ ghost use Rattle.sync_provider.specs.Machine as machine;
 
 use crate::NoMemory;
 use crate::handed::Handed;
-use crate::open_search::discard;
 use crate::provider::Kind;
 use crate::search_table::SearchTable;
 use csn_cookie::Csn;
 use directory_writes::Directory;
 use dn_names::Dn;
 use entry_tree::{Tree, Write};
+use ldap_ber::discard;
 use std::alloc::Global;
 use std::marker::Model;
 
@@ -53,7 +53,8 @@ impl Model for SyncDirectory {
 
 impl SyncDirectory {
     /// A directory without writes and searches. Its number, which its CSNs carry, is below 4096;
-    /// its history is what reports its cookies from those of another directory.
+    /// its history is what distinguishes its cookies from those of another directory. It is
+    /// `NoMemory` where memory runs out.
     pub fn new(
         alloc: Global,
         suffix: Dn,
@@ -80,8 +81,9 @@ impl SyncDirectory {
         self.kind
     }
 
-    /// The next message of the search with this number. Where memory runs out the same message is
-    /// still pending; where there is no message none is asked for.
+    /// The next message of the search with this number (RFC 4533, sections 3.3 and 3.4). Where
+    /// memory runs out the same message is still pending; where there is no message none is asked
+    /// for.
     #[tactic(auto, using(crate::proofs::Turns::closed_after, crate::proofs::Turns::open_after, crate::proofs::Turns::found_has_message, crate::proofs::Held::turn_found, crate::proofs::Held::search_found, crate::proofs::Held::search_none))]
     pub fn hand_out(&mut self, number: u64) -> Handed
         ensures leaves { HandOutLeaves self.old number result self.new }
@@ -202,7 +204,7 @@ impl SyncDirectory {
         self.directory.upto(csn)
     }
 
-    /// Gives the number that reports the cookies of this directory from those of another one.
+    /// Gives the number that distinguishes the cookies of this directory from those of another.
     pub fn history(&self) -> u128
         ensures { result ≡ self.now.directory.history }
     {

@@ -12,12 +12,12 @@ ghost use Rattle.sync_provider.specs.Committing.{fault_of};
 ghost use Rattle.sync_provider.specs.Machine as machine;
 
 use crate::NoMemory;
-use crate::open_search::discard;
 use crate::provider::Kind;
 use crate::staging::stage_write;
 use crate::sync_directory::SyncDirectory;
 use directory_writes::{DirectoryFault, Preview};
 use entry_tree::{EntryList, Op, OpFault};
+use ldap_ber::discard;
 use ldap_constants::{OTHER, SUCCESS, UNWILLING_TO_PERFORM};
 use std::alloc::AllocError;
 use sync_messages::IdList;
@@ -58,8 +58,9 @@ impl From<DirectoryFault> for CommitFault {
 
 impl SyncDirectory {
     /// Applies a write of a client where the clock shows `now`, in microseconds from the first
-    /// moment of 1970 on, and reports it to the searches that go on and whose content it changes. A
-    /// write that is not accepted leaves all as it was. A replica accepts none.
+    /// moment of 1970 on, and reports it to the searches that go on and whose content it changes
+    /// (RFC 4511, sections 4.6 to 4.9). A write that is not accepted leaves all as it was. A
+    /// replica accepts none.
     #[tactic(auto, using(crate::proofs::Delivery::unwritten_all))]
     pub fn write(&mut self, op: Op, now: u64) -> Reply
         requires sound { is_sound_op op ≡ true }
@@ -97,7 +98,9 @@ impl SyncDirectory {
     /// Adds one write that puts these entries, each in the place of one of its identity, and drops
     /// these identities, where the clock shows `now`. It is reported as a client's write is. The
     /// answer is the number of accepted writes after it. The entries keep their CSNs; the write has
-    /// a CSN of this directory. A commit that is refused leaves all as it was.
+    /// a CSN of this directory. A commit that is refused leaves all as it was. It is `NotAReplica`
+    /// at a root, then `LimitReached` with the limit or `DuplicateName` with both identities, or
+    /// `NoMemory`.
     pub fn commit(&mut self, puts: EntryList, drops: IdList, now: u64) -> Result<u64, CommitFault>
         requires sound { list_all is_sound_put puts ≡ true }
         requires light { list_all is_light puts ≡ true }
@@ -122,7 +125,7 @@ impl SyncDirectory {
         ensures accepted { OnOk result
             (commits.commit_refusal self.old.directory puts drops now ≡ None) }
         ensures refused { IfErr result
-            (commits.Opposes (commits.commit_refusal self.old.directory puts drops now)) }
+            (commits.Rejects (commits.commit_refusal self.old.directory puts drops now)) }
         ensures state { OnOk result (self.new ≡ machine.after_judged self.old
             (directory.judged self.old.directory (Op.Commit puts drops) now)) }
         ensures err { OnErr result (self.new ≡ self.old) }

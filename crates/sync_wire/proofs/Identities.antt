@@ -9,6 +9,8 @@ use Rattle.entry_tree.specs.State.{entry_at, is_identified}
 use Rattle.entry_tree.specs.Touched.{identities}
 use Rattle.entry_tree.specs.declared.entry.Entry.{Entry}
 use Rattle.entry_tree.specs.declared.touched.EntryChange.{EntryChange}
+use Rattle.entry_tree.proofs.Changing.{own_uuid}
+use Rattle.entry_tree.proofs.Taking.{among_identities}
 use Rattle.sync_model.specs.Message.{CookieText}
 use Rattle.sync_model.specs.Stream.{SyncOperation, Start, among, content_after, is_delete_phase, is_sent, walk, decided, decide}
 use Rattle.sync_model.specs.Stream.Start.{InitialContent, DeletePhase, PresentPhase}
@@ -16,7 +18,6 @@ use Rattle.sync_model.proofs.Gather.{Each, EachD, eachd-append}
 use Rattle.sync_model.proofs.Incremental.{each_among}
 use Rattle.sync_model.proofs.Later.{NotifiedOne}
 use Rattle.sync_model.proofs.LaterWrites.{notified_kind, IsFound}
-use Rattle.sync_model.proofs.Maps.{among-identities, entry_at-uuid}
 use Rattle.sync_model.proofs.Steps.{differing, among-differing, over_none, among-over_more}
 use Rattle.sync_wire.specs.CanBeSent.{CanBeSent}
 use Rattle.sync_wire.specs.Law.{IsIdentity}
@@ -37,7 +38,7 @@ in_range entries u all there = by (entry_at entries u) refl there
   where
     by : (found : Option Entry) → entry_at entries u ≡ found → is_some found ≡ true → IsIdentity u
     by None is there = let never : ⊥ = cc in absurd never
-    by (Some e) is there = subst IsIdentity (entry_at-uuid entries u e is) (found_sent entries u e is all).identity
+    by (Some e) is there = subst IsIdentity (own_uuid entries u e is) (found_sent entries u e is all).identity
 
 -- ---- the identities of a walk
 
@@ -64,11 +65,11 @@ over_range (suc steps) states from u all there =
 -- all identities that a refresh walks are in range where all entries can be sent
 pub walk_range : (operation : SyncOperation) (start : Start) (accepted : ℕ) → ((n : ℕ) → All CanBeSent (operation.states n)) → Each IsIdentity (walk operation start accepted)
 walk_range operation InitialContent accepted all =
-    each_among IsIdentity (identities (operation.states accepted)) (λ u there. in_range (operation.states accepted) u (all accepted) (sym (among-identities (operation.states accepted) u) ∙ there))
+    each_among IsIdentity (identities (operation.states accepted)) (λ u there. in_range (operation.states accepted) u (all accepted) (sym (among_identities (operation.states accepted) u) ∙ there))
 walk_range operation (DeletePhase number) accepted all =
     each_among IsIdentity (differing_over operation.states number (accepted - number)) (λ u there. over_range (accepted - number) operation.states number u all there)
 walk_range operation (PresentPhase number) accepted all =
-    each_among IsIdentity (identities (operation.states accepted)) (λ u there. in_range (operation.states accepted) u (all accepted) (sym (among-identities (operation.states accepted) u) ∙ there))
+    each_among IsIdentity (identities (operation.states accepted)) (λ u there. in_range (operation.states accepted) u (all accepted) (sym (among_identities (operation.states accepted) u) ∙ there))
 
 -- ---- what is decided
 
@@ -95,4 +96,4 @@ notified_sent old new cookie entry_change one before after text found =
     (λ e is.
     let at : entry_at old entry_change.uuid ≡ Some e = sym found.was ∙ is in
     let can : CanBeSent e = found_sent old entry_change.uuid e at before in
-    (subst IsIdentity (entry_at-uuid old entry_change.uuid e at) can.identity, (e.dn, can.name, refl), text))
+    (subst IsIdentity (own_uuid old entry_change.uuid e at) can.identity, (e.dn, can.name, refl), text))

@@ -59,19 +59,19 @@ uuid_size : (uuid : ℕ) → length (uuid_text uuid) ≡ 36
 unfolding uuid_text
 uuid_size uuid = by_index_length 36 _
 
-mark_size : (name value : List ℕ) → 1 ≤ length name → length (attribute_octets (single name value)) ≤ 25 * (length name + length value)
-mark_size name value some = omega (arith, attribute_size (single name value) some (λ none. cc))
+operational_one_size : (name value : List ℕ) → 1 ≤ length name → length (attribute_octets (single name value)) ≤ 25 * (length name + length value)
+operational_one_size name value some = omega (arith, attribute_size (single name value) some (λ none. cc))
 
-marks_size : (e : Entry) → length (flat_map attribute_octets (operational_attributes_of e)) ≤ 2325
-marks_size e =
+operational_size : (e : Entry) → length (flat_map attribute_octets (operational_attributes_of e)) ≤ 2325
+operational_size e =
     let identity = attribute_octets (single (codes "entryUUID") (uuid_text e.uuid)) in
     let is_csn = attribute_octets (single (codes "entryCSN") (csn_text e.csn)) in
     omega (
       arith,
       length-append identity (is_csn ++ []),
       length-append is_csn [],
-      mark_size (codes "entryUUID") (uuid_text e.uuid) (omega arith),
-      mark_size (codes "entryCSN") (csn_text e.csn) (omega arith),
+      operational_one_size (codes "entryUUID") (uuid_text e.uuid) (omega arith),
+      operational_one_size (codes "entryCSN") (csn_text e.csn) (omega arith),
       uuid_size e.uuid,
       csn_size e.csn,
     )
@@ -81,7 +81,7 @@ sent_attributes_size e can =
     let octets = flat_map attribute_octets (map raw_of e.attrs) in
     let operational_attributes = flat_map attribute_octets (operational_attributes_of e) in
     let apart : length (flat_map attribute_octets (attributes_of e)) ≡ length (octets ++ operational_attributes) = ap (λ (x : List ℕ). length x) (flat_map-append attribute_octets (map raw_of e.attrs) (operational_attributes_of e)) in
-    omega (arith, apart, length-append octets operational_attributes, attributes_size e.attrs can.listed.filled can.given, marks_size e, can.light)
+    omega (arith, apart, length-append octets operational_attributes, attributes_size e.attrs can.listed.filled can.given, operational_size e, can.light)
 
 entry_size : (e : Entry) → CanBeSent e → length (operation_octets (entry_of e)) ≤ 1673543
 entry_size e can =

@@ -63,23 +63,23 @@ at_type test kind all low =
 abbrev differs : List ℕ → ℕ → Bool
 differs name n = is_operational n || not (str_eq_ignore_ascii_case (type_name n) name)
 
-abbrev IsMark : List ℕ → Type 0
-IsMark name = map (differs name) (range_with_len 0 24) ≡ map (λ n. true) (range_with_len 0 24)
+abbrev IsOperationalName : List ℕ → Type 0
+IsOperationalName name = map (differs name) (range_with_len 0 24) ≡ map (λ n. true) (range_with_len 0 24)
 
-uuid_mark : IsMark (codes "entryUUID")
+uuid_is_operational : IsOperationalName (codes "entryUUID")
 unfolding types
-uuid_mark = refl
+uuid_is_operational = refl
 
-csn_mark : IsMark (codes "entryCSN")
+csn_is_operational : IsOperationalName (codes "entryCSN")
 unfolding types
-csn_mark = refl
+csn_is_operational = refl
 
-no_mark : (name : List ℕ) (kind : ℕ) → IsMark name → is_operational kind ≡ false → str_eq_ignore_ascii_case (type_name kind) name ≡ false
-no_mark name kind mark given =
-    let other = at_type (differs name) kind mark (known kind given) in
+not_operational : (name : List ℕ) (kind : ℕ) → IsOperationalName name → is_operational kind ≡ false → str_eq_ignore_ascii_case (type_name kind) name ≡ false
+not_operational name kind named given =
+    let other = at_type (differs name) kind named (known kind given) in
     not-true (str_eq_ignore_ascii_case (type_name kind) name) (sym (ap (λ b. b || not (str_eq_ignore_ascii_case (type_name kind) name)) given) ∙ other)
 
--- ---- the values of the marks
+-- ---- the values of the operational attributes
 
 given_of : (a : Attribute) (attrs : List Attribute) → list_all is_given (a ∷ attrs) ≡ true
     → (is_operational a.kind ≡ false) × (list_all (is_of_syntax a.kind) a.values ≡ true) × (list_all is_given attrs ≡ true)
@@ -91,27 +91,27 @@ given_of a attrs given =
 abbrev has_name : List ℕ → RawAttribute → Bool
 has_name name raw = str_eq_ignore_ascii_case raw.name name
 
-none_named : (name : List ℕ) → IsMark name → (attrs : List Attribute) → list_all is_given attrs ≡ true → values_named name (map raw_of attrs) ≡ []
-none_named name mark [] given = refl
-none_named name mark (a ∷ attrs) given =
+none_named : (name : List ℕ) → IsOperationalName name → (attrs : List Attribute) → list_all is_given attrs ≡ true → values_named name (map raw_of attrs) ≡ []
+none_named name named [] given = refl
+none_named name named (a ∷ attrs) given =
     let h = given_of a attrs given in
     let rest = filter (has_name name) (map raw_of attrs) in
-    ap (λ b. flat_map (λ raw. raw.values) (cond b (raw_of a ∷ rest) rest)) (no_mark name a.kind mark h.0) ∙ none_named name mark attrs h.2
+    ap (λ b. flat_map (λ raw. raw.values) (cond b (raw_of a ∷ rest) rest)) (not_operational name a.kind named h.0) ∙ none_named name named attrs h.2
 
 values_named-append : (name : List ℕ) (xs ys : List RawAttribute) → values_named name (xs ++ ys) ≡ values_named name xs ++ values_named name ys
 values_named-append name xs ys =
     ap (flat_map (λ raw. raw.values)) (filter-append (has_name name) xs ys) ∙ flat_map-append (λ raw. raw.values) (filter (has_name name) xs) (filter (has_name name) ys)
 
--- among the attributes of an entry only the marks have such a name
-operational_named : (name : List ℕ) → IsMark name → (e : Entry) → list_all is_given e.attrs ≡ true → values_named name (sent_attributes e) ≡ values_named name (operational_attributes_of e)
-operational_named name mark e given =
-    values_named-append name (map raw_of e.attrs) (operational_attributes_of e) ∙ ap (λ values. values ++ values_named name (operational_attributes_of e)) (none_named name mark e.attrs given)
+-- among the attributes of an entry only the operational ones have such a name
+operational_named : (name : List ℕ) → IsOperationalName name → (e : Entry) → list_all is_given e.attrs ≡ true → values_named name (sent_attributes e) ≡ values_named name (operational_attributes_of e)
+operational_named name named e given =
+    values_named-append name (map raw_of e.attrs) (operational_attributes_of e) ∙ ap (λ values. values ++ values_named name (operational_attributes_of e)) (none_named name named e.attrs given)
 
 uuids_of : (e : Entry) → list_all is_given e.attrs ≡ true → uuid_values (sent_attributes e) ≡ uuid_text e.uuid ∷ []
-uuids_of e given = operational_named (codes "entryUUID") uuid_mark e given
+uuids_of e given = operational_named (codes "entryUUID") uuid_is_operational e given
 
 csns_of : (e : Entry) → list_all is_given e.attrs ≡ true → values_named (codes "entryCSN") (sent_attributes e) ≡ csn_text e.csn ∷ []
-csns_of e given = operational_named (codes "entryCSN") csn_mark e given
+csns_of e given = operational_named (codes "entryCSN") csn_is_operational e given
 
 -- ---- the identity
 

@@ -73,8 +73,8 @@ control_said (Some done) = Some (done.refresh_deletes, done.cookie)
 -- ---- each operation
 
 -- what the operation says with these controls, or the first that rejects it: that it does not
--- belong to a search, or to this part of one, then a value outside its grammar, then what is
--- against an entry
+-- belong to a search, or to this part of one, then a value outside its grammar, then what
+-- rejects an entry
 abbrev pub operation_said :
     (persisting : Bool) → List Control → Protocol → Result SyncMessage DecodeFault
 operation_said persisting controls (op.SearchResultEntry name raws) =

@@ -4,12 +4,12 @@ use Rattle.sync_wire.specs.declared.fault.DecodeFault.{DecodeFault}
 use Rattle.sync_wire.specs.declared.fault.DecodeFault.TheVariants.{OutOfPlace, BadValue, UuidDiffers, BadEntry, NoMemory}
 
 -- the refusal is that of the reading; out of memory may come in place of any answer
-abbrev pub Fails : {Y : Type 0} → DecodeFault → Result Y DecodeFault → Type 0
-Fails OutOfPlace read = read ≡ Err OutOfPlace
-Fails BadValue read = read ≡ Err BadValue
-Fails (UuidDiffers uuid other) read = read ≡ Err (UuidDiffers uuid other)
-Fails (BadEntry code) read = read ≡ Err (BadEntry code)
-Fails NoMemory read = ⊤
+abbrev pub DecodeFails : {Y : Type 0} → DecodeFault → Result Y DecodeFault → Type 0
+DecodeFails OutOfPlace read = read ≡ Err OutOfPlace
+DecodeFails BadValue read = read ≡ Err BadValue
+DecodeFails (UuidDiffers uuid other) read = read ≡ Err (UuidDiffers uuid other)
+DecodeFails (BadEntry code) read = read ≡ Err (BadEntry code)
+DecodeFails NoMemory read = ⊤
 
 -- the second step where the first gave a value
 abbrev pub and_then :

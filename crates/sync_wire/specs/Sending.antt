@@ -72,7 +72,7 @@ abbrev pub operational_attributes_of : Entry → List RawAttribute
 operational_attributes_of e =
     single (codes "entryUUID") (uuid_text e.uuid) ∷ single (codes "entryCSN") (csn_text e.csn) ∷ []
 
--- the attributes in the order held, then the marks
+-- the attributes in the order held, then the operational ones
 abbrev pub attributes_of : Entry → List RawAttribute
 attributes_of e = map raw_of e.attrs ++ operational_attributes_of e
 

@@ -3,7 +3,7 @@
 ghost use Rattle.std.specs.Prelude.{◌≡◌, Ok};
 ghost use Rattle.sync_wire.specs.Decoding as spec;
 ghost use Rattle.ldap_ber.specs.Gives.{Gives};
-ghost use Rattle.sync_wire.specs.Refusals.{Fails, on_ok};
+ghost use Rattle.sync_wire.specs.Refusals.{DecodeFails, on_ok};
 
 use crate::fault::DecodeFault;
 use crate::operational::check_uuid;
@@ -52,11 +52,11 @@ pub enum SyncEvent {
     Ignored,
 }
 
-/// What the message says to a search that is in its refresh or has come to its persist stage. It is
-/// `OutOfPlace` for a message that does not belong there; then `BadValue` for a value outside its
-/// grammar; then, of an entry, `UuidDiffers` or `BadEntry`; or `NoMemory`.
+/// What the message says to a search that is in its refresh or has come to its persist stage (RFC
+/// 4533, section 2). It is `OutOfPlace` for a message that does not belong there; then `BadValue`
+/// for a value outside its grammar; then, of an entry, `UuidDiffers` or `BadEntry`; or `NoMemory`.
 pub fn decode(alloc: Global, message: &Message, persisting: bool) -> Result<SyncEvent, DecodeFault>
-    ensures { Gives Fails (λ h. Ok h) result
+    ensures { Gives DecodeFails (λ h. Ok h) result
         (on_ok spec.decoded_of (spec.said persisting message.now)) }
 {
     let controls = message.controls.list();
@@ -99,7 +99,7 @@ fn entry_decoded(
     name: &Octets,
     raws: &[RawAttribute],
 ) -> Result<SyncEvent, DecodeFault>
-    ensures { Gives Fails (λ h. Ok h) result
+    ensures { Gives DecodeFails (λ h. Ok h) result
         (on_ok spec.decoded_of (spec.entry_said persisting name.now raws.now state)) }
 {
     if persisting && matches!(state.state, State::Present) {
@@ -123,7 +123,7 @@ fn response_decoded(
     name: &Option<Octets>,
     value: &Option<Octets>,
 ) -> Result<SyncEvent, DecodeFault>
-    ensures { Gives Fails (λ h. Ok h) result
+    ensures { Gives DecodeFails (λ h. Ok h) result
         (on_ok spec.decoded_of (spec.response_said name.now value.now)) }
 {
     if !is_sync_info(name) {

@@ -4,7 +4,7 @@ ghost use Rattle.std.specs.Prelude.{◌≡◌, [], ◌∷◌, ◌++◌, map, is_
 ghost use Rattle.std.specs.List.{list_all};
 ghost use Rattle.std.specs.Str.{str_eq_ignore_ascii_case};
 ghost use Rattle.ldap_ber.specs.Gives.{Gives};
-ghost use Rattle.sync_wire.specs.Refusals.{Fails};
+ghost use Rattle.sync_wire.specs.Refusals.{DecodeFails};
 ghost use Rattle.sync_wire.specs.WireEntry as spec;
 
 use crate::fault::DecodeFault;
@@ -28,7 +28,7 @@ pub(crate) fn check_uuid(
     raws: &[RawAttribute],
     uuid: u128,
 ) -> Result<(), DecodeFault>
-    ensures { Gives Fails (λ checked. Ok checked) result (spec.checked_uuid uuid raws.now) }
+    ensures { Gives DecodeFails (λ checked. Ok checked) result (spec.checked_uuid uuid raws.now) }
 {
     let values = values_named(alloc, raws, ENTRY_UUID)?;
     match other_uuid(&values, uuid) {
@@ -56,7 +56,7 @@ fn all_uuids(values: &[&Octets]) -> bool
 
 /// The one entryCSN.
 pub(crate) fn entry_csn(alloc: Global, raws: &[RawAttribute]) -> Result<Csn, DecodeFault>
-    ensures { Gives Fails (λ csn. Ok csn) result (spec.entry_csn raws.now) }
+    ensures { Gives DecodeFails (λ csn. Ok csn) result (spec.entry_csn raws.now) }
 {
     let values = values_named(alloc, raws, ENTRY_CSN)?;
     match values.as_slice() {
@@ -66,7 +66,7 @@ pub(crate) fn entry_csn(alloc: Global, raws: &[RawAttribute]) -> Result<Csn, Dec
 }
 
 fn csn_of(text: &[u8]) -> Result<Csn, DecodeFault>
-    ensures { Gives Fails (λ csn. Ok csn) result (spec.csn_of text.now) }
+    ensures { Gives DecodeFails (λ csn. Ok csn) result (spec.csn_of text.now) }
 {
     Csn::parse(text).map_err(|_| DecodeFault::BadEntry(OBJECT_CLASS_VIOLATION))
 }

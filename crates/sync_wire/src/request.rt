@@ -14,7 +14,8 @@ use ldap_messages::{Control, ControlList, Message, Protocol, SearchScope};
 use std::alloc::Global;
 use sync_messages::SyncRequest;
 
-/// The request for what is wanted, with all attributes and without limits.
+/// The request for what is wanted, with all attributes and without limits (RFC 4533, section 2.2).
+/// It is `NoMemory` where memory runs out.
 #[tactic(auto, using(crate::proofs::Operations::search_operation))]
 pub fn search_request(
     alloc: Global,

@@ -23,7 +23,8 @@ use uuid::Uuid;
 /// How many attributes an entry is sent with beside those that are held.
 const OPERATIONAL_ATTRIBUTES: usize = 2;
 
-/// The end of a search, with this result code and no control.
+/// The end of a search, with this result code and no control (RFC 4511, section 4.5.2). It is
+/// `NoMemory` where memory runs out.
 #[tactic(auto, using(crate::proofs::Operations::done_operation))]
 pub fn done_message(alloc: Global, id: u32, code: u32) -> Result<Message, NoMemory>
     ensures { IfOk result (λ message. whole_of message ≡ sent id (Done (pos code) None)) }
@@ -38,7 +39,8 @@ pub fn done_message(alloc: Global, id: u32, code: u32) -> Result<Message, NoMemo
 
 /// The end of a refresh that succeeded, with the cookie of its content. It reported what is
 /// deleted, or else what is present. A search that persists goes on after a Sync Info message; any
-/// other is over with its SearchResultDone (RFC 4533, sections 3.3.2 and 3.4.1).
+/// other is over with its SearchResultDone (RFC 4533, sections 3.3.2 and 3.4.1). It is `NoMemory`
+/// where memory runs out.
 pub fn end_message(
     alloc: Global,
     id: u32,
@@ -102,7 +104,7 @@ fn refresh_end_message(
 }
 
 /// The whole entry in the state add, or else in the state modify (RFC 4533, section 2.3), with this
-/// cookie, if any.
+/// cookie, if any. It is `NoMemory` where memory runs out.
 #[tactic(auto, using(crate::proofs::Operations::entry_operation))]
 pub fn entry_message(
     alloc: Global,
@@ -128,7 +130,7 @@ pub fn entry_message(
 }
 
 /// The entry of this identity in the state delete (RFC 4533, section 2.3): the name that it had,
-/// and no attributes, with this cookie, if any.
+/// and no attributes, with this cookie, if any. It is `NoMemory` where memory runs out.
 #[tactic(auto, using(crate::proofs::Operations::entry_operation))]
 pub fn delete_message(
     alloc: Global,
@@ -154,7 +156,7 @@ pub fn delete_message(
 }
 
 /// The entries of these identities are deleted, or else present (RFC 4533, section 2.5), without a
-/// cookie.
+/// cookie. It is `NoMemory` where memory runs out.
 pub fn id_set_message(
     alloc: Global,
     id: u32,
@@ -250,13 +252,13 @@ fn push_operational_attributes(
 ) -> Result<(), NoMemory>
     ensures { OnOk result (list.new ≡ list.old ++ operational_attributes_of entry.now) }
 {
-    list.push(uuid_mark(alloc, entry.uuid)?)?;
+    list.push(uuid_attribute(alloc, entry.uuid)?)?;
     list.push(single(alloc, b"entryCSN", &entry.csn.write())?)
 }
 
 /// The identity as an attribute.
-fn uuid_mark(alloc: Global, uuid: u128) -> Result<RawAttribute, NoMemory>
-    ensures { IfOk result (λ mark. mark ≡ attribute (codes "entryUUID") (uuid_text uuid)) }
+fn uuid_attribute(alloc: Global, uuid: u128) -> Result<RawAttribute, NoMemory>
+    ensures { IfOk result (λ made. made ≡ attribute (codes "entryUUID") (uuid_text uuid)) }
 {
     let mut buffer = Uuid::encode_buffer();
     let uuid = Uuid::from_u128(uuid).hyphenated().encode_lower(&mut buffer);
@@ -267,11 +269,10 @@ fn uuid_mark(alloc: Global, uuid: u128) -> Result<RawAttribute, NoMemory>
 fn single(alloc: Global, name: &[u8], value: &[u8]) -> Result<RawAttribute, NoMemory>
     ensures { IfOk result (λ single. single ≡ attribute name.now value.now) }
 {
-    let mut values = OctetsList::with_room(alloc, 1)?;
-    values.push(Octets::from_slice(alloc, value)?)?;
+    let value = Octets::from_slice(alloc, value)?;
     Ok(RawAttribute {
         name: Octets::from_slice(alloc, name)?,
-        values,
+        values: OctetsList::of_one(alloc, value),
     })
 }
 

@@ -3,7 +3,7 @@
 ghost use Rattle.std.specs.Prelude.{◌≡◌, Ok};
 ghost use Rattle.std.specs.Option.{option_copied};
 ghost use Rattle.ldap_ber.specs.Gives.{Gives};
-ghost use Rattle.sync_wire.specs.Refusals.{Fails};
+ghost use Rattle.sync_wire.specs.Refusals.{DecodeFails};
 ghost use Rattle.sync_wire.specs.Values as spec;
 
 use crate::fault::DecodeFault;
@@ -38,7 +38,7 @@ fn control_named<'a>(controls: &'a [Control], name: &[u8]) -> Option<&'a Control
 
 /// The bytes of a value, which have to be there.
 fn given(value: &Option<Octets>) -> Result<&[u8], DecodeFault>
-    ensures { Gives Fails (λ bytes. Ok bytes.now) result (spec.given_value value.now) }
+    ensures { Gives DecodeFails (λ bytes. Ok bytes.now) result (spec.given_value value.now) }
 {
     match value {
         Some(value) => Ok(value.as_slice()),
@@ -48,7 +48,7 @@ fn given(value: &Option<Octets>) -> Result<&[u8], DecodeFault>
 
 /// What the Sync State control says, where an entry has one.
 pub(crate) fn sync_state(alloc: Global, controls: &[Control]) -> Result<SyncState, DecodeFault>
-    ensures { Gives Fails (λ state. Ok state) result (spec.sync_state controls.now) }
+    ensures { Gives DecodeFails (λ state. Ok state) result (spec.sync_state controls.now) }
 {
     let Some(control) = control_named(controls, SYNC_STATE) else {
         return Err(DecodeFault::OutOfPlace);
@@ -62,7 +62,7 @@ pub(crate) fn sync_done(
     alloc: Global,
     controls: &[Control],
 ) -> Result<Option<SyncDone>, DecodeFault>
-    ensures { Gives Fails (λ done. Ok done) result (spec.sync_done controls.now) }
+    ensures { Gives DecodeFails (λ done. Ok done) result (spec.sync_done controls.now) }
 {
     let Some(control) = control_named(controls, SYNC_DONE) else {
         return Ok(None);
@@ -73,7 +73,7 @@ pub(crate) fn sync_done(
 
 /// What a Sync Info message says.
 pub(crate) fn sync_info(alloc: Global, value: &Option<Octets>) -> Result<SyncInfo, DecodeFault>
-    ensures { Gives Fails (λ info. Ok info) result (spec.sync_info value.now) }
+    ensures { Gives DecodeFails (λ info. Ok info) result (spec.sync_info value.now) }
 {
     let value = given(value)?;
     Ok(SyncInfo::read(alloc, value)?)

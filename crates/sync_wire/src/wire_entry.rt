@@ -4,7 +4,7 @@ ghost use Rattle.std.specs.Prelude.{◌≡◌, Ok, IfOk};
 ghost use Rattle.std.specs.List.{list_all};
 ghost use Rattle.schema_rules.specs.Schema.{type_rule};
 ghost use Rattle.ldap_ber.specs.Gives.{Gives};
-ghost use Rattle.sync_wire.specs.Refusals.{Fails};
+ghost use Rattle.sync_wire.specs.Refusals.{DecodeFails};
 ghost use Rattle.sync_wire.specs.WireEntry as spec;
 
 use crate::fault::DecodeFault;
@@ -28,7 +28,7 @@ pub(crate) fn entry_of(
     name: &Octets,
     raws: &[RawAttribute],
 ) -> Result<Entry, DecodeFault>
-    ensures { Gives Fails (λ entry. Ok entry) result (spec.entry_of uuid name.now raws.now) }
+    ensures { Gives DecodeFails (λ entry. Ok entry) result (spec.entry_of uuid name.now raws.now) }
 {
     let dn = name_of(alloc, name)?;
     let attrs = attributes_of(alloc, raws)?;
@@ -48,7 +48,7 @@ pub(crate) fn entry_of(
 }
 
 fn name_of(alloc: Global, text: &Octets) -> Result<Dn, DecodeFault>
-    ensures { Gives Fails (λ dn. Ok dn) result (spec.name_of text.now) }
+    ensures { Gives DecodeFails (λ dn. Ok dn) result (spec.name_of text.now) }
 {
     match Dn::parse(alloc, text.as_slice()) {
         Ok(dn) => Ok(dn),

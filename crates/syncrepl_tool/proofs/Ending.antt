@@ -10,7 +10,7 @@ use Rattle.sync_io.specs.Faults.{Rose}
 use Rattle.cascade_script.specs.declared.fault.Cause.{Cause}
 use Rattle.cascade_script.specs.declared.fault.Cause.TheVariants.{BadCommand, UnknownNode, NameTaken, BadRecord, LimitReached, OutsideSuffix, LaterCookie, Circle, NoMemory}
 use Rattle.cascade_script.specs.Lines.{kept_bytes, most_bytes, most_lines, text_lines, up_to_last, has_more, limit_passed}
-use Rattle.cascade_script.specs.Reader.{Reader, reader_of}
+use Rattle.cascade_script.specs.Reader.{ScriptReader, reader_of}
 use Rattle.cascade_laws.specs.Run.{IsScript}
 use Rattle.cascade_world.specs.World.{WorldState, no_nodes}
 use Rattle.cascade_laws.proofs.Limits.{runs_limit}
@@ -21,7 +21,7 @@ use Rattle.syncrepl_tool.specs.Cascade.{WritesPrefix, WritesReport, WritesWhole,
 
 -- ---- a flush leaves what was written
 
-pub prefix_kept : {script : Reader} {a b : Option (List ℕ)} → WritesPrefix script a b → (c : Option (List ℕ)) → Keeps b c → WritesPrefix script a c
+pub prefix_kept : {script : ScriptReader} {a b : Option (List ℕ)} → WritesPrefix script a b → (c : Option (List ℕ)) → Keeps b c → WritesPrefix script a c
 prefix_kept {script} {a} {b} f c k = record {
   orders = f.orders;
   report = f.report;
@@ -36,7 +36,7 @@ prefix_kept {script} {a} {b} f c k = record {
   torn = f.torn;
 }
 
-report_kept : {script : Reader} {a b : Option (List ℕ)} {end : WorldState} {rest : Reader} → WritesReport script a b end rest → (c : Option (List ℕ)) → Keeps b c → WritesReport script a c end rest
+report_kept : {script : ScriptReader} {a b : Option (List ℕ)} {end : WorldState} {rest : ScriptReader} → WritesReport script a b end rest → (c : Option (List ℕ)) → Keeps b c → WritesReport script a c end rest
 report_kept {script} {a} {b} w c k = record {
   orders = w.orders;
   report = w.report;
@@ -48,7 +48,7 @@ report_kept {script} {a} {b} w c k = record {
   written = Appends-kept a b c _ w.written k;
 }
 
-pub up_to_kept : {script : Reader} {a b : Option (List ℕ)} {end : WorldState} {line : ℕ} {cause : Cause} → WritesUpTo script a b end line cause → (c : Option (List ℕ)) → Keeps b c → WritesUpTo script a c end line cause
+pub up_to_kept : {script : ScriptReader} {a b : Option (List ℕ)} {end : WorldState} {line : ℕ} {cause : Cause} → WritesUpTo script a b end line cause → (c : Option (List ℕ)) → Keeps b c → WritesUpTo script a c end line cause
 up_to_kept w c k = record { rest = w.rest; report = report_kept w.report c k; refusal = w.refusal }
 
 -- ---- the script of a text that was read is that of the bytes that were left
@@ -73,7 +73,7 @@ reader_of_prefix text rest short =
           ap reader_of (sym (append-nil text)) ∙ ap (λ r. reader_of (text ++ r)) (sym (short within))
     ]
 
-pub at_prefix : (old new : Option (List ℕ)) (text : List ℕ) → IsPrefixOf old new text → (P : Reader → Type 0) → P (reader_of text) → IfSome old (λ all. P (reader_of all))
+pub at_prefix : (old new : Option (List ℕ)) (text : List ℕ) → IsPrefixOf old new text → (P : ScriptReader → Type 0) → P (reader_of text) → IfSome old (λ all. P (reader_of all))
 at_prefix None new text f P h = tt
 at_prefix (Some all) new text f P h =
     let same : reader_of text ≡ reader_of all = reader_of_prefix text f.prefix.0 f.prefix.2 ∙ ap reader_of (sym f.prefix.1) in
@@ -192,7 +192,7 @@ status_is (LaterCookie held given) = inl refl
 status_is Circle = inl refl
 status_is NoMemory = inl refl
 
-pub refused_ends : {script : Reader} {a b : Option (List ℕ)} {end : WorldState} (before now : ℕ) {unsaid said : Option (List ℕ)} {f t code line : ℕ} {cause : Cause}
+pub refused_ends : {script : ScriptReader} {a b : Option (List ℕ)} {end : WorldState} (before now : ℕ) {unsaid said : Option (List ℕ)} {f t code line : ℕ} {cause : Cause}
     → WritesUpTo script a b end line cause → code ≡ status_of cause → Says (refusal_text line cause) unsaid said f t → RunEnds script a b end before now unsaid said f t code
 refused_ends {script} {a} {b} {end} before now {unsaid} {said} {f} {t} {code} {line} {cause} w is says =
     inr (inl (subst IsRefusedStatus (sym is) (status_is cause), (line, cause, sym is, w, says)))

@@ -1,7 +1,7 @@
 -- What the status of a run says.
 use Rattle.std.proofs.Common.{◌≡◌, ℕ, List, inl, inr, refl, arith}
 use Rattle.cascade_script.specs.Reader.{reader_of}
-use Rattle.cascade_world.specs.World.{WorldState}
+use Rattle.cascade_world.specs.World.{WorldState, no_nodes}
 use Rattle.std.specs.Prelude.{◌⊎◌}
 use Rattle.sync_io.specs.Faults.{Rose}
 use Rattle.syncrepl_tool.proofs.Ending.{done_of, end_of, quiet_of, refused_of, no_script_of, no_read_fault, write_fault_of}
@@ -26,14 +26,15 @@ of_usage before after end status two = record {
   no_script = λ is. absurd (not_refused status.code 2 two (inl refl) is);
   read_fault = λ is. absurd (omega (arith, two, is));
   read_fault_reported = λ is. absurd (omega (arith, two, is));
+  unread = λ is. absurd (omega (arith, two, is));
   write_fault = λ is. absurd (omega (arith, two, is));
   write_fault_reported = λ is. absurd (omega (arith, two, is));
 }
 
 -- a read that failed
 pub of_read_fault : (before after : Streams) (end : WorldState) (status : Status) → status.code ≡ 4 → Rose before.read_faults after.read_faults
-    → Says read_fault_text before.said after.said before.said_faults after.said_faults → MayEndWith before after end status
-of_read_fault before after end status four rose says = record {
+    → Says read_fault_text before.said after.said before.said_faults after.said_faults → after.report ≡ before.report → end ≡ no_nodes → MayEndWith before after end status
+of_read_fault before after end status four rose says report world = record {
   done = λ is. absurd (omega (arith, four, is));
   read_to_end = λ is. absurd (omega (arith, four, is));
   quiet = λ is. absurd (omega (arith, four, is));
@@ -42,6 +43,7 @@ of_read_fault before after end status four rose says = record {
   no_script = λ is. absurd (not_refused status.code 4 four (inr refl) is);
   read_fault = λ is. rose;
   read_fault_reported = λ is. says;
+  unread = λ is. (report, world);
   write_fault = λ is. absurd (omega (arith, four, is));
   write_fault_reported = λ is. absurd (omega (arith, four, is));
 }
@@ -59,6 +61,7 @@ of_ends before after end status first_part ends = record {
   no_script = no_script_of first_part _ _ _ _ _ _ _ _ _ _ ends;
   read_fault = λ is. absurd (no_read_fault first_part _ _ _ _ _ _ _ _ _ _ ends is);
   read_fault_reported = λ is. absurd (no_read_fault first_part _ _ _ _ _ _ _ _ _ _ ends is);
+  unread = λ is. absurd (no_read_fault first_part _ _ _ _ _ _ _ _ _ _ ends is);
   write_fault = λ is. (write_fault_of first_part _ _ _ _ _ _ _ _ _ _ ends is).0;
   write_fault_reported = λ is. (write_fault_of first_part _ _ _ _ _ _ _ _ _ _ ends is).1;
 }

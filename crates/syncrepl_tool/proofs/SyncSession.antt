@@ -10,7 +10,7 @@ use Rattle.cascade_script.specs.declared.fault.Cause.TheVariants.{NoMemory, BadC
 use Rattle.cascade_script.specs.declared.fault.ScriptFault.{ScriptFault}
 use Rattle.cascade_script.specs.Fault.{fault_at, RefusedAt}
 use Rattle.cascade_script.specs.Orders.{Order}
-use Rattle.cascade_script.specs.Reader.{Reader, Next, next_in, IsRefusalOf}
+use Rattle.cascade_script.specs.Reader.{ScriptReader, Next, next_in, IsRefusalOf}
 use Rattle.cascade_script.specs.Reader.Next.{Ended, Refused, Got}
 use Rattle.cascade_world.specs.ReportLines.{ReportLine, lines_text, report_text}
 use Rattle.cascade_laws.specs.Run.{Runs}
@@ -24,21 +24,21 @@ use Rattle.syncrepl_tool.specs.declared.run.Outcome.TheVariants as outcome
 use Rattle.syncrepl_tool.specs.Cascade.{WritesPrefix, WritesReport, WritesWhole, WritesUpTo, Ends}
 
 -- the orders that were read are done and reported
-pub record SoFar (script : Reader) (state : WorldState) (reader : Reader) (old new : Option (List ℕ)) (before now : ℕ) : Type 0 where
+pub record SoFar (script : ScriptReader) (state : WorldState) (reader : ScriptReader) (old new : Option (List ℕ)) (before now : ℕ) : Type 0 where
   pub orders : List Order
   pub report : List (List ReportLine)
   pub run : Runs no_nodes script orders report state reader
   pub written : Appends old new (report_text report)
   pub later : before ≤ now
 
-pub start : (state : WorldState) (reader : Reader) (held : Option (List ℕ)) (n : ℕ) → state ≡ no_nodes → SoFar reader state reader held held n n
+pub start : (state : WorldState) (reader : ScriptReader) (held : Option (List ℕ)) (n : ℕ) → state ≡ no_nodes → SoFar reader state reader held held n n
 start state reader held n fresh = record { orders = []; report = []; run = (sym fresh, refl); written = Appends-nil held; later = omega arith }
 
 report_text-push : (report : List (List ReportLine)) (reported : List ReportLine) → report_text report ++ lines_text reported ≡ report_text (report ++ reported ∷ [])
 report_text-push report reported = flat_map_more lines_text [] report reported
 
-pub go_on : {script reader : Reader} {state : WorldState} {old new : Option (List ℕ)} {before now : ℕ} → SoFar script state reader old new before now
-    → (line : ℕ) (order : Order) (after : Reader) (next : WorldState) (text : List ℕ) (held : Option (List ℕ)) (count : ℕ)
+pub go_on : {script reader : ScriptReader} {state : WorldState} {old new : Option (List ℕ)} {before now : ℕ} → SoFar script state reader old new before now
+    → (line : ℕ) (order : Order) (after : ScriptReader) (next : WorldState) (text : List ℕ) (held : Option (List ℕ)) (count : ℕ)
     → next_in reader ≡ Got line order after → IsStep (step state order) next text → Appends new held text → now ≤ count → SoFar script next after old held before count
 go_on {script} {reader} {state} {old} {new} s line order after next text held count reads steps appended later =
     let reported = step_reported (step state order) next text steps in
@@ -50,7 +50,7 @@ go_on {script} {reader} {state} {old} {new} s line order after next text held co
       later = omega (arith, s.later);
     }
 
-pub written_report : {script reader : Reader} {state : WorldState} {old new : Option (List ℕ)} {before now : ℕ} → SoFar script state reader old new before now → WritesReport script old new state reader
+pub written_report : {script reader : ScriptReader} {state : WorldState} {old new : Option (List ℕ)} {before now : ℕ} → SoFar script state reader old new before now → WritesReport script old new state reader
 written_report {script} {reader} {state} s = record {
   orders = s.orders;
   report = s.report;
@@ -62,7 +62,7 @@ written_report {script} {reader} {state} s = record {
   written = s.written;
 }
 
-pub prefix_so_far : {script reader : Reader} {state : WorldState} {old new : Option (List ℕ)} {before now : ℕ} → SoFar script state reader old new before now → WritesPrefix script old new
+pub prefix_so_far : {script reader : ScriptReader} {state : WorldState} {old new : Option (List ℕ)} {before now : ℕ} → SoFar script state reader old new before now → WritesPrefix script old new
 prefix_so_far {script} {reader} {state} s = record {
   orders = s.orders;
   report = s.report;
@@ -78,8 +78,8 @@ prefix_so_far {script} {reader} {state} s = record {
 }
 
 -- a prefix of the lines of one more order
-pub prefix_of_next : {script reader : Reader} {state : WorldState} {old new : Option (List ℕ)} {before now : ℕ} → SoFar script state reader old new before now
-    → (line : ℕ) (order : Order) (more : Reader) (next : WorldState) (text : List ℕ) (held : Option (List ℕ))
+pub prefix_of_next : {script reader : ScriptReader} {state : WorldState} {old new : Option (List ℕ)} {before now : ℕ} → SoFar script state reader old new before now
+    → (line : ℕ) (order : Order) (more : ScriptReader) (next : WorldState) (text : List ℕ) (held : Option (List ℕ))
     → next_in reader ≡ Got line order more → IsStep (step state order) next text → AppendsPrefix new held text → WritesPrefix script old held
 prefix_of_next {script} {reader} {state} {old} {new} s line order more next text held reads steps prefix =
     let reported = step_reported (step state order) next text steps in
@@ -105,7 +105,7 @@ prefix_of_next {script} {reader} {state} {old} {new} s line order more next text
     }
 
 -- the script is read to its end
-pub whole_so_far : {script reader : Reader} {state : WorldState} {old new : Option (List ℕ)} {before now : ℕ} → SoFar script state reader old new before now → next_in reader ≡ Ended → WritesWhole script old new state
+pub whole_so_far : {script reader : ScriptReader} {state : WorldState} {old new : Option (List ℕ)} {before now : ℕ} → SoFar script state reader old new before now → next_in reader ≡ Ended → WritesWhole script old new state
 whole_so_far {script} {reader} s ended = record { rest = reader; report = written_report s; ended = ended }
 
 refused_reading : (n : Next) (line : ℕ) (cause : Cause) → cause ≢ NoMemory → IsRefusalOf n line cause → n ≡ Refused (fault_at line cause)
@@ -120,7 +120,7 @@ refused_reading n line Circle known h = h
 refused_reading n line NoMemory known h = absurd (known refl)
 
 -- a refusal in reading
-pub refused_read : {script reader : Reader} {state : WorldState} {old new : Option (List ℕ)} {before now : ℕ} → SoFar script state reader old new before now
+pub refused_read : {script reader : ScriptReader} {state : WorldState} {old new : Option (List ℕ)} {before now : ℕ} → SoFar script state reader old new before now
     → (line : ℕ) (cause : Cause) → cause ≢ NoMemory → IsRefusalOf (next_in reader) line cause → WritesUpTo script old new state line cause
 refused_read {script} {reader} s line cause known h = record { rest = reader; report = written_report s; refusal = inl (refused_reading (next_in reader) line cause known h) }
 
@@ -136,17 +136,17 @@ refused_answer line at Circle answer known h = h
 refused_answer line at NoMemory answer known h = absurd (known refl)
 
 -- a refusal by the nodes
-pub refused_step : {script reader : Reader} {state : WorldState} {old new : Option (List ℕ)} {before now : ℕ} → SoFar script state reader old new before now
-    → (line at : ℕ) (order : Order) (more : Reader) (cause : Cause) → next_in reader ≡ Got line order more → cause ≢ NoMemory → RefusedAt line at cause (step state order) → WritesUpTo script old new state at cause
+pub refused_step : {script reader : ScriptReader} {state : WorldState} {old new : Option (List ℕ)} {before now : ℕ} → SoFar script state reader old new before now
+    → (line at : ℕ) (order : Order) (more : ScriptReader) (cause : Cause) → next_in reader ≡ Got line order more → cause ≢ NoMemory → RefusedAt line at cause (step state order) → WritesUpTo script old new state at cause
 refused_step {script} {reader} {state} {old} {new} s line at order more cause reads known h =
     let is = refused_answer line at cause (step state order) known h in
     subst (λ l. WritesUpTo script old new state l cause) (sym is.1) (record { rest = reader; report = written_report s; refusal = inr (order, more, reads, is.0) })
 
 -- nothing was written
-pub nothing_written : (script : Reader) (held : Option (List ℕ)) → WritesPrefix script held held
+pub nothing_written : (script : ScriptReader) (held : Option (List ℕ)) → WritesPrefix script held held
 nothing_written script held = prefix_so_far (start no_nodes script held 0 refl)
 
 -- how the run ends with a refusal
-pub ends_refused : {script : Reader} {old new : Option (List ℕ)} {state : WorldState} (b n : ℕ) (fault : ScriptFault) (o : Outcome) → WritesUpTo script old new state fault.line fault.cause → o ≡ outcome.Refused fault → Ends script old new state b n o
+pub ends_refused : {script : ScriptReader} {old new : Option (List ℕ)} {state : WorldState} (b n : ℕ) (fault : ScriptFault) (o : Outcome) → WritesUpTo script old new state fault.line fault.cause → o ≡ outcome.Refused fault → Ends script old new state b n o
 ends_refused {script} {old} {new} {state} b n fault o reported is =
     let P : Outcome → Type 0 = Ends script old new state b n in subst P (sym is) reported

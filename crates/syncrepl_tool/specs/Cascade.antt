@@ -12,7 +12,7 @@ use Rattle.cascade_laws.specs.Headline.{LinesAreRight}
 use Rattle.cascade_laws.specs.Reports.{AreReportsOf}
 use Rattle.cascade_script.specs.Lines.{most_bytes}
 use Rattle.cascade_script.specs.Orders.{Order}
-use Rattle.cascade_script.specs.Reader.{Reader, next_in, reader_of}
+use Rattle.cascade_script.specs.Reader.{ScriptReader, next_in, reader_of}
 use Rattle.cascade_script.specs.Reader.Next.{Ended}
 use Rattle.cascade_world.specs.ReportLines.{ReportLine, lines_text, report_text}
 use Rattle.cascade_laws.specs.Run.{Runs, IsRefusal, IsScript, AreHeld}
@@ -39,11 +39,11 @@ EndsInLast report text =
 -- in the midst of the last order's lines. Each order has the lines that belong to it, and each of
 -- these is right. The wire is used: these lines report all that happened to the links and the
 -- copies of the consumers. And what they report last of each consumer is what it holds.
-pub record WritesPrefix (script : Reader) (old new : Option (List ℕ)) : Type 0 where
+pub record WritesPrefix (script : ScriptReader) (old new : Option (List ℕ)) : Type 0 where
   pub orders : List Order
   pub report : List (List ReportLine)
   pub end : WorldState
-  pub rest : Reader
+  pub rest : ScriptReader
   pub run : Runs no_nodes script orders report end rest
   pub given : AreReportsOf orders report
   pub right : LinesAreRight [] [] orders report
@@ -55,7 +55,8 @@ pub record WritesPrefix (script : Reader) (old new : Option (List ℕ)) : Type 0
 -- the whole report of the first orders of the script was written, and the state is that
 -- which these orders leave
 pub record WritesReport
-    (script : Reader) (old new : Option (List ℕ)) (end : WorldState) (rest : Reader) : Type 0 where
+    (script : ScriptReader) (old new : Option (List ℕ)) (end : WorldState)
+    (rest : ScriptReader) : Type 0 where
   pub orders : List Order
   pub report : List (List ReportLine)
   pub run : Runs no_nodes script orders report end rest
@@ -67,22 +68,23 @@ pub record WritesReport
 
 -- all orders of the script are done and reported
 pub record WritesWhole
-    (script : Reader) (old new : Option (List ℕ)) (end : WorldState) : Type 0 where
-  pub rest : Reader
+    (script : ScriptReader) (old new : Option (List ℕ)) (end : WorldState) : Type 0 where
+  pub rest : ScriptReader
   pub report : WritesReport script old new end rest
   pub ended : next_in rest ≡ Ended
 
 -- the orders before the refused one are done and reported, and that is refused at this
 -- line with this cause
 pub record WritesUpTo
-    (script : Reader) (old new : Option (List ℕ)) (end : WorldState)
+    (script : ScriptReader) (old new : Option (List ℕ)) (end : WorldState)
     (line : ℕ) (cause : Cause) : Type 0 where
-  pub rest : Reader
+  pub rest : ScriptReader
   pub report : WritesReport script old new end rest
   pub refusal : IsRefusal end rest line cause
 
 -- how the orders of a script ended
-abbrev pub Ends : Reader → Option (List ℕ) → Option (List ℕ) → WorldState → ℕ → ℕ → Outcome → Type 0
+abbrev pub Ends :
+    ScriptReader → Option (List ℕ) → Option (List ℕ) → WorldState → ℕ → ℕ → Outcome → Type 0
 Ends script old new end before now Done = WritesWhole script old new end
 Ends script old new end before now (Refused fault) =
     WritesUpTo script old new end fault.line fault.cause
@@ -95,9 +97,8 @@ status_of _ = 3
 
 -- the script is refused with a status of that number, and the refusal is said
 abbrev pub IsRefused :
-    ℕ → Reader → Option (List ℕ) → Option (List ℕ) → WorldState → Option (List ℕ) → Option (List ℕ)
-    → ℕ
-    → ℕ → Type 0
+    ℕ → ScriptReader → Option (List ℕ) → Option (List ℕ) → WorldState → Option (List ℕ)
+    → Option (List ℕ) → ℕ → ℕ → Type 0
 IsRefused code script old new end unsaid said before now =
     (line : ℕ) × (cause : Cause) × (status_of cause ≡ code)
     × WritesUpTo script old new end line cause
@@ -109,7 +110,7 @@ IsRefusedStatus code = (code ≡ 3) ⊎ (code ≡ 8)
 -- the orders of the script are done, and nothing is said; or it is refused, which is said; or
 -- writing the report failed
 abbrev pub RunEnds :
-    Reader → Option (List ℕ) → Option (List ℕ) → WorldState → ℕ → ℕ → Option (List ℕ)
+    ScriptReader → Option (List ℕ) → Option (List ℕ) → WorldState → ℕ → ℕ → Option (List ℕ)
     → Option (List ℕ)
     → ℕ → ℕ → ℕ → Type 0
 RunEnds script old new end before now unsaid said faults_before faults_now code =
@@ -162,6 +163,19 @@ pub record Streams : Type 0 where
   pub said : Option (List ℕ)
   pub said_faults : ℕ
 
+-- the streams of these bytes and failures: of the input, of the output, and of the errors
+abbrev pub streams :
+    Option (List ℕ) → ℕ → Option (List ℕ) → ℕ → Option (List ℕ) → ℕ → Streams
+streams left read_faults report report_faults said said_faults =
+    record {
+      left = left;
+      read_faults = read_faults;
+      report = report;
+      report_faults = report_faults;
+      said = said;
+      said_faults = said_faults;
+    }
+
 -- a run for the word `cascade` that found and left the streams so, and left the world so, may end
 -- with this status
 pub record MayEndWith (before after : Streams) (end : WorldState) (status : Status) : Type 0 where
@@ -190,6 +204,7 @@ pub record MayEndWith (before after : Streams) (end : WorldState) (status : Stat
   pub read_fault_reported :
       OnCode 4
       (Says read_fault_text before.said after.said before.said_faults after.said_faults) status
+  pub unread : OnCode 4 ((after.report ≡ before.report) × (end ≡ no_nodes)) status
   pub write_fault : OnCode 5 (Rose before.report_faults after.report_faults) status
   pub write_fault_reported :
       OnCode 5

@@ -3,7 +3,7 @@
 //! memory.
 use crate::tests::started;
 use cascade_world::{Script, World, read_event};
-use ldap_ber::{NoMemory, Octets};
+use ldap_ber::{NoMemory, Octets, discard};
 use std::alloc::Global;
 use std::test::Fail;
 
@@ -72,18 +72,20 @@ fn is_settled(alloc: Global, world: &mut World, count: u32) -> Result<bool, Fail
     Ok(lines.as_slice().ends_with(LARGE_CONTENT.as_bytes()))
 }
 
-/// The number of messages, from the first and up to before the last, after which a cut changes
-/// nothing.
-fn settled(alloc: Global, first: u32, last: u32) -> Result<u32, Fail> {
+/// The messages of that refresh: one for each entry, and its end.
+const MESSAGES: u32 = 301;
+
+/// How many messages there are after which a cut changes nothing.
+fn settled(alloc: Global) -> Result<u32, Fail> {
     let mut world = large_world(alloc)?;
-    let count = count_settled(alloc, &mut world, first, last);
+    let count = count_settled(alloc, &mut world);
     discard(world);
     count
 }
 
-fn count_settled(alloc: Global, world: &mut World, first: u32, last: u32) -> Result<u32, Fail> {
+fn count_settled(alloc: Global, world: &mut World) -> Result<u32, Fail> {
     let mut count = 0_u32;
-    for messages in first..last {
+    for messages in 1..=MESSAGES {
         if is_settled(alloc, world, messages)? {
             count = count.saturating_add(1);
         }
@@ -91,41 +93,8 @@ fn count_settled(alloc: Global, world: &mut World, first: u32, last: u32) -> Res
     Ok(count)
 }
 
-/// Drops a value through its bound, so that no proof goes through the cases of its type.
-fn discard<T: Drop>(_value: T) {}
-
 #[test]
-fn cuts_after_messages_1_to_68_change_no_settling(rt: HostRuntime) -> Result<(), Fail> {
-    assert!(rt; settled(rt.alloc(), 1, 69)? == 68);
-    Ok(())
-}
-
-#[test]
-fn cuts_after_messages_69_to_125_change_no_settling(rt: HostRuntime) -> Result<(), Fail> {
-    assert!(rt; settled(rt.alloc(), 69, 126)? == 57);
-    Ok(())
-}
-
-#[test]
-fn cuts_after_messages_126_to_175_change_no_settling(rt: HostRuntime) -> Result<(), Fail> {
-    assert!(rt; settled(rt.alloc(), 126, 176)? == 50);
-    Ok(())
-}
-
-#[test]
-fn cuts_after_messages_176_to_221_change_no_settling(rt: HostRuntime) -> Result<(), Fail> {
-    assert!(rt; settled(rt.alloc(), 176, 222)? == 46);
-    Ok(())
-}
-
-#[test]
-fn cuts_after_messages_222_to_262_change_no_settling(rt: HostRuntime) -> Result<(), Fail> {
-    assert!(rt; settled(rt.alloc(), 222, 263)? == 41);
-    Ok(())
-}
-
-#[test]
-fn cuts_after_messages_263_to_301_change_no_settling(rt: HostRuntime) -> Result<(), Fail> {
-    assert!(rt; settled(rt.alloc(), 263, 302)? == 39);
+fn cuts_after_each_message_change_no_settling(rt: HostRuntime) -> Result<(), Fail> {
+    assert!(rt; settled(rt.alloc())? == MESSAGES);
     Ok(())
 }

@@ -5,7 +5,7 @@ ghost use Rattle.cascade_world.specs.World.{no_nodes};
 ghost use Rattle.std.specs.String.{string_bytes};
 ghost use Rattle.cascade_script.specs.declared.fault.Cause.TheVariants.{NoMemory};
 ghost use Rattle.syncrepl_tool.specs.Texts.{Says, usage_text, read_fault_text, write_fault_text, refusal_text, cause_text, limit_text, later_cookie_text};
-ghost use Rattle.syncrepl_tool.specs.Cascade.{WritesPrefix, status_of, Ends, RunEnds, IsInput, OnCode, Decides, IsCascade, IsStatus, IsCascadeStatus, MayEndWith};
+ghost use Rattle.syncrepl_tool.specs.Cascade.{WritesPrefix, status_of, Ends, RunEnds, IsInput, OnCode, Decides, IsCascade, IsStatus, IsCascadeStatus, streams, MayEndWith};
 
 use cascade_world::{Cause, NoMemory, Script, ScriptFault, World, read_event};
 use ldap_ber::Octets;
@@ -48,22 +48,12 @@ pub fn run<R: Threads + Wait + Sync, I: Source, O: Sink, E: Sink>(
         WritesPrefix (reader_of text) (O.bytes_held output.old) (O.bytes_held output.new)) }
 
     ensures answer { IfOk result (MayEndWith
-        (record {
-          left = I.bytes_left input.old;
-          read_faults = I.read_fault_count input.old;
-          report = O.bytes_held output.old;
-          report_faults = O.write_fault_count output.old;
-          said = E.bytes_held errors.old;
-          said_faults = E.write_fault_count errors.old;
-        })
-        (record {
-          left = I.bytes_left input.new;
-          read_faults = I.read_fault_count input.new;
-          report = O.bytes_held output.new;
-          report_faults = O.write_fault_count output.new;
-          said = E.bytes_held errors.new;
-          said_faults = E.write_fault_count errors.new;
-        })
+        (streams (I.bytes_left input.old) (I.read_fault_count input.old)
+        (O.bytes_held output.old) (O.write_fault_count output.old)
+        (E.bytes_held errors.old) (E.write_fault_count errors.old))
+        (streams (I.bytes_left input.new) (I.read_fault_count input.new)
+        (O.bytes_held output.new) (O.write_fault_count output.new)
+        (E.bytes_held errors.new) (E.write_fault_count errors.new))
         world.new) }
 
     ensures usage { IfOk result (λ status. (status.code ≡ 2) ↔ (IsCascade words.now → ⊥)) }
@@ -132,32 +122,17 @@ pub fn run_cascade<I: Source, O: Sink, E: Sink>(
     requires fresh { world.old ≡ no_nodes }
     requires prompt { I.waits input.old ≡ false }
 
-    // The prefix of accepted writes that a `stored` line names reaches at least as far as they did
-    // when the search was opened, and what the line reports is all that the specification selects
-    // from it, and no more. It is what the consumer holds, and a `show` prints, up to its next
-    // line. A search is refused with e-syncRefreshRequired exactly where the consumer's cookie is
-    // in its way. Each consumer is what the lines of its messages make of it. Each event gives the
-    // lines that belong to it, and no others.
+    // The report is right, as `run` says in words.
     ensures headline { IfSome (I.bytes_left input.old) (λ text.
         WritesPrefix (reader_of text) (O.bytes_held output.old) (O.bytes_held output.new)) }
 
     ensures answer { IfOk result (MayEndWith
-        (record {
-          left = I.bytes_left input.old;
-          read_faults = I.read_fault_count input.old;
-          report = O.bytes_held output.old;
-          report_faults = O.write_fault_count output.old;
-          said = E.bytes_held errors.old;
-          said_faults = E.write_fault_count errors.old;
-        })
-        (record {
-          left = I.bytes_left input.new;
-          read_faults = I.read_fault_count input.new;
-          report = O.bytes_held output.new;
-          report_faults = O.write_fault_count output.new;
-          said = E.bytes_held errors.new;
-          said_faults = E.write_fault_count errors.new;
-        })
+        (streams (I.bytes_left input.old) (I.read_fault_count input.old)
+        (O.bytes_held output.old) (O.write_fault_count output.old)
+        (E.bytes_held errors.old) (E.write_fault_count errors.old))
+        (streams (I.bytes_left input.new) (I.read_fault_count input.new)
+        (O.bytes_held output.new) (O.write_fault_count output.new)
+        (E.bytes_held errors.new) (E.write_fault_count errors.new))
         world.new) }
 
     // Where there is no memory nothing was said.

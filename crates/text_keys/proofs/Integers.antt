@@ -43,6 +43,7 @@ by_sign c cs false test integer =
     let no_plus : get_or (c ∷ cs) 0 0 ≢ 43 = not_in_digits digits (c ∷ cs) 43 number.1 (λ digit. omega arith) 0 number.0 in
     (rw (test, without_leading_plus_none (c ∷ cs) no_plus) (number.0, digits.to (c ∷ cs) number.1), digits_ascii (c ∷ cs) number.1)
 
+-- the text of an integer is UTF-8
 pub IsUtf8-integer : (text : List ℕ) → is_integer text ≡ true → IsUtf8 text
 IsUtf8-integer [] integer = absurd (false≢true integer)
 IsUtf8-integer (c ∷ cs) integer = IsUtf8-from_ascii _ (by_sign c cs (c == 45) refl integer).1
@@ -62,6 +63,7 @@ parse_fits text (Ok z) integer parsed = sym (fits_where _ parsed.0.1)
 parse_fits text (Err e) integer parsed =
     by_fit (integer_of text) _ refl (λ fits. parsed (numeral text integer, fits))
 
+-- the text of an integer of 64 bits is parsed as that integer
 pub parse_gives_integer : {E : Type 0} (text : List ℕ) (r : Result ℤ E) → is_integer text ≡ true → has_64_bits (integer_of text) ≡ true
     → ParsesSigned w64 10 text r → r ≡ Ok (integer_of text)
 parse_gives_integer text (Ok z) integer fits parsed = ap Ok parsed.1

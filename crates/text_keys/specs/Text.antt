@@ -1,6 +1,7 @@
 -- Keys of text: the characters of a value without the differences that matching ignores (RFC 4518).
 -- A space is U+0020 alone, to which NFKC also brings the other spaces.
 use Rattle.std.specs.Prelude.{ℕ, Bool, true, false, ◌&&◌, ◌==◌, if◌then◌else◌, List, [], ◌∷◌, Option, Some, None, option_and_then, chars, encode_utf8_all}
+use Rattle.std.specs.Char.{to_ascii_lowercase}
 use Rattle.std.specs.Str.{is_utf8}
 use Rattle.caseless.specs.Caseless.{default_case_fold}
 use Rattle.unicode_normalization.specs.Forms.{nfkc}
@@ -9,6 +10,10 @@ use Rattle.unicode_normalization.specs.Forms.{nfkc}
 -- sections 2.2 and 2.3)
 abbrev pub prepared : Bool → List ℕ → List ℕ
 prepared fold cs = if fold then default_case_fold (nfkc cs) else nfkc cs
+
+-- the same of an ASCII character
+abbrev pub lowered : Bool → ℕ → ℕ
+lowered fold c = if fold then to_ascii_lowercase c else c
 
 abbrev pub is_space : ℕ → Bool
 is_space c = c == 32

@@ -7,7 +7,8 @@ use crate::fault::KeyFault;
 use crate::own::own_key;
 use std::alloc::Global;
 
-/// The key of `TRUE` or `FALSE`: its text (RFC 4517, section 3.3.3).
+/// The key of `TRUE` or `FALSE`: its text (RFC 4517, section 3.3.3). It is `NotUtf8` or
+/// `NotOfSyntax` for any other value, or `NoMemory`.
 #[tactic(auto, unfolding(crate::specs::Boolean::boolean_key))]
 pub fn boolean_key(alloc: Global, value: &[u8]) -> Result<Vec<u8>, KeyFault>
     ensures key { IfOk result (λ key. boolean_key value.now ≡ Some key.items) }

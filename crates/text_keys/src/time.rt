@@ -12,7 +12,7 @@ use jiff::civil::DateTime;
 use std::alloc::Global;
 
 /// The key of a time `YYYYmmddHHMMSSZ`, the one form of a generalized time that is taken (RFC 4517,
-/// section 3.3.13): its text.
+/// section 3.3.13): its text. It is `NotUtf8` or `NotOfSyntax` for any other value, or `NoMemory`.
 #[tactic(auto, unfolding(crate::specs::Time::time_key))]
 pub fn time_key(alloc: Global, value: &[u8]) -> Result<Vec<u8>, KeyFault>
     ensures key { IfOk result (λ key. time_key value.now ≡ Some key.items) }

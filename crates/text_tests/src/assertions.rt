@@ -1,4 +1,4 @@
-//! What the tests assert of each row of their tables, and how they drop what they read.
+//! What the tests assert of each row of their tables.
 use std::fmt::Debug;
 use std::process::Abort;
 
@@ -9,9 +9,6 @@ pub(crate) fn assert_same<T: PartialEq + Debug>(rt: &impl Abort, row: &str, foun
         "{row}: {found:?} in place of {wanted:?}"
     );
 }
-
-/// Drops a value through its bound, so that no proof goes through the cases of its type.
-pub(crate) fn discard<T: Drop>(_value: T) {}
 
 /// What is asked, and what is reported of it.
 pub(crate) type Row = (&'static str, &'static str);

@@ -1,6 +1,6 @@
 //! Filters as text, and what they say of an entry.
-use crate::assertions::{Row, assert_same, discard, utf8};
-use ldap_ber::{NoMemory, Octets, OctetsList};
+use crate::assertions::{Row, assert_same, utf8};
+use ldap_ber::{NoMemory, Octets, OctetsList, discard};
 use ldap_filter::{Filter, FilterFault, FilterList};
 use schema_rules::{Attrs, RawAttribute, RawList};
 use std::alloc::Global;

@@ -1,7 +1,7 @@
 //! Records and texts from outside: after the examples of RFC 2849, and its rules one by one.
-use crate::assertions::{Row, assert_same, discard};
+use crate::assertions::{Row, assert_same};
 use csn_cookie::Csn;
-use ldap_ber::{NoMemory, Octets, OctetsList};
+use ldap_ber::{NoMemory, Octets, OctetsList, discard};
 use ldif_text::{LdifFault, Records, write_entry};
 use schema_rules::{Attrs, Change, EditList, How, RawAttribute, RawList};
 use std::alloc::{AllocError, Global};
@@ -561,7 +561,7 @@ entryCSN: 19700101000000.000000Z#000002#001#000000
     ),
 ];
 
-/// The lines of a name and an entry with its marks.
+/// The lines of a name and an entry with its operational attributes.
 fn written(
     alloc: Global,
     name: &[u8],

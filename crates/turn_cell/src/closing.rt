@@ -11,7 +11,7 @@ use crate::table::{CellSeat, CellTable, CellWords, VALUE};
 
 impl<D: Journalled> TurnCell<D> {
     /// Gives the value, where all passes of the cell are given; else cell and passes come back.
-    /// Allocates nothing.
+    /// Allocates nothing. The fault is `PassesOut` with how many are missing.
     pub fn close(self, passes: Vec<Pass<D>>) -> Result<D, (CloseFault, TurnCell<D>, Vec<Pass<D>>)>
         requires { Every (λ pass. cell_of pass ≡ cell_id self) passes.items }
         ensures passes { IfOk result (λ value. Every (λ pass.

@@ -13,8 +13,8 @@ use std::alloc::{AllocError, Global};
 use std::snapshot::Snapshot;
 
 impl<D: Journalled> TurnCell<D> {
-    /// A cell with `seats` passes, numbered from 1, in this order. Each has seen the journal and its
-    /// share as they are. When out of memory, the value comes back.
+    /// A cell with `seats` passes, numbered from 1, in this order. Each has seen the journal and
+    /// its share as they are. When out of memory, the value comes back.
     pub fn new(
         alloc: Global,
         value: D,

@@ -1,7 +1,7 @@
 use Rattle.std.proofs.Common.{false, ◌+◌, refl, ap, sym, subst}
 use Rattle.std.proofs.lemmas.Result.{err_from_is_err_and}
 use Rattle.ldap_messages.specs.Whole.{whole_of}
-use Rattle.sync_provider.specs.HandingOut.Turn.{Waits, Unknown}
+use Rattle.sync_provider.specs.HandingOut.HandOut.{Waits, Unknown}
 use Rattle.cascade_nodes.specs.declared.node.ConsumerNode.{ConsumerNode}
 use Rattle.cascade_exchange.specs.Exchange.{agreement_of}
 use Rattle.cascade_exchange.specs.Passing.{passed, IsAhead}

@@ -1,6 +1,6 @@
 use Rattle.std.proofs.Common.{◌≡◌, ◌≤◌, ◌-◌, ◌++◌, length, take, drop}
 use Rattle.std.specs.Str.Lines.{lines}
-use Rattle.cascade_script.specs.Lines.{IsCut}
+use Rattle.cascade_script.specs.Lines.{IsCutAt}
 use Rattle.cascade_script.specs.Reader.{body_of, after_body}
 use Rattle.cascade_script.proofs.lines.body_length.Given as goal
 
@@ -9,7 +9,7 @@ abbrev pub invariant-loop-line : goal.invariant-loop-line
 invariant-loop-line l =
     record {
       within : l.at ≤ length l.text;
-      cut : IsCut l.text l.at;
+      cut : IsCutAt l.text l.at;
       body : body_of (lines l.text) ≡ lines (take l.at l.text) ++ body_of (lines (drop l.at l.text));
       after : after_body (lines l.text) ≡ after_body (lines (drop l.at l.text));
     }

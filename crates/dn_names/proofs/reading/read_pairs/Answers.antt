@@ -5,7 +5,7 @@ use Rattle.dn_names.proofs.reading.read_pairs.Goals as goal
 
 pub returns-in_err-read_pair-in-Some-clause-fault : goal.returns-in_err-read_pair-in-Some-clause-fault
 returns-in_err-read_pair-in-Some-clause-fault c =
-    let p = err_from_is_err_and c.from_residual.result c.from_residual.ensures.1 in
+    let p = err_from_is_err_and c.from_residual-in_err-read_pair-in-Some.result c.from_residual-in_err-read_pair-in-Some.ensures.1 in
     let back = rw c.in-Some.is at c.cut.ensures.back in
     rw (p.1, p.2)
     (next_refused c.args.place c.args.ended _ c.pairs.pairs.items c.pairs.rest.now c.pairs.invariant back.0 _ (rw c.cut.ensures.prefix at c.in_err-read_pair-in-Some.ensures.fault))

@@ -26,21 +26,25 @@ rejects_all is_long es i e code n low is = by (is_long e) refl
     by true long some = ap (λ b. cond b (Some code) None) (list_any_at is_long es i e low (ap is_long (sym is) ∙ long)) ∙ some
     by false short never = absurd (cc)
 
+-- the entry that comes next, among the entries that are lent
+next : (lent : List (Bor Entry)) (i : ℕ) (item : Bor Entry) → i < length lent → item ≡ get_or lent i item
+    → (i < length (map (λ (e : Bor Entry). e.now) lent)) × (item.now ≡ get_or (map (λ (e : Bor Entry). e.now) lent) i item.now)
+next lent i item low is =
+    let of = λ (e : Bor Entry). e.now in
+    let counted : length (map of lent) ≡ length lent = length-map lent of in
+    (omega (arith, counted, low), ap of is ∙ sym (get_or-map of lent i item item.now low))
+
 pub returns-in_err-now-clause-refused : goal.returns-in_err-now-clause-refused
 returns-in_err-now-clause-refused c =
     let top = c.args.top.now in
     let name = c.args.renamed.now.name in
     let is_long = λ (e : Entry). is_at_or_below e.dn top.dn && nat_lt most_rdns (length (moved_name e.dn top.dn name)) in
-    let of = λ (e : Bor Entry). e.now in
-    let lent = c.args.entries.now in
-    let entries : List Entry = map of lent in
+    let entries : List Entry = map (λ (e : Bor Entry). e.now) c.args.entries.now in
     let i = c.loop-entry.entry-index in
-    let entry = c.entry-item.result.now in
-    let low : i < length entries = omega (arith, length-map lent of, c.loop-entry-test.true) in
-    let is : entry ≡ get_or entries i entry = ap of c.entry-item.is ∙ sym (get_or-map of lent i c.entry-item.result entry c.loop-entry-test.true) in
+    let here = next c.args.entries.now i c.entry-item.result c.loop-entry-test.true c.entry-item.is in
     let shown : HasCode (length_code entries top name) c.in_err-now.field-0.0 =
-    HasCode-same (cond (is_long entry) (Some ADMIN_LIMIT_EXCEEDED) None) (length_code entries top name) c.in_err-now.field-0.0
-    (λ n some. rejects_all is_long entries i entry ADMIN_LIMIT_EXCEEDED n low is some) c.in_err-now.ensures.refused
+    HasCode-same (cond (is_long c.entry-item.result.now) (Some ADMIN_LIMIT_EXCEEDED) None) (length_code entries top name) c.in_err-now.field-0.0
+    (λ n some. rejects_all is_long entries i c.entry-item.result.now ADMIN_LIMIT_EXCEEDED n here.0 here.1 some) c.in_err-now.ensures.refused
     in
     let p = err_from_is_err_and c.from_residual.result c.from_residual.ensures.1 in
     rw (p.1, p.2) shown
@@ -51,21 +55,18 @@ loop-entry-preserved c =
     let name = c.args.renamed.now.name in
     let step = λ (e : Entry). Some (moved top name c.args.renamed.now.attrs c.args.csn e) in
     let is_long = λ (e : Entry). is_at_or_below e.dn top.dn && nat_lt most_rdns (length (moved_name e.dn top.dn name)) in
-    let of = λ (e : Bor Entry). e.now in
-    let lent = c.args.entries.now in
-    let entries : List Entry = map of lent in
+    let entries : List Entry = map (λ (e : Bor Entry). e.now) c.args.entries.now in
     let i = c.loop-entry.entry-index in
     let entry = c.entry-item.result.now in
-    let low : i < length entries = omega (arith, length-map lent of, c.loop-entry-test.true) in
-    let is : entry ≡ get_or entries i entry = ap of c.entry-item.is ∙ sym (get_or-map of lent i c.entry-item.result entry c.loop-entry-test.true) in
+    let here = next c.args.entries.now i c.entry-item.result c.loop-entry-test.true c.entry-item.is in
     let so_far = filter is_change (map (stepped step) (take i entries)) in
     record {
       shown = c.in_ok-push_difference.ensures.ok
           ∙ ap (λ changes. changes ++ filter is_change (change_to entry c.in_ok-now.now ∷ [])) c.loop-entry.invariant.shown
           ∙ ap (λ now. so_far ++ filter is_change (change_to entry now ∷ [])) c.in_ok-now.ensures.value
-          ∙ sym (stepped_more step entries i entry low is);
-      short = list_any_more is_long entries i entry low
-          ∙ or_from _ _ c.loop-entry.invariant.short (ap is_long (sym is) ∙ c.in_ok-now.ensures.short);
+          ∙ sym (stepped_more step entries i entry here.0 here.1);
+      short = list_any_more is_long entries i entry here.0
+          ∙ or_from _ _ c.loop-entry.invariant.short (ap is_long (sym here.1) ∙ c.in_ok-now.ensures.short);
     }
 
 -- all entries are taken at the end

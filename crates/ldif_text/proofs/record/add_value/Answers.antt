@@ -13,4 +13,4 @@ pub returns : goal.returns
 returns c =
     let items = c.args.attributes.now.items in
     let past : length items ≡ position_or_len (is_of_type c.args.name) items = omega (arith, c.args.attributes.now.ok.0, ap (position_or_len (is_of_type c.args.name)) c.deref.ensures.value, ap (length {A = RawAttribute}) c.deref.ensures.value) in
-    rw (c.in_ok-push-2.ensures.items, c.in_ok-push.ensures.ok, c.new-values.ensures) (with_value-new items c.args.name c.args.value past)
+    rw (c.in_ok-push.ensures.items, c.of_one-values.ensures) (with_value-new items c.args.name c.args.value past)

@@ -8,7 +8,7 @@ use Rattle.schema_rules.proofs.keys.keys_of.Goals.{in-Some+in_ok-push, in_defaul
 pub loop-value-preserved : goal.loop-value-preserved
 loop-value-preserved c =
     let known : c.in_ok-key.field-0 ≡ key_of c.args.kind c.value-item.result = c.in_ok-key.ensures ∙ ap (key_of c.args.kind) c.as_slice.ensures in
-    elim c.match-branch-2.branch [
+    elim c.match-branch-3.branch [
       | in-Some+in_ok-push w ↦
           let has : key_of c.args.kind c.value-item.result ≡ Some w.in-Some.key = cc in
           let more = filter_map_some (key_of c.args.kind) c.args.values.now _ _ _ c.loop-value-test.true c.value-item.is has in

@@ -4,11 +4,11 @@ use Rattle.std.specs.Bool.{MatchBool}
 use Rattle.std.specs.Prelude.{Result, Ok, Err, OnOk}
 use Rattle.entry_tree.specs.State.{entry_at}
 use Rattle.entry_tree.specs.declared.entry.Entry.{Entry}
-use Rattle.sync_consumer.specs.Holding.{Names, keeps_name, Forgets, ForgetsFor}
+use Rattle.sync_consumer.specs.Holding.{HeldNames, keeps_name, Forgets, ForgetsFor}
 use Rattle.sync_consumer.specs.Staging.{change_of}
 use Rattle.sync_consumer.proofs.names.forget_for.Goals as goal
 
-forgotten : {E : Type 0} (entries : List Entry) (old new : Names) (change : ℕ × Option Entry) (uuid : ℕ) (result : Result (Unit {0}) E) → uuid ≡ change.0
+forgotten : {E : Type 0} (entries : List Entry) (old new : HeldNames) (change : ℕ × Option Entry) (uuid : ℕ) (result : Result (Unit {0}) E) → uuid ≡ change.0
     → keeps_name (entry_at entries change.0) change.1 ≡ false → OnOk result (Forgets old new (entry_at entries uuid)) → OnOk result (ForgetsFor entries change old new)
 forgotten entries old new change uuid (Ok done) is off gone =
     subst (λ (b : Bool). MatchBool b (new ≡ old) (Forgets old new (entry_at entries change.0))) (sym off) (subst (λ (u : ℕ). Forgets old new (entry_at entries u)) is gone)

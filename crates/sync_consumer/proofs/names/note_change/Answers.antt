@@ -5,12 +5,12 @@ use Rattle.dn_names.specs.Paths.{path_key}
 use Rattle.entry_tree.specs.State.{entry_at}
 use Rattle.entry_tree.specs.declared.entry.Entry.{Entry}
 use Rattle.sync_consumer.specs.declared.stage.StagedChange.{StagedChange}
-use Rattle.sync_consumer.specs.Holding.{Names, id_at, keeps_name, NotesAll, SetsId}
+use Rattle.sync_consumer.specs.Holding.{HeldNames, id_at, keeps_name, NotesAll, SetsId}
 use Rattle.sync_consumer.specs.Staging.{change_of}
 use Rattle.sync_consumer.proofs.Noting.{notes_none, notes_put}
 use Rattle.sync_consumer.proofs.names.note_change.Goals as goal
 
-noted : {E : Type 0} (entries : List Entry) (old new : Names) (e : Entry) (result : Result Bool E) → keeps_name (entry_at entries e.uuid) (Some e) ≡ false
+noted : {E : Type 0} (entries : List Entry) (old new : HeldNames) (e : Entry) (result : Result Bool E) → keeps_name (entry_at entries e.uuid) (Some e) ≡ false
     → IfOk result (λ is_free. is_free ≡ is_none (id_at old (path_key e.dn))) → OnOk result (SetsId old new (path_key e.dn) (Some e.uuid))
     → IfOk result (NotesAll entries old new ((e.uuid, Some e) ∷ []))
 noted entries old new e (Ok is_free) off free sets = notes_put entries old new e is_free off free sets

@@ -1,3 +1,4 @@
+use Rattle.std.proofs.Common.{refl}
 use Rattle.std.proofs.lemmas.Result.{IfOk-weaker}
 use Rattle.syncrepl_tool.proofs.Ending.{decides_of, prefix_of, prefix_of_nothing}
 use Rattle.syncrepl_tool.proofs.Statuses.{of_ends, of_read_fault}
@@ -13,7 +14,7 @@ pub returns-in-Text-clause-headline : goal.returns-in-Text-clause-headline
 returns-in-Text-clause-headline g c = prefix_of (rw c.in-Text.is at c.in_ok-text.ensures) _ _ c.run_text.ensures.prefix
 
 pub returns-in-Failed-clause-answer : goal.returns-in-Failed-clause-answer
-returns-in-Failed-clause-answer g c = of_read_fault _ _ _ _ c.read_fault.ensures.code (rw c.in-Failed.is at c.in_ok-text.ensures) c.read_fault.ensures.says
+returns-in-Failed-clause-answer g c = of_read_fault _ _ _ _ c.read_fault.ensures.code (rw c.in-Failed.is at c.in_ok-text.ensures) c.read_fault.ensures.says refl c.requires.fresh
 
 pub returns-in-Text-clause-answer : goal.returns-in-Text-clause-answer
 returns-in-Text-clause-answer g c =

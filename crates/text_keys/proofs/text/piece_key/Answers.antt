@@ -1,9 +1,18 @@
--- the spaces of the prepared text are squeezed
+-- a piece in ASCII has its key by its bytes; of another the spaces of the prepared text are squeezed
 use Rattle.std.proofs.Common.{◌≡◌, Some, chars, ap, sym, ◌∙◌}
 use Rattle.std.proofs.lemmas.Str.{chars_from_encodes}
 use Rattle.text_keys.specs.Text.{prepared}
+use Rattle.text_keys.proofs.Ascii.{piece_key-ascii}
 use Rattle.text_keys.proofs.Pieces.{piece_key-text}
 use Rattle.text_keys.proofs.text.piece_key.Goals as goal
+
+pub ascii_key-requires : goal.ascii_key-requires
+ascii_key-requires c = rw c.if-is_ascii.true at c.is_ascii.ensures.cases
+
+pub returns-then-is_ascii-clause-key : goal.returns-then-is_ascii-clause-key
+returns-then-is_ascii-clause-key c =
+    piece_key-ascii c.args.piece.now c.args.fold c.args.first c.args.last (rw c.if-is_ascii.true at c.is_ascii.ensures.cases)
+    ∙ ap Some (sym c.in_ok-ascii_key.ensures)
 
 pub returns-clause-key : goal.returns-clause-key
 returns-clause-key c =

@@ -1,6 +1,6 @@
 use Rattle.std.proofs.Common.{ap, sym, subst, ◌∙◌, ◌<◌, length, arith}
 use Rattle.std.proofs.lemmas.Result.{err_from_is_err_and}
-use Rattle.sync_consumer.specs.Taking.{Following}
+use Rattle.sync_consumer.specs.Taking.{ConsumerState}
 use Rattle.cascade_exchange.specs.declared.exchange.Exchange.TheVariants.{Idle}
 use Rattle.cascade_world.specs.World.{WorldState, is_offered}
 use Rattle.cascade_world.proofs.Pointing.{stand_seen, repoint_unknown, repoint_nowhere, repoint_circle, repoint_outside, repoint_refused, still_within, repointed}
@@ -22,14 +22,14 @@ returns-then-not-offers-clause-steps c =
     let r = c.index.result.now in
     let stand = stand_seen c.args.self.now _ c.args.name c.args.source c.in-Some.consumer_node c.in-Some-provider_node_place.provider_node f r c.self.view_is (sym c.in-Some.ensures) c.index-2.ensures (sym c.in-Some-provider_node_place.ensures) c.index.ensures in
     repoint_outside c.args.self.now c.args.name c.args.source c.in-Some.consumer_node c.in-Some-provider_node_place.provider_node f r stand (sym c.is_fed.ensures ∙ c.if-is_fed.false)
-    (ap (λ s. is_offered s r) (sym (c.spec.ensures ∙ ap (λ (k : Following). k.spec) c.inner.ensures)) ∙ sym c.offers.ensures ∙ c.if-not-offers.true)
+    (ap (λ s. is_offered s r) (sym (c.spec.ensures ∙ ap (λ (k : ConsumerState). k.spec) c.inner.ensures)) ∙ sym c.offers.ensures ∙ c.if-not-offers.true)
 
 pub returns-in_err-lines-clause-steps : goal.returns-in_err-lines-clause-steps
 returns-in_err-lines-clause-steps c =
     let f = c.index-2.result.now in
     let r = c.index.result.now in
     let stand = stand_seen c.args.self.now _ c.args.name c.args.source c.in-Some.consumer_node c.in-Some-provider_node_place.provider_node f r c.self.view_is (sym c.in-Some.ensures) c.index-2.ensures (sym c.in-Some-provider_node_place.ensures) c.index.ensures in
-    let within = ap (λ s. is_offered s r) (sym (c.spec.ensures ∙ ap (λ (k : Following). k.spec) c.inner.ensures)) ∙ sym c.offers.ensures ∙ c.if-not-offers.false in
+    let within = ap (λ s. is_offered s r) (sym (c.spec.ensures ∙ ap (λ (k : ConsumerState). k.spec) c.inner.ensures)) ∙ sym c.offers.ensures ∙ c.if-not-offers.false in
     let p = err_from_is_err_and c.from_residual.result c.from_residual.ensures.1 in
     rw (p.1, p.2)
     (repoint_refused c.args.self.now c.exchange.new.self c.args.name c.args.source c.in-Some.consumer_node c.in-Some-provider_node_place.provider_node f r c.in_err-lines.field-0.0 stand (sym c.is_fed.ensures ∙ c.if-is_fed.false) within
@@ -46,6 +46,6 @@ returns-clause-steps c =
     let f = c.index-2.result.now in
     let r = c.index.result.now in
     let stand = stand_seen c.args.self.now _ c.args.name c.args.source c.in-Some.consumer_node c.in-Some-provider_node_place.provider_node f r c.self.view_is (sym c.in-Some.ensures) c.index-2.ensures (sym c.in-Some-provider_node_place.ensures) c.index.ensures in
-    let within = ap (λ s. is_offered s r) (sym (c.spec.ensures ∙ ap (λ (k : Following). k.spec) c.inner.ensures)) ∙ sym c.offers.ensures ∙ c.if-not-offers.false in
+    let within = ap (λ s. is_offered s r) (sym (c.spec.ensures ∙ ap (λ (k : ConsumerState). k.spec) c.inner.ensures)) ∙ sym c.offers.ensures ∙ c.if-not-offers.false in
     repointed c.args.self.now c.exchange.new.self _ c.args.name c.args.source c.in-Some.consumer_node c.in-Some-provider_node_place.provider_node f c.index_mut.result.now r c.in_ok-lines.lines stand (sym c.is_fed.ensures ∙ c.if-is_fed.false) within
     c.in_ok-lines.ensures.steps c.self-2.view_is c.index_mut.ensures.value

@@ -3,7 +3,7 @@ use Rattle.std.proofs.Common.{rules, ◌≡◌, ◌+◌, ◌-◌, ◌^◌, min, 
 use Rattle.entry_tree.specs.Effects.{committed}
 use Rattle.entry_tree.specs.State.{same_named}
 use Rattle.entry_tree.specs.declared.op.Op.TheVariants.{Commit}
-use Rattle.directory_writes.specs.Commits.{commit_refusal, held_refusal, log_refusal, Opposes}
+use Rattle.directory_writes.specs.Commits.{commit_refusal, held_refusal, log_refusal, Rejects}
 use Rattle.directory_writes.specs.Directory.{DirectoryState, csn_of_next_write, entries_of}
 use Rattle.directory_writes.specs.Weights.{op_weight, kept_weight}
 use Rattle.directory_writes.specs.declared.commit.DirectoryFault.{DirectoryFault}
@@ -25,9 +25,9 @@ returns-in_err-touched-clause-refused c =
     let capped : weight ≡ min (op_weight (Commit puts drops)) (2 ^ 64 - 1) = search rules in
     let made : c.self.inside.held.entries ≡ entries_of d = search rules in
     let none : log_refusal d weight c.args.now ≡ None = search rules in
-    let against : Opposes (held_refusal (committed (entries_of d) puts drops)) fault =
-    subst (λ entries. Opposes (held_refusal (committed entries puts drops)) fault) made c.in_err-touched.ensures.refused in
-    let opposed : Opposes (commit_refusal d puts drops c.args.now) fault =
+    let against : Rejects (held_refusal (committed (entries_of d) puts drops)) fault =
+    subst (λ entries. Rejects (held_refusal (committed entries puts drops)) fault) made c.in_err-touched.ensures.refused in
+    let opposed : Rejects (commit_refusal d puts drops c.args.now) fault =
     second_opposed (log_refusal d whole c.args.now) (held_refusal (committed (entries_of d) puts drops)) fault (sym (log_capped d whole weight c.args.now capped) ∙ none) against in
     search (rules, opposed)
 

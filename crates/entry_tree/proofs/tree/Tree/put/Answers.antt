@@ -26,19 +26,19 @@ weight_with-weight-requires-clause-after c =
 pub reindexed-requires : goal.reindexed-requires
 reindexed-requires c = c.self.invariant.index.some
 
-pub changed-requires-clause-keyed : goal.changed-requires-clause-keyed
-changed-requires-clause-keyed c = c.self.invariant.keyed
+pub change_entries-requires-clause-keyed : goal.change_entries-requires-clause-keyed
+change_entries-requires-clause-keyed c = c.self.invariant.keyed
 
-pub changed-requires-clause-ascends : goal.changed-requires-clause-ascends
-changed-requires-clause-ascends c = c.self.invariant.directory.ascends
+pub change_entries-requires-clause-ascends : goal.change_entries-requires-clause-ascends
+change_entries-requires-clause-ascends c = c.self.invariant.directory.ascends
 
-pub invariant_of-self : goal.invariant_of-self
-invariant_of-self c =
+pub invariant_of-self-2 : goal.invariant_of-self-2
+invariant_of-self-2 c =
     let es = values_of c.self.inside.entries in
     let changes = c.list-changes.result.now in
     let can = subst (CanBeMade es) (sym c.list-changes.ensures) (subst (λ xs. CanBeMade xs c.args.entry_changes.now) (sym c.self.view_is) c.requires) in
-    let made = c.in_ok-entries.ensures in
-    let values = keyed_as c.in_ok-entries.entries (with_changes es changes) made in
+    let made = c.in_ok-change_entries.ensures.ok in
+    let values = keyed_as c.change_entries.new.entries (with_changes es changes) made in
     record {
       keyed = made ∙ ap by_identity (sym values);
       directory = subst (λ xs. IsDirectory xs c.weight_with-weight.result) (sym values)
@@ -51,4 +51,4 @@ pub returns-clause-ok : goal.returns-clause-ok
 returns-clause-ok c =
     let es = values_of c.self.inside.entries in
     let changes = c.list-changes.result.now in
-    keyed_as c.in_ok-entries.entries (with_changes es changes) c.in_ok-entries.ensures ∙ (λ i. with_changes (c.self.view_is i) (c.list-changes.ensures i))
+    keyed_as c.change_entries.new.entries (with_changes es changes) c.in_ok-change_entries.ensures.ok ∙ (λ i. with_changes (c.self.view_is i) (c.list-changes.ensures i))

@@ -10,6 +10,9 @@ new-requires-2-clause-before c = none_before c.args.provider c.args.seats c.in-O
 pub returns-in-Ok-new-clause-count : goal.returns-in-Ok-new-clause-count
 returns-in-Ok-new-clause-count c = (c.in-Ok-new.ensures.cell.0, c.in-Ok-new.ensures.passes.1)
 
+pub returns-in-Ok-new-clause-opened : goal.returns-in-Ok-new-clause-opened
+returns-in-Ok-new-clause-opened c = c.in-Ok-new.ensures.cell.1 ∙ c.in-Ok.ensures.ok
+
 pub returns-in-Ok-new-clause-passes : goal.returns-in-Ok-new-clause-passes
 returns-in-Ok-new-clause-passes c =
     let made = c.in-Ok-new.ensures.passes in

@@ -1,23 +1,38 @@
-use Rattle.std.proofs.Common.{sym, ap, ◌∙◌, subst, length}
-use Rattle.std.specs.BTreeMap.{insert_entry}
+use Rattle.std.proofs.Common.{sym, ap, ◌∙◌, subst, length, arith}
 use Rattle.std.specs.List.Sorted.{IsStrictlySortedBy}
 use Rattle.std.specs.Map.{keys_of}
-use Rattle.shared_map.specs.Nodes.{pairs}
+use Rattle.shared_map.specs.Nodes.{count_with, pairs}
 use Rattle.shared_map.proofs.Changes.{ascends-insert_entry}
+use Rattle.shared_map.proofs.Counts.{count-small}
 use Rattle.shared_map.proofs.ordered.SharedMap.insert.Goals as goal
 
-pub invariant_of-self : goal.invariant_of-self
-invariant_of-self g c =
+pub invariant_of-self-2 : goal.invariant_of-self-2
+invariant_of-self-2 g c =
     let cmp = g.K.Ord.cmp in
     let es = pairs c.self.inside.root in
     let key = c.in_ok-new.field-0.value in
     let value = c.in_ok-new-2.field-0.value in
-    let made = c.in_ok-root.ensures c.self.invariant.0 in (
-      subst (λ es. IsStrictlySortedBy cmp (keys_of es)) (sym made)
+    let is_new = c.in_ok-is_new.is_new in
+    let put = rw (c.replace-root.ensures.value, c.in_ok-is_new.was) at c.put_into-root.ensures.ok in
+    let count = rw (c.replace-root.ensures.value, c.in_ok-is_new.was) at
+    c.put_into-root.ensures.count in (
+      subst (λ es. IsStrictlySortedBy cmp (keys_of es)) (sym (put c.self.invariant.0))
           (ascends-insert_entry g.met.K.Ord.total key value es c.self.invariant.0),
-      c.in_ok-len.ensures.1 value
-          ∙ ap (λ es. length (insert_entry cmp es c.args.key value)) (sym c.self.view_is)
-          ∙ ap (λ key. length (insert_entry cmp es key value)) (sym c.in_ok-new.ensures.ok)
-          ∙ ap length (sym made),
-      c.in_ok-len.ensures.0,
+      c.count_with-self-inside.ensures ∙ ap (count_with is_new) c.self.invariant.1 ∙ sym count,
+      omega (
+        arith,
+        c.count_with-self-inside.ensures,
+        count-small is_new c.self.inside.len,
+        c.self.invariant.2,
+      ),
+    )
+
+pub invariant_of-self : goal.invariant_of-self
+invariant_of-self g c =
+    let cmp = g.K.Ord.cmp in
+    let kept = rw (c.replace-root.ensures.value, c.in_err-is_new.was) at
+    c.put_into-root.ensures.err in (
+      subst (λ es. IsStrictlySortedBy cmp (keys_of es)) (sym kept) c.self.invariant.0,
+      c.self.invariant.1 ∙ ap length (sym kept),
+      c.self.invariant.2,
     )

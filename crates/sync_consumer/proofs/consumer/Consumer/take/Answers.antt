@@ -3,7 +3,7 @@ use Rattle.std.proofs.Common.{◌≡◌, Option, Some, sym, subst, rules}
 use Rattle.std.specs.Prelude.{option_map}
 use Rattle.sync_model.specs.Copy as model
 use Rattle.sync_consumer.specs.declared.session.SyncSession.{SyncSession}
-use Rattle.sync_consumer.specs.Committing.{IsKept, stage_in}
+use Rattle.sync_consumer.specs.Committing.{IsReadyOn, stage_in}
 use Rattle.sync_consumer.specs.SyncSession.{session_of, copy_of, copy_with}
 use Rattle.sync_consumer.proofs.Naming.{named_apart, held_allowed}
 use Rattle.sync_consumer.proofs.Upholding.{IsTaken, search_taken}
@@ -15,11 +15,11 @@ was : (c : In-Some) → c.args.self.now.copy ≡ copy_with c.self.inside.held c.
 was c = cc
 
 -- what held of it
-had : (c : In-Some) → IsKept c.args.self.now.copy.held (stage_in c.args.self.now.copy.session)
+had : (c : In-Some) → IsReadyOn c.args.self.now.copy.held (stage_in c.args.self.now.copy.session)
 had c =
     let here : c.self.inside.session ≡ Some c.in-Some.session = cc in
-    let all = subst (λ (r : Option SyncSession). IsKept c.self.inside.held.entries (stage_in (option_map session_of r))) here c.self.invariant in
-    subst (λ (k : model.Copy). IsKept k.held (stage_in k.session)) (sym (was c)) all
+    let all = subst (λ (r : Option SyncSession). IsReadyOn c.self.inside.held.entries (stage_in (option_map session_of r))) here c.self.invariant in
+    subst (λ (k : model.Copy). IsReadyOn k.held (stage_in k.session)) (sym (was c)) all
 
 pub invariant_of-self-2 : goal.invariant_of-self-2
 invariant_of-self-2 c =

@@ -6,7 +6,7 @@ use Rattle.std.proofs.lemmas.Iterator.Consumers.{YieldsList-turn}
 use Rattle.std.proofs.lemmas.List.{length_push}
 use Rattle.entry_tree.specs.Fitting.{is_light}
 use Rattle.entry_tree.specs.Sound.{is_sound_put}
-use Rattle.sync_provider.specs.Committing.{commit_refusal, Opposes}
+use Rattle.sync_provider.specs.Committing.{commit_refusal, RejectsCommit}
 use Rattle.sync_provider.specs.Machine.{ProviderState, committed, refusal_of_each}
 use Rattle.sync_provider.specs.declared.committing.StagedCommit.{StagedCommit}
 use Rattle.sync_provider.specs.declared.writing.CommitFault.{CommitFault}
@@ -67,9 +67,9 @@ returns-in_err-commit-clause-refused c =
     let fault : CommitFault = c.in_err-commit.field-0.0 in
     let turn = YieldsList-turn (YieldsList-from_vec {s = c.into_iter-staged-iterator.result} c.args.commits.items (search rules) (search rules)) so_far c.loop-staged.staged-iterator c.loop-staged.yielded_by
     c.next.result c.next.new.self commit c.in-Some.is c.next.ensures.steps in
-    let against : Opposes (commit_refusal before.kind before.directory commit.puts commit.drops now) fault = c.in_err-commit.ensures.leaves.refused in
+    let against : RejectsCommit (commit_refusal before.kind before.directory commit.puts commit.drops now) fault = c.in_err-commit.ensures.leaves.refused in
     let is = c.loop-staged.invariant in
     let so : GoesOn now c.args.self.now before commits (drop (length so_far) commits) = record { grown = is.grown; leaves = is.leaves; refusal = is.refusal } in
-    let opposed : Opposes (refusal_of_each c.args.self.now commits now) fault =
+    let opposed : RejectsCommit (refusal_of_each c.args.self.now commits now) fault =
     refused_all now c.args.self.now before commits (length so_far) commit fault turn.0 turn.1 against so in
     search (rules, opposed)

@@ -2,7 +2,7 @@ use Rattle.std.proofs.Common.{◌≡◌, ◌+◌, true, length, drop}
 use Rattle.std.specs.List.{list_all}
 use Rattle.entry_tree.specs.Fitting.{is_light}
 use Rattle.entry_tree.specs.Sound.{is_sound_put}
-use Rattle.sync_provider.specs.Growing.{HasGrown}
+use Rattle.sync_provider.specs.Growing.{HasMoreWrites}
 use Rattle.sync_provider.specs.Machine.{committed_each, refusal_of_each}
 use Rattle.sync_provider.proofs.sync_directory.SyncDirectory.commit_in_turn.Given as goal
 
@@ -10,7 +10,7 @@ use Rattle.sync_provider.proofs.sync_directory.SyncDirectory.commit_in_turn.Give
 -- leave, and what rejects them rejects all
 abbrev pub invariant-loop-staged : goal.invariant-loop-staged
 invariant-loop-staged l = record {
-  grown : HasGrown l.fn.self l.self;
+  grown : HasMoreWrites l.fn.self l.self;
   count : length l.self.directory.writes ≡ length l.fn.self.directory.writes + length l.yielded;
   leaves : committed_each l.fn.self l.fn.commits.items l.now ≡ committed_each l.self (drop (length l.yielded) l.fn.commits.items) l.now;
   refusal : refusal_of_each l.fn.self l.fn.commits.items l.now ≡ refusal_of_each l.self (drop (length l.yielded) l.fn.commits.items) l.now;

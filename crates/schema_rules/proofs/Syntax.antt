@@ -1,0 +1,27 @@
+-- Values that are seen to have a key.
+use Rattle.std.proofs.Common.{◌≡◌, ℕ, suc, true, nat_lt, List, [], ◌∷◌, is_some, IsAscii, refl, ap, ◌∙◌}
+use Rattle.std.proofs.lemmas.Bool.{and_from, lt-ltb}
+use Rattle.text_keys.specs.Text.{ignore_case_key, exact_key}
+use Rattle.schema_rules.specs.declared.types.Rule.{Rule}
+use Rattle.schema_rules.specs.declared.types.Rule.TheVariants.{Class, FoldedAscii, ExactAscii}
+use Rattle.schema_rules.specs.Schema.{type_rule, class_named}
+use Rattle.schema_rules.specs.Keys.{is_ascii, key_by, key_of}
+
+-- a value has a key of its type where it has one by the type's rule
+pub key_of-rule : (kind : ℕ) (rule : Rule) (value : List ℕ) → type_rule kind ≡ rule → is_some (key_by rule value) ≡ true → is_some (key_of kind value) ≡ true
+unfolding key_of
+key_of-rule kind rule value same has = ap (λ r. is_some (key_by r value)) same ∙ has
+
+is_ascii-from : (bytes : List ℕ) → IsAscii bytes → is_ascii bytes ≡ true
+is_ascii-from [] ascii = refl
+is_ascii-from (b ∷ bs) ascii = and_from (nat_lt b 128) (is_ascii bs) (lt-ltb b 128 (ascii 0)) (is_ascii-from bs (λ i. ascii (suc i)))
+
+-- the name of a class, in ASCII text by the key of its case or of no case
+pub key_by-class : (value : List ℕ) → is_some (class_named value) ≡ true → is_some (key_by Class value) ≡ true
+key_by-class value found = rw found refl
+
+pub key_by-folded_ascii : (value : List ℕ) → IsAscii value → is_some (ignore_case_key value) ≡ true → is_some (key_by FoldedAscii value) ≡ true
+key_by-folded_ascii value ascii has = rw (is_ascii-from value ascii) has
+
+pub key_by-exact_ascii : (value : List ℕ) → IsAscii value → is_some (exact_key value) ≡ true → is_some (key_by ExactAscii value) ≡ true
+key_by-exact_ascii value ascii has = rw (is_ascii-from value ascii) has

@@ -1,0 +1,35 @@
+-- How many pairs there are when one is put in on a side of a pair.
+use Rattle.std.proofs.Common.{◌≡◌, ◌+◌, ◌≤◌, ℕ, Bool, true, false, List, ◌∷◌, ◌++◌, length, length-append, arith}
+use Rattle.shared_map.specs.Nodes.{count_with}
+
+module _ {E : Type 0} (is_new : Bool) (l m : List E)
+    (count : length m ≡ count_with is_new (length l)) where
+  -- before the pair
+  pub count-lower : (x : E) (r : List E)
+      → length (m ++ x ∷ r) ≡ count_with is_new (length (l ++ x ∷ r))
+  count-lower x r = by is_new count
+    where
+      by : (b : Bool) → length m ≡ count_with b (length l)
+          → length (m ++ x ∷ r) ≡ count_with b (length (l ++ x ∷ r))
+      by true e = omega (arith, e, length-append l (x ∷ r), length-append m (x ∷ r))
+      by false e = omega (arith, e, length-append l (x ∷ r), length-append m (x ∷ r))
+
+  -- after the pair
+  pub count-higher : (x : E) (r : List E)
+      → length (r ++ x ∷ m) ≡ count_with is_new (length (r ++ x ∷ l))
+  count-higher x r = by is_new count
+    where
+      by : (b : Bool) → length m ≡ count_with b (length l)
+          → length (r ++ x ∷ m) ≡ count_with b (length (r ++ x ∷ l))
+      by true e = omega (arith, e, length-append r (x ∷ l), length-append r (x ∷ m))
+      by false e = omega (arith, e, length-append r (x ∷ l), length-append r (x ∷ m))
+
+-- one pair in place of another
+pub count-same : {E : Type 0} (l : List E) (x y : E) (r : List E)
+    → length (l ++ x ∷ r) ≡ length (l ++ y ∷ r)
+count-same l x y r = omega (arith, length-append l (x ∷ r), length-append l (y ∷ r))
+
+-- there is one more at most
+pub count-small : (is_new : Bool) (count : ℕ) → count_with is_new count ≤ count + 1
+count-small true count = omega arith
+count-small false count = omega arith

@@ -1,0 +1,140 @@
+//! How a pair is put in where its way down stands, as far as no other map shares the nodes.
+ghost use Rattle.std.specs.Prelude.{◌≡◌, length, IfOk, OnErr, OnOk};
+ghost use Rattle.std.specs.BTreeMap.{insert_entry};
+ghost use Rattle.std.specs.List.Sorted.{IsStrictlySortedBy};
+ghost use Rattle.std.specs.Map.{keys_of};
+ghost use Rattle.shared_map.specs.Nodes.{count_with, pairs, pairs_of};
+
+use crate::balance::balanced;
+use crate::nodes::{Node, Nodes, Pair};
+use crate::placing::with_pair;
+use std::alloc::{AllocError, Global};
+use std::cmp::Ordering;
+use std::mem;
+use std::sync::Arc;
+
+/// The nodes with this pair, or with its value at a key that is there, and whether the key is new.
+/// Where memory runs out they are as before. Down to the given number of levels nodes are changed
+/// where they stand; below that, and where another map shares them, they are made anew.
+#[cycle(putting)]
+pub(crate) fn put_into<K: Ord + Drop, V: Drop>(
+    alloc: Global,
+    levels: u8,
+    nodes: Nodes<K, V>,
+    pair: Pair<K, V>,
+) -> (Nodes<K, V>, Result<bool, AllocError>)
+    ensures ok { IsStrictlySortedBy K.cmp (keys_of (pairs nodes)) → OnOk result.1
+        (pairs result.0 ≡ insert_entry K.cmp (pairs nodes) pair.key.value pair.value.value) }
+    ensures count { IfOk result.1 (λ is_new.
+        length (pairs result.0) ≡ count_with is_new (length (pairs nodes))) }
+    ensures err { OnErr result.1 (pairs result.0 ≡ pairs nodes) }
+{
+    if levels == 0 {
+        return put_anew(alloc, nodes, pair);
+    }
+    match nodes {
+        Nodes::Nothing => put_anew(alloc, Nodes::Nothing, pair),
+        Nodes::Fork(shared) => put_into_node(alloc, levels - 1, shared, pair),
+    }
+}
+
+/// The same for a node and those below it.
+#[cycle(putting)]
+fn put_into_node<K: Ord + Drop, V: Drop>(
+    alloc: Global,
+    levels: u8,
+    mut shared: Arc<Node<K, V>>,
+    pair: Pair<K, V>,
+) -> (Nodes<K, V>, Result<bool, AllocError>)
+    ensures ok { IsStrictlySortedBy K.cmp (keys_of (pairs_of shared.value)) → OnOk result.1
+        (pairs result.0
+        ≡ insert_entry K.cmp (pairs_of shared.value) pair.key.value pair.value.value) }
+    ensures count { IfOk result.1 (λ is_new.
+        length (pairs result.0) ≡ count_with is_new (length (pairs_of shared.value))) }
+    ensures err { OnErr result.1 (pairs result.0 ≡ pairs_of shared.value) }
+{
+    let Some(node) = Arc::get_mut(&mut shared) else {
+        return put_anew(alloc, Nodes::Fork(shared), pair);
+    };
+    let answer = put_below(alloc, levels, node, pair);
+    (in_balance(alloc, shared), answer)
+}
+
+/// Puts the pair into a node that no other map shares, or into those below it.
+#[cycle(putting)]
+fn put_below<K: Ord + Drop, V: Drop>(
+    alloc: Global,
+    levels: u8,
+    node: &mut Node<K, V>,
+    pair: Pair<K, V>,
+) -> Result<bool, AllocError>
+    ensures ok { IsStrictlySortedBy K.cmp (keys_of (pairs_of node.old)) → OnOk result
+        (pairs_of node.new
+        ≡ insert_entry K.cmp (pairs_of node.old) pair.key.value pair.value.value) }
+    ensures count { IfOk result (λ is_new.
+        length (pairs_of node.new) ≡ count_with is_new (length (pairs_of node.old))) }
+    ensures err { OnErr result (pairs_of node.new ≡ pairs_of node.old) }
+{
+    let key = &*pair.key;
+    match key.cmp(&node.pair.key) {
+        Ordering::Less => {
+            let lower = mem::replace(&mut node.lower, Nodes::Nothing);
+            let (lower, answer) = put_into(alloc, levels, lower, pair);
+            node.set_lower(lower);
+            answer
+        }
+        Ordering::Equal => {
+            node.pair.value = pair.value;
+            Ok(false)
+        }
+        Ordering::Greater => {
+            let higher = mem::replace(&mut node.higher, Nodes::Nothing);
+            let (higher, answer) = put_into(alloc, levels, higher, pair);
+            node.set_higher(higher);
+            answer
+        }
+    }
+}
+
+/// The nodes with this pair, of which those on the way to it are made anew.
+fn put_anew<K: Ord + Drop, V: Drop>(
+    alloc: Global,
+    nodes: Nodes<K, V>,
+    pair: Pair<K, V>,
+) -> (Nodes<K, V>, Result<bool, AllocError>)
+    ensures ok { IsStrictlySortedBy K.cmp (keys_of (pairs nodes)) → OnOk result.1
+        (pairs result.0 ≡ insert_entry K.cmp (pairs nodes) pair.key.value pair.value.value) }
+    ensures count { IfOk result.1 (λ is_new.
+        length (pairs result.0) ≡ count_with is_new (length (pairs nodes))) }
+    ensures err { OnErr result.1 (pairs result.0 ≡ pairs nodes) }
+{
+    match with_pair(alloc, &nodes, pair) {
+        Ok((after, is_new)) => (after, Ok(is_new)),
+        Err(error) => (nodes, Err(error)),
+    }
+}
+
+/// The node with those below it, in balance where there is memory for that.
+fn in_balance<K: Drop, V: Drop>(alloc: Global, shared: Arc<Node<K, V>>) -> Nodes<K, V>
+    ensures { pairs result ≡ pairs_of shared.value }
+{
+    if shared.is_level() {
+        return Nodes::Fork(shared);
+    }
+    match raised(alloc, &shared) {
+        Ok(nodes) => nodes,
+        Err(_) => Nodes::Fork(shared),
+    }
+}
+
+/// The same pairs with the longer side of the node raised.
+fn raised<K: Drop, V: Drop>(alloc: Global, node: &Node<K, V>) -> Result<Nodes<K, V>, AllocError>
+    ensures { IfOk result (λ nodes. pairs nodes ≡ pairs_of node.now) }
+{
+    balanced(
+        alloc,
+        node.lower.copy()?,
+        node.pair.copy()?,
+        node.higher.copy()?,
+    )
+}

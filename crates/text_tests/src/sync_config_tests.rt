@@ -1,0 +1,241 @@
+//! Configurations that are read, and those that are refused.
+use crate::assertions::{Row, assert_same, utf8};
+use dn_names::Dn;
+use ldap_ber::NoMemory;
+use std::alloc::{AllocError, Global};
+use std::process::Abort;
+use std::test::Fail;
+use sync_config::{Config, ConfigFault, Text};
+
+/// What answers a configuration: `read`, or the fault with its key.
+fn answer(alloc: Global, text: &[u8]) -> Result<String, AllocError> {
+    match Config::read(alloc, text) {
+        Ok(_) => String::from_str(alloc, "read"),
+        Err(ConfigFault::NotToml) => String::from_str(alloc, "NotToml"),
+        Err(ConfigFault::MissingKey(key)) => format!(in alloc; "MissingKey {}", key.as_str()),
+        Err(ConfigFault::BadValue(key)) => format!(in alloc; "BadValue {}", key.as_str()),
+        Err(ConfigFault::NoMemory) => Err(AllocError),
+    }
+}
+
+/// The lines that each configuration has at least.
+const LEAST: &str = "listen = 'localhost:3890'\nsuffix = 'dc=x'\n";
+
+/// Lines that follow the least ones, and the answer.
+const MORE: [Row; 44] = [
+    ("", "read"),
+    ("connections = 2", "read"),
+    ("colour = 'green'", "read"),
+    ("[other]\nsid = 'one'", "read"),
+    ("sid = 0", "read"),
+    ("sid = 4095", "read"),
+    ("sid = 0xfff", "read"),
+    ("sid = 4096", "BadValue sid"),
+    ("sid = -1", "BadValue sid"),
+    ("sid = 'one'", "BadValue sid"),
+    ("sid = 1.0", "BadValue sid"),
+    ("ldif = 'first.ldif'", "read"),
+    ("ldif = 1", "BadValue ldif"),
+    ("log_limit = 0", "read"),
+    ("log_limit = 1_000_000", "read"),
+    ("log_limit = 1000001", "BadValue log_limit"),
+    ("log_limit = -1", "BadValue log_limit"),
+    ("queue_limit = 0", "read"),
+    ("queue_limit = 1000000", "read"),
+    ("queue_limit = 1000001", "BadValue queue_limit"),
+    ("queue_limit = true", "BadValue queue_limit"),
+    ("bind_name = 'cn=a,dc=x'\nbind_password = 'b'", "read"),
+    ("bind_name = ''\nbind_password = ''", "read"),
+    ("bind_name = 'cn=a,dc=x'", "MissingKey bind_password"),
+    ("bind_password = 'b'", "MissingKey bind_name"),
+    ("bind_name = 'cn'", "BadValue bind_name"),
+    (
+        "bind_name = 'cn'\nbind_password = 'b'",
+        "BadValue bind_name",
+    ),
+    ("bind_name = 7\nbind_password = 'b'", "BadValue bind_name"),
+    (
+        "bind_name = 'cn=a'\nbind_password = 7",
+        "BadValue bind_password",
+    ),
+    ("seats = 1", "read"),
+    ("seats = 64", "read"),
+    ("seats = 0", "BadValue seats"),
+    ("seats = 65", "BadValue seats"),
+    ("seats = [16]", "BadValue seats"),
+    ("connections = 0", "read"),
+    ("connections = 1000000", "read"),
+    ("connections = 1000001", "BadValue connections"),
+    ("connections = -1", "BadValue connections"),
+    ("connections = 9223372036854775807", "BadValue connections"),
+    ("connections = 9223372036854775808", "NotToml"),
+    ("upstream = 1", "BadValue upstream"),
+    ("upstream.address = 'a'", "BadValue upstream"),
+    ("[upstream]\naddress = 'localhost:389'", "BadValue upstream"),
+    ("sid = 1\nsid = 1", "NotToml"),
+];
+
+#[test]
+fn keys_are_judged(rt: HostRuntime) -> Result<(), Fail> {
+    for (more, wanted) in &MORE {
+        let text = format!(in rt.alloc(); "{LEAST}{more}")?;
+        let found = answer(rt.alloc(), text.as_bytes())?;
+        assert_same(&rt, more, &found.as_str(), wanted);
+    }
+    Ok(())
+}
+
+/// Whole texts, and the answer.
+const WHOLE: [Row; 13] = [
+    ("", "MissingKey listen"),
+    ("# nothing but a comment", "MissingKey listen"),
+    ("listen = \"localhost:0\"", "MissingKey suffix"),
+    ("suffix = 'dc=x'", "MissingKey listen"),
+    ("listen = 1", "BadValue listen"),
+    ("listen = ''\nsuffix = ''", "read"),
+    ("listen = 'a'\nsuffix = 'dc'", "BadValue suffix"),
+    ("listen = 'a'\nsuffix = 'foo=1'", "BadValue suffix"),
+    ("listen = 'a'\nsuffix = ['dc=x']", "BadValue suffix"),
+    ("listen = 'a'\n[upstream]", "BadValue upstream"),
+    ("listen = 'a'\nsuffix = 'dc'\n[upstream]", "BadValue suffix"),
+    ("listen = 'a'\nldif = 'f'\n[upstream]", "BadValue ldif"),
+    ("listen =", "NotToml"),
+];
+
+/// Whole texts with two keys that are refused, of which the later one stands first, and the answer.
+const PAIRS: [Row; 10] = [
+    ("suffix = 'dc'\nlisten = 1", "BadValue listen"),
+    ("sid = 4096\nlisten = 'a'", "MissingKey suffix"),
+    (
+        "ldif = 1\nsid = -1\nlisten = 'a'\nsuffix = ''",
+        "BadValue sid",
+    ),
+    (
+        "log_limit = -1\nldif = 1\nlisten = 'a'\nsuffix = ''",
+        "BadValue ldif",
+    ),
+    (
+        "queue_limit = -1\nlog_limit = -1\nlisten = 'a'\nsuffix = ''",
+        "BadValue log_limit",
+    ),
+    (
+        "bind_password = 1\nqueue_limit = -1\nlisten = 'a'\nsuffix = ''",
+        "BadValue queue_limit",
+    ),
+    (
+        "bind_password = 1\nbind_name = 'cn'\nlisten = 'a'\nsuffix = ''",
+        "BadValue bind_name",
+    ),
+    (
+        "seats = 0\nbind_name = 'cn=a'\nlisten = 'a'\nsuffix = ''",
+        "MissingKey bind_password",
+    ),
+    (
+        "connections = -1\nseats = 0\nlisten = 'a'\nsuffix = ''",
+        "BadValue seats",
+    ),
+    (
+        "upstream = 1\nconnections = -1\nlisten = 'a'",
+        "BadValue connections",
+    ),
+];
+
+fn assert_answers(rt: &impl Abort, alloc: Global, rows: &[Row]) -> Result<(), AllocError> {
+    for (text, wanted) in rows {
+        let found = answer(alloc, text.as_bytes())?;
+        assert_same(rt, text, &found.as_str(), wanted);
+    }
+    Ok(())
+}
+
+#[test]
+fn the_first_refused_key_is_reported(rt: HostRuntime) -> Result<(), Fail> {
+    assert_answers(&rt, rt.alloc(), &WHOLE)?;
+    assert_answers(&rt, rt.alloc(), &PAIRS)?;
+    Ok(())
+}
+
+#[test]
+fn other_bytes_are_no_toml(rt: HostRuntime) -> Result<(), Fail> {
+    let found = answer(rt.alloc(), b"listen = '\xff'\nsuffix = 'dc=x'")?;
+    assert_same(&rt, "octet ff", &found.as_str(), &"NotToml");
+    Ok(())
+}
+
+/// The name as it is written, or `none`.
+fn written(alloc: Global, name: &Option<Dn>) -> Result<String, NoMemory> {
+    match name {
+        Some(name) => String::from_str(alloc, utf8(name.write()?.as_slice())),
+        None => String::from_str(alloc, "none"),
+    }
+}
+
+/// The text, or `none`.
+fn text_of(text: &Option<Text>) -> &str {
+    match text {
+        Some(text) => text.as_str(),
+        None => "none",
+    }
+}
+
+/// All that was read, in the order of the keys.
+fn shown(alloc: Global, config: &Config) -> Result<String, NoMemory> {
+    let suffix = written(alloc, &config.suffix)?;
+    let bind_name = written(alloc, &config.bind_name)?;
+    format!(in alloc;
+        "{} {} {} {} {} {} {} {} {} {}",
+        config.listen.as_str(),
+        suffix.as_str(),
+        config.sid,
+        text_of(&config.ldif),
+        config.log_limit,
+        config.queue_limit,
+        bind_name.as_str(),
+        text_of(&config.bind_password),
+        config.seats,
+        config.connections
+    )
+}
+
+/// The lines of `examples/serve.toml` but for its comments.
+const EXAMPLE: &str = r#"
+listen = "localhost:3890"
+suffix = "dc=example,dc=org"
+sid = 1
+ldif = "first.ldif"
+log_limit = 10000
+queue_limit = 4000
+bind_name = "cn=admin,dc=example,dc=org"
+bind_password = "secret"
+seats = 32
+connections = 1000
+"#;
+
+/// Texts, and all that is read of them.
+const READ: [Row; 4] = [
+    (LEAST, "localhost:3890 dc=x 0 none 1000 4096 none none 16 0"),
+    (
+        "listen = \"localhost:3890\"\nsuffix = \"dc=x\"\nconnections = 2\n",
+        "localhost:3890 dc=x 0 none 1000 4096 none none 16 2",
+    ),
+    (
+        "bind_password = ' b '\nbind_name = 'CN = a'\nsid = 0x10\nsuffix = 'OU=b,DC=x'\n\
+         listen = '[::1]:389'",
+        "[::1]:389 ou=b,dc=x 16 none 1000 4096 cn=a  b  16 0",
+    ),
+    (
+        EXAMPLE,
+        "localhost:3890 dc=example,dc=org 1 first.ldif 10000 4000 cn=admin,dc=example,dc=org \
+         secret 32 1000",
+    ),
+];
+
+#[test]
+fn keys_have_the_values_of_their_lines(rt: HostRuntime) -> Result<(), Fail> {
+    for (text, wanted) in &READ {
+        let config = Config::read(rt.alloc(), text.as_bytes())?;
+        let found = shown(rt.alloc(), &config)?;
+        assert_same(&rt, text, &found.as_str(), wanted);
+    }
+    Ok(())
+}
