@@ -5,14 +5,14 @@ use Rattle.std.specs.Ordering.{int_eq}
 use Rattle.std.proofs.lemmas.Bool.{false≢true}
 use Rattle.std.proofs.lemmas.List.Concat.{flat_map-append, flat_map-cons}
 use Rattle.entry_tree.specs.Effects.{committed}
-use Rattle.entry_tree.specs.Fitting.{may_be_held}
+use Rattle.entry_tree.specs.Fitting.{is_directory_content}
 use Rattle.entry_tree.specs.Selection.{Search, search_of}
 use Rattle.entry_tree.specs.declared.entry.Entry.{Entry}
 use Rattle.ldap_constants.specs.declared.result_codes.TheConstants.{SUCCESS}
 use Rattle.ldap_messages.specs.declared.protocol.Protocol.TheVariants as op
 use Rattle.ldap_messages.specs.Operation.{Operation}
 use Rattle.ldap_messages.specs.Operation.{Operation as operation}
-use Rattle.ldap_messages.specs.Whole.{Whole}
+use Rattle.ldap_messages.specs.Whole.{MessageValue}
 use Rattle.ldap_parts.specs.declared.control.Control.{Control}
 use Rattle.sync_messages.specs.declared.request.Mode.{Mode}
 use Rattle.sync_model.specs.Message.{SyncMessage}
@@ -35,12 +35,12 @@ use Rattle.cascade_nodes.specs.Commits.{with_stages, AreHeldAfter}
 use Rattle.cascade_exchange.specs.declared.exchange.Exchange.{Exchange}
 use Rattle.cascade_exchange.specs.declared.exchange.Exchange.TheVariants as goes
 use Rattle.cascade_exchange.specs.Exchange.{Agreement, ExchangeOutcome, part_of, fits, name_of, copy_of, handed, linked, sends, given_up, with_received, storing, stored_reported, taken_as, takes, idle, asking, refused_copy, opened_by, opens, holding, given, wanted, respecs}
-use Rattle.cascade_exchange.specs.Reception.{Came, operation_said, whole_said, came_of, refused_for, received_as, received_by, received_of, received_next, decoded, received, ends_bare, says_bare}
+use Rattle.cascade_exchange.specs.Reception.{Came, operation_said, whole_said, came_of, refused_for, received_as, received_by, received_of, received_next, decoded, received, ends_without_cookie, says_end_without_cookie}
 use Rattle.cascade_exchange.specs.Reception.{Came as came}
 use Rattle.cascade_report.specs.ReportLines.{StoredStage, ReportLine, stage_of, stages_in, stages_of}
 use Rattle.cascade_report.specs.ReportLines.{ReportLine as reported}
 use Rattle.cascade_exchange.proofs.EachPart.{LeavesIn, AnyMode, SmallSteps, then_leaves, sent_leaves, takes_leave, cut_leaves, idle_leaves, opens_leave, settles_leave, given_leaves}
-use Rattle.cascade_exchange.proofs.Bare.{bare_answer, whole_bare}
+use Rattle.cascade_exchange.proofs.EndsWithoutCookie.{ending_answer, whole_same_end}
 
 -- a copy that holds what it may, with a stage that is ready to take effect
 abbrev pub IsTidy : Copy → Type 0
@@ -70,18 +70,18 @@ still_itself copy tidy = record { tidy = tidy; held = refl }
 quit : (copy : Copy) → IsTidy copy → IsStill copy (without_search copy)
 quit copy tidy = record { tidy = idle_kept copy.held (stage_in copy.session) tidy; held = refl }
 
-by_answer : (bare : Bool) (copy after : Copy) (given' : answer) → bare ≡ false → Agrees bare given' → Keeps copy after given' → AnswerFits copy.held after.held given' → IsTidy copy → IsTidy after → IsDecoded copy after (came_of given')
-by_answer bare copy after answer.Staged none agrees keeps fits' tidy now = record { tidy = now; held = keeps.held }
-by_answer bare copy after (answer.Stored commit) none agrees keeps fits' tidy now = (now, fits'.1 tidy.held.0)
-by_answer bare copy after (answer.Copied commit) none agrees keeps fits' tidy now = absurd (false≢true (sym none ∙ agrees))
-by_answer bare copy after (answer.Over code) none agrees keeps fits' tidy now = record { tidy = now; held = ap (λ (c : Copy). c.held) keeps }
-by_answer bare copy after (answer.Refused found) none agrees keeps fits' tidy now = record { tidy = now; held = ap (λ (c : Copy). c.held) keeps }
+by_answer : (no_cookie : Bool) (copy after : Copy) (given' : answer) → no_cookie ≡ false → Agrees no_cookie given' → Keeps copy after given' → AnswerFits copy.held after.held given' → IsTidy copy → IsTidy after → IsDecoded copy after (came_of given')
+by_answer no_cookie copy after answer.Staged none agrees keeps fits' tidy now = record { tidy = now; held = keeps.held }
+by_answer no_cookie copy after (answer.Stored commit) none agrees keeps fits' tidy now = (now, fits'.1 tidy.held.0)
+by_answer no_cookie copy after (answer.Copied commit) none agrees keeps fits' tidy now = absurd (false≢true (sym none ∙ agrees))
+by_answer no_cookie copy after (answer.Over code) none agrees keeps fits' tidy now = record { tidy = now; held = ap (λ (c : Copy). c.held) keeps }
+by_answer no_cookie copy after (answer.Refused found) none agrees keeps fits' tidy now = record { tidy = now; held = ap (λ (c : Copy). c.held) keeps }
 
-said_is : (id : ℕ) (copy : Copy) (said : Result SyncMessage DecodeFault) → Says said → says_bare said ≡ false → IsTidy copy → DecodedIs copy (received_as id copy said)
+said_is : (id : ℕ) (copy : Copy) (said : Result SyncMessage DecodeFault) → Says said → says_end_without_cookie said ≡ false → IsTidy copy → DecodedIs copy (received_as id copy said)
 said_is id copy (Err found) says none tidy = quit copy tidy
 said_is id copy (Ok message) says none tidy =
     let fit = taking_fits id copy message says tidy.staged in
-    by_answer (ends_bare message) copy (taken_within id copy message).0 (taken_within id copy message).1 none (bare_answer id copy message) (taking_keeps id copy message) fit.1 tidy
+    by_answer (ends_without_cookie message) copy (taken_within id copy message).0 (taken_within id copy message).1 none (ending_answer id copy message) (taking_keeps id copy message) fit.1 tidy
     (record { held = message_held id copy message tidy.held; staged = fit.0 })
 
 -- what a message brings is fit
@@ -112,18 +112,18 @@ if_is : (b : Bool) (copy : Copy) (one other : Copy × Came) → DecodedIs copy o
 if_is true copy one other h k = h
 if_is false copy one other h k = k
 
-by_is : (search : Option SyncSession) (copy : Copy) (whole : Whole) → says_bare (whole_said false whole) ≡ false → IsTidy copy → DecodedIs copy (received_by search copy whole)
+by_is : (search : Option SyncSession) (copy : Copy) (whole : MessageValue) → says_end_without_cookie (whole_said false whole) ≡ false → IsTidy copy → DecodedIs copy (received_by search copy whole)
 by_is None copy whole none tidy = quit copy tidy
 by_is (Some session) copy whole none tidy =
     if_is (whole.0 == session.id) copy (received_as whole.0 copy (whole_said session.persisting whole)) (refused_for copy (codes "OutOfPlace"))
-    (said_is whole.0 copy (whole_said session.persisting whole) (op_says session.persisting whole.1.1 whole.1.0) (whole_bare session.persisting whole ∙ none) tidy)
+    (said_is whole.0 copy (whole_said session.persisting whole) (op_says session.persisting whole.1.1 whole.1.0) (whole_same_end session.persisting whole ∙ none) tidy)
     (quit copy tidy)
 
-next_is : (copy : Copy) (found : Option Whole) → IsTidy copy → DecodedIs copy (received_next copy found)
+next_is : (copy : Copy) (found : Option MessageValue) → IsTidy copy → DecodedIs copy (received_next copy found)
 next_is copy None tidy = quit copy tidy
-next_is copy (Some whole) tidy = by (says_bare (whole_said false whole)) refl
+next_is copy (Some whole) tidy = by (says_end_without_cookie (whole_said false whole)) refl
   where
-    by : (bare : Bool) → says_bare (whole_said false whole) ≡ bare → DecodedIs copy (cond bare (refused_for copy (codes "OutOfPlace")) (received_of copy (Some whole)))
+    by : (no_cookie : Bool) → says_end_without_cookie (whole_said false whole) ≡ no_cookie → DecodedIs copy (cond no_cookie (refused_for copy (codes "OutOfPlace")) (received_of copy (Some whole)))
     by true is = quit copy tidy
     by false is = by_is copy.session copy whole is tidy
 
@@ -203,7 +203,7 @@ stored_carried p rest copy commit stored = record {
       let stage = stage_of (storing p copy commit) in
       let stages : stages_of (stored_reported p copy commit ∷ []) ≡ stage ∷ [] = flat_map-cons stages_in (stored_reported p copy commit) [] in
       let kept : Carries p.consumer_node.consumer.copy copy (stage ∷ []) =
-      record { tidy = is.0; can = (ap may_be_held is.1 ∙ held_allowed copy.held is.0.held.1, tt); held = sym is.1 } in
+      record { tidy = is.0; can = (ap is_directory_content is.1 ∙ held_allowed copy.held is.0.held.1, tt); held = sym is.1 } in
       subst (Carries p.consumer_node.consumer.copy copy) (sym stages) kept;
 }
 
@@ -271,7 +271,7 @@ part_carried (goes.Send count) p = sent_leaves IsCarried AnyMode steps_carry cou
 part_carried (goes.Take count) p = takes_leave IsCarried AnyMode steps_carry count p
 part_carried goes.Cut p = cut_leaves IsCarried AnyMode steps_carry p
 part_carried goes.Settle p = settles_leave IsCarried AnyMode steps_carry tt p
-part_carried goes.Lose p = holding_carried p None
-part_carried (goes.Give text) p = given_leaves IsCarried AnyMode steps_carry text p (holding_carried p (Some text))
-part_carried goes.Idle p = idle_leaves IsCarried AnyMode steps_carry p
-part_carried (goes.Want spec) p = respecs_carried (search_of spec) p
+part_carried goes.LoseCookie p = holding_carried p None
+part_carried (goes.SetCookie text) p = given_leaves IsCarried AnyMode steps_carry text p (holding_carried p (Some text))
+part_carried goes.CutIfBusy p = idle_leaves IsCarried AnyMode steps_carry p
+part_carried (goes.Respec spec) p = respecs_carried (search_of spec) p

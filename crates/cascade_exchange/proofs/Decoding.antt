@@ -6,7 +6,7 @@ use Rattle.ldap_messages.specs.declared.message.Message.{Message}
 use Rattle.ldap_messages.specs.declared.protocol.Protocol.{Protocol}
 use Rattle.ldap_messages.specs.declared.protocol.Protocol.TheVariants as op
 use Rattle.ldap_messages.specs.Operation.{operation_of}
-use Rattle.ldap_messages.specs.Whole.{whole_of}
+use Rattle.ldap_messages.specs.Whole.{message_value}
 use Rattle.ldap_parts.specs.declared.control.Control.{Control}
 use Rattle.schema_rules.specs.declared.raw.Change.TheVariants.{Add, Delete, Modify, Rename}
 use Rattle.sync_model.specs.Message.{SyncMessage}
@@ -49,7 +49,7 @@ op_said persisting controls (op.ExtendedRequest name value) = refl
 op_said persisting controls (op.ExtendedResponse result name value) = refl
 op_said persisting controls (op.IntermediateResponse name value) = refl
 
-pub message_said : (persisting : Bool) (m : Message) → whole_said persisting (whole_of m) ≡ wire.said persisting m
+pub message_said : (persisting : Bool) (m : Message) → whole_said persisting (message_value m) ≡ wire.said persisting m
 message_said persisting m = op_said persisting m.controls m.op
 
 -- what is reported of a message, by what came of it
@@ -85,7 +85,7 @@ as_reported : (tag id : ℕ) (copy : Copy) (said : Result SyncMessage DecodeFaul
 as_reported tag id copy (Err found) = ap (λ c. ((taken_as tag id copy (Err found)).0, c)) (refusal_reported tag found)
 as_reported tag id copy (Ok message) = ap (λ c. ((taken_within id copy message).0, c)) (answer_reported tag (taken_within id copy message).1)
 
-by_reported : (session : Option SyncSession) (copy : Copy) (m : Message) → received_by session copy (whole_of m) ≡ seen (taken_by session copy m)
+by_reported : (session : Option SyncSession) (copy : Copy) (m : Message) → received_by session copy (message_value m) ≡ seen (taken_by session copy m)
 by_reported None copy m = refl
 by_reported (Some session) copy m =
     elim (cases_Bool (m.id == session.id)) [
@@ -94,5 +94,5 @@ by_reported (Some session) copy m =
     ]
 
 -- a consumer makes the same of a message as of its components
-pub received_reported : (copy : Copy) (m : Message) → received_by copy.session copy (whole_of m) ≡ ((taken_of copy m).0, came_reported (taken_of copy m).1)
+pub received_reported : (copy : Copy) (m : Message) → received_by copy.session copy (message_value m) ≡ ((taken_of copy m).0, came_reported (taken_of copy m).1)
 received_reported copy m = by_reported copy.session copy m

@@ -233,7 +233,7 @@ respecs_alters search pair =
 
 -- what is wanted after it
 abbrev pub wants_of : Exchange → Search → Search
-wants_of (goes.Want spec) = λ search. search_of spec
+wants_of (goes.Respec spec) = λ search. search_of spec
 wants_of _ = as_before
 
 -- each part keeps this
@@ -243,7 +243,7 @@ part_alters (goes.Send count) pair = sent_keeps count pair
 part_alters (goes.Take count) pair = takes_keeps count pair
 part_alters goes.Cut pair = cut_keeps pair
 part_alters goes.Settle pair = settles_keeps pair
-part_alters goes.Lose pair = lost_keeps pair
-part_alters (goes.Give text) pair = given_keeps text pair
-part_alters goes.Idle pair = idle_keeps pair
-part_alters (goes.Want spec) pair = respecs_alters (search_of spec) pair
+part_alters goes.LoseCookie pair = lost_keeps pair
+part_alters (goes.SetCookie text) pair = given_keeps text pair
+part_alters goes.CutIfBusy pair = idle_keeps pair
+part_alters (goes.Respec spec) pair = respecs_alters (search_of spec) pair

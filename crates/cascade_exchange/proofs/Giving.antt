@@ -10,7 +10,7 @@ use Rattle.cascade_nodes.specs.declared.node.ConsumerNode.{ConsumerNode}
 use Rattle.cascade_exchange.specs.Cookies.{is_later}
 use Rattle.cascade_exchange.specs.Exchange.{agreement_of, with_text, holding, lost, given, wanted}
 use Rattle.cascade_report.specs.Origins.{Lineage}
-use Rattle.cascade_exchange.specs.Parts.{Does, GivesCookie}
+use Rattle.cascade_exchange.specs.Parts.{Does, SetsCookie}
 use Rattle.cascade_report.specs.Report.{Report}
 use Rattle.cascade_report.proofs.Reports.{said-none}
 use Rattle.cascade_report.specs.ReportLines.ReportLine.{Holds}
@@ -27,7 +27,7 @@ refuses : (lin : Lineage) (p : ProviderState) (f : ConsumerNode) (text : List �
 refuses lin p f text cause later is = rw later (ap Err (sym is))
 
 -- giving a cookie is the part of an event that does so
-pub given_does : (lin : Lineage) (p : ProviderState) (f after : ConsumerNode) (text : List ℕ) (old : Report) (result : Result (Unit {0}) Cause) → GivesCookie f text after result → Does (given text (agreement_of p f lin)) old (agreement_of p after lin) old result
+pub given_does : (lin : Lineage) (p : ProviderState) (f after : ConsumerNode) (text : List ℕ) (old : Report) (result : Result (Unit {0}) Cause) → SetsCookie f text after result → Does (given text (agreement_of p f lin)) old (agreement_of p after lin) old result
 given_does lin p f after text old (Ok done) h = rw h.0 (holding_does lin p f after (Some text) old h.1)
 given_does lin p f after text old (Err BadCommand) h = refuses lin p f text BadCommand h.0 h.1
 given_does lin p f after text old (Err UnknownNode) h = refuses lin p f text UnknownNode h.0 h.1

@@ -1,9 +1,9 @@
-pub mod Bare
 pub mod Carrying
 pub mod Cuts
 pub mod Decoding
 pub mod Doing
 pub mod EachPart
+pub mod EndsWithoutCookie
 pub mod Exchanging
 pub mod Giving
 pub mod Reception

@@ -4,7 +4,7 @@ use Rattle.std.specs.Prelude.{◌==◌, Ok, Err, Result}
 use Rattle.ldap_constants.specs.declared.result_codes.TheConstants.{E_SYNC_REFRESH_REQUIRED}
 use Rattle.entry_tree.specs.Selection.{Search}
 use Rattle.ldap_messages.specs.declared.message.Message.{Message}
-use Rattle.ldap_messages.specs.Whole.{Whole, whole_of}
+use Rattle.ldap_messages.specs.Whole.{MessageValue, message_value}
 use Rattle.sync_consumer.specs.declared.consumer.Taken.{Taken}
 use Rattle.sync_messages.specs.Request.{request_of, request_octets}
 use Rattle.sync_messages.specs.declared.request.Mode.{Mode}
@@ -32,18 +32,18 @@ use Rattle.cascade_exchange.proofs.Doing.{reported_one, refused_first, then_at}
 
 -- the copy after a message, whatever is reported of it
 pub taken_copy : (c after : ConsumerState) (m : Message) (t : Taken) → after.spec ≡ c.spec → after.reload ≡ c.reload → (after.copy, t) ≡ taken_of c.copy m
-    → after ≡ record c { copy = (received_of c.copy (Some (whole_of m))).0 }
+    → after ≡ record c { copy = (received_of c.copy (Some (message_value m))).0 }
 taken_copy c after m t spec reload is =
-    let copy : after.copy ≡ (received_of c.copy (Some (whole_of m))).0 = ap (λ (x : Copy × Taken). x.0) is ∙ sym (ap (λ (x : Copy × Came). x.0) (received_reported c.copy m)) in
+    let copy : after.copy ≡ (received_of c.copy (Some (message_value m))).0 = ap (λ (x : Copy × Taken). x.0) is ∙ sym (ap (λ (x : Copy × Came). x.0) (received_reported c.copy m)) in
     λ i. record { spec = spec i; reload = reload i; copy = copy i }
 
 -- the value of the control of its request is read again as what it asks
-pub asked_value : (f : ConsumerState) (mode : Mode) (m : Message) (value : List ℕ) → whole_of m ≡ asks f message_id mode → value ≡ first_value m.controls
+pub asked_value : (f : ConsumerState) (mode : Mode) (m : Message) (value : List ℕ) → message_value m ≡ asks f message_id mode → value ≡ first_value m.controls
     → request_of (request_octets (asked_of f mode)) ≡ Ok (asked_of f mode) → request_of value ≡ Ok (asked_of f mode)
-asked_value f mode m value whole is again = ap request_of (is ∙ ap (λ (w : Whole). first_value w.1.1) whole) ∙ again
+asked_value f mode m value whole is again = ap request_of (is ∙ ap (λ (w : MessageValue). first_value w.1.1) whole) ∙ again
 
 -- a search that is refused ends with the code, in a SearchResultDone
-pub refuses : (f : ConsumerNode) (after : ConsumerState) (m : Message) (code : ℕ) (old new : Report) → whole_of m ≡ end_with code → after ≡ record f.consumer { copy = (received_of f.consumer.copy (Some (whole_of m))).0 }
+pub refuses : (f : ConsumerNode) (after : ConsumerState) (m : Message) (code : ℕ) (old new : Report) → message_value m ≡ end_with code → after ≡ record f.consumer { copy = (received_of f.consumer.copy (Some (message_value m))).0 }
     → ((persists : Bool) → new ≡ said old (Refused f.name persists code ∷ [])) → Refuses f code old (record f { consumer = after }) new (Ok (code == E_SYNC_REFRESH_REQUIRED))
 refuses f after m code old new same is line =
     let copy : after ≡ record f.consumer { copy = refused_copy f.consumer.copy code } = is ∙ ap (λ w. record f.consumer { copy = (received_of f.consumer.copy (Some w)).0 }) same in

@@ -21,6 +21,7 @@ use Rattle.cascade_exchange.specs.Parts.{KeepsAllButSearches}
 
 -- ---- what closing a search leaves
 
+-- the directory with its writes
 pub directory_stays : (p : ProviderState) (search : Option ℕ) → (closed p search).directory ≡ p.directory
 directory_stays p None = refl
 directory_stays p (Some number) = refl

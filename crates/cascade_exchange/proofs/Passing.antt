@@ -1,7 +1,7 @@
 -- Messages that go into the link before they count as handed out.
 use Rattle.std.proofs.Common.{◌≡◌, ◌+◌, ◌<◌, ℕ, zero, suc, ℤ, Bool, true, false, cond, Option, Some, None, List, [], ◌∷◌, ◌++◌, refl, ap, sym, subst, ◌∙◌, arith}
 use Rattle.std.specs.Prelude.{Ok, Err}
-use Rattle.ldap_messages.specs.Whole.{Whole, message_octets}
+use Rattle.ldap_messages.specs.Whole.{MessageValue, message_octets}
 use Rattle.sync_provider.specs.HandingOut.{HandOut, search_at, turn_at, turn_at_place, after_turn}
 use Rattle.sync_provider.specs.HandingOut.HandOut.{Hands, Closes}
 use Rattle.sync_provider.specs.Machine.{ProviderState}
@@ -39,7 +39,7 @@ times_more n p search number is =
     ap (λ m. handed_times m p search) next ∙ ap (handed (handed_times n p search)) is
 
 -- one message more
-pub one_ahead : (p : ProviderState) (search : Option ℕ) (n number : ℕ) (whole : Whole) → IsAhead p search n false → search ≡ Some number → turn_at_place p.searches number n ≡ Hands whole → IsAhead p search (n + 1) false
+pub one_ahead : (p : ProviderState) (search : Option ℕ) (n number : ℕ) (whole : MessageValue) → IsAhead p search n false → search ≡ Some number → turn_at_place p.searches number n ≡ Hands whole → IsAhead p search (n + 1) false
 one_ahead p search n number whole ahead at hands = record { others = others; places = places }
   where
     v : ProviderState
@@ -69,7 +69,7 @@ one_ahead p search n number whole ahead at hands = record { others = others; pla
         ∙ ap (turn_at_place p.searches k) more
 
 -- the last one, with which the search is closed
-pub last_ahead : (p : ProviderState) (search : Option ℕ) (n number : ℕ) (code : ℤ) (whole : Whole) → IsAhead p search n false → search ≡ Some number → turn_at_place p.searches number n ≡ Closes code whole → IsAhead p search (n + 1) true
+pub last_ahead : (p : ProviderState) (search : Option ℕ) (n number : ℕ) (code : ℤ) (whole : MessageValue) → IsAhead p search n false → search ≡ Some number → turn_at_place p.searches number n ≡ Closes code whole → IsAhead p search (n + 1) true
 last_ahead p search n number code whole ahead at closes = record { others = others; places = λ goes k place is. let never : ⊥ = cc in absurd never }
   where
     v : ProviderState
@@ -95,7 +95,7 @@ longer_pair lin p f f2 n ended same =
     λ i. agreement_of (handed_times (next i) p (same i)) (record f2 { search = cond ended None (same i) }) lin
 
 -- a message after which the search goes on
-pub links_one : (lin : Lineage) (p : ProviderState) (f f2 : ConsumerNode) (n number : ℕ) (whole : Whole) (old new : Report) → IsAhead p f.search n false → f.search ≡ Some number → turn_at_place p.searches number n ≡ Hands whole
+pub links_one : (lin : Lineage) (p : ProviderState) (f f2 : ConsumerNode) (n number : ℕ) (whole : MessageValue) (old new : Report) → IsAhead p f.search n false → f.search ≡ Some number → turn_at_place p.searches number n ≡ Hands whole
     → Links f (message_octets whole) old f2 new (Ok tt)
     → SendsOne (passed n false (agreement_of p f lin)) (sending (passed n false (agreement_of p f lin))) old (passed (n + 1) false (agreement_of p f2 lin)) new (Ok true)
 links_one lin p f f2 n number whole old new ahead at hands link' =
@@ -110,7 +110,7 @@ links_one lin p f f2 n number whole old new ahead at hands link' =
     (subst (λ turn. SendsOne (agreement_of v f lin) (sending_by (agreement_of v f lin) turn) old (agreement_of (handed v f.search) f2 lin) new (Ok true)) (sym now) one)
 
 -- the last one
-pub links_last : (lin : Lineage) (p : ProviderState) (f f2 : ConsumerNode) (n number : ℕ) (code : ℤ) (whole : Whole) (old new : Report) → IsAhead p f.search n false → f.search ≡ Some number → turn_at_place p.searches number n ≡ Closes code whole
+pub links_last : (lin : Lineage) (p : ProviderState) (f f2 : ConsumerNode) (n number : ℕ) (code : ℤ) (whole : MessageValue) (old new : Report) → IsAhead p f.search n false → f.search ≡ Some number → turn_at_place p.searches number n ≡ Closes code whole
     → Links f (message_octets whole) old f2 new (Ok tt)
     → SendsOne (passed n false (agreement_of p f lin)) (sending (passed n false (agreement_of p f lin))) old (passed (n + 1) true (agreement_of p f2 lin)) new (Ok true)
 links_last lin p f f2 n number code whole old new ahead at closes link' =
@@ -136,7 +136,7 @@ over_as pair search message old text after f2 (LaterCookie held given) h = (full
 over_as pair search message old text after f2 Circle h = (full pair search message h.0, h.1)
 over_as pair search message old text after f2 NoMemory h = tt
 
-pub links_over : (lin : Lineage) (p : ProviderState) (f f2 : ConsumerNode) (n number : ℕ) (whole : Whole) (old new : Report) (after : Agreement) (cause : Cause) → IsAhead p f.search n false → f.search ≡ Some number → turn_at_place p.searches number n ≡ Hands whole
+pub links_over : (lin : Lineage) (p : ProviderState) (f f2 : ConsumerNode) (n number : ℕ) (whole : MessageValue) (old new : Report) (after : Agreement) (cause : Cause) → IsAhead p f.search n false → f.search ≡ Some number → turn_at_place p.searches number n ≡ Hands whole
     → Links f (message_octets whole) old f2 new (Err cause) → SendsOne (passed n false (agreement_of p f lin)) (sending (passed n false (agreement_of p f lin))) old after new (Err cause)
 links_over lin p f f2 n number whole old new after cause ahead at hands h =
     let v : ProviderState = handed_times n p f.search in
@@ -144,7 +144,7 @@ links_over lin p f f2 n number whole old new after cause ahead at hands h =
     subst (λ turn. SendsOne (agreement_of v f lin) (sending_by (agreement_of v f lin) turn) old after new (Err cause)) (sym now)
     (over_as (agreement_of v f lin) f.search (message_octets whole) old new after f2 cause h)
 
-pub links_last_over : (lin : Lineage) (p : ProviderState) (f f2 : ConsumerNode) (n number : ℕ) (code : ℤ) (whole : Whole) (old new : Report) (after : Agreement) (cause : Cause) → IsAhead p f.search n false → f.search ≡ Some number → turn_at_place p.searches number n ≡ Closes code whole
+pub links_last_over : (lin : Lineage) (p : ProviderState) (f f2 : ConsumerNode) (n number : ℕ) (code : ℤ) (whole : MessageValue) (old new : Report) (after : Agreement) (cause : Cause) → IsAhead p f.search n false → f.search ≡ Some number → turn_at_place p.searches number n ≡ Closes code whole
     → Links f (message_octets whole) old f2 new (Err cause) → SendsOne (passed n false (agreement_of p f lin)) (sending (passed n false (agreement_of p f lin))) old after new (Err cause)
 links_last_over lin p f f2 n number code whole old new after cause ahead at closes h =
     let v : ProviderState = handed_times n p f.search in

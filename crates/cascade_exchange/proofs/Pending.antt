@@ -2,7 +2,7 @@
 use Rattle.std.proofs.Common.{◌≡◌, ◌<◌, ◌≤◌, ℕ, zero, suc, Bool, true, false, Option, Some, None, List, [], ◌∷◌, length, refl, ap, sym, subst, ◌∙◌, inl, inr, arith}
 use Rattle.std.proofs.lemmas.Bool.{cases_Bool}
 use Rattle.std.specs.Prelude.{Ok, Err}
-use Rattle.ldap_messages.specs.Whole.{Whole, message_octets}
+use Rattle.ldap_messages.specs.Whole.{MessageValue, message_octets}
 use Rattle.sync_model.specs.Copy.{Copy}
 use Rattle.sync_model.specs.Message.{SyncMessage}
 use Rattle.sync_provider.specs.HandingOut.{HandOut, turn_of_message, turn_of_pending, turn_of_found, search_at, turn_at, without_first, handed_on, after_turn}
@@ -45,7 +45,7 @@ sends_less p search message n some less =
     elim (cases_Bool (fits p.consumer_node message)) [ inl room ↦ rw room less | inr full ↦ rw full some ]
 
 -- the search that was handed a message has one less pending
-left_after : (lin : Lineage) → (p : ProviderState) (f : ConsumerNode) (search : Option ℕ) (number : ℕ) (s : SearchState) (first : SyncMessage) (rest : List SyncMessage) (whole : Whole) → search ≡ Some number
+left_after : (lin : Lineage) → (p : ProviderState) (f : ConsumerNode) (search : Option ℕ) (number : ℕ) (s : SearchState) (first : SyncMessage) (rest : List SyncMessage) (whole : MessageValue) → search ≡ Some number
     → search_at p.searches number ≡ Some s → pending s ≡ first ∷ rest → turn_at p.searches number ≡ Hands whole → left_to_send (agreement_of (handed p search) f lin) search ≡ length rest
 left_after lin p f search number s first rest whole at found waits turn =
     ap (λ q. left_to_send (agreement_of (handed p q) f lin) q) at

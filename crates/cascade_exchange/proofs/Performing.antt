@@ -89,6 +89,10 @@ keeps_search p search number kept is value back ours =
       back = subst (ComesBack p.searches) (sym own) back;
     }
 
+-- it is not so that something is kept and nothing is
+pub something_kept : {A B : Type 0} (kept : Option A) (value : A) → kept ≡ Some value → kept ≡ None → B
+something_kept kept value is none = let never : ⊥ = cc in absurd never
+
 -- a snapshot brings back what it was made of
 pub brings_back : (p p1 : ProviderState) (f f1 : ConsumerNode) (before : Snapshot) → before.search ≡ f.search → IsKeptIfAny p f.search before.own → KeepsOthers p f p1 f1 → IsUntouched before.own f.search p p1
     → consumer_back before.consumer_node f1 ≡ f → BringsBack p f p1 f1 before

@@ -2,7 +2,7 @@
 use Rattle.std.proofs.Common.{◌≡◌, ℕ, true, false, Option, Some, None, List, [], ◌∷◌, refl, ap, sym, subst, ◌∙◌}
 use Rattle.std.specs.Prelude.{Ok, Err}
 use Rattle.ldap_messages.specs.declared.message.Message.{Message}
-use Rattle.ldap_messages.specs.Whole.{Whole, whole_of, message_octets}
+use Rattle.ldap_messages.specs.Whole.{MessageValue, message_value, message_octets}
 use Rattle.sync_provider.specs.HandingOut.{HandOut}
 use Rattle.sync_provider.specs.HandingOut.HandOut.{Hands, Closes, Waits, Unknown}
 use Rattle.sync_provider.specs.Machine.{ProviderState}
@@ -44,7 +44,7 @@ sent_as lin p p1 f f1 f2 search message old new out link' =
     )
 
 -- a message that is handed out and put into the link is sent
-pub sends_one : (lin : Lineage) → (p p1 : ProviderState) (f f1 f2 : ConsumerNode) (turn : HandOut) (whole : Whole) (old new : Report) → agreement_of p1 f1 lin ≡ After lin p f turn → whole_in turn ≡ Some whole
+pub sends_one : (lin : Lineage) → (p p1 : ProviderState) (f f1 f2 : ConsumerNode) (turn : HandOut) (whole : MessageValue) (old new : Report) → agreement_of p1 f1 lin ≡ After lin p f turn → whole_in turn ≡ Some whole
     → Links f1 (message_octets whole) old f2 new (Ok tt) → SendsOne (agreement_of p f lin) (sending_by (agreement_of p f lin) turn) old (agreement_of p1 f2 lin) new (Ok true)
 sends_one lin p p1 f f1 f2 (Hands w) whole old new out is link' =
     let same : w ≡ whole = cc in
@@ -74,7 +74,7 @@ full_as lin p p1 f f1 search message old text after f2 (LaterCookie held given) 
 full_as lin p p1 f f1 search message old text after f2 Circle out h = (full (agreement_of p f lin) search message (sym (ap (λ (q : Agreement). fits q.consumer_node message) out) ∙ h.0), h.1)
 full_as lin p p1 f f1 search message old text after f2 NoMemory out h = tt
 
-overflows : (lin : Lineage) → (p p1 : ProviderState) (f f1 f2 : ConsumerNode) (turn : HandOut) (whole : Whole) (old text : Report) (after : Agreement) (cause : Cause) → agreement_of p1 f1 lin ≡ After lin p f turn → whole_in turn ≡ Some whole
+overflows : (lin : Lineage) → (p p1 : ProviderState) (f f1 f2 : ConsumerNode) (turn : HandOut) (whole : MessageValue) (old text : Report) (after : Agreement) (cause : Cause) → agreement_of p1 f1 lin ≡ After lin p f turn → whole_in turn ≡ Some whole
     → Links f1 (message_octets whole) old f2 text (Err cause) → SendsOne (agreement_of p f lin) (sending_by (agreement_of p f lin) turn) old after text (Err cause)
 overflows lin p p1 f f1 f2 (Hands w) whole old text after cause out is h =
     let same : w ≡ whole = cc in
@@ -89,17 +89,17 @@ overflows lin p p1 f f1 f2 Unknown whole old text after cause out is h = cc
 
 -- a message that is handed out and fits the link is sent
 pub sends_found : (lin : Lineage) → (p p1 : ProviderState) (f f1 f2 : ConsumerNode) (found : Option Message) (m : Message) (old new : Report) → HandsOut (agreement_of p f lin) (turn_of p f.search) (agreement_of p1 f1 lin) (Ok found) → found ≡ Some m
-    → Links f1 (message_octets (whole_of m)) old f2 new (Ok tt) → SendsOne (agreement_of p f lin) (sending (agreement_of p f lin)) old (agreement_of p1 f2 lin) new (Ok true)
+    → Links f1 (message_octets (message_value m)) old f2 new (Ok tt) → SendsOne (agreement_of p f lin) (sending (agreement_of p f lin)) old (agreement_of p1 f2 lin) new (Ok true)
 sends_found lin p p1 f f1 f2 found m old new out is link' =
     let out' : HandsOut (agreement_of p f lin) (turn_of p f.search) (agreement_of p1 f1 lin) (Ok (Some m)) = subst (λ x. HandsOut (agreement_of p f lin) (turn_of p f.search) (agreement_of p1 f1 lin) (Ok x)) is out in
-    sends_one lin p p1 f f1 f2 (turn_of p f.search) (whole_of m) old new out'.0 out'.1 link'
+    sends_one lin p p1 f f1 f2 (turn_of p f.search) (message_value m) old new out'.0 out'.1 link'
 
 -- a message that does not fit the link passes its limit
 pub overflows_found : (lin : Lineage) → (p p1 : ProviderState) (f f1 f2 : ConsumerNode) (found : Option Message) (m : Message) (old text : Report) (after : Agreement) (cause : Cause) → HandsOut (agreement_of p f lin) (turn_of p f.search) (agreement_of p1 f1 lin) (Ok found) → found ≡ Some m
-    → Links f1 (message_octets (whole_of m)) old f2 text (Err cause) → SendsOne (agreement_of p f lin) (sending (agreement_of p f lin)) old after text (Err cause)
+    → Links f1 (message_octets (message_value m)) old f2 text (Err cause) → SendsOne (agreement_of p f lin) (sending (agreement_of p f lin)) old after text (Err cause)
 overflows_found lin p p1 f f1 f2 found m old text after cause out is h =
     let out' : HandsOut (agreement_of p f lin) (turn_of p f.search) (agreement_of p1 f1 lin) (Ok (Some m)) = subst (λ x. HandsOut (agreement_of p f lin) (turn_of p f.search) (agreement_of p1 f1 lin) (Ok x)) is out in
-    overflows lin p p1 f f1 f2 (turn_of p f.search) (whole_of m) old text after cause out'.0 out'.1 h
+    overflows lin p p1 f f1 f2 (turn_of p f.search) (message_value m) old text after cause out'.0 out'.1 h
 
 -- where nothing is handed out nothing is sent
 pub rests_found : (lin : Lineage) → (p p1 : ProviderState) (f f1 : ConsumerNode) (found : Option Message) (text : Report) → HandsOut (agreement_of p f lin) (turn_of p f.search) (agreement_of p1 f1 lin) (Ok found) → found ≡ None

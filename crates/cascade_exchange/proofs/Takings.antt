@@ -1,7 +1,7 @@
 -- Messages that are taken up to a fault, for which a search is to be given up yet.
 use Rattle.std.proofs.Common.{◌≡◌, ◌<◌, ◌≤◌, ◌-◌, ℕ, zero, suc, Bool, true, false, Option, Some, None, List, [], ◌∷◌, ◌++◌, refl, ap, sym, subst, ◌∙◌, arith}
 use Rattle.std.specs.Prelude.{Ok, Err, Result}
-use Rattle.ldap_messages.specs.Whole.{Whole}
+use Rattle.ldap_messages.specs.Whole.{MessageValue}
 use Rattle.sync_provider.specs.Machine.{ProviderState}
 use Rattle.cascade_nodes.specs.declared.node.ConsumerNode.{ConsumerNode}
 use Rattle.cascade_script.specs.declared.fault.Cause.{Cause}
@@ -41,7 +41,7 @@ next_some p after found old new answer goes_on so is same next =
     subst (λ x. TakesNext p found old after new (Ok x)) found' next
 
 -- the first message of the link is decoded and taken
-pub takes_so_far : (lin : Lineage) (p : ProviderState) (f f1 : ConsumerNode) (bytes : List ℕ) (rest : List (List ℕ)) (found : Option Whole) (old new : Report) (goes_on : Bool) → f.link ≡ bytes ∷ rest → found ≡ decoded bytes
+pub takes_so_far : (lin : Lineage) (p : ProviderState) (f f1 : ConsumerNode) (bytes : List ℕ) (rest : List (List ℕ)) (found : Option MessageValue) (old new : Report) (goes_on : Bool) → f.link ≡ bytes ∷ rest → found ≡ decoded bytes
     → ReceivedSoFar (agreement_of p (record f { link = rest }) lin) (received_next f.consumer.copy found) old (agreement_of p f1 lin) new (Ok goes_on)
     → TakesNext (agreement_of p f lin) (taking (agreement_of p f lin)) old (agreement_of p f1 lin) new (Ok (Some goes_on))
 takes_so_far lin p f f1 bytes rest found old new true first is h = takes_one lin p p f f1 bytes rest found old new first is h

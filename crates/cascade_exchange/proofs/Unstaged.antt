@@ -65,10 +65,10 @@ part_unstaged (goes.Send count) pair at_once = sent_unstaged count pair
 part_unstaged (goes.Take count) pair at_once = let never : ⊥ = cc in absurd never
 part_unstaged goes.Cut pair at_once = cut_unstaged pair
 part_unstaged goes.Settle pair at_once = let never : ⊥ = cc in absurd never
-part_unstaged goes.Lose pair at_once = refl
-part_unstaged (goes.Give text) pair at_once = given_unstaged text pair
-part_unstaged goes.Idle pair at_once = idle_unstaged pair
-part_unstaged (goes.Want spec) pair at_once = respecs_unstaged (search_of spec) pair
+part_unstaged goes.LoseCookie pair at_once = refl
+part_unstaged (goes.SetCookie text) pair at_once = given_unstaged text pair
+part_unstaged goes.CutIfBusy pair at_once = idle_unstaged pair
+part_unstaged (goes.Respec spec) pair at_once = respecs_unstaged (search_of spec) pair
 
 -- in one step no stage takes effect
 pub unstaged : (what : Exchange) (pair after : Agreement) (old new : Report) → old.stages ≡ [] → is_stepwise what ≡ false → Does (part_of what pair) old after new (Ok tt) → new.stages ≡ []

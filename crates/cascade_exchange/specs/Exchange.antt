@@ -5,7 +5,7 @@ use Rattle.ldap_constants.specs.declared.result_codes.TheConstants.{E_SYNC_REFRE
 use Rattle.csn_cookie.specs.Cookie.{cookie_of_text}
 use Rattle.csn_cookie.specs.Csn.{CsnValue, upto}
 use Rattle.csn_cookie.specs.declared.cookie.Cookie.{Cookie}
-use Rattle.ldap_messages.specs.Whole.{Whole, message_octets}
+use Rattle.ldap_messages.specs.Whole.{MessageValue, message_octets}
 use Rattle.entry_tree.specs.Selection.{Search, search_of}
 use Rattle.sync_messages.specs.declared.request.Mode.{Mode}
 use Rattle.sync_messages.specs.declared.request.Mode.TheVariants.{RefreshOnly}
@@ -16,7 +16,7 @@ use Rattle.sync_model.specs.Stream.{Start}
 use Rattle.sync_consumer.specs.Taking.{asked_of, is_persisting, wanting, without_search}
 use Rattle.sync_wire.specs.Requesting.{persists}
 use Rattle.sync_wire.specs.Sending as wire
-use Rattle.directory_writes.specs.Starting.{start_at, asked_prefix}
+use Rattle.directory_writes.specs.Starting.{start_at, prefix_of_cookie}
 use Rattle.directory_writes.specs.Directory.{DirectoryState, csns}
 use Rattle.sync_provider.specs.HandingOut.{HandOut, turn_at, search_at}
 use Rattle.sync_provider.specs.HandingOut.HandOut.{Hands, Closes, Waits, Unknown}
@@ -239,7 +239,7 @@ abbrev pub request_from : Mode → Agreement → SyncRequest
 request_from mode pair = asked_of pair.consumer_node.consumer mode
 
 -- the end of a search that is refused, with its code, is taken at once
-abbrev pub end_with : ℕ → Whole
+abbrev pub end_with : ℕ → MessageValue
 end_with code = wire.sent message_id (Done (pos code) None)
 
 abbrev pub refused_copy : Copy → ℕ → Copy
@@ -249,7 +249,7 @@ refused_copy copy code = (received_of copy (Some (end_with code))).0
 abbrev pub start_of : Agreement → Start
 start_of pair =
     start_at pair.provider.directory
-    (asked_prefix pair.provider.directory (copy_of pair.consumer_node).cookie)
+    (prefix_of_cookie pair.provider.directory (copy_of pair.consumer_node).cookie)
 
 abbrev pub opened_by : Mode → Agreement → Accepted → ExchangeOutcome
 opened_by mode pair (accepted.Opened number writes) =
@@ -407,10 +407,10 @@ part_of (goes.Send count) = sent count
 part_of (goes.Take count) = takes count
 part_of goes.Cut = cut
 part_of goes.Settle = settles
-part_of goes.Lose = lost
-part_of (goes.Give text) = given text
-part_of goes.Idle = idle
-part_of (goes.Want spec) = respecs (search_of spec)
+part_of goes.LoseCookie = lost
+part_of (goes.SetCookie text) = given text
+part_of goes.CutIfBusy = idle
+part_of (goes.Respec spec) = respecs (search_of spec)
 
 -- it is done in steps, of which a later one can be refused
 abbrev pub is_stepwise : Exchange → Bool

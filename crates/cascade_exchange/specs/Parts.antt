@@ -4,7 +4,7 @@ use Rattle.ldap_constants.specs.declared.result_codes.TheConstants.{E_SYNC_REFRE
 use Rattle.sync_messages.specs.declared.request.Mode.{Mode}
 use Rattle.cascade_script.specs.declared.fault.Cause.{Cause}
 use Rattle.cascade_script.specs.declared.fault.Cause.TheVariants.{LaterCookie, LimitReached, NoMemory}
-use Rattle.ldap_messages.specs.Whole.{Whole, whole_of}
+use Rattle.ldap_messages.specs.Whole.{MessageValue, message_value}
 use Rattle.ldap_messages.specs.declared.message.Message.{Message}
 use Rattle.sync_model.specs.Copy.{Copy}
 use Rattle.sync_provider.specs.HandingOut.{HandOut}
@@ -121,7 +121,7 @@ abbrev pub search_after : Option ℕ → HandOut → Option ℕ
 search_after search (Closes code message) = None
 search_after search _ = search
 
-abbrev pub whole_in : HandOut → Option Whole
+abbrev pub whole_in : HandOut → Option MessageValue
 whole_in (Hands message) = Some message
 whole_in (Closes code message) = Some message
 whole_in Waits = None
@@ -135,7 +135,7 @@ HandsOut before turn after (Ok (Some message)) =
       consumer_node =
           record before.consumer_node { search = search_after before.consumer_node.search turn };
     })
-    × (whole_in turn ≡ Some (whole_of message))
+    × (whole_in turn ≡ Some (message_value message))
 HandsOut before turn after (Ok None) = (after ≡ before) × (whole_in turn ≡ None)
 HandsOut before turn after (Err cause) = cause ≡ NoMemory
 
@@ -228,11 +228,11 @@ Refuses before code old after new (Err NoMemory) = Unit {0}
 Refuses before code old after new (Err cause) = ⊥
 
 -- the same of a consumer node that is given this text for its cookie
-abbrev pub GivesCookie : ConsumerNode → List ℕ → ConsumerNode → Result (Unit {0}) Cause → Type 0
-GivesCookie before text after (Ok done) =
+abbrev pub SetsCookie : ConsumerNode → List ℕ → ConsumerNode → Result (Unit {0}) Cause → Type 0
+SetsCookie before text after (Ok done) =
     (is_later before.consumer.copy.cookie text ≡ false) × (after ≡ with_text before (Some text))
-GivesCookie before text after (Err NoMemory) = Unit {0}
-GivesCookie before text after (Err cause) =
+SetsCookie before text after (Err NoMemory) = Unit {0}
+SetsCookie before text after (Err cause) =
     (is_later before.consumer.copy.cookie text ≡ true)
     × (cause ≡ LaterCookie before.consumer.copy.cookie text)
 

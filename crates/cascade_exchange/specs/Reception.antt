@@ -6,7 +6,7 @@ use Rattle.ldap_messages.specs.Frame.{Read, read_of}
 use Rattle.ldap_messages.specs.Frame.Read.{partial, refused, long, message}
 use Rattle.ldap_messages.specs.Operation.{Operation}
 use Rattle.ldap_messages.specs.Operation.Operation.{entry, search_done, reference, intermediate}
-use Rattle.ldap_messages.specs.Whole.{Whole}
+use Rattle.ldap_messages.specs.Whole.{MessageValue}
 use Rattle.ldap_parts.specs.declared.control.Control.{Control}
 use Rattle.sync_model.specs.Message.{CookieText, SyncMessage}
 use Rattle.sync_model.specs.Message.SyncMessage.{AddOrModify, Delete, Present, IdSet, NewCookie, RefreshDelete, RefreshPresent, Done, Ignored}
@@ -22,14 +22,14 @@ use Rattle.sync_wire.specs.declared.fault.DecodeFault.TheVariants as decoding
 
 -- ---- decoding
 
-abbrev pub whole_in : Read → Option Whole
+abbrev pub whole_in : Read → Option MessageValue
 whole_in partial = None
 whole_in (refused place) = None
 whole_in long = None
 whole_in (message whole count) = Some whole
 
 -- the message that the bytes begin with
-abbrev pub decoded : List ℕ → Option Whole
+abbrev pub decoded : List ℕ → Option MessageValue
 decoded bytes = whole_in (read_of bytes)
 
 -- what an operation says with these controls; other operations have no place in a search
@@ -43,7 +43,7 @@ operation_said persisting controls (search_done outcome) =
     on_ok (λ control. Done outcome.code (control_said control)) (sync_done controls)
 operation_said persisting controls _ = Err decoding.OutOfPlace
 
-abbrev pub whole_said : (persisting : Bool) → Whole → Result SyncMessage DecodeFault
+abbrev pub whole_said : (persisting : Bool) → MessageValue → Result SyncMessage DecodeFault
 whole_said persisting whole = operation_said persisting whole.1.1 whole.1.0
 
 -- ---- what comes of a message
@@ -88,44 +88,44 @@ received_as id copy (Ok said) =
     ((taken_within id copy said).0, came_of (taken_within id copy said).1)
 
 -- by the search that runs, for which the message is if it has its message ID
-abbrev pub received_by : Option SyncSession → Copy → Whole → Copy × Came
+abbrev pub received_by : Option SyncSession → Copy → MessageValue → Copy × Came
 received_by None copy whole = refused_for copy (codes "OutOfPlace")
 received_by (Some session) copy whole =
     if whole.0 == session.id then received_as whole.0 copy (whole_said session.persisting whole)
     else refused_for copy (codes "OutOfPlace")
 
-abbrev pub received_of : Copy → Option Whole → Copy × Came
+abbrev pub received_of : Copy → Option MessageValue → Copy × Came
 received_of copy None = refused_for copy (codes "BadMessage")
 received_of copy (Some whole) = received_by copy.session copy whole
 
 -- ---- from a link
 
-abbrev pub is_bare : Option (Bool × Option CookieText) → Bool
-is_bare None = false
-is_bare (Some control) = is_none control.1
+abbrev pub has_no_cookie : Option (Bool × Option CookieText) → Bool
+has_no_cookie None = false
+has_no_cookie (Some control) = is_none control.1
 
 -- it ends a refresh, and gives no cookie
-abbrev pub ends_bare : SyncMessage → Bool
-ends_bare (AddOrModify adds e cookie) = false
-ends_bare (Delete uuid name cookie) = false
-ends_bare (Present uuid cookie) = false
-ends_bare (IdSet deletes uuids cookie) = false
-ends_bare (NewCookie cookie) = false
-ends_bare (RefreshDelete done cookie) = done && is_none cookie
-ends_bare (RefreshPresent done cookie) = done && is_none cookie
-ends_bare (Done code control) = is_bare control && int_eq code (pos SUCCESS)
-ends_bare Ignored = false
+abbrev pub ends_without_cookie : SyncMessage → Bool
+ends_without_cookie (AddOrModify adds e cookie) = false
+ends_without_cookie (Delete uuid name cookie) = false
+ends_without_cookie (Present uuid cookie) = false
+ends_without_cookie (IdSet deletes uuids cookie) = false
+ends_without_cookie (NewCookie cookie) = false
+ends_without_cookie (RefreshDelete done cookie) = done && is_none cookie
+ends_without_cookie (RefreshPresent done cookie) = done && is_none cookie
+ends_without_cookie (Done code control) = has_no_cookie control && int_eq code (pos SUCCESS)
+ends_without_cookie Ignored = false
 
-abbrev pub says_bare : Result SyncMessage DecodeFault → Bool
-says_bare (Ok said) = ends_bare said
-says_bare (Err found) = false
+abbrev pub says_end_without_cookie : Result SyncMessage DecodeFault → Bool
+says_end_without_cookie (Ok said) = ends_without_cookie said
+says_end_without_cookie (Err found) = false
 
 -- the end of a refresh without a cookie has no place in a link, so that a line reports each stage
 -- that takes effect
-abbrev pub received_next : Copy → Option Whole → Copy × Came
+abbrev pub received_next : Copy → Option MessageValue → Copy × Came
 received_next copy None = received_of copy None
 received_next copy (Some whole) =
-    if says_bare (whole_said false whole) then refused_for copy (codes "OutOfPlace")
+    if says_end_without_cookie (whole_said false whole) then refused_for copy (codes "OutOfPlace")
     else received_of copy (Some whole)
 
 -- the copy after the message that these bytes spell, and what came of it

@@ -3,7 +3,7 @@ ghost use Rattle.std.specs.Prelude.{◌≡◌, Some, None, option_map, IfOk, OnE
 ghost use Rattle.csn_cookie.specs.Cookie.{cookie_of_text};
 ghost use Rattle.cascade_exchange.specs.Cookies as spec;
 ghost use Rattle.cascade_exchange.specs.Exchange.{with_text};
-ghost use Rattle.cascade_exchange.specs.Parts.{GivesCookie};
+ghost use Rattle.cascade_exchange.specs.Parts.{SetsCookie};
 
 use cascade_nodes::ConsumerNode;
 use cascade_script::Cause;
@@ -15,7 +15,7 @@ use std::alloc::Global;
 pub const MOST_NODES: usize = 16;
 
 /// The consumer loses its cookie.
-pub fn lose(consumer_node: &mut ConsumerNode)
+pub fn lose_cookie(consumer_node: &mut ConsumerNode)
     ensures { consumer_node.new ≡ with_text consumer_node.old None }
 {
     consumer_node.consumer.lose_cookie();
@@ -23,8 +23,12 @@ pub fn lose(consumer_node: &mut ConsumerNode)
 
 /// The consumer gets this text for its cookie, unless the text is later than what it holds. After a
 /// refusal it is as before.
-pub fn give(alloc: Global, consumer_node: &mut ConsumerNode, text: Octets) -> Result<(), Cause>
-    ensures gives { GivesCookie consumer_node.old text consumer_node.new result }
+pub fn set_cookie(
+    alloc: Global,
+    consumer_node: &mut ConsumerNode,
+    text: Octets,
+) -> Result<(), Cause>
+    ensures gives { SetsCookie consumer_node.old text consumer_node.new result }
     ensures err { OnErr result (consumer_node.new ≡ consumer_node.old) }
 {
     if is_later(consumer_node.consumer.inner().cookie(), text.as_slice()) {

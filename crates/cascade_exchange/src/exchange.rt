@@ -8,13 +8,14 @@ ghost use Rattle.cascade_exchange.specs.Parts as parts;
 ghost use Rattle.cascade_exchange.specs.Parts.{IsKeptIfAny, BringsBack, IsUntouched, KeepsOthers, Performs};
 ghost use Rattle.cascade_exchange.specs.Parts.{consumer_back, opened_since, provider_back, search_back};
 
-use crate::cookies::{give, lose};
+use crate::aside::Aside;
+use crate::cookies::{lose_cookie, set_cookie};
 use crate::cutting::{close, cut};
 use crate::opening::{cut_if_busy, open_search};
 use crate::receiving::take;
+use crate::respeccing::respec;
 use crate::sending::send;
 use crate::settling::settle;
-use crate::wanting::want;
 use cascade_nodes::{ConsumerNode, ProviderNode, ScriptProvider};
 use cascade_report::{Report, StoredStage};
 use cascade_script::Cause;
@@ -38,13 +39,13 @@ pub enum Exchange {
     /// The consumer is brought up to its provider.
     Settle,
     /// The consumer loses its cookie.
-    Lose,
+    LoseCookie,
     /// The consumer gets this text for its cookie.
-    Give(Octets),
+    SetCookie(Octets),
     /// A busy consumer is cut.
-    Idle,
+    CutIfBusy,
     /// A busy consumer is cut, and wants this from now on.
-    Want(Spec),
+    Respec(Spec),
 }
 
 impl Exchange {
@@ -56,10 +57,10 @@ impl Exchange {
             Exchange::Open(_) | Exchange::Take(_) | Exchange::Settle => true,
             Exchange::Send(_)
             | Exchange::Cut
-            | Exchange::Lose
-            | Exchange::Give(_)
-            | Exchange::Idle
-            | Exchange::Want(_) => false,
+            | Exchange::LoseCookie
+            | Exchange::SetCookie(_)
+            | Exchange::CutIfBusy
+            | Exchange::Respec(_) => false,
         }
     }
 
@@ -72,10 +73,10 @@ impl Exchange {
             Exchange::Send(_)
             | Exchange::Take(_)
             | Exchange::Cut
-            | Exchange::Lose
-            | Exchange::Give(_)
-            | Exchange::Idle
-            | Exchange::Want(_) => false,
+            | Exchange::LoseCookie
+            | Exchange::SetCookie(_)
+            | Exchange::CutIfBusy
+            | Exchange::Respec(_) => false,
         }
     }
 
@@ -86,7 +87,7 @@ impl Exchange {
         alloc: Global,
         provider: &mut ScriptProvider,
         consumer_node: &mut ConsumerNode,
-        kept: &mut Option<SearchSnapshot>,
+        kept: &mut Aside<SearchSnapshot>,
         out: &mut Report,
     ) -> Result<(), Cause>
         requires needed { moves_searches self ≡ true → kept.old ≡ None
@@ -111,13 +112,13 @@ impl Exchange {
             Exchange::Take(count) => take(alloc, provider, consumer_node, count, kept, out),
             Exchange::Cut => cut(provider, consumer_node, out),
             Exchange::Settle => settle(alloc, provider, consumer_node, out),
-            Exchange::Lose => {
-                lose(consumer_node);
+            Exchange::LoseCookie => {
+                lose_cookie(consumer_node);
                 Ok(())
             }
-            Exchange::Give(text) => give(alloc, consumer_node, text),
-            Exchange::Idle => cut_if_busy(provider, consumer_node, out),
-            Exchange::Want(wanted) => want(provider, consumer_node, wanted, out),
+            Exchange::SetCookie(text) => set_cookie(alloc, consumer_node, text),
+            Exchange::CutIfBusy => cut_if_busy(provider, consumer_node, out),
+            Exchange::Respec(wanted) => respec(provider, consumer_node, wanted, out),
         }
     }
 }
@@ -130,14 +131,15 @@ pub struct Snapshot {
     search: Option<u64>,
     /// How that search stood. Where this is not kept, none was changed but one that the consumer
     /// opened since.
-    own: Option<SearchSnapshot>,
+    own: Aside<SearchSnapshot>,
     /// How the consumer stood, unless it is as it was.
-    consumer_node: Option<ConsumerNode>,
+    consumer_node: Aside<ConsumerNode>,
 }
 
 impl Snapshot {
     /// What has to be kept before such an exchange. It is `NoMemory` where memory runs out.
     fn before(
+        alloc: Global,
         exchange: &Exchange,
         provider: &ScriptProvider,
         consumer_node: &ConsumerNode,
@@ -155,8 +157,8 @@ impl Snapshot {
         let search = consumer_node.search;
         Ok(Snapshot {
             search,
-            own: search_before(exchange, provider, search)?,
-            consumer_node: consumer_before(exchange, consumer_node)?,
+            own: search_before(alloc, exchange, provider, search)?,
+            consumer_node: consumer_before(alloc, exchange, consumer_node)?,
         })
     }
 
@@ -168,8 +170,10 @@ impl Snapshot {
         ensures consumer_node { consumer_node.new
             ≡ consumer_back self.consumer_node consumer_node.old }
     {
-        bring_search_back(provider, self.own, self.search, consumer_node.search);
-        bring_consumer_back(consumer_node, self.consumer_node);
+        let own = self.own.into_inner();
+        let before = self.consumer_node.into_inner();
+        bring_search_back(provider, own, self.search, consumer_node.search);
+        bring_consumer_back(consumer_node, before);
     }
 }
 
@@ -216,47 +220,51 @@ fn opened_since(before: Option<u64>, now: Option<u64>) -> Option<u64>
 
 /// How this search of a consumer stands, where such an exchange can change it.
 fn search_before(
+    alloc: Global,
     exchange: &Exchange,
     provider: &ScriptProvider,
     search: Option<u64>,
-) -> Result<Option<SearchSnapshot>, NoMemory>
+) -> Result<Aside<SearchSnapshot>, NoMemory>
     ensures kept { IfOk result (IsKeptIfAny provider.now search) }
     ensures needed { IfOk result (λ kept. moves_searches exchange.now ≡ true
         → kept ≡ None → search ≡ None) }
 {
     if !exchange.moves_searches() {
-        return Ok(None);
+        return Ok(Aside::nothing());
     }
-    kept_search(provider, search)
+    kept_search(alloc, provider, search)
 }
 
 /// How this search of a consumer stands.
-#[tactic(auto, using(crate::proofs::Performing::keeps_search))]
 pub(crate) fn kept_search(
+    alloc: Global,
     provider: &ScriptProvider,
     search: Option<u64>,
-) -> Result<Option<SearchSnapshot>, NoMemory>
+) -> Result<Aside<SearchSnapshot>, NoMemory>
     ensures kept { IfOk result (IsKeptIfAny provider.now search) }
     ensures needed { IfOk result (λ kept. kept ≡ None → search ≡ None) }
 {
     let Some(number) = search else {
-        return Ok(None);
+        return Ok(Aside::nothing());
     };
-    Ok(Some(provider.search_snapshot(number)?))
+    let snapshot = provider.search_snapshot(number)?;
+    Ok(Aside::of(alloc, snapshot)?)
 }
 
 /// How a consumer stands, where such an exchange is done in steps.
 fn consumer_before(
+    alloc: Global,
     exchange: &Exchange,
     consumer_node: &ConsumerNode,
-) -> Result<Option<ConsumerNode>, NoMemory>
+) -> Result<Aside<ConsumerNode>, NoMemory>
     ensures same { IfOk result (λ before. IfSome before (λ was. was ≡ consumer_node.now)) }
     ensures steps { IfOk result (λ before. is_some before ≡ is_stepwise exchange.now) }
 {
     if !exchange.is_stepwise() {
-        return Ok(None);
+        return Ok(Aside::nothing());
     }
-    Ok(Some(consumer_node.copy()?))
+    let before = consumer_node.copy()?;
+    Ok(Aside::of(alloc, before)?)
 }
 
 /// What an exchange reported, the stages that took effect in it, and what brings the two back to
@@ -273,7 +281,7 @@ pub struct Performed {
 /// is `LimitReached` where the link is full, `LaterCookie` for a cookie that may not be given, or
 /// `NoMemory`, and then the two are as before.
 #[tactic(auto, using(crate::proofs::Performing::performed, crate::proofs::Performing::refused))]
-pub fn serve(
+pub fn perform_exchange(
     alloc: Global,
     provider_node: &mut ProviderNode,
     top: Octets,
@@ -295,7 +303,8 @@ pub fn serve(
     ensures err { OnErr result (provider_node.new ≡ provider_node.old) }
     ensures consumer_node_err { OnErr result (consumer_node.new ≡ consumer_node.old) }
 {
-    let Ok(mut before) = Snapshot::before(&exchange, &provider_node.provider, consumer_node) else {
+    let Ok(mut before) = Snapshot::before(alloc, &exchange, &provider_node.provider, consumer_node)
+    else {
         discard(exchange);
         return Err(Cause::NoMemory);
     };

@@ -1,6 +1,6 @@
 //! Searches that a consumer opens at its provider.
 ghost use Rattle.std.specs.Prelude.{◌≡◌, true, Some, None, Ok, IfOk, OnOk, OnErr};
-ghost use Rattle.ldap_messages.specs.Whole.{whole_of};
+ghost use Rattle.ldap_messages.specs.Whole.{message_value};
 ghost use Rattle.sync_consumer.specs.Taking.{asked_of};
 ghost use Rattle.sync_messages.specs.Request.{request_of};
 ghost use Rattle.sync_wire.specs.Requesting.{persists};
@@ -12,7 +12,7 @@ ghost use Rattle.cascade_exchange.specs.Parts.{first_value};
 
 use crate::cutting::{cut, is_busy};
 use cascade_nodes::{ConsumerNode, MESSAGE_ID, ScriptProvider, copy_wanted};
-use cascade_report::{Digested, Report};
+use cascade_report::{DigestedConsumer, Report};
 use cascade_script::Cause;
 use ldap_ber::{NoMemory, Octets, discard};
 use ldap_constants::E_SYNC_REFRESH_REQUIRED;
@@ -174,7 +174,7 @@ fn refuse(
     ensures search { consumer_node.new.search ≡ consumer_node.old.search }
 {
     let done = done_message(alloc, MESSAGE_ID, code)?;
-    let taken = take_whatever(&mut consumer_node.consumer, &done);
+    let taken = take_refusal(&mut consumer_node.consumer, &done);
     discard(done);
     taken?;
     out.refused(consumer_node.name.as_slice(), code)?;
@@ -182,11 +182,11 @@ fn refuse(
 }
 
 /// Takes a message, whatever comes of it.
-fn take_whatever(consumer: &mut Digested, message: &Message) -> Result<(), NoMemory>
+fn take_refusal(consumer: &mut DigestedConsumer, message: &Message) -> Result<(), NoMemory>
     ensures { OnOk result
         (consumer.new
         ≡ record consumer.old {
-          copy = (decoding.received_of consumer.old.copy (Some (whole_of message.now))).0;
+          copy = (decoding.received_of consumer.old.copy (Some (message_value message.now))).0;
         }) }
 {
     match consumer.take(message) {

@@ -1,6 +1,6 @@
 //! Messages that a consumer takes from its link, as what their bytes spell.
 ghost use Rattle.std.specs.Prelude.{◌≡◌, ◌<◌, ◌≤◌, ◌∷◌, [], Some, None, drop, option_map, IfOk, OnOk};
-ghost use Rattle.ldap_messages.specs.Whole.{whole_of};
+ghost use Rattle.ldap_messages.specs.Whole.{message_value};
 ghost use Rattle.cascade_exchange.specs.Exchange as spec;
 ghost use Rattle.cascade_exchange.specs.Reception as decoding;
 ghost use Rattle.cascade_exchange.specs.Exchange.{agreement_of};
@@ -10,8 +10,9 @@ ghost use Rattle.cascade_exchange.specs.Parts.{ReceivedSoFar, TakesNext, TakesSo
 ghost use Rattle.cascade_report.specs.Report.{said};
 ghost use Rattle.cascade_report.specs.ReportLines.{commit_reported, ReportLine as reported};
 
+use crate::aside::Aside;
 use crate::cutting::drop_all;
-use crate::ending::ends_bare;
+use crate::ending::ends_without_cookie;
 use crate::exchange::kept_search;
 use crate::taking::{BAD_MESSAGE, OUT_OF_PLACE, fault_name, stored_number};
 use cascade_nodes::{ConsumerNode, ScriptProvider};
@@ -31,7 +32,7 @@ pub fn take(
     provider: &mut ScriptProvider,
     consumer_node: &mut ConsumerNode,
     count: u64,
-    kept: &mut Option<SearchSnapshot>,
+    kept: &mut Aside<SearchSnapshot>,
     out: &mut Report,
 ) -> Result<(), Cause>
     ensures does { Does
@@ -45,7 +46,7 @@ pub fn take(
     if take_some(alloc, provider, consumer_node, count, out)? {
         return Ok(());
     }
-    let own = kept_search(provider, consumer_node.search)?;
+    let own = kept_search(alloc, provider, consumer_node.search)?;
     discard(mem::replace(kept, own));
     drop_all(provider, consumer_node);
     Ok(())
@@ -171,7 +172,7 @@ fn take_first(
     ensures does { ReceivedSoFar
         (agreement_of provider.now
         (record consumer_node.old { link = drop 1 consumer_node.old.link }) out.old.lineage)
-        (decoding.received_next consumer_node.old.consumer.copy (option_map whole_of found))
+        (decoding.received_next consumer_node.old.consumer.copy (option_map message_value found))
         out.old (agreement_of provider.now consumer_node.new out.old.lineage) out.new result }
     ensures search { consumer_node.new.search ≡ consumer_node.old.search }
 {
@@ -186,7 +187,7 @@ fn take_first(
 
 /// The message that the bytes begin with, if they begin with one.
 fn decoded(alloc: Global, bytes: &[u8]) -> Result<Option<Message>, NoMemory>
-    ensures { IfOk result (λ found. option_map whole_of found ≡ decoding.decoded bytes.now) }
+    ensures { IfOk result (λ found. option_map message_value found ≡ decoding.decoded bytes.now) }
 {
     match Message::read(alloc, bytes) {
         Ok(Some((message, _))) => Ok(Some(message)),
@@ -206,7 +207,7 @@ fn take_found(
     out: &mut Report,
 ) -> Result<bool, Cause>
     ensures does { ReceivedSoFar (agreement_of provider.now consumer_node.old out.old.lineage)
-        (decoding.received_next consumer_node.old.consumer.copy (option_map whole_of found))
+        (decoding.received_next consumer_node.old.consumer.copy (option_map message_value found))
         out.old (agreement_of provider.now consumer_node.new out.old.lineage) out.new result }
     ensures search { consumer_node.new.search ≡ consumer_node.old.search }
 {
@@ -225,7 +226,7 @@ fn take_found(
 
 /// Takes a message, and reports what came of it. One that ends a refresh without a cookie is
 /// refused.
-#[tactic(auto, using(crate::proofs::Reception::not_bare))]
+#[tactic(auto, using(crate::proofs::Reception::no_such_end))]
 fn take_message(
     alloc: Global,
     provider: &ScriptProvider,
@@ -234,11 +235,11 @@ fn take_message(
     out: &mut Report,
 ) -> Result<bool, Cause>
     ensures does { ReceivedSoFar (agreement_of provider.now consumer_node.old out.old.lineage)
-        (decoding.received_next consumer_node.old.consumer.copy (Some (whole_of message.now)))
+        (decoding.received_next consumer_node.old.consumer.copy (Some (message_value message.now)))
         out.old (agreement_of provider.now consumer_node.new out.old.lineage) out.new result }
     ensures search { consumer_node.new.search ≡ consumer_node.old.search }
 {
-    if ends_bare(alloc, message)? {
+    if ends_without_cookie(alloc, message)? {
         out.faulted(consumer_node.name.as_slice(), OUT_OF_PLACE)?;
         return Ok(false);
     }
@@ -254,7 +255,7 @@ fn hand_to_consumer(
     out: &mut Report,
 ) -> Result<bool, Cause>
     ensures does { ReceivedSoFar (agreement_of provider.now consumer_node.old out.old.lineage)
-        (decoding.received_of consumer_node.old.consumer.copy (Some (whole_of message.now)))
+        (decoding.received_of consumer_node.old.consumer.copy (Some (message_value message.now)))
         out.old (agreement_of provider.now consumer_node.new out.old.lineage) out.new result }
     ensures search { consumer_node.new.search ≡ consumer_node.old.search }
 {

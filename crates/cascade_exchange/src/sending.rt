@@ -1,6 +1,6 @@
 //! Messages that a provider hands out into the link of a consumer.
 ghost use Rattle.std.specs.Prelude.{◌≡◌, ◌+◌, ◌-◌, ◌<◌, ◌^◌, true, Some, IfOk, IfSome, OnErr};
-ghost use Rattle.ldap_messages.specs.Whole.{HasSpelling, whole_of, message_octets};
+ghost use Rattle.ldap_messages.specs.Whole.{HasSpelling, message_value, message_octets};
 ghost use Rattle.cascade_exchange.specs.Exchange as spec;
 ghost use Rattle.cascade_exchange.specs.Exchange.{agreement_of};
 ghost use Rattle.cascade_report.specs.Origins.{Lineage};
@@ -141,8 +141,8 @@ fn link_message(
     message: Message,
     out: &mut Report,
 ) -> Result<(), Cause>
-    requires { HasSpelling (whole_of message) }
-    ensures links { Links consumer_node.old (message_octets (whole_of message))
+    requires { HasSpelling (message_value message) }
+    ensures links { Links consumer_node.old (message_octets (message_value message))
         out.old consumer_node.new out.new result }
     ensures only { OnlyLinks consumer_node.old consumer_node.new }
 {
@@ -202,7 +202,7 @@ fn next_message(
         (spec.turn_of provider.old consumer_node.old.search)
         (agreement_of provider.new consumer_node.new lineage) result }
     ensures spelled { IfOk result (λ found.
-        IfSome found (λ message. HasSpelling (whole_of message))) }
+        IfSome found (λ message. HasSpelling (message_value message))) }
     ensures provider { KeepsOthers provider.old consumer_node.old provider.new consumer_node.new }
 {
     let Some(number) = consumer_node.search else {
@@ -228,8 +228,8 @@ fn put_into_link(
     message: &Message,
     out: &mut Report,
 ) -> Result<(), Cause>
-    requires { HasSpelling (whole_of message.now) }
-    ensures links { Links consumer_node.old (message_octets (whole_of message.now))
+    requires { HasSpelling (message_value message.now) }
+    ensures links { Links consumer_node.old (message_octets (message_value message.now))
         out.old consumer_node.new out.new result }
     ensures search { consumer_node.new.search ≡ consumer_node.old.search }
     ensures only { OnlyLinks consumer_node.old consumer_node.new }

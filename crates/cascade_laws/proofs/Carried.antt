@@ -11,7 +11,7 @@ use Rattle.ldap_messages.specs.declared.message.Message.{Message}
 use Rattle.ldap_messages.specs.declared.protocol.Protocol.TheVariants.{SearchResultEntry, SearchResultDone, IntermediateResponse}
 use Rattle.ldap_messages.specs.Frame.{read_of, message}
 use Rattle.ldap_messages.specs.Operation.{IsHeld}
-use Rattle.ldap_messages.specs.Whole.{Whole, message_octets, HasSpelling}
+use Rattle.ldap_messages.specs.Whole.{MessageValue, message_octets, HasSpelling}
 use Rattle.ldap_messages.proofs.MessageSpellings.{message_read_again}
 use Rattle.dn_names.specs.Names.{TypeAndValue}
 use Rattle.dn_names.specs.Sound.{IsName}
@@ -30,12 +30,12 @@ use Rattle.sync_wire.proofs.Operations.{entry_operation, done_operation, info_op
 use Rattle.sync_wire.proofs.Notified.{sent_round_trip}
 use Rattle.sync_wire.proofs.Lengths.{put_size, set_size, phase_size, done_size, busy_size}
 use Rattle.sync_wire.proofs.OfSearch.{IsOfSearch, end_with, of_each, gone_short, short_text}
-use Rattle.cascade_world.specs.Reception.{whole_in, decoded, whole_said, came_of, refused_for, received_as, received_by, received_of, received_next, received, ends_bare, says_bare}
+use Rattle.cascade_world.specs.Reception.{whole_in, decoded, whole_said, came_of, refused_for, received_as, received_by, received_of, received_next, received, ends_without_cookie, says_end_without_cookie}
 
 -- ---- what its bytes are decoded to
 
 -- a message that is not too long is decoded as it was written
-decoded_again : (whole : Whole) → HasSpelling whole → IsHeld whole.1.0 → length (message_octets whole) ≤ 4194304 → decoded (message_octets whole) ≡ Some whole
+decoded_again : (whole : MessageValue) → HasSpelling whole → IsHeld whole.1.0 → length (message_octets whole) ≤ 4194304 → decoded (message_octets whole) ≡ Some whole
 decoded_again whole has held short =
     let octets = message_octets whole in
     let again : read_of (octets ++ []) ≡ message whole (length octets) = message_read_again {E = Unit {0}} (Ok octets) whole has refl (omega (arith, short)) held short [] in
@@ -120,12 +120,12 @@ module _ (persisting : Bool) where
 
 -- ---- what the consumer makes of it
 
-pub received_sent : (copy : Copy) (session : SyncSession) (m : SyncMessage) → copy.session ≡ Some session → session.id ≡ 1 → IsOfSearch m → ends_bare m ≡ false
+pub received_sent : (copy : Copy) (session : SyncSession) (m : SyncMessage) → copy.session ≡ Some session → session.id ≡ 1 → IsOfSearch m → ends_without_cookie m ≡ false
     → received copy (message_octets (wire.sent 1 m)) ≡ ((taken_within 1 copy m).0, came_of (taken_within 1 copy m).1)
 received_sent copy session m runs same is cookied =
     let whole = wire.sent 1 m in
     ap (received_next copy) (sent_decoded m is)
-    ∙ ap (λ bare. cond bare (refused_for copy (codes "OutOfPlace")) (received_of copy (Some whole))) (ap says_bare (sent_said false m is) ∙ cookied)
+    ∙ ap (λ no_cookie. cond no_cookie (refused_for copy (codes "OutOfPlace")) (received_of copy (Some whole))) (ap says_end_without_cookie (sent_said false m is) ∙ cookied)
     ∙ ap (λ found. received_by found copy whole) runs
     ∙ ap (λ id. if 1 == id then received_as 1 copy (whole_said session.persisting whole) else refused_for copy (codes "OutOfPlace")) same
     ∙ ap (received_as 1 copy) (sent_said session.persisting m is)

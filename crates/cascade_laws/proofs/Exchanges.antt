@@ -140,10 +140,10 @@ asked_by name (goes.Send count) = asks.Send name count
 asked_by name (goes.Take count) = asks.Take name count
 asked_by name goes.Cut = asks.Cut name
 asked_by name goes.Settle = asks.Settle name
-asked_by name goes.Lose = asks.Lose name
-asked_by name (goes.Give text) = asks.Cookie name text
-asked_by name goes.Idle = asks.Cut name
-asked_by name (goes.Want spec) = asks.Respec name (search_of spec)
+asked_by name goes.LoseCookie = asks.Lose name
+asked_by name (goes.SetCookie text) = asks.Cookie name text
+asked_by name goes.CutIfBusy = asks.Cut name
+asked_by name (goes.Respec spec) = asks.Respec name (search_of spec)
 
 -- an order after which all follow what they did
 record IsCalm (order : Order) : Type 0 where
@@ -157,10 +157,10 @@ calm_by name (goes.Send count) same = record { quiet = record { untouched = λ o
 calm_by name (goes.Take count) same = record { quiet = record { untouched = λ other. tt; still = λ time. refl; undeclared = refl }; same = λ consumer now. refl }
 calm_by name goes.Cut same = record { quiet = record { untouched = λ other. tt; still = λ time. refl; undeclared = refl }; same = λ consumer now. refl }
 calm_by name goes.Settle same = record { quiet = record { untouched = λ other. tt; still = λ time. refl; undeclared = refl }; same = λ consumer now. refl }
-calm_by name goes.Lose same = record { quiet = record { untouched = λ other. tt; still = λ time. refl; undeclared = refl }; same = λ consumer now. refl }
-calm_by name (goes.Give text) same = record { quiet = record { untouched = λ other. tt; still = λ time. refl; undeclared = refl }; same = λ consumer now. refl }
-calm_by name goes.Idle same = record { quiet = record { untouched = λ other. tt; still = λ time. refl; undeclared = refl }; same = λ consumer now. refl }
-calm_by name (goes.Want spec) same = absurd same
+calm_by name goes.LoseCookie same = record { quiet = record { untouched = λ other. tt; still = λ time. refl; undeclared = refl }; same = λ consumer now. refl }
+calm_by name (goes.SetCookie text) same = record { quiet = record { untouched = λ other. tt; still = λ time. refl; undeclared = refl }; same = λ consumer now. refl }
+calm_by name goes.CutIfBusy same = record { quiet = record { untouched = λ other. tt; still = λ time. refl; undeclared = refl }; same = λ consumer now. refl }
+calm_by name (goes.Respec spec) same = absurd same
 
 -- what is reported of a cookie is what the order gives
 given_by : (pair : Agreement) (exchange : Exchange) → WantsTheSame exchange → GivenIn (asked_by pair.consumer_node.name exchange) (part_of exchange pair)
@@ -170,14 +170,14 @@ given_by pair (goes.Send count) same = silent_given (asks.Send pair.consumer_nod
 given_by pair (goes.Take count) same = silent_given (asks.Take pair.consumer_node.name count) false refl (takes count pair) (takes_silent false count pair)
 given_by pair goes.Cut same = silent_given (asks.Cut pair.consumer_node.name) false refl (cut pair) (cut_silent false pair)
 given_by pair goes.Settle same = silent_given (asks.Settle pair.consumer_node.name) false refl (settles pair) (settles_silent false refl pair)
-given_by pair goes.Lose same = ((refl, refl), tt)
-given_by pair (goes.Give text) same =
+given_by pair goes.LoseCookie same = ((refl, refl), tt)
+given_by pair (goes.SetCookie text) same =
     elim (cases_Bool (is_later pair.consumer_node.consumer.copy.cookie text)) [
       | inl later ↦ rw later tt
       | inr good ↦ rw good ((refl, refl), tt)
     ]
-given_by pair goes.Idle same = silent_given (asks.Cut pair.consumer_node.name) false refl (idle pair) (idle_silent false pair)
-given_by pair (goes.Want spec) same = absurd same
+given_by pair goes.CutIfBusy same = silent_given (asks.Cut pair.consumer_node.name) false refl (idle pair) (idle_silent false pair)
+given_by pair (goes.Respec spec) same = absurd same
 
 -- what each keeps
 exchange_keeps : (exchange : Exchange) (pair : Agreement) → WantsTheSame exchange → AltersIn as_before pair (part_of exchange pair)
@@ -186,10 +186,10 @@ exchange_keeps (goes.Send count) pair same = sent_keeps count pair
 exchange_keeps (goes.Take count) pair same = takes_keeps count pair
 exchange_keeps goes.Cut pair same = cut_keeps pair
 exchange_keeps goes.Settle pair same = settles_keeps pair
-exchange_keeps goes.Lose pair same = lost_keeps pair
-exchange_keeps (goes.Give text) pair same = given_keeps text pair
-exchange_keeps goes.Idle pair same = idle_keeps pair
-exchange_keeps (goes.Want spec) pair same = absurd same
+exchange_keeps goes.LoseCookie pair same = lost_keeps pair
+exchange_keeps (goes.SetCookie text) pair same = given_keeps text pair
+exchange_keeps goes.CutIfBusy pair same = idle_keeps pair
+exchange_keeps (goes.Respec spec) pair same = absurd same
 
 outcome_after : PartsKnown → PartsAreKept → (before : List Order) (order : Order) (said : List ReportLine) (state : WorldState) (f : ConsumerNode) (r : ProviderNode) (exchange : Exchange) (outcome : ExchangeOutcome) → WantsTheSame exchange → IsCalm order
     → GivenIn order outcome → consumer_nodes_by state.consumer_nodes f.name ≡ Some f → provider_nodes_by state.provider_nodes f.source ≡ Some r → part_of exchange (agreement_of r.provider f (lineage_of state r)) ≡ outcome

@@ -315,8 +315,8 @@ module _ (lin : Lineage) (number : ℕ) (suffix : Name) (mode : Mode) (p : Provi
       by accepted.NoMemory is = absurd (subst (λ a. Says number p.directory.writes f.consumer.reload a text) is says)
 
   -- without a cookie nothing is in the way
-  pub bare_opens : f.consumer.copy.cookie ≡ None → OpenedIn number suffix (agreement_of p f lin) known (persists mode) (opened_idle mode (agreement_of p f lin))
-  bare_opens none = by (answer_of mode (agreement_of p f lin)) refl
+  pub opens_without_cookie : f.consumer.copy.cookie ≡ None → OpenedIn number suffix (agreement_of p f lin) known (persists mode) (opened_idle mode (agreement_of p f lin))
+  opens_without_cookie none = by (answer_of mode (agreement_of p f lin)) refl
     where
       by : (answer : Accepted) → answer_of mode (agreement_of p f lin) ≡ answer → OpenedIn number suffix (agreement_of p f lin) known (persists mode) (opened_by mode (agreement_of p f lin) answer)
       by (accepted.Opened at count) is =
@@ -355,7 +355,7 @@ rest_again lin number suffix p f known source fed rest room = by (answer_of Refr
         → Opened' (after_lines (reported.Refused f.name false code ∷ []) (opened_idle RefreshOnly (agreement_of p (with_refusal f false code) lin)))
     second code asked =
         kept_opened number suffix pair (agreement_of p (with_refusal f false code) lin) (reported.Refused f.name false code ∷ []) known false (opened_idle RefreshOnly (agreement_of p (with_refusal f false code) lin)) asked.kept
-        (bare_opens lin number suffix RefreshOnly p (with_refusal f false code) (known_after f.name known (reported.Refused f.name false code)) asked.kept.source asked.kept.fed over'.rest
+        (opens_without_cookie lin number suffix RefreshOnly p (with_refusal f false code) (known_after f.name known (reported.Refused f.name false code)) asked.kept.source asked.kept.fed over'.rest
         (room_after pair (agreement_of p (with_refusal f false code) lin) asked.kept.owns room) over'.cookie)
       where
         not_open : IsOpened number p (with_refusal f false code) (known_after f.name known (reported.Refused f.name false code)) false → ⊥

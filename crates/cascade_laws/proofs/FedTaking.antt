@@ -45,8 +45,8 @@ use Rattle.cascade_exchange.proofs.Owns.{owns-still}
 use Rattle.cascade_world.specs.Cookies.{held_cookie}
 use Rattle.cascade_world.specs.Exchange.{Agreement, agreement_of, copy_of, with_copy, number_of_cookie, stored_number, storing, taken_as, taken_from, taking}
 use Rattle.cascade_laws.specs.Headline.{Opening, Known, known_after, NamesPrefix, session_over, stream_over, sent_octets, busy}
-use Rattle.cascade_world.specs.Reception.{Came, came_of, received, ends_bare}
-use Rattle.cascade_exchange.proofs.Bare.{bare_answer}
+use Rattle.cascade_world.specs.Reception.{Came, came_of, received, ends_without_cookie}
+use Rattle.cascade_exchange.proofs.EndsWithoutCookie.{ending_answer}
 use Rattle.cascade_world.specs.Origins.{Lineage}
 use Rattle.cascade_world.specs.ReportLines.{Storing, ReportLine}
 use Rattle.cascade_world.specs.ReportLines.{ReportLine as reported}
@@ -203,12 +203,12 @@ module _ (lin : Lineage) (number : ℕ) (suffix : Name) (p : ProviderState) (f :
     has_session = where_session operation goes.session.start opening.writes goes.session.count known.entries held goes.session.taken goes.session.ahead goes.place
 
     -- the bytes are decoded as the message
-    decoded_is : IsOfSearch m → ends_bare m ≡ false → received held (sent_octets m) ≡ (outcome.0, came_of outcome.1)
+    decoded_is : IsOfSearch m → ends_without_cookie m ≡ false → received held (sent_octets m) ≡ (outcome.0, came_of outcome.1)
     decoded_is can cookied = received_sent held has_session.session m has_session.runs has_session.id can cookied
 
     -- what comes of it reports whether it ends a refresh without a cookie
-    agrees : (a : Answer) → outcome.1 ≡ a → Agrees (ends_bare m) a
-    agrees a is = subst (Agrees (ends_bare m)) is (bare_answer 1 held m)
+    agrees : (a : Answer) → outcome.1 ≡ a → Agrees (ends_without_cookie m) a
+    agrees a is = subst (Agrees (ends_without_cookie m)) is (ending_answer 1 held m)
 
     abbrev Is : Copy → Came → Type 0
     Is copy came = IsTaken (taken_as (agreement_of p f lin) left copy came).0 (taken_as (agreement_of p f lin) left copy came).1
@@ -395,7 +395,7 @@ module _ (lin : Lineage) (number : ℕ) (suffix : Name) (p : ProviderState) (f :
       first_is = subst (λ (h : Copy × Came). Is h.0 h.1) (sym (decoded_is takes.can (cookied takes.comes))) (by takes.comes)
         where
           cookied : StagesOne operation ascending within sent texts goes.session.start opening.writes goes.session.count known.entries held (goes.session.taken ++ m ∷ []) is.beyond outcome
-              ⊎ StoresOne operation ascending within sent texts goes.session.start opening.writes goes.session.count known.entries is.beyond outcome → ends_bare m ≡ false
+              ⊎ StoresOne operation ascending within sent texts goes.session.start opening.writes goes.session.count known.entries is.beyond outcome → ends_without_cookie m ≡ false
           cookied (inl now) = agrees Staged now.answer
           cookied (inr now) = agrees (Stored now.stored.commit) now.stored.answer
 
@@ -450,7 +450,7 @@ module _ (lin : Lineage) (number : ℕ) (suffix : Name) (p : ProviderState) (f :
 
       busy_is : IsTaken (taken_as (agreement_of p f lin) left (received held (sent_octets m)).0 (received held (sent_octets m)).1).0 (taken_as (agreement_of p f lin) left (received held (sent_octets m)).0 (received held (sent_octets m)).1).1
       busy_is =
-          subst (λ (h : Copy × Came). Is h.0 h.1) (sym (decoded_is (subst IsOfSearch (sym is.message) (inr (refl, refl))) (ap ends_bare is.message)))
+          subst (λ (h : Copy × Came). Is h.0 h.1) (sym (decoded_is (subst IsOfSearch (sym is.message) (inr (refl, refl))) (ap ends_without_cookie is.message)))
           (subst (λ (o : Copy × Answer). Is o.0 (came_of o.1)) (sym outcome_is) ended_is)
 
     pub one_taken : IsTaken (taken_as (agreement_of p f lin) left (received held (sent_octets m)).0 (received held (sent_octets m)).1).0 (taken_as (agreement_of p f lin) left (received held (sent_octets m)).0 (received held (sent_octets m)).1).1

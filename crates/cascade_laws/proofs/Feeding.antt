@@ -200,7 +200,7 @@ pub record IsKept (number : ℕ) (suffix : List (List TypeAndValue)) (before aft
 
 -- all parts but that after which something else is wanted
 abbrev pub WantsTheSame : Exchange → Type 0
-WantsTheSame (goes.Want spec) = ⊥
+WantsTheSame (goes.Respec spec) = ⊥
 WantsTheSame _ = Unit {0}
 
 abbrev pub PartsAreKept : Type 0

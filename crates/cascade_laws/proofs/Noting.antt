@@ -18,8 +18,8 @@ use Rattle.entry_tree.specs.declared.op.Write.{Write}
 use Rattle.sync_wire.proofs.Servable.{CanBeServed, SelectedCanBeServed}
 use Rattle.directory_writes.specs.Directory.{DirectoryState, entries_after, entries_of, last_csn}
 use Rattle.directory_writes.specs.Commits as directory
-use Rattle.directory_writes.specs.declared.commit.DirectoryFault.{DirectoryFault}
-use Rattle.directory_writes.specs.declared.commit.DirectoryFault.TheVariants as cause
+use Rattle.directory_writes.specs.declared.commit.DirectoryCommitFault.{DirectoryCommitFault}
+use Rattle.directory_writes.specs.declared.commit.DirectoryCommitFault.TheVariants as cause
 use Rattle.sync_provider.specs.Committing.{commit_refusal, fault_of}
 use Rattle.sync_provider.specs.Machine as machine
 use Rattle.sync_provider.specs.Machine.{ProviderState, after_commit}
@@ -245,20 +245,20 @@ module _ (kept : CommitsAreKept) (selected : SelectedCanBeServed) (number : ℕ)
       stage : StoredStage
       stage = stage_of stored
 
-      at_replica : (r : Option DirectoryFault) → directory.commit_refusal p.directory stored.commit.puts stored.commit.drops now ≡ r → commit_refusal p.kind p.directory stored.commit.puts stored.commit.drops now ≡ option_map fault_of r
+      at_replica : (r : Option DirectoryCommitFault) → directory.commit_refusal p.directory stored.commit.puts stored.commit.drops now ≡ r → commit_refusal p.kind p.directory stored.commit.puts stored.commit.drops now ≡ option_map fault_of r
       at_replica r is = ap (λ k. commit_refusal k p.directory stored.commit.puts stored.commit.drops now) kind ∙ ap (option_map fault_of) is
 
-      commit_is : (r : Option DirectoryFault) → directory.commit_refusal p.directory stored.commit.puts stored.commit.drops now ≡ r → CommitIs number suffix p stored.commit.puts stored.commit.drops now (option_map fault_of r)
+      commit_is : (r : Option DirectoryCommitFault) → directory.commit_refusal p.directory stored.commit.puts stored.commit.drops now ≡ r → CommitIs number suffix p stored.commit.puts stored.commit.drops now (option_map fault_of r)
       commit_is r is = subst (CommitIs number suffix p stored.commit.puts stored.commit.drops now) (at_replica r is) (kept number suffix p stored.commit.puts stored.commit.drops now committing.keeps.source kind can)
 
-      limit_is : (r : Option DirectoryFault) → directory.commit_refusal p.directory stored.commit.puts stored.commit.drops now ≡ r → limit_of now p (stage ∷ stages) ≡ option_or (limit_in r) (limit_of now (with_stage now p stage) stages)
+      limit_is : (r : Option DirectoryCommitFault) → directory.commit_refusal p.directory stored.commit.puts stored.commit.drops now ≡ r → limit_of now p (stage ∷ stages) ≡ option_or (limit_in r) (limit_of now (with_stage now p stage) stages)
       limit_is r is = ap (λ found. option_or (limit_in found) (limit_of now (with_stage now p stage) stages)) is
 
-      here_is : (r : Option DirectoryFault) → directory.commit_refusal p.directory stored.commit.puts stored.commit.drops now ≡ r
+      here_is : (r : Option DirectoryCommitFault) → directory.commit_refusal p.directory stored.commit.puts stored.commit.drops now ≡ r
           → CommittingBy later own (stage ∷ stages) (option_or (limit_in r) (limit_of now (with_stage now p stage) stages)) → AreCommitting later own (stage ∷ stages)
       here_is r is = subst (CommittingBy later own (stage ∷ stages)) (sym (limit_is r is))
 
-      by : (r : Option DirectoryFault) → directory.commit_refusal p.directory stored.commit.puts stored.commit.drops now ≡ r → AreCommitting later own (stage ∷ stages)
+      by : (r : Option DirectoryCommitFault) → directory.commit_refusal p.directory stored.commit.puts stored.commit.drops now ≡ r → AreCommitting later own (stage ∷ stages)
       by None is =
           let same : machine.committed p stored.commit.puts stored.commit.drops now ≡ with_stage now p stage = ap (after_commit p (Commit stored.commit.puts stored.commit.drops) now) (at_replica None is) in
           let q = with_stage now p stage in

@@ -100,10 +100,10 @@ part_keeps (goes.Send count) same number suffix = sent_keeps count number suffix
 part_keeps (goes.Take count) same number suffix = takes_keeps count number suffix
 part_keeps goes.Cut same number suffix = cut_keeps number suffix
 part_keeps goes.Settle same number suffix = settles_keeps number suffix
-part_keeps goes.Lose same number suffix = lost_keeps number suffix
-part_keeps (goes.Give text) same number suffix = given_keeps text number suffix
-part_keeps goes.Idle same number suffix = idle_keeps number suffix
-part_keeps (goes.Want spec) same number suffix = absurd same
+part_keeps goes.LoseCookie same number suffix = lost_keeps number suffix
+part_keeps (goes.SetCookie text) same number suffix = given_keeps text number suffix
+part_keeps goes.CutIfBusy same number suffix = idle_keeps number suffix
+part_keeps (goes.Respec spec) same number suffix = absurd same
 
 pub parts_are_kept : PartsAreKept
 parts_are_kept number suffix before after lines known exchange same source fed room is =

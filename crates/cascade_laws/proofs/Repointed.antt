@@ -183,7 +183,7 @@ module _ (p : Pointing) (before : List Order) (said : List ReportLine) (state : 
       let suffix = r.provider.directory.suffix in
       let reported = known_of f.name said in
       let kept : IsKept number suffix pair next.0 next.1 reported =
-      p.parts number suffix pair next.0 next.1 reported goes.Idle tt (is.feeds.sources f.source r e') (fed_by said state.nodes state.provider_nodes f.source r f e' refl (is.feeds.consumer_nodes f.name f e))
+      p.parts number suffix pair next.0 next.1 reported goes.CutIfBusy tt (is.feeds.sources f.source r e') (fed_by said state.nodes state.provider_nodes f.source r f e' refl (is.feeds.consumer_nodes f.name f e))
       (room_of state.provider_nodes state.consumer_nodes f.source r f e' (omega (arith, is.feeds.counted, is.feeds.few)) is.feeds.owned) same in
       through_pointed next.0 next.1 keeps (p.idles pair next.0 next.1 same) (with_outcome state (Ok next)) refl
       (outcome_through p.known as_before before order said state f r next.0 next.1 gives e e' (done_kept number suffix pair next.0 next.1 reported kept keeps) keeps is)

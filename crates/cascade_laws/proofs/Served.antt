@@ -22,7 +22,7 @@ use Rattle.sync_model.specs.Law.{MayBegin, IsContentWithin}
 use Rattle.sync_model.specs.Stream.{SyncOperation}
 use Rattle.sync_model.specs.Stream.Start.{DeletePhase, PresentPhase}
 use Rattle.sync_model.proofs.Incremental.{number_of-phase}
-use Rattle.directory_writes.specs.Starting.{is_ours, prefix_of, asked_prefix, start_at}
+use Rattle.directory_writes.specs.Starting.{is_ours, prefix_of, prefix_of_cookie, start_at}
 use Rattle.sync_provider.specs.Accepting.{has_cookie, refused_or_opened, numbered, free_number}
 use Rattle.directory_writes.specs.Directory.{DirectoryState, CsnsRise, last_csn, last_csn_of, csns}
 use Rattle.sync_provider.specs.Machine.{ProviderState}
@@ -63,7 +63,7 @@ module _ (d : DirectoryState) (number : ℕ) (sid : d.sid ≡ number) (history :
         not_greater = ap (is_upto cookie.csn) (sym last_is) ∙ parts.1;
       }
 
-  servable_ours : (text : List ℕ) → IsServable text number d.writes → is_some (asked_prefix d (Some text)) ≡ true
+  servable_ours : (text : List ℕ) → IsServable text number d.writes → is_some (prefix_of_cookie d (Some text)) ≡ true
   servable_ours text is =
       let read : cookie_of_text text ≡ Some is.cookie = spelled-cookie_of_text text is.cookie is.good is.spells in
       let own : (is.cookie.history == d.history) ≡ true = eq-eqb is.cookie.history d.history (is.own ∙ sym history) in
@@ -71,7 +71,7 @@ module _ (d : DirectoryState) (number : ℕ) (sid : d.sid ≡ number) (history :
       let both : is_ours d is.cookie ≡ true = ap (λ b. b && is_upto is.cookie.csn (last_csn_of d)) own ∙ upto' in
       ap (λ c. is_some (prefix_of d c)) read ∙ ap (λ b. is_some (cond b (Some (upto (csns d.writes) is.cookie.csn)) None)) both
 
-  prefix_servable : (text : List ℕ) (found : Option ℕ) → asked_prefix d (Some text) ≡ found → is_some found ≡ true → IsServable text number d.writes
+  prefix_servable : (text : List ℕ) (found : Option ℕ) → prefix_of_cookie d (Some text) ≡ found → is_some found ≡ true → IsServable text number d.writes
   prefix_servable text found is there = by (cookie_of_text text) refl (ap is_some is ∙ there)
     where
       by_ours : (cookie : Cookie) → cookie_of_text text ≡ Some cookie → (b : Bool) → is_ours d cookie ≡ b → is_some (cond b (Some (upto (csns d.writes) cookie.csn)) None) ≡ true → IsServable text number d.writes
@@ -86,23 +86,23 @@ module _ (d : DirectoryState) (number : ℕ) (sid : d.sid ≡ number) (history :
 
   -- not blank, not servable, and not to be left aside
   abbrev is_lost : Option (List ℕ) → Bool → Bool
-  is_lost cookie reload = has_cookie cookie && (not (is_some (asked_prefix d cookie)) && not reload)
+  is_lost cookie reload = has_cookie cookie && (not (is_some (prefix_of_cookie d cookie)) && not reload)
 
   lost_unserved : (cookie : Option (List ℕ)) (reload : Bool) → is_lost cookie reload ≡ true → IsUnserved reload number d.writes cookie
   lost_unserved None reload h = let never : ⊥ = cc in absurd never
   lost_unserved (Some text) reload h =
-      let parts = and_parts (has_cookie (Some text)) (not (is_some (asked_prefix d (Some text))) && not reload) h in
-      let both = and_parts (not (is_some (asked_prefix d (Some text)))) (not reload) parts.1 in (
+      let parts = and_parts (has_cookie (Some text)) (not (is_some (prefix_of_cookie d (Some text))) && not reload) h in
+      let both = and_parts (not (is_some (prefix_of_cookie d (Some text)))) (not reload) parts.1 in (
         not-true reload both.1,
         λ blank. not_both (is_blank text) parts.0 (blank-is_blank text blank),
-        λ serves. not_both (is_some (asked_prefix d (Some text))) both.0 (servable_ours text serves),
+        λ serves. not_both (is_some (prefix_of_cookie d (Some text))) both.0 (servable_ours text serves),
       )
 
   kept_served : (cookie : Option (List ℕ)) (reload : Bool) → is_lost cookie reload ≡ false → IsServedCookie reload number d.writes cookie
   kept_served None reload h = tt
-  kept_served (Some text) reload h = by (is_blank text) refl (asked_prefix d (Some text)) refl reload h
+  kept_served (Some text) reload h = by (is_blank text) refl (prefix_of_cookie d (Some text)) refl reload h
     where
-      by : (blank : Bool) → is_blank text ≡ blank → (found : Option ℕ) → asked_prefix d (Some text) ≡ found → (r : Bool) → (not blank && (not (is_some found) && not r)) ≡ false
+      by : (blank : Bool) → is_blank text ≡ blank → (found : Option ℕ) → prefix_of_cookie d (Some text) ≡ found → (r : Bool) → (not blank && (not (is_some found) && not r)) ≡ false
           → IsServedCookie r number d.writes (Some text)
       by true blank found is r h = inr (inl (is_blank-blank text blank))
       by false blank (Some n) is r h = inr (inr (prefix_servable text (Some n) is refl))
@@ -136,7 +136,7 @@ module _ (d : DirectoryState) (number : ℕ) (sid : d.sid ≡ number) (history :
   -- ---- the prefix that it begins from
 
   from_cookie : (text : List ℕ) (cookie : Cookie) → cookie_of_text text ≡ Some cookie → (b : Bool) → is_ours d cookie ≡ b
-      → asked_prefix d (Some text) ≡ cond b (Some (upto (csns d.writes) cookie.csn)) None
+      → prefix_of_cookie d (Some text) ≡ cond b (Some (upto (csns d.writes) cookie.csn)) None
       → BeginsFrom number d.writes (Some text) (number_of (start_at d (cond b (Some (upto (csns d.writes) cookie.csn)) None)))
   unfolding ours_servable
   from_cookie text cookie read true ours is =
@@ -144,7 +144,7 @@ module _ (d : DirectoryState) (number : ℕ) (sid : d.sid ≡ number) (history :
       (record { serves = ours_servable text cookie read ours; counted = refl })
   from_cookie text cookie read false ours is = λ serves. let there = servable_ours text serves in let bad : true ≡ false = sym there ∙ ap is_some is in let never : ⊥ = cc in never
 
-  pub start_from : (cookie : Option (List ℕ)) → BeginsFrom number d.writes cookie (number_of (start_at d (asked_prefix d cookie)))
+  pub start_from : (cookie : Option (List ℕ)) → BeginsFrom number d.writes cookie (number_of (start_at d (prefix_of_cookie d cookie)))
   start_from None = tt
   start_from (Some text) = by (cookie_of_text text) refl
     where
@@ -183,7 +183,7 @@ module _ (d : DirectoryState) (number : ℕ) (sid : d.sid ≡ number) (history :
     by_read (Some cookie) promised = by_ours cookie promised (is_ours d cookie) refl
 
     pub start_begins : (cookie : Option (List ℕ)) → IsPromised number search d.writes entries (held_cookie cookie)
-        → MayBegin operation (start_at d (asked_prefix d cookie)) (length d.writes) entries
+        → MayBegin operation (start_at d (prefix_of_cookie d cookie)) (length d.writes) entries
     start_begins None promised = ascending
     start_begins (Some text) promised = by_read (cookie_of_text text) promised
 

@@ -17,8 +17,8 @@ use Rattle.directory_laws.proofs.States.{IsWithinLimits-state_of}
 use Rattle.directory_writes.specs.Commits as commits
 use Rattle.directory_writes.specs.Directory.{DirectoryState, entries_after, entries_of, last_csn, has_room, judged, judged_at, csn_of_next_write, with_write, with_log_limit, most_writes, most_writes_weight}
 use Rattle.directory_writes.specs.Weights.{kept_weight, op_weight}
-use Rattle.directory_writes.specs.declared.commit.DirectoryFault.{DirectoryFault}
-use Rattle.directory_writes.specs.declared.commit.DirectoryFault.TheVariants as cause
+use Rattle.directory_writes.specs.declared.commit.DirectoryCommitFault.{DirectoryCommitFault}
+use Rattle.directory_writes.specs.declared.commit.DirectoryCommitFault.TheVariants as cause
 use Rattle.directory_writes.proofs.Commits.{commit_open}
 use Rattle.directory_writes.proofs.Judged.{IsJudged, judged_is}
 use Rattle.directory_writes.proofs.Csns.{rises-none, rises-push, next_rises}
@@ -44,19 +44,18 @@ use Rattle.sync_model.proofs.NextMessages.{HasNext}
 use Rattle.sync_wire.proofs.Servable.{CanBeServed}
 use Rattle.sync_provider.specs.Committing.{fault_of, commit_refusal}
 use Rattle.sync_provider.specs.Law.{Delivers}
-use Rattle.sync_provider.specs.Machine.{ProviderState, each_informed, after_judged, judged_by, after_commit, log_limited, queue_limited}
-use Rattle.sync_provider.specs.Queueing.{group_of, informed}
+use Rattle.sync_provider.specs.Machine.{ProviderState, each_search_notified, after_judged, judged_by, after_commit, log_limited, queue_limited}
+use Rattle.sync_provider.specs.Queueing.{group_of, search_notified}
 use Rattle.sync_provider.specs.Search.{SearchState, session_of, pending}
 use Rattle.sync_provider.specs.declared.provider.Kind.{Kind}
 use Rattle.sync_provider.specs.declared.provider.Kind.TheVariants.{Root, Replica}
 use Rattle.sync_provider.specs.declared.writing.CommitFault.{CommitFault}
 use Rattle.sync_provider.specs.declared.writing.CommitFault.TheVariants as fault
-use Rattle.sync_provider.proofs.Commits.{unopposed}
-use Rattle.sync_provider.proofs.Growing.{informed_at, stream_more}
-use Rattle.sync_provider.proofs.Informed.{pending_over, IsSame, informed_same, informed_ends, delivers_longer, informed_delivers}
+use Rattle.sync_provider.proofs.Commits.{or_none, unopposed}
+use Rattle.sync_provider.proofs.Growing.{search_notified_at, stream_more}
+use Rattle.sync_provider.proofs.SearchNotified.{pending_over, IsSame, search_notified_same, search_notified_ends, delivers_longer, search_notified_delivers}
 use Rattle.sync_provider.proofs.Longer.{new, stream_same, place_longer, place_grows}
 use Rattle.sync_provider.proofs.Whereabouts.{IsWhere}
-use Rattle.sync_provider.proofs.Alone.{or_none}
 use Rattle.cascade_nodes.specs.declared.node.ConsumerNode.{ConsumerNode}
 use Rattle.cascade_nodes.proofs.Fed.{waits, IsPending, HasPending, IsAtRest}
 use Rattle.cascade_world.specs.Cookies.{held_cookie}
@@ -124,7 +123,7 @@ pub record IsNext (number : ℕ) (suffix : Name) (kind : Kind) (writes : List Wr
 
 -- a provider after one more write
 abbrev written_once : ProviderState → Write → ProviderState
-written_once p w = record p { directory = with_write p.directory w; searches = each_informed p.queue_limit p.directory w p.searches }
+written_once p w = record p { directory = with_write p.directory w; searches = each_search_notified p.queue_limit p.directory w p.searches }
 
 -- what a source keeps with one more write
 source-push : (number : ℕ) (suffix : Name) (p : ProviderState) (w : Write) → IsSource number suffix p → IsNext number suffix p.kind p.directory.writes w → IsSource number suffix (written_once p w)
@@ -137,7 +136,7 @@ source-push number suffix p w source next = record {
   good = prefixes-push (λ writes. CanBeServed (entries_after number writes)) p.directory.writes w source.good next.good;
   accepted = λ root. WereAccepted-push suffix number p.directory.writes w (source.accepted root) (next.accepted root);
   few = omega (arith, length-append p.directory.writes (w ∷ []), next.room);
-  apart = distinct-changed (informed p.queue_limit p.directory w) p.searches source.apart;
+  apart = distinct-changed (search_notified p.queue_limit p.directory w) p.searches source.apart;
 }
 
 -- ---- a search that goes on
@@ -174,7 +173,7 @@ module _ (number : ℕ) (suffix : Name) (p : ProviderState) (w : Write) (source 
   abbrev next : List SyncMessage
   next = cond opening.persists (group longer (opening.writes + goes.session.count)) []
 
-  record IsInformed : Type 0 where
+  record IsSearchNotified : Type 0 where
     cut : Bool
     lasts : cut ≡ true → opening.persists ≡ true
     pending : List SyncMessage
@@ -182,8 +181,8 @@ module _ (number : ℕ) (suffix : Name) (p : ProviderState) (w : Write) (source 
     search : HasPending after.searches g.consumer.spec opening.persists cut g.search pending
 
   -- a search that is over at the provider, whose last messages are in the link
-  closed_informed : g.search ≡ None → waits opening.persists goes.session.cut ≡ false → HasPending p.searches g.consumer.spec opening.persists goes.session.cut None goes.session.pending → IsInformed
-  closed_informed own ends has = record {
+  closed_search_notified : g.search ≡ None → waits opening.persists goes.session.cut ≡ false → HasPending p.searches g.consumer.spec opening.persists goes.session.cut None goes.session.pending → IsSearchNotified
+  closed_search_notified own ends has = record {
     cut = goes.session.cut;
     lasts = goes.session.lasts;
     pending = goes.session.pending;
@@ -200,10 +199,10 @@ module _ (number : ℕ) (suffix : Name) (p : ProviderState) (w : Write) (source 
   -- a search that is open
   module _ (at : ℕ) (own : g.search ≡ Some at) (has : IsPending p.searches g.consumer.spec opening.persists goes.session.cut at goes.session.pending) where
     abbrev now : SearchState
-    now = informed p.queue_limit p.directory w has.search
+    now = search_notified p.queue_limit p.directory w has.search
 
     is_same : IsSame has.search now
-    is_same = informed_same p.queue_limit p.directory w has.search
+    is_same = search_notified_same p.queue_limit p.directory w has.search
 
     group_is : group_of p.directory has.search w ≡ group longer (length writes)
     group_is =
@@ -216,13 +215,13 @@ module _ (number : ℕ) (suffix : Name) (p : ProviderState) (w : Write) (source 
     delivers_now : Delivers now.over (goes.session.linked ++ pending now) (goes.session.ahead ++ next)
     delivers_now =
         subst (λ sent. Delivers now.over (goes.session.linked ++ pending now) (goes.session.ahead ++ sent)) sent_is
-        (informed_delivers p.queue_limit p.directory w has.search goes.session.linked goes.session.ahead
+        (search_notified_delivers p.queue_limit p.directory w has.search goes.session.linked goes.session.ahead
         (subst (λ o. Delivers o (goes.session.linked ++ pending has.search) goes.session.ahead) (sym has.over)
         (subst (λ ms. Delivers goes.session.cut (goes.session.linked ++ ms) goes.session.ahead) (sym has.same) goes.session.left)))
 
     -- one that ends with its refresh is as before
     still : opening.persists ≡ false → now ≡ has.search
-    still ends = informed_ends p.queue_limit p.directory w has.search (has.persists ∙ ends)
+    still ends = search_notified_ends p.queue_limit p.directory w has.search (has.persists ∙ ends)
 
     lasts_now : now.over ≡ true → opening.persists ≡ true
     lasts_now on = by opening.persists refl
@@ -239,8 +238,8 @@ module _ (number : ℕ) (suffix : Name) (p : ProviderState) (w : Write) (source 
         by true mode false off = absurd (true≢false (sym (λ i. waits (mode i) (off i)) ∙ none))
         by false mode over is = subst HasNext (sym (ap pending (still mode) ∙ has.same)) (has.some (ap (λ b. waits b goes.session.cut) mode))
 
-    open_informed : IsInformed
-    open_informed = record {
+    open_search_notified : IsSearchNotified
+    open_search_notified = record {
       cut = now.over;
       lasts = lasts_now;
       pending = pending now;
@@ -248,7 +247,7 @@ module _ (number : ℕ) (suffix : Name) (p : ProviderState) (w : Write) (source 
       search =
           subst (λ o. HasPending after.searches g.consumer.spec opening.persists now.over o (pending now)) (sym own) (record {
             search = now;
-            found = informed_at p.queue_limit p.directory w p.searches at has.search has.found;
+            found = search_notified_at p.queue_limit p.directory w p.searches at has.search has.found;
             id = is_same.id ∙ has.id;
             spec = is_same.spec ∙ has.spec;
             persists = is_same.persists ∙ has.persists;
@@ -258,12 +257,12 @@ module _ (number : ℕ) (suffix : Name) (p : ProviderState) (w : Write) (source 
           });
     }
 
-  is_informed : IsInformed
-  is_informed = by g.search refl goes.search
+  is_search_notified : IsSearchNotified
+  is_search_notified = by g.search refl goes.search
     where
-      by : (own : Option ℕ) → g.search ≡ own → HasPending p.searches g.consumer.spec opening.persists goes.session.cut own goes.session.pending → IsInformed
-      by None own has = closed_informed own has.1 has
-      by (Some at) own has = open_informed at own has
+      by : (own : Option ℕ) → g.search ≡ own → HasPending p.searches g.consumer.spec opening.persists goes.session.cut own goes.session.pending → IsSearchNotified
+      by None own has = closed_search_notified own has.1 has
+      by (Some at) own has = open_search_notified at own has
 
   pub going-push : GoesOn number after g opening entries
   going-push = record {
@@ -278,15 +277,15 @@ module _ (number : ℕ) (suffix : Name) (p : ProviderState) (w : Write) (source 
           sym (append_assoc goes.session.taken goes.session.ahead next)
           ∙ ap (λ ms. ms ++ next) whole_now
           ∙ sym (stream_more longer goes.session.start opening.writes goes.session.count);
-      cut = is_informed.cut;
-      lasts = is_informed.lasts;
+      cut = is_search_notified.cut;
+      lasts = is_search_notified.lasts;
       linked = goes.session.linked;
-      pending = is_informed.pending;
-      left = is_informed.left;
+      pending = is_search_notified.pending;
+      left = is_search_notified.left;
       reported = goes.session.reported;
     };
     link = goes.link;
-    search = is_informed.search;
+    search = is_search_notified.search;
     place = place_grows longer goes.session.start opening.writes goes.session.count entries g.consumer.copy goes.session.taken goes.session.ahead place_now;
   }
 
@@ -387,7 +386,7 @@ written_kept : (number : ℕ) (suffix : Name) (p : ProviderState) (w : Write) �
 written_kept number suffix p w source next = record {
   source = source-push number suffix p w source next;
   fed = λ g known fed. fed-push number suffix p w source g known fed;
-  opens = λ at s found. changed-was (informed p.queue_limit p.directory w) p.searches at s found;
+  opens = λ at s found. changed-was (search_notified p.queue_limit p.directory w) p.searches at s found;
   kind = refl;
   later = w ∷ [];
   grown = refl;
@@ -427,7 +426,7 @@ log_limits false true spent = tt
 log_limits false false true = tt
 log_limits false false false = tt
 
-abbrev doubled : ℕ × ℕ → DirectoryFault
+abbrev doubled : ℕ × ℕ → DirectoryCommitFault
 doubled pair = cause.DuplicateName pair.0 pair.1
 
 within_none : (entries : List Entry) → IsWithinLimits entries → commits.held_refusal entries ≡ None
@@ -435,7 +434,7 @@ within_none entries within =
     ap (λ b. cond b (Some (cause.LimitReached most_entries)) (cond (nat_lt most_weight (total_weight entries)) (Some (cause.LimitReached most_weight)) (option_map doubled (same_named entries))))
     (le-ltb most_entries (length entries) within.few)
     ∙ ap (λ b. cond b (Some (cause.LimitReached most_weight)) (option_map doubled (same_named entries))) (le-ltb most_weight (total_weight entries) within.light)
-    ∙ ap (option_map doubled) within.apart
+    ∙ ap (option_map doubled) within.unique_names
 
 module _ (number : ℕ) (suffix : Name) (p : ProviderState) (puts : List Entry) (drops : List ℕ) (now : ℕ) (source : IsSource number suffix p) (good : CanBeServed (committed (entries_of p.directory) puts drops)) where
   history_is : p.directory.history ≡ number
@@ -470,7 +469,7 @@ module _ (number : ℕ) (suffix : Name) (p : ProviderState) (puts : List Entry) 
   held_none : commits.held_refusal (committed (entries_of p.directory) puts drops) ≡ None
   held_none = within_none (committed (entries_of p.directory) puts drops) good.within
 
-  abbrev log_refusal : Option DirectoryFault
+  abbrev log_refusal : Option DirectoryCommitFault
   log_refusal = commits.log_refusal p.directory (op_weight (Commit puts drops)) now
 
   refusal_is : p.kind ≡ Replica → commit_refusal p.kind p.directory puts drops now ≡ option_map fault_of log_refusal

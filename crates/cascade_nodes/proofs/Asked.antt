@@ -21,8 +21,8 @@ use Rattle.sync_model.specs.Message.SyncMessage.{AddOrModify, Delete, Present, I
 use Rattle.sync_provider.specs.Accepting as accepting
 use Rattle.sync_provider.specs.HandingOut.{HandOut, turn_of_message, turn_of_pending, turn_of_found, turn_of_place, turn_at, turn_at_place, turn_of, search_at, without_first, closed, handed_on, after_turn, after_a_turn}
 use Rattle.sync_provider.specs.HandingOut.HandOut.{Hands, Closes, Waits, Unknown}
-use Rattle.sync_provider.specs.Machine.{ProviderState, each_informed, searches_after, judged_by, wrote, after_commit, committed, committed_each}
-use Rattle.sync_provider.specs.Queueing.{overflowed, queued, pushed, informed, is_full, group_of, is_queueing}
+use Rattle.sync_provider.specs.Machine.{ProviderState, each_search_notified, searches_after, judged_by, wrote, after_commit, committed, committed_each}
+use Rattle.sync_provider.specs.Queueing.{overflowed, queued, pushed, search_notified, is_full, group_of, is_queueing}
 use Rattle.sync_provider.specs.Placing.{put_back}
 use Rattle.sync_provider.specs.Returning.{KeptSearch, snapshot_of}
 use Rattle.sync_provider.specs.Search.{SearchState, pending, opening, advanced}
@@ -70,16 +70,16 @@ pushed_ours : (limit : ℕ) (s : SearchState) (items : List SyncMessage) → IsO
 pushed_ours limit s [] ours = ours
 pushed_ours limit s (message ∷ messages) ours = queued_ours limit s (s.due ++ message ∷ messages) ours
 
-informed_ours : (limit : ℕ) (d : DirectoryState) (write : Write) (s : SearchState) → IsOurs s → IsOurs (informed limit d write s)
-informed_ours limit d write s ours = by (is_queueing s)
+search_notified_ours : (limit : ℕ) (d : DirectoryState) (write : Write) (s : SearchState) → IsOurs s → IsOurs (search_notified limit d write s)
+search_notified_ours limit d write s ours = by (is_queueing s)
   where
     by : (queueing : Bool) → IsOurs (cond queueing (pushed limit (group_of d s write) s) s)
     by true = pushed_ours limit s (group_of d s write) ours
     by false = ours
 
-each_ours : (limit : ℕ) (d : DirectoryState) (write : Write) (searches : List (ℕ × SearchState)) → AreOurs searches → AreOurs (each_informed limit d write searches)
+each_ours : (limit : ℕ) (d : DirectoryState) (write : Write) (searches : List (ℕ × SearchState)) → AreOurs searches → AreOurs (each_search_notified limit d write searches)
 each_ours limit d write [] ours = tt
-each_ours limit d write (search ∷ searches) ours = (informed_ours limit d write search.1 ours.0, each_ours limit d write searches ours.1)
+each_ours limit d write (search ∷ searches) ours = (search_notified_ours limit d write search.1 ours.0, each_ours limit d write searches ours.1)
 
 after_ours_by : (p : ProviderState) (found : Result Write ℕ) → AreOurs p.searches → AreOurs (searches_after p found)
 after_ours_by p (Ok write) ours = each_ours p.queue_limit p.directory write p.searches ours

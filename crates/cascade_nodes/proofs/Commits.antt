@@ -7,13 +7,13 @@ use Rattle.csn_cookie.specs.CsnMaker.{greatest_count}
 use Rattle.directory_writes.specs.Commits as directory
 use Rattle.directory_writes.specs.Directory.{DirectoryState, entries_of, csn_of_next_write, most_writes, most_writes_weight, with_judged}
 use Rattle.directory_writes.specs.Weights.{op_weight, kept_weight}
-use Rattle.directory_writes.specs.declared.commit.DirectoryFault.{DirectoryFault}
-use Rattle.directory_writes.specs.declared.commit.DirectoryFault.TheVariants as cause
+use Rattle.directory_writes.specs.declared.commit.DirectoryCommitFault.{DirectoryCommitFault}
+use Rattle.directory_writes.specs.declared.commit.DirectoryCommitFault.TheVariants as cause
 use Rattle.directory_writes.proofs.Commits.{commit_open, open_held}
 use Rattle.directory_writes.proofs.Judged.{judged_is}
 use Rattle.directory_writes.proofs.Writes.{entries_after-push}
 use Rattle.entry_tree.specs.Effects.{committed, effect}
-use Rattle.entry_tree.specs.Fitting.{may_be_held}
+use Rattle.entry_tree.specs.Fitting.{is_directory_content}
 use Rattle.entry_tree.specs.History.{identity}
 use Rattle.entry_tree.specs.Selection.{Search}
 use Rattle.entry_tree.specs.declared.entry.Entry.{Entry}
@@ -42,13 +42,13 @@ noted xs ys = take-append_seam xs ys
 -- ---- one write
 
 -- nothing rejects it, or a limit
-abbrev OnlyLimits : Option DirectoryFault → Type 0
+abbrev OnlyLimits : Option DirectoryCommitFault → Type 0
 OnlyLimits None = ⊤
 OnlyLimits (Some (cause.LimitReached limit)) = ⊤
 OnlyLimits (Some (cause.DuplicateName one other)) = ⊥
 OnlyLimits (Some cause.NoMemory) = ⊥
 
-only_limits : (d : DirectoryState) (puts : List Entry) (drops : List ℕ) (now : ℕ) → may_be_held (committed (entries_of d) puts drops) ≡ true → OnlyLimits (directory.commit_refusal d puts drops now)
+only_limits : (d : DirectoryState) (puts : List Entry) (drops : List ℕ) (now : ℕ) → is_directory_content (committed (entries_of d) puts drops) ≡ true → OnlyLimits (directory.commit_refusal d puts drops now)
 only_limits d puts drops now held =
     subst (λ against. OnlyLimits (option_or (directory.log_refusal d (op_weight (Commit puts drops)) now) against)) (sym (open_held (committed (entries_of d) puts drops) held))
     (by (nat_le most_writes (length d.writes)) (nat_lt most_writes_weight (kept_weight d.writes + op_weight (Commit puts drops))) (is_none (csn_of_next_write d now)))
@@ -88,16 +88,16 @@ are_writes now (stage ∷ stages) p kind held =
     next : ProviderState
     next = with_stage now p stage
 
-    refusal_is : (r : Option DirectoryFault) → directory.commit_refusal p.directory stage.puts stage.drops now ≡ r
+    refusal_is : (r : Option DirectoryCommitFault) → directory.commit_refusal p.directory stage.puts stage.drops now ≡ r
         → committing.commit_refusal p.kind p.directory stage.puts stage.drops now ≡ option_map fault_of r
     refusal_is r is = ap (λ k. committing.commit_refusal k p.directory stage.puts stage.drops now) kind ∙ ap (option_map fault_of) is
 
-    limit_is : (r : Option DirectoryFault) → directory.commit_refusal p.directory stage.puts stage.drops now ≡ r
+    limit_is : (r : Option DirectoryCommitFault) → directory.commit_refusal p.directory stage.puts stage.drops now ≡ r
         → limit_of now p (stage ∷ stages) ≡ option_or (limit_in r) (limit_of now next stages)
     limit_is r is = ap (λ found. option_or (limit_in found) (limit_of now next stages)) is
 
     by : ((q : ProviderState) → q.kind ≡ Replica → AreHeldAfter (entries_of q.directory) stages → AreWrites now q stages)
-        → (r : Option DirectoryFault) → directory.commit_refusal p.directory stage.puts stage.drops now ≡ r → OnlyLimits r → AreWrites now p (stage ∷ stages)
+        → (r : Option DirectoryCommitFault) → directory.commit_refusal p.directory stage.puts stage.drops now ≡ r → OnlyLimits r → AreWrites now p (stage ∷ stages)
     by later None is only =
         let refusal' : committing.commit_refusal p.kind p.directory stage.puts stage.drops now ≡ None = refusal_is None is in
         let done : machine.committed p stage.puts stage.drops now ≡ next = ap (after_commit p (Commit stage.puts stage.drops) now) refusal' in

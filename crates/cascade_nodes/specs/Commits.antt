@@ -4,10 +4,10 @@ use Rattle.std.specs.Prelude.{◌≡◌, ⊤, ℕ, true, fold, map, Option, Some
 use Rattle.std.specs.Option.{option_or}
 use Rattle.directory_writes.specs.Commits.{commit_refusal}
 use Rattle.directory_writes.specs.Directory.{entries_of, judged}
-use Rattle.directory_writes.specs.declared.commit.DirectoryFault.{DirectoryFault}
-use Rattle.directory_writes.specs.declared.commit.DirectoryFault.TheVariants as cause
+use Rattle.directory_writes.specs.declared.commit.DirectoryCommitFault.{DirectoryCommitFault}
+use Rattle.directory_writes.specs.declared.commit.DirectoryCommitFault.TheVariants as cause
 use Rattle.entry_tree.specs.Effects.{committed}
-use Rattle.entry_tree.specs.Fitting.{may_be_held}
+use Rattle.entry_tree.specs.Fitting.{is_directory_content}
 use Rattle.entry_tree.specs.Selection.{Search}
 use Rattle.entry_tree.specs.declared.entry.Entry.{Entry}
 use Rattle.entry_tree.specs.declared.op.Op.TheVariants.{Commit}
@@ -34,7 +34,7 @@ commit_of stage = record { puts = stage.puts; drops = stage.drops }
 abbrev pub with_stage : ℕ → ProviderState → StoredStage → ProviderState
 with_stage now p stage = after_judged p (judged p.directory (Commit stage.puts stage.drops) now)
 
-abbrev pub limit_in : Option DirectoryFault → Option ℕ
+abbrev pub limit_in : Option DirectoryCommitFault → Option ℕ
 limit_in None = None
 limit_in (Some (cause.LimitReached limit)) = Some limit
 limit_in (Some (cause.DuplicateName one other)) = None
@@ -81,7 +81,7 @@ with_stages entries (stage ∷ stages) =
 abbrev pub AreHeldAfter : List Entry → List StoredStage → Type 0
 AreHeldAfter entries [] = ⊤
 AreHeldAfter entries (stage ∷ stages) =
-    (may_be_held (committed entries stage.puts stage.drops) ≡ true)
+    (is_directory_content (committed entries stage.puts stage.drops) ≡ true)
     × AreHeldAfter (committed entries stage.puts stage.drops) stages
 
 -- a replica that can commit these stages, up to the limits of its writes

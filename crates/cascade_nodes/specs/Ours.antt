@@ -1,6 +1,6 @@
 -- Searches of a script, whose messages have one message ID and have spellings.
 use Rattle.std.specs.Prelude.{◌≡◌, ⊤, ℕ, List}
-use Rattle.ldap_messages.specs.Whole.{whole_of, HasSpelling}
+use Rattle.ldap_messages.specs.Whole.{message_value, HasSpelling}
 use Rattle.sync_provider.specs.Law.{EachSearch}
 use Rattle.sync_provider.specs.Search.{SearchState}
 use Rattle.sync_provider.specs.declared.handed.Handed.{Handed}
@@ -15,8 +15,8 @@ AreOurs searches = EachSearch IsOurs searches
 
 -- a message that is handed out has a spelling
 abbrev pub IsSpelled : Handed → Type 0
-IsSpelled (handed.Message message) = HasSpelling (whole_of message)
-IsSpelled (handed.Ended code message) = HasSpelling (whole_of message)
+IsSpelled (handed.Message message) = HasSpelling (message_value message)
+IsSpelled (handed.Ended code message) = HasSpelling (message_value message)
 IsSpelled handed.Nothing = ⊤
 IsSpelled handed.NoSuchSearch = ⊤
 IsSpelled handed.NoMemory = ⊤

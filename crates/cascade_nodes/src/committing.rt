@@ -1,7 +1,7 @@
 //! What a replica commits to its own directory at the end of an event (RFC 4533, section 3.3).
 ghost use Rattle.std.specs.Prelude.{◌≡◌, ◌∷◌, ◌++◌, [], true, map, IfOk, OnOk, OnErr};
 ghost use Rattle.std.specs.List.{list_all};
-ghost use Rattle.entry_tree.specs.Fitting.{is_light};
+ghost use Rattle.entry_tree.specs.Fitting.{is_within_entry_limit};
 ghost use Rattle.entry_tree.specs.Selection.{search_of};
 ghost use Rattle.entry_tree.specs.Sound.{is_sound_put};
 ghost use Rattle.sync_consumer.specs.Taking.{AreFit};
@@ -75,7 +75,8 @@ impl Staged {
         ensures sound { IfOk result (λ staged.
             list_all (λ commit. list_all is_sound_put commit.puts) staged.commits.items ≡ true) }
         ensures light { IfOk result (λ staged.
-            list_all (λ commit. list_all is_light commit.puts) staged.commits.items ≡ true) }
+            list_all (λ commit. list_all is_within_entry_limit commit.puts) staged.commits.items
+            ≡ true) }
     {
         let alloc = *stages.allocator();
         let mut staged = Staged {

@@ -7,7 +7,7 @@ ghost use Rattle.cascade_nodes.specs.Nodes.{is_offered, new_consumer_node};
 
 use crate::link::Link;
 use crate::script_provider::ScriptProvider;
-use cascade_report::{CommitOrigins, Digested};
+use cascade_report::{CommitOrigins, DigestedConsumer};
 use dn_names::Dn;
 use entry_tree::Spec;
 use ldap_ber::{NoMemory, Octets};
@@ -71,7 +71,7 @@ impl ProviderNode {
 pub struct ConsumerNode {
     pub name: Octets,
     pub source: Octets,
-    pub consumer: Digested,
+    pub consumer: DigestedConsumer,
     pub link: Link,
     pub search: Option<u64>,
 }
@@ -108,7 +108,7 @@ impl ConsumerNode {
         ConsumerNode {
             name,
             source,
-            consumer: Digested::new(consumer),
+            consumer: DigestedConsumer::new(consumer),
             link: Link::new(alloc),
             search: None,
         }

@@ -2,7 +2,7 @@
 ghost use Rattle.std.specs.Prelude.{◌≡◌, ◌<◌, ◌^◌, true, false, length, map, None, IfOk, IfSome};
 ghost use Rattle.csn_cookie.specs.Csn as csn_specs;
 ghost use Rattle.entry_tree.specs.Selection.{search_of};
-ghost use Rattle.entry_tree.specs.Fitting.{is_light};
+ghost use Rattle.entry_tree.specs.Fitting.{is_within_entry_limit};
 ghost use Rattle.entry_tree.specs.Sound.{is_commit, is_sound_op, is_sound_put};
 ghost use Rattle.std.specs.List.{list_all};
 ghost use Rattle.sync_provider.specs.Accepting as accepting;
@@ -130,7 +130,8 @@ impl ScriptProvider {
     pub fn commit_each(&mut self, commits: Vec<StagedCommit>, now: u64) -> Result<u64, CommitFault>
         requires sound { list_all (λ commit. list_all is_sound_put commit.puts) commits.items
             ≡ true }
-        requires light { list_all (λ commit. list_all is_light commit.puts) commits.items ≡ true }
+        requires light { list_all
+            (λ commit. list_all is_within_entry_limit commit.puts) commits.items ≡ true }
         ensures leaves { CommitsLeave self.old commits.items now result self.new }
     {
         self.provider.commit_each(commits, now)

@@ -1,7 +1,7 @@
 //! Consumers with the digest of what they hold.
 ghost use Rattle.std.specs.Prelude.{◌≡◌, ◌++◌, ℕ, nat_lt, List, Ok, None, Some, map, IfOk, OnOk, OnErr, IsTrue};
 ghost use Rattle.entry_tree.specs.Selection.{search_of};
-ghost use Rattle.ldap_messages.specs.Whole.{whole_of};
+ghost use Rattle.ldap_messages.specs.Whole.{message_value};
 ghost use Rattle.sha2.specs.Hashers.{Holds256};
 ghost use Rattle.sha2.specs.Sha256.{sha256};
 ghost use Rattle.sync_model.specs.Copy as model;
@@ -26,7 +26,7 @@ use sync_messages::Mode;
 /// A consumer, and how far the text of its entries is digested (SHA-256). What is digested is kept
 /// as long as those entries stay, so that only what comes after them is digested anew.
 #[derive(Drop)]
-pub struct Digested {
+pub struct DigestedConsumer {
     consumer: Consumer,
     /// Has taken the text of the entries up to this identity.
     hasher: Sha256,
@@ -35,7 +35,7 @@ pub struct Digested {
 }
 
 /// Contracts see the consumer.
-impl Model for Digested {
+impl Model for DigestedConsumer {
     ghost use Rattle.std.specs.Coded.{codes};
     ghost use Rattle.entry_tree.specs.FilterCode.{tree_code};
     ghost use Rattle.sync_consumer.specs.Taking.{ConsumerState};
@@ -50,13 +50,13 @@ impl Model for Digested {
     ghost invariant = { λ d. HasDigested d.hasher d.reached d.consumer.copy.held };
 }
 
-impl Digested {
+impl DigestedConsumer {
     /// Takes over this consumer, of whose entries none is digested yet.
     #[tactic(auto, using(crate::proofs::Digests::nothing_digested))]
-    pub fn new(consumer: Consumer) -> Digested
+    pub fn new(consumer: Consumer) -> DigestedConsumer
         ensures { result ≡ consumer }
     {
-        Digested {
+        DigestedConsumer {
             consumer,
             hasher: Sha256::new(),
             reached: None,
@@ -72,10 +72,10 @@ impl Digested {
 
     /// A consumer that goes on as this one does, of whose entries none is digested yet. It is
     /// `NoMemory` where memory runs out.
-    pub fn copy(&self) -> Result<Digested, NoMemory>
+    pub fn copy(&self) -> Result<DigestedConsumer, NoMemory>
         ensures { IfOk result (λ copy. copy ≡ self.now) }
     {
-        Ok(Digested::new(self.consumer.copy()?))
+        Ok(DigestedConsumer::new(self.consumer.copy()?))
     }
 
     /// The digest of the text of its entries, of which those that stayed since it was last asked
@@ -100,7 +100,7 @@ impl Digested {
     #[tactic(auto, using(crate::proofs::Digests::digested_on))]
     pub fn request(&mut self, id: u32, mode: Mode) -> Result<Message, NoMemory>
         ensures message { IfOk result
-            (λ message. whole_of message ≡ taking.request_of self.old id mode) }
+            (λ message. message_value message ≡ taking.request_of self.old id mode) }
         ensures read_again { IfOk result (λ message.
             request_of (request_octets (taking.asked_of self.old mode))
             ≡ Ok (taking.asked_of self.old mode)) }

@@ -8,7 +8,7 @@ mod notes;
 mod report;
 mod reporting;
 
-pub use digested::Digested;
+pub use digested::DigestedConsumer;
 pub use ldap_ber::NoMemory;
 pub use lines::{push_wrote, text_of};
 pub use notes::{CommitOrigin, CommitOrigins, Origin};

@@ -6,9 +6,10 @@ ghost use Rattle.sha2.specs.Sha256.{sha256};
 ghost use Rattle.cascade_report.specs.ReportLines as spec;
 
 use crate::NoMemory;
-use crate::digested::Digested;
+use crate::digested::DigestedConsumer;
 use crate::notes::Origin;
 use entry_tree::Entry;
+use itoa::Buffer;
 use ldif_text::write_entry;
 use std::alloc::Global;
 use sync_consumer::EntryMap;
@@ -21,8 +22,8 @@ fn push_number(out: &mut Vec<u8>, number: u64) -> Result<(), NoMemory>
     ensures ok { OnOk result (out.new.items ≡ out.old.items ++ decimal number) }
     ensures err { OnErr result (out.new.items ≡ out.old.items) }
 {
-    let text = number.to_string(*out.allocator())?;
-    out.extend_from_slice(text.as_bytes())
+    let mut digits = Buffer::new();
+    out.extend_from_slice(digits.format(number).as_bytes())
 }
 
 /// The entries as LDIF (RFC 2849), each with its entryUUID and its entryCSN. It is `NoMemory` where
@@ -98,8 +99,8 @@ fn push_numbered(out: &mut Vec<u8>, word: &[u8], name: &[u8], number: u64) -> Re
         (out.new.items ≡ out.old.items ++ spec.numbered_line word.now name.now number) }
     ensures err { OnErr result (out.new.items ≡ out.old.items) }
 {
-    let digits = number.to_string(*out.allocator())?;
-    push_with_text(out, word, name, digits.as_bytes())
+    let mut digits = Buffer::new();
+    push_with_text(out, word, name, digits.format(number).as_bytes())
 }
 
 /// `WORD NAME TEXT`. After a refusal the text is as before.
@@ -211,7 +212,7 @@ pub fn push_taken(out: &mut Vec<u8>, name: &[u8]) -> Result<(), NoMemory>
 pub fn push_stored(
     out: &mut Vec<u8>,
     name: &[u8],
-    consumer: &mut Digested,
+    consumer: &mut DigestedConsumer,
     number: u64,
     origin: &Option<Origin>,
 ) -> Result<(), NoMemory>
@@ -317,8 +318,8 @@ pub fn push_ended(out: &mut Vec<u8>, name: &[u8], code: i64) -> Result<(), NoMem
     ensures ok { OnOk result (out.new.items ≡ out.old.items ++ spec.ended_line name.now code) }
     ensures err { OnErr result (out.new.items ≡ out.old.items) }
 {
-    let digits = code.to_string(*out.allocator())?;
-    push_with_text(out, b"ended", name, digits.as_bytes())
+    let mut digits = Buffer::new();
+    push_with_text(out, b"ended", name, digits.format(code).as_bytes())
 }
 
 /// `fault C NAME`. After a refusal the text is as before.

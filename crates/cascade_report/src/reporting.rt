@@ -5,7 +5,7 @@ ghost use Rattle.cascade_report.specs.ReportLines.{commit_reported};
 ghost use Rattle.cascade_report.specs.ReportLines.{ReportLine as line};
 ghost use Rattle.cascade_report.specs.Report.{said};
 
-use crate::digested::Digested;
+use crate::digested::DigestedConsumer;
 use crate::lines::{
     push_cut, push_ended, push_fault, push_nothing, push_opened, push_refused, push_sent,
     push_settled, push_stored, push_taken,
@@ -114,7 +114,7 @@ impl Report<'_> {
     pub fn stored(
         &mut self,
         name: &[u8],
-        consumer: &mut Digested,
+        consumer: &mut DigestedConsumer,
         number: u64,
         origin: Option<Origin>,
         commit: Commit,

@@ -34,7 +34,8 @@ pub enum Heading {
 /// What a line says.
 #[tactic(auto, unfolding(crate::specs::Grammar::saying))]
 pub fn heading_of(alloc: Global, text: &[u8], line: u64) -> Result<Heading, ScriptFault>
-    ensures { Gives (ScriptFails line) (λ saying. Some (saying_of saying)) result (spec.saying text.now) }
+    ensures { Gives (ScriptFails line) (λ saying. Some (saying_of saying)) result
+        (spec.saying text.now) }
 {
     let (word, rest) = until_mark(text, b' ', line)?;
     said_by(alloc, word, rest, line)

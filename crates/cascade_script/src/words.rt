@@ -18,7 +18,8 @@ use std::alloc::{AllocError, Global};
 
 /// The two sides of the first mark; a line without one is faulty.
 pub fn until_mark(bytes: &[u8], mark: u8, line: u64) -> Result<(&[u8], &[u8]), ScriptFault>
-    ensures { Gives (ScriptFails line) (λ x. Some (x.0.now, x.1.now)) result (spec.until mark bytes.now) }
+    ensures { Gives (ScriptFails line) (λ x. Some (x.0.now, x.1.now)) result
+        (spec.until mark bytes.now) }
 {
     match cut_at(bytes, mark) {
         (first_part, Some(back)) => Ok((first_part, back)),
@@ -35,7 +36,8 @@ fn without_prefix<'a>(bytes: &'a [u8], prefix: &[u8]) -> Option<&'a [u8]>
 
 /// What follows the prefix.
 pub fn after_prefix<'a>(bytes: &'a [u8], prefix: &[u8], line: u64) -> Result<&'a [u8], ScriptFault>
-    ensures { Gives (ScriptFails line) (λ x. Some x.now) result (spec.stripped prefix.now bytes.now) }
+    ensures { Gives (ScriptFails line) (λ x. Some x.now) result
+        (spec.stripped prefix.now bytes.now) }
 {
     without_prefix(bytes, prefix).ok_or(ScriptFault::bad_command(line))
 }
@@ -137,7 +139,8 @@ fn value_up_to(digits: &[u8], most: u64) -> Option<u64>
 /// What stands between quotation marks, and after them.
 #[tactic(auto, unfolding(crate::specs::Words::quoted))]
 pub fn quoted(text: &[u8], line: u64) -> Result<(&[u8], &[u8]), ScriptFault>
-    ensures { Gives (ScriptFails line) (λ x. Some (x.0.now, x.1.now)) result (spec.quoted text.now) }
+    ensures { Gives (ScriptFails line) (λ x. Some (x.0.now, x.1.now)) result
+        (spec.quoted text.now) }
 {
     let rest = after_prefix(text, b"\"", line)?;
     until_mark(rest, b'"', line)

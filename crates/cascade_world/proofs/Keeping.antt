@@ -346,10 +346,10 @@ step_keeps state (asks.Send name count) steady = exchange_keeps (goes.Send count
 step_keeps state (asks.Take name count) steady = exchange_keeps (goes.Take count) state name steady
 step_keeps state (asks.Cut name) steady = exchange_keeps goes.Cut state name steady
 step_keeps state (asks.Settle name) steady = exchange_keeps goes.Settle state name steady
-step_keeps state (asks.Lose name) steady = exchange_keeps goes.Lose state name steady
-step_keeps state (asks.Cookie name text) steady = exchange_keeps (goes.Give text) state name steady
+step_keeps state (asks.Lose name) steady = exchange_keeps goes.LoseCookie state name steady
+step_keeps state (asks.Cookie name text) steady = exchange_keeps (goes.SetCookie text) state name steady
 step_keeps state (asks.Repoint name source) steady =
-    lookup.repointed (λ n. StepKeeps) (λ n cause. tt) state name source (λ f s e there free inside. after_keeps f.name source (exchange state f.name idle) (exchange_keeps goes.Idle state f.name steady))
+    lookup.repointed (λ n. StepKeeps) (λ n cause. tt) state name source (λ f s e there free inside. after_keeps f.name source (exchange state f.name idle) (exchange_keeps goes.CutIfBusy state f.name steady))
 step_keeps state (asks.Respec name search) steady =
     lookup.respecced (λ n. StepKeeps) (λ n cause. tt) state name search (λ f r e there inside. part_keeps (λ wish. search) (respecs search) (respecs_carried search) (respecs_alters search) state f.name steady)
 step_keeps state (asks.Log name limit) steady = limit_kept state name (λ provider. log_limited provider limit) (λ r f is. record { kind = is.kind; entries = is.entries }) steady

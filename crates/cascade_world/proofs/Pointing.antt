@@ -180,7 +180,7 @@ pub repointed : (state mid view : WorldState) (name source : List ℕ) (i j : �
     → DoesStep (exchange state name idle) mid (Ok text) → view ≡ mid → g ≡ get_or view.consumer_nodes i g → DoesStep (repoint state name source) (sourced view i g source) (Ok text)
 repointed state mid view name source i j f g r text stand fed within h same is =
     let is' = subst (λ (s : WorldState). g ≡ get_or s.consumer_nodes i g) same is in
-    let at = still_at state mid name i goes.Idle text stand.at_consumer_node h in
+    let at = still_at state mid name i goes.CutIfBusy text stand.at_consumer_node h in
     let step' : IsStep (pointed_after name source (exchange state name idle)) (sourced view i g source) text =
     subst (λ (s : WorldState). IsStep (pointed_after name source (exchange state name idle)) (sourced s i g source) text) (sym same)
     (pointed_step name source i g (exchange state name idle) mid text at is' h) in

@@ -10,7 +10,7 @@ ghost use Rattle.cascade_world.specs.World.{DoesStep};
 
 use crate::nodes::Nodes;
 use crate::world::Lines;
-use cascade_exchange::{Exchange, Performed, serve};
+use cascade_exchange::{Exchange, Performed, perform_exchange};
 use cascade_report::StoredStage;
 use cascade_script::Cause;
 use ldap_ber::{Octets, discard};
@@ -87,7 +87,7 @@ impl Nodes {
             Ok(top) => {
                 let from = &mut self.provider_nodes[provider_node];
                 let to = &mut self.consumer_nodes[consumer_node];
-                serve(self.alloc, from, top, to, exchange)
+                perform_exchange(self.alloc, from, top, to, exchange)
             }
             Err(_) => {
                 discard(exchange);

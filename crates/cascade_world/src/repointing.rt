@@ -38,7 +38,7 @@ impl Nodes {
         ) {
             return Err(Cause::OutsideSuffix);
         }
-        let lines = self.exchange(name, Exchange::Idle)?;
+        let lines = self.exchange(name, Exchange::CutIfBusy)?;
         self.consumer_nodes[consumer_node].source = source;
         Ok(lines)
     }
@@ -52,7 +52,7 @@ impl Nodes {
         ensures err { OnErr result (self.new ≡ self.old) }
     {
         match self.check_offered(&name, &wanted) {
-            Ok(()) => self.exchange(name, Exchange::Want(wanted)),
+            Ok(()) => self.exchange(name, Exchange::Respec(wanted)),
             Err(cause) => {
                 discard(wanted);
                 Err(cause)

@@ -4,7 +4,7 @@ ghost use Rattle.std.specs.Prelude.{◌≡◌};
 
 use dn_names::Dn;
 use entry_tree::{Scope, Spec, read_op};
-use ldap_ber::{Octets, OctetsList};
+use ldap_ber::{Octets, OctetsList, discard};
 use ldap_filter::Filter;
 use schema_rules::{Change, RawAttribute, RawList};
 use std::alloc::Global;
@@ -111,6 +111,3 @@ pub(crate) fn next<P: Port>(port: &mut P, search: u64) -> Option<char>
     discard(handed);
     letter
 }
-
-/// Drops a value through its bound, so that no proof goes through the cases of its type.
-pub(crate) fn discard<T: Drop>(_value: T) {}

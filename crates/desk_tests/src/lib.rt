@@ -2,8 +2,14 @@
 #![tactic(auto)]
 
 #[cfg(test)]
+mod adding;
+#[cfg(test)]
 mod asking;
 #[cfg(test)]
 mod passing;
 #[cfg(test)]
+mod replaying;
+#[cfg(test)]
 mod shared_directory_tests;
+#[cfg(test)]
+mod working;

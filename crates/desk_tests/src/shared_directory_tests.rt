@@ -1,9 +1,13 @@
 //! Desks of a shared directory: what they reply, what they have seen, and what stays.
 
-use crate::asking::{add, count, discard, follow, next};
+use crate::adding::add_in_two;
+use crate::asking::{add, count, follow, next};
 use crate::passing::{last_two, put_back, share};
+use crate::replaying::replays;
+use crate::working::{Tried, accepted, hand_in, hand_in_four, rises, work_in_eight};
 use dn_names::Dn;
 use entry_tree::{EntryList, Scope};
+use ldap_ber::discard;
 use ldap_constants::{COMPARE_FALSE, COMPARE_TRUE};
 use shared_directory::{CloseFault, journal_seen};
 use std::alloc::Global;
@@ -122,4 +126,80 @@ fn commits_of_two_desks_are_counted_together(rt: HostRuntime) -> Result<(), Fail
     discard(one);
     discard(two);
     Ok(())
+}
+
+/// Two threads each add fifty units below `dc=x`. All are accepted, and each thread gets rising
+/// numbers.
+#[test]
+fn two_threads_add_fifty_units_each(rt: HostRuntime) -> Result<(), Fail> {
+    let alloc = rt.alloc();
+    let provider = with_room(alloc).ok_or("no provider")?;
+    let (directory, mut passes) = share(alloc, provider, 2).ok_or("no directory")?;
+    let pair = last_two(&directory, &mut passes);
+    let (first, second) = add_in_two(&rt, alloc, &directory, pair, 1);
+    let (mut ones, mut twos) = (Vec::new(alloc), Vec::new(alloc));
+    let Some(()) = hand_in(&directory, &mut passes, first, &mut ones) else {
+        panic!(rt; "a thread gave up")
+    };
+    let Some(()) = hand_in(&directory, &mut passes, second, &mut twos) else {
+        panic!(rt; "a thread gave up")
+    };
+    let Ok(provider) = directory.close(passes) else {
+        panic!(rt; "no pass was out")
+    };
+    let writes = provider.writes();
+    discard(provider);
+    assert!(rt; ones.len() == 50 && accepted(ones.as_slice()) == 50 && rises(ones.as_slice()));
+    assert!(rt; twos.len() == 50 && accepted(twos.as_slice()) == 50 && rises(twos.as_slice()));
+    assert!(rt; writes == 101);
+    Ok(())
+}
+
+/// Eight threads each call 2,000 times: they write 500 units of their own and 500 that the others
+/// want too, search, count, and two of them follow. One thread that makes the writes of the journal
+/// again gets each reply at its place.
+#[test]
+fn one_thread_gets_the_replies_of_eight(rt: HostRuntime) -> Result<(), Fail> {
+    let alloc = rt.alloc();
+    let provider = with_room(alloc).ok_or("no provider")?;
+    let (directory, mut passes) = share(alloc, provider, 8).ok_or("no directory")?;
+    let fourth = last_two(&directory, &mut passes);
+    let third = last_two(&directory, &mut passes);
+    let second = last_two(&directory, &mut passes);
+    let first = last_two(&directory, &mut passes);
+    let (lower, upper) = work_in_eight(&rt, alloc, &directory, (first, second), (third, fourth));
+    let mut log = Vec::new(alloc);
+    let Some(()) = hand_in_four(&directory, &mut passes, lower, &mut log) else {
+        panic!(rt; "a thread gave up")
+    };
+    let Some(()) = hand_in_four(&directory, &mut passes, upper, &mut log) else {
+        panic!(rt; "a thread gave up")
+    };
+    let Ok(shared) = directory.close(passes) else {
+        panic!(rt; "no pass was out")
+    };
+    let same = is_made_again(alloc, &shared, &mut log);
+    let writes = shared.writes();
+    discard(shared);
+    assert!(rt; same == Some(true) && log.len() == 8_000 && writes == 4_501);
+    Ok(())
+}
+
+/// A provider of `dc=x`, of which searches may have many messages pending.
+fn with_room(alloc: Global) -> Option<Provider> {
+    let mut made = provider(alloc)?;
+    made.set_queue_limit(100_000);
+    if add(alloc, &mut made, "") == Some(Reply { code: 0, number: 1 }) {
+        return Some(made);
+    }
+    None
+}
+
+/// Whether one thread gets these replies, and has as many writes and entries then.
+fn is_made_again(alloc: Global, shared: &Provider, log: &mut Vec<Tried>) -> Option<bool> {
+    let mut again = with_room(alloc)?;
+    let same = replays(alloc, &mut again, log);
+    let (writes, entries) = (again.writes(), again.tree().len());
+    discard(again);
+    Some(same && writes == shared.writes() && entries == shared.tree().len())
 }

@@ -7,7 +7,7 @@ use Rattle.schema_rules.specs.Attributes.{entry_code, weight_of}
 use Rattle.dn_names.specs.Names.{TypeAndValue}
 use Rattle.entry_tree.specs.declared.edit.Edit.{Edit}
 use Rattle.entry_tree.specs.declared.entry.Entry.{Entry}
-use Rattle.entry_tree.specs.Codes.{weight_code, room_code, naming_code, place_code, add_code, kept_code, edited_code, modify_code, target_code, has_too_long, length_code, moved_code}
+use Rattle.entry_tree.specs.Codes.{weight_code, limit_code, naming_code, add_target_code, add_code, rdn_kept_code, edited_code, modify_code, target_code, has_too_long, length_code, moved_code}
 use Rattle.entry_tree.specs.Edits.{after_edits, edits_code}
 use Rattle.entry_tree.specs.State.{most_entry_weight, most_weight, most_entries, total_weight, weight_with}
 use Rattle.directory_laws.proofs.Results.{none_first, none_second}
@@ -32,9 +32,9 @@ pub light-added : (suffix : List (List TypeAndValue)) (entries : List Entry) (na
     → weight_of attrs ≤ most_entry_weight
 light-added suffix entries name attrs none =
     let weight = weight_of attrs in
-    let checked = none_second (place_code suffix entries name) _ none in
+    let checked = none_second (add_target_code suffix entries name) _ none in
     let named = none_second (entry_code attrs) _ checked in
-    let room : room_code entries weight ≡ None = none_second (naming_code name attrs) (room_code entries weight) named in
+    let room : limit_code entries weight ≡ None = none_second (naming_code name attrs) (limit_code entries weight) named in
     light-weight_code weight (total_weight entries + weight) (no_other (nat_le most_entries (length entries)) ADMIN_LIMIT_EXCEEDED (weight_code weight (total_weight entries + weight)) room)
 
 -- an entry that a Modify may edit is no heavier than an entry may be
@@ -43,7 +43,7 @@ light-edited entries e edits none =
     let attrs = after_edits e.attrs edits in
     let checked = none_second (edits_code e.attrs edits) (edited_code entries e attrs) none in
     let kept = none_second (entry_code attrs) _ checked in
-    light-weight_code (weight_of attrs) (weight_with entries e (weight_of attrs)) (none_second (kept_code e.dn attrs) _ kept)
+    light-weight_code (weight_of attrs) (weight_with entries e (weight_of attrs)) (none_second (rdn_kept_code e.dn attrs) _ kept)
 
 -- what no code rejects of an entry that gets another name
 pub record IsMovable (entries : List Entry) (e : Entry) (name : List (List TypeAndValue)) (attrs : List Attribute) : Type 0 where

@@ -9,7 +9,7 @@ use Rattle.entry_tree.specs.declared.entry.Entry.{Entry}
 use Rattle.entry_tree.specs.declared.op.Op.{Op}
 use Rattle.directory_laws.specs.Accepted.{IsWellFormed}
 use Rattle.entry_tree.specs.declared.op.Op.TheVariants.{Add, Delete, Modify, Rename, Commit}
-use Rattle.entry_tree.specs.Codes.{weight_code, kept_code, edited_code, modify_code, target_code, length_code, rename_code, code_of}
+use Rattle.entry_tree.specs.Codes.{weight_code, rdn_kept_code, edited_code, modify_code, target_code, length_code, rename_code, code_of}
 use Rattle.entry_tree.specs.Edits.{after_edits, edits_code}
 use Rattle.entry_tree.specs.Effects.{edited, modified, new_name, new_attributes, renamed, effect}
 use Rattle.entry_tree.specs.State.{put, is_identified, is_named, entry_named, total_weight, weight_with, most_weight, IsDirectory}
@@ -41,7 +41,7 @@ weighed-edited entries e edits none =
     let attrs = after_edits e.attrs edits in
     let checked = none_second (edits_code e.attrs edits) (edited_code entries e attrs) none in
     let kept = none_second (entry_code attrs) _ checked in
-    light_where_none (weight_of attrs) (weight_with entries e (weight_of attrs)) (none_second (kept_code e.dn attrs) _ kept)
+    light_where_none (weight_of attrs) (weight_with entries e (weight_of attrs)) (none_second (rdn_kept_code e.dn attrs) _ kept)
 
 small-edited : (entries : List Entry) (name : List (List TypeAndValue)) (e : Entry) (edits : List Edit) (csn : CsnValue) → IsSmall entries → entry_named entries name ≡ Some e
     → modify_code entries (Some e) edits ≡ None → IsSmall (modified entries (entry_named entries name) edits csn)

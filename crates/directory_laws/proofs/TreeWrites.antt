@@ -10,7 +10,7 @@ use Rattle.entry_tree.specs.declared.entry.Entry.{Entry}
 use Rattle.entry_tree.specs.declared.op.Op.{Op}
 use Rattle.directory_laws.specs.Accepted.{IsWellFormed}
 use Rattle.entry_tree.specs.declared.op.Op.TheVariants.{Add, Delete, Modify, Rename, Commit}
-use Rattle.entry_tree.specs.Codes.{has_no_place, place_code, add_code, target_code, rename_code, code_of}
+use Rattle.entry_tree.specs.Codes.{has_no_place, add_target_code, add_code, target_code, rename_code, code_of}
 use Rattle.entry_tree.specs.Effects.{edited, modified, new_name, new_attributes, renamed, effect}
 use Rattle.entry_tree.specs.State.{ascends, put, is_identified, is_named, entry_named, has_name, has_below}
 use Rattle.entry_tree.proofs.Replacing.{ascends_mapped, replaced_keeps}
@@ -24,7 +24,7 @@ tree-added : (suffix : List (List TypeAndValue)) (entries : List Entry) (e : Ent
     → IsTree suffix entries → IsTree suffix (put e entries)
 tree-added suffix entries e none fresh tree =
     let taken = cond (has_name entries e.dn) (Some ENTRY_ALREADY_EXISTS) None in
-    let placed : place_code suffix entries e.dn ≡ None = none_first (place_code suffix entries e.dn) _ none in
+    let placed : add_target_code suffix entries e.dn ≡ None = none_first (add_target_code suffix entries e.dn) _ none in
     IsTree-put suffix entries e (no_test (has_no_place suffix entries e.dn) NO_SUCH_OBJECT taken placed)
     (no_test (has_name entries e.dn) ENTRY_ALREADY_EXISTS None (no_other (has_no_place suffix entries e.dn) NO_SUCH_OBJECT taken placed)) fresh tree
 

@@ -1,5 +1,5 @@
 -- What is kept beside the writes serves a refresh.
-use Rattle.std.proofs.Common.{◌≡◌, ℕ, ◌≤◌, true, false, List, length, refl, Some, None, Option}
+use Rattle.std.proofs.Common.{◌≡◌, ℕ, ◌≤◌, true, false, List, length, ap, refl, ◌∙◌, Some, None, Option}
 use Rattle.std.specs.Prelude.{is_some}
 use Rattle.std.proofs.lemmas.Bool.{leb-true, false≢true}
 use Rattle.entry_tree.specs.declared.entry.Entry.{Entry}
@@ -8,7 +8,8 @@ use Rattle.entry_tree.specs.History.{state_of, touched_over}
 use Rattle.entry_tree.specs.State.{entry_at}
 use Rattle.session_log.specs.Log.{Log, covers, since}
 use Rattle.sync_model.specs.Stream.Start.{DeletePhase, PresentPhase}
-use Rattle.directory_writes.specs.Directory.{DirectoryState}
+use Rattle.directory_writes.specs.Directory.{DirectoryState, entries_of, IsStanding}
+use Rattle.directory_writes.specs.Standing.{StandingState}
 use Rattle.directory_writes.specs.Starting.{CanBegin}
 use Rattle.directory_writes.specs.Touches.{Numbers, last_touch, IsLogged, number_at, AreNumbered}
 use Rattle.directory_writes.proofs.Notified.{log-shows}
@@ -34,3 +35,9 @@ number_is history writes entries numbers uuid each here = by (entry_at entries u
     by : (found : Option Entry) → entry_at entries uuid ≡ found → is_some found ≡ true → number_at numbers uuid ≡ Some (last_touch (state_of history writes) (length writes) uuid)
     by None at h = absurd (false≢true h)
     by (Some entry) at h = each uuid entry at
+
+-- and it is kept beside the writes
+pub number_here : (d : DirectoryState) (s : StandingState) (uuid : ℕ) → IsStanding d s → is_some (entry_at (entries_of d) uuid) ≡ true
+    → number_at s.numbers uuid ≡ Some (last_touch (state_of d.history d.writes) (length d.writes) uuid)
+number_here d s uuid is here =
+    number_is d.history d.writes s.entries s.numbers uuid is.touched (ap (λ entries. is_some (entry_at entries uuid)) is.made ∙ here)

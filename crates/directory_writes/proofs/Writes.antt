@@ -1,28 +1,36 @@
 -- What one more write makes of the parts that are kept beside the writes, and what later writes leave of an earlier state.
 use Rattle.std.proofs.Common.{◌≡◌, ◌<◌, ◌+◌, ◌-◌, ℕ, List, [], ◌∷◌, ◌++◌, length, take, refl, ap, sym, ◌∙◌, arith, subst, append-nil}
-use Rattle.std.specs.Prelude.{◌≤◌, nat_lt, nat_le, true, cond, Option, Some, None, Err}
+use Rattle.std.specs.Prelude.{◌≤◌, nat_lt, nat_le, true, cond, Option, Some, None, Result, Ok, Err, IfOk}
 use Rattle.std.proofs.Math.Seq.{take-append_seam}
 use Rattle.std.proofs.lemmas.List.Sums.{sum_by-append}
-use Rattle.std.proofs.lemmas.Bool.{and_parts, leb-true}
+use Rattle.std.proofs.lemmas.Bool.{and_parts, leb-true, ltb-true}
+use Rattle.std.proofs.lemmas.List.{length_push}
 use Rattle.ldap_constants.specs.declared.result_codes.TheConstants.{ADMIN_LIMIT_EXCEEDED}
-use Rattle.csn_cookie.specs.Csn.{CsnValue, start, is_before}
+use Rattle.csn_cookie.specs.Csn.{CsnValue, start}
 use Rattle.dn_names.specs.Names.{TypeAndValue}
 use Rattle.entry_tree.specs.Codes.{code_of}
 use Rattle.entry_tree.specs.Effects.{effect}
+use Rattle.entry_tree.specs.Fault.{HasOpCode}
 use Rattle.entry_tree.specs.History.{identity, state_from, state_of}
-use Rattle.entry_tree.specs.State.{entry_at, ascends}
+use Rattle.entry_tree.specs.State.{entry_at, ascends, same_named}
 use Rattle.entry_tree.specs.Touched.{touched, with_changes, CanBeMade}
 use Rattle.entry_tree.specs.declared.entry.Entry.{Entry}
+use Rattle.entry_tree.specs.declared.fault.OpFault.{OpFault}
+use Rattle.entry_tree.specs.declared.fault.OpFault.TheVariants.{Code, NoMemory}
 use Rattle.entry_tree.specs.declared.op.Op.{Op}
 use Rattle.entry_tree.specs.declared.op.Write.{Write}
 use Rattle.entry_tree.specs.declared.touched.EntryChange.{EntryChange}
 use Rattle.sync_model.proofs.Histories.{ascends-state_of}
-use Rattle.directory_writes.specs.Directory.{DirectoryState, entries_after, entries_of, last_csn, last_csn_of, csn_of_next_write, most_writes, most_writes_weight, has_room, judged_code, judged_at, judged, with_write, IsAccepted, IsPlanned, IsKeptBeside}
-use Rattle.directory_writes.specs.Touches.{Numbers, uuids_of, noted_each, logged, all_notes, IsLogged, renewed, AreNumbered}
+use Rattle.directory_writes.specs.Directory.{DirectoryState, entries_after, entries_of, last_csn, last_csn_of, csn_of_next_write, most_writes, most_writes_weight, has_room, judged_code, judged_at, judged, with_write, Refuses, IsAccepted, IsPreview, IsNext, IsStanding, IsKeptBeside}
+use Rattle.directory_writes.specs.Ready.{IsReadyWrite}
+use Rattle.directory_writes.specs.Standing.{StandingState, fresh_standing, standing_after}
+use Rattle.directory_writes.specs.Touches.{Numbers, uuids_of, noted_each, all_notes, IsLogged, renewed, AreNumbered}
 use Rattle.directory_writes.specs.declared.preview.Preview.{Preview}
+use Rattle.directory_writes.specs.declared.ready.Ready.{Ready}
 use Rattle.directory_writes.specs.Weights.{op_weight, kept_weight}
 use Rattle.session_log.specs.Log.{Log, fresh, trimmed}
 use Rattle.session_log.proofs.Covering.{IsLogOf-fresh, IsLogOf-trimmed}
+use Rattle.directory_writes.proofs.Apart.{commit_apart}
 use Rattle.directory_writes.proofs.Judged.{accepted-push}
 use Rattle.directory_writes.proofs.Pushed.{logged-push, numbered-push}
 use Rattle.directory_writes.proofs.Csns.{rises-none, rises-push, next_rises}
@@ -63,23 +71,20 @@ no_numbers history entries numbers empty u e found = absurd (never (ap (λ es. e
   never q = cc
 
 -- a directory without writes keeps its invariant
-pub kept_none : (suffix : List (List TypeAndValue)) (sid history : ℕ) (writes : List Write) (entries : List Entry) (last : CsnValue) (log : Log) (limit : ℕ) (numbers : Numbers)
-    → writes ≡ [] → entries ≡ [] → last ≡ start sid → sid < 4096 → log ≡ fresh limit
-    → IsKeptBeside (record { suffix = suffix; sid = sid; history = history; writes = writes; log = log }) entries last 0 numbers
+pub kept_none : (suffix : List (List TypeAndValue)) (sid history : ℕ) (writes : List Write) (s : StandingState) (log : Log) (limit : ℕ)
+    → writes ≡ [] → s ≡ fresh_standing sid → sid < 4096 → log ≡ fresh limit
+    → IsKeptBeside (record { suffix = suffix; sid = sid; history = history; writes = writes; log = log }) s
 unfolding state_from
-kept_none suffix sid history writes entries last log limit numbers none empty first small new =
-    subst (λ all. IsKeptBeside (record { suffix = suffix; sid = sid; history = history; writes = all; log = log }) entries last 0 numbers) (sym none)
+kept_none suffix sid history writes s log limit none first small new =
+    subst (λ all. IsKeptBeside (record { suffix = suffix; sid = sid; history = history; writes = all; log = log }) s) (sym none)
+    (subst (IsKeptBeside (record { suffix = suffix; sid = sid; history = history; writes = []; log = log })) (sym first)
     (record {
-      made = empty;
-      stamped = first;
-      weighed = refl;
-      light = omega arith;
+      standing = record { counted = refl; weighed = refl; stamped = refl; made = refl; touched = no_numbers history [] [] refl };
       numbered = small;
       accepted = tt;
       rises = rises-none sid;
       logged = subst (IsLogged history []) (sym new) (IsLogOf-fresh limit);
-      touched = no_numbers history entries numbers empty;
-    })
+    }))
 
 -- ---- over each history that begins with the writes of a directory
 
@@ -116,6 +121,12 @@ pub judged_good : (d : DirectoryState) (op : Op) (now : ℕ) (csn : CsnValue) (c
     → code_of d.suffix (entries_of d) op ≡ code → judged d op now ≡ judged_code op csn code
 judged_good d op now csn code room next is = judged_next d op now (Some csn) room next ∙ ap (judged_code op csn) is
 
+-- a fault that reports the code of a write with room reports what it is judged as
+pub refused_by : (d : DirectoryState) (op : Op) (now : ℕ) (csn : CsnValue) (fault : OpFault) → has_room d.writes op ≡ true → csn_of_next_write d now ≡ Some csn
+    → HasOpCode (code_of d.suffix (entries_of d) op) fault → Refuses (judged d op now) fault
+refused_by d op now csn (Code code) room next is = judged_good d op now csn (Some code) room next is
+refused_by d op now csn NoMemory room next is = tt
+
 -- ---- what is previewed of an operation
 
 after_is : (d : DirectoryState) (entries after : List Entry) (uuid : ℕ) (w : Write) → entries ≡ entries_of d → after ≡ effect entries w.op uuid w.csn
@@ -137,7 +148,7 @@ touches_are d op csn entries uuid touches made same is =
 pub planned_is : (d : DirectoryState) (op : Op) (now : ℕ) (preview : Preview) (entries : List Entry) (uuid : ℕ) → entries ≡ entries_of d → uuid ≡ identity d.history (length d.writes + 1)
     → IsAccepted d.suffix (entries_of d) op → has_room d.writes op ≡ true → csn_of_next_write d now ≡ Some preview.csn → preview.csn_maker ≡ preview.csn
     → preview.weight ≡ kept_weight d.writes + op_weight op → with_changes entries preview.touched ≡ effect entries op uuid preview.csn → CanBeMade entries preview.touched
-    → IsPlanned d op preview
+    → IsPreview d op preview
 planned_is d op now preview entries uuid made same good room next drawn weighs leads fit = record {
   accepted = good;
   room = room;
@@ -151,111 +162,113 @@ planned_is d op now preview entries uuid made same good room next drawn weighs l
 }
 
 -- the changes that were previewed are what differs before and after the write
-pub planned_touches : (d : DirectoryState) (op : Op) (preview : Preview) → IsPlanned d op preview
+pub planned_touches : (d : DirectoryState) (op : Op) (preview : Preview) → IsPreview d op preview
     → preview.touched ≡ touched (entries_of d) (entries_after d.history (d.writes ++ (record { csn = preview.csn; op = op }) ∷ []))
 planned_touches d op preview plan = plan.fit.exact ∙ ap (touched (entries_of d)) plan.leads
 
--- ---- what is kept after a write that was previewed
+-- ---- what is kept beside the writes after a write that was previewed
 
--- what a write makes of the parts that are kept
-pub record IsPushed (d : DirectoryState) (entries after : List Entry) (numbers later : Numbers) (log : Log) (w : Write) : Type 0 where
-  pub leads : after ≡ entries_after d.history (d.writes ++ w ∷ [])
-  pub good : IsAccepted d.suffix (entries_of d) w.op
-  pub notes : log ≡ logged (length d.writes + 1) entries after d.log
-  pub renews : later ≡ renewed (length d.writes + 1) numbers (touched entries after)
-
--- what putting a write that was previewed leaves: it is the last of the writes, and its changes are made, noted and numbered
-pub record IsPut (d : DirectoryState) (op : Op) (preview : Preview) (entries after : List Entry) (numbers later : Numbers) (log : Log) (writes : List Write) : Type 0 where
-  pub last : writes ≡ d.writes ++ (record { csn = preview.csn; op = op }) ∷ []
-  pub made : after ≡ with_changes entries preview.touched
-  pub notes : log ≡ noted_each (length d.writes + 1) (uuids_of preview.touched) d.log
-  pub renews : later ≡ renewed (length d.writes + 1) numbers preview.touched
-
--- what making the changes that were previewed makes of them
-planned_push : (d : DirectoryState) (op : Op) (preview : Preview) (entries after : List Entry) (numbers later : Numbers) (log : Log) (writes : List Write) → entries ≡ entries_of d → IsPlanned d op preview
-    → IsPut d op preview entries after numbers later log writes → IsPushed d entries after numbers later log (record { csn = preview.csn; op = op })
-planned_push d op preview entries after numbers later log writes was plan put = record {
-  leads = leads;
-  good = plan.accepted;
-  notes = put.notes ∙ ap (λ ts. noted_each (length d.writes + 1) (uuids_of ts) d.log) touches;
-  renews = put.renews ∙ ap (renewed (length d.writes + 1) numbers) touches;
-}
-  where
-    leads : after ≡ entries_after d.history (d.writes ++ (record { csn = preview.csn; op = op }) ∷ [])
-    leads = put.made ∙ ap (λ es. with_changes es preview.touched) was ∙ plan.leads
-
-    touches : preview.touched ≡ touched entries after
-    touches = planned_touches d op preview plan ∙ (λ i. touched (sym was i) (sym leads i))
-
--- the log of the directory after the write is the one that is kept
-pub log_is : (d : DirectoryState) (entries after : List Entry) (numbers later : Numbers) (log : Log) (w : Write) → entries ≡ entries_of d
-    → IsPushed d entries after numbers later log w → log ≡ (with_write d w).log
-log_is d entries after numbers later log w was push = push.notes ∙ (λ i. logged (length d.writes + 1) (was i) (push.leads i) d.log)
-
-kept_push : (d : DirectoryState) (entries after : List Entry) (last : CsnValue) (kept total : ℕ) (numbers later : Numbers) (log : Log) (w : Write) → IsKeptBeside d entries last kept numbers
-    → total ≡ kept_weight d.writes + op_weight w.op → has_room d.writes w.op ≡ true → is_before (last_csn_of d) w.csn ≡ true → IsPushed d entries after numbers later log w
-    → IsKeptBeside (record d { writes = d.writes ++ w ∷ []; log = log }) after w.csn total later
-kept_push d entries after last kept total numbers later log w was weighs room before push =
-    let light : kept_weight d.writes + op_weight w.op ≤ most_writes_weight = room_light d.writes w.op room in
+-- it can become the next write
+pub next_is : (d : DirectoryState) (s : StandingState) (op : Op) (preview : Preview) → IsStanding d s → IsPreview d op preview → IsNext s op preview
+next_is d s op preview was plan =
+    let few : length d.writes < most_writes =
+    ltb-true (length d.writes) most_writes
+    (and_parts (nat_lt (length d.writes) most_writes) (nat_le (kept_weight d.writes + op_weight op) most_writes_weight) plan.room).0 in
+    let light : kept_weight d.writes + op_weight op ≤ most_writes_weight = room_light d.writes op plan.room in
     record {
-      made = push.leads;
-      stamped = sym (last_csn-push (start d.sid) d.writes w);
-      weighed = weighs ∙ sym (kept_weight-push d.writes w);
-      light = omega (arith, weighs, light);
-      numbered = was.numbered;
-      accepted = accepted-push d.suffix d.history d.writes w push.good was.accepted;
-      rises = rises-push d.sid d.writes w before was.rises;
-      logged = subst (IsLogged d.history (d.writes ++ w ∷ [])) (sym (log_is d entries after numbers later log w was.made push)) (logged-push d.history d.writes w d.log was.logged);
-      touched = numbered-push d.history d.writes w entries after numbers later was.made push.leads push.renews was.touched;
+      few = omega (arith, was.counted, few);
+      light = omega (arith, plan.weighed, light);
+      fit = subst (λ es. CanBeMade es preview.touched) (sym was.made) plan.fit;
+      unique_names = λ holds.
+          ap (λ es. same_named (with_changes es preview.touched)) was.made ∙ ap same_named (plan.leads ∙ entries_after-push d.history d.writes (record { csn = preview.csn; op = op }))
+          ∙ commit_apart (entries_of d) op (identity d.history (length d.writes + 1)) preview.csn holds plan.accepted.fitting;
     }
 
--- a directory keeps its invariant after a write that was previewed
-pub kept_after : (d : DirectoryState) (op : Op) (preview : Preview) (entries after : List Entry) (last drawn : CsnValue) (kept : ℕ) (numbers later : Numbers) (log : Log) (writes : List Write)
-    → IsKeptBeside d entries last kept numbers → IsPlanned d op preview → drawn ≡ preview.csn → IsPut d op preview entries after numbers later log writes
-    → IsKeptBeside (record d { writes = writes; log = log }) after drawn preview.weight later
-kept_after d op preview entries after last drawn kept numbers later log writes was plan is put =
-    let w : Write = record { csn = preview.csn; op = op } in
-    let push = planned_push d op preview entries after numbers later log writes was.made plan put in
-    subst (λ ws. IsKeptBeside (record d { writes = ws; log = log }) after drawn preview.weight later) (sym put.last)
-    (subst (λ s. IsKeptBeside (record d { writes = d.writes ++ w ∷ []; log = log }) after s preview.weight later) (sym is)
-    (kept_push d entries after last kept preview.weight numbers later log w was plan.weighed plan.room plan.later push))
+-- and this is kept after it
+pub standing-push : (d : DirectoryState) (s : StandingState) (op : Op) (preview : Preview) → IsStanding d s → IsPreview d op preview
+    → IsStanding (with_write d (record { csn = preview.csn; op = op })) (standing_after s preview)
+standing-push d s op preview was plan = record {
+  counted = count;
+  weighed = plan.weighed ∙ sym (kept_weight-push d.writes w);
+  stamped = plan.drawn ∙ sym (last_csn-push (start d.sid) d.writes w);
+  made = leads;
+  touched = numbered-push d.history d.writes w s.entries (with_changes s.entries preview.touched) s.numbers (renewed (s.count + 1) s.numbers preview.touched)
+      was.made leads (λ i. renewed (was.counted i + 1) s.numbers (touches i)) was.touched;
+}
+  where
+    w : Write
+    w = record { csn = preview.csn; op = op }
 
--- what is kept beside another log and other numbers of the same writes
-kept_with : (d : DirectoryState) (entries : List Entry) (last : CsnValue) (kept : ℕ) (numbers later : Numbers) (log : Log) → IsKeptBeside d entries last kept numbers
-    → IsLogged d.history d.writes log → AreNumbered d.history d.writes entries later → IsKeptBeside (record d { log = log }) entries last kept later
-kept_with d entries last kept numbers later log was logged touched = record {
-  made = was.made;
-  stamped = was.stamped;
-  weighed = was.weighed;
-  light = was.light;
+    count : s.count + 1 ≡ length (d.writes ++ w ∷ [])
+    count = omega (arith, was.counted, length_push d.writes w)
+
+    leads : with_changes s.entries preview.touched ≡ entries_after d.history (d.writes ++ w ∷ [])
+    leads = ap (λ es. with_changes es preview.touched) was.made ∙ plan.leads
+
+    touches : preview.touched ≡ touched s.entries (with_changes s.entries preview.touched)
+    touches = plan.fit.exact ∙ (λ i. touched (sym was.made i) (with_changes (sym was.made i) preview.touched))
+
+-- a write that was previewed is ready with that
+pub ready_is : (d : DirectoryState) (s : StandingState) (op : Op) (preview : Preview) (ready : Ready) → IsStanding d s → IsPreview d op preview
+    → ready.preview ≡ preview → ready.after ≡ standing_after s preview → IsReadyWrite d op ready
+ready_is d s op preview ready was plan same after = record {
+  plan = subst (IsPreview d op) (sym same) plan;
+  after = subst (λ (x : Preview). IsStanding (with_write d (record { csn = x.csn; op = op })) ready.after) (sym same)
+      (subst (IsStanding (with_write d (record { csn = preview.csn; op = op }))) (sym after) (standing-push d s op preview was plan));
+}
+
+-- of two facts of what is Ok follows a third
+pub if_ok_both : {T E : Type 0} (r : Result T E) (P Q R : T → Type 0) → ((x : T) → P x → Q x → R x) → IfOk r P → IfOk r Q → IfOk r R
+if_ok_both (Ok x) P Q R both p q = both x p q
+if_ok_both (Err e) P Q R both p q = tt
+
+-- ---- what a write that is ready leaves
+
+-- the directory with it as the last of its writes, and with a note for each change, is the one that it makes
+pub put_is : (d : DirectoryState) (op : Op) (preview : Preview) (log : Log) (writes : List Write) → IsPreview d op preview
+    → writes ≡ d.writes ++ (record { csn = preview.csn; op = op }) ∷ [] → log ≡ noted_each (length d.writes + 1) (uuids_of preview.touched) d.log
+    → record d { writes = writes; log = log } ≡ with_write d (record { csn = preview.csn; op = op })
+put_is d op preview log writes plan last notes =
+    let noted = notes ∙ ap (λ ts. noted_each (length d.writes + 1) (uuids_of ts) d.log) (planned_touches d op preview plan) in
+    λ i. record d { writes = last i; log = noted i }
+
+kept_write : (d : DirectoryState) (op : Op) (ready : Ready) (s : StandingState) → IsKeptBeside d s → IsReadyWrite d op ready
+    → IsKeptBeside (with_write d (record { csn = ready.preview.csn; op = op })) ready.after
+kept_write d op ready s was is = record {
+  standing = is.after;
+  numbered = was.numbered;
+  accepted = accepted-push d.suffix d.history d.writes (record { csn = ready.preview.csn; op = op }) is.plan.accepted was.accepted;
+  rises = rises-push d.sid d.writes (record { csn = ready.preview.csn; op = op }) is.plan.later was.rises;
+  logged = logged-push d.history d.writes (record { csn = ready.preview.csn; op = op }) d.log was.logged;
+}
+
+-- a directory keeps its invariant after a write that is ready
+pub kept_ready : (d : DirectoryState) (op : Op) (ready : Ready) (s after : StandingState) (log : Log) (writes : List Write) → IsKeptBeside d s → IsReadyWrite d op ready → after ≡ ready.after
+    → writes ≡ d.writes ++ (record { csn = ready.preview.csn; op = op }) ∷ [] → log ≡ noted_each (length d.writes + 1) (uuids_of ready.preview.touched) d.log
+    → IsKeptBeside (record d { writes = writes; log = log }) after
+kept_ready d op ready s after log writes was is stands last notes =
+    subst (IsKeptBeside (record d { writes = writes; log = log })) (sym stands)
+    (subst (λ x. IsKeptBeside x ready.after) (sym (put_is d op ready.preview log writes is.plan last notes)) (kept_write d op ready s was is))
+
+-- ---- what other calls leave
+
+-- room that is made leaves what is kept
+pub kept_same : (d : DirectoryState) (s : StandingState) (log : Log) (writes : List Write) → IsKeptBeside d s → writes ≡ d.writes → log ≡ d.log
+    → IsKeptBeside (record d { writes = writes; log = log }) s
+kept_same d s log writes was all is = subst (λ x. IsKeptBeside x s) (λ i. record d { writes = sym all i; log = sym is i }) was
+
+-- a log that is trimmed keeps what it is the rest of
+pub kept_trimmed : (d : DirectoryState) (s : StandingState) (log : Log) (limit : ℕ) → IsKeptBeside d s → log ≡ trimmed limit d.log → IsKeptBeside (record d { log = log }) s
+kept_trimmed d s log limit was left = record {
+  standing = record {
+    counted = was.standing.counted;
+    weighed = was.standing.weighed;
+    stamped = was.standing.stamped;
+    made = was.standing.made;
+    touched = was.standing.touched;
+  };
   numbered = was.numbered;
   accepted = was.accepted;
   rises = was.rises;
-  logged = logged;
-  touched = touched;
+  logged = subst (IsLogged d.history d.writes) (sym left) (IsLogOf-trimmed (all_notes (state_of d.history d.writes) (length d.writes)) d.log limit was.logged);
 }
-
--- a write that is refused leaves what is kept
-pub kept_refused : (d : DirectoryState) (entries after : List Entry) (last : CsnValue) (kept : ℕ) (numbers later : Numbers) (log : Log) (writes : List Write) → IsKeptBeside d entries last kept numbers
-    → after ≡ entries → log ≡ d.log → later ≡ numbers → writes ≡ d.writes → IsKeptBeside (record d { writes = writes; log = log }) after last kept later
-kept_refused d entries after last kept numbers later log writes was same is keeps all =
-    subst (λ ws. IsKeptBeside (record d { writes = ws; log = log }) after last kept later) (sym all)
-    (subst (λ es. IsKeptBeside (record d { log = log }) es last kept later) (sym same)
-    (kept_with d entries last kept numbers later log was (subst (IsLogged d.history d.writes) (sym is) was.logged) (subst (AreNumbered d.history d.writes entries) (sym keeps) was.touched)))
-
--- a log that is trimmed keeps what it is the rest of
-pub kept_trimmed : (d : DirectoryState) (entries after : List Entry) (last : CsnValue) (kept : ℕ) (numbers later : Numbers) (log : Log) (limit : ℕ) → IsKeptBeside d entries last kept numbers
-    → after ≡ entries → log ≡ trimmed limit d.log → later ≡ numbers → IsKeptBeside (record d { log = log }) after last kept later
-kept_trimmed d entries after last kept numbers later log limit was left is same =
-    subst (λ es. IsKeptBeside (record d { log = log }) es last kept later) (sym left)
-    (kept_with d entries last kept numbers later log was
-    (subst (IsLogged d.history d.writes) (sym is) (IsLogOf-trimmed (all_notes (state_of d.history d.writes) (length d.writes)) d.log limit was.logged))
-    (subst (AreNumbered d.history d.writes entries) (sym same) was.touched))
-
--- the directory that is kept after a write is the one that the write makes
-pub put_is : (d : DirectoryState) (op : Op) (preview : Preview) (entries after : List Entry) (numbers later : Numbers) (log : Log) (writes : List Write) → entries ≡ entries_of d
-    → IsPlanned d op preview → IsPut d op preview entries after numbers later log writes → record d { writes = writes; log = log } ≡ with_write d (record { csn = preview.csn; op = op })
-put_is d op preview entries after numbers later log writes was plan put =
-    let w : Write = record { csn = preview.csn; op = op } in
-    let push = planned_push d op preview entries after numbers later log writes was plan put in
-    λ i. record d { writes = put.last i; log = log_is d entries after numbers later log w was push i }

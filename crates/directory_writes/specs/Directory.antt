@@ -1,5 +1,5 @@
 -- A directory by its accepted writes, and what a write does to it (RFC 4511, sections 4.6 to 4.9).
-use Rattle.std.specs.Prelude.{◌≡◌, ⊤, ℕ, ◌+◌, ◌<◌, ◌≤◌, Bool, true, ◌&&◌, nat_lt, nat_le, List, [], ◌∷◌, ◌++◌, length, map, Option, Some, None, Result, Ok, Err, if◌then◌else◌}
+use Rattle.std.specs.Prelude.{◌≡◌, ⊤, ℕ, ◌+◌, ◌<◌, ◌≤◌, Bool, true, IsTrue, ◌&&◌, nat_lt, nat_le, List, [], ◌∷◌, ◌++◌, length, map, Option, Some, None, Result, Ok, Err, if◌then◌else◌}
 use Rattle.std.specs.List.Sorted.{IsStrictlySortedBy}
 use Rattle.ldap_constants.specs.declared.result_codes.TheConstants.{SUCCESS, ADMIN_LIMIT_EXCEEDED}
 use Rattle.csn_cookie.specs.Csn.{CsnValue, start, csn_cmp, is_before}
@@ -11,7 +11,8 @@ use Rattle.entry_tree.specs.Codes.{code_of}
 use Rattle.entry_tree.specs.Effects.{effect}
 use Rattle.entry_tree.specs.Fitting.{fits}
 use Rattle.entry_tree.specs.History.{identity, state_from}
-use Rattle.entry_tree.specs.Sound.{is_sound_op}
+use Rattle.entry_tree.specs.Sound.{is_commit, is_sound_op}
+use Rattle.entry_tree.specs.State.{same_named}
 use Rattle.entry_tree.specs.declared.entry.Entry.{Entry}
 use Rattle.entry_tree.specs.declared.fault.OpFault.{OpFault}
 use Rattle.entry_tree.specs.declared.fault.OpFault.TheVariants.{Code, NoMemory}
@@ -20,7 +21,8 @@ use Rattle.entry_tree.specs.declared.op.Write.{Write}
 use Rattle.entry_tree.specs.Touched.{with_changes, CanBeMade}
 use Rattle.session_log.specs.Log.{Log, fresh, trimmed}
 use Rattle.directory_writes.specs.declared.preview.Preview.{Preview}
-use Rattle.directory_writes.specs.Touches.{Numbers, logged, IsLogged, AreNumbered}
+use Rattle.directory_writes.specs.Standing.{StandingState}
+use Rattle.directory_writes.specs.Touches.{logged, IsLogged, AreNumbered}
 use Rattle.directory_writes.specs.Weights.{op_weight, kept_weight}
 
 -- the suffix, the number that its CSNs carry, the number of its history, the accepted writes in
@@ -31,6 +33,12 @@ pub record DirectoryState : Type 0 where
   pub history : ℕ
   pub writes : List Write
   pub log : Log
+
+-- a directory, and for how many more writes and how many notes it has room
+pub record DirectoryWithRoom : Type 0 where
+  pub state : DirectoryState
+  pub room : ℕ
+  pub spare : ℕ
 
 -- how many notes the log of a new directory keeps
 abbrev pub first_log_limit : ℕ
@@ -154,7 +162,7 @@ pub record IsAccepted
 -- an operation was previewed so: it is accepted and there is room for it, its CSN, which its maker
 -- drew last, is after the last one, so much the kept writes weigh with it, and its changes can be
 -- made and lead to the entries after it
-pub record IsPlanned (d : DirectoryState) (op : Op) (preview : Preview) : Type 0 where
+pub record IsPreview (d : DirectoryState) (op : Op) (preview : Preview) : Type 0 where
   pub accepted : IsAccepted d.suffix (entries_of d) op
   pub room : has_room d.writes op ≡ true
   pub later : is_before (last_csn_of d) preview.csn ≡ true
@@ -181,17 +189,37 @@ AreAccepted suffix history writes = AreAcceptedFrom suffix history [] 0 writes
 abbrev pub CsnsRise : ℕ → List Write → Type 0
 CsnsRise sid writes = IsStrictlySortedBy csn_cmp (start sid ∷ csns writes)
 
--- what holds of a directory's writes and its log, and of the parts that are kept beside them: the
--- entries, the last CSN, the weight of the writes, and the number of each entry's last touch
-pub record IsKeptBeside
-    (d : DirectoryState) (entries : List Entry) (last : CsnValue)
-    (weight : ℕ) (numbers : Numbers) : Type 0 where
-  pub made : entries ≡ entries_of d
-  pub stamped : last ≡ last_csn_of d
-  pub weighed : weight ≡ kept_weight d.writes
+-- ---- what is kept beside the writes
+
+-- within the limits of what is kept, and where no two entries are known to have one name, none have
+pub record StandsWithinLimits
+    (count weight : ℕ) (entries : List Entry) (has_unique_names : Bool) : Type 0 where
+  pub few : count ≤ most_writes
   pub light : weight ≤ most_writes_weight
+  pub unique_names : IsTrue has_unique_names → same_named entries ≡ None
+
+-- an operation that was previewed so can become the next write after these: the limits have room
+-- for it, its changes can be made, and where it is a commit they leave no two entries of one name
+pub record IsNext (s : StandingState) (op : Op) (preview : Preview) : Type 0 where
+  pub few : s.count < most_writes
+  pub light : preview.weight ≤ most_writes_weight
+  pub fit : CanBeMade s.entries preview.touched
+  pub unique_names :
+      is_commit op ≡ true → same_named (with_changes s.entries preview.touched) ≡ None
+
+-- this is kept beside the writes of the directory: their number and weight, the last CSN, the
+-- entries, and the number of each entry's last touch
+pub record IsStanding (d : DirectoryState) (s : StandingState) : Type 0 where
+  pub counted : s.count ≡ length d.writes
+  pub weighed : s.weight ≡ kept_weight d.writes
+  pub stamped : s.last ≡ last_csn_of d
+  pub made : s.entries ≡ entries_of d
+  pub touched : AreNumbered d.history d.writes s.entries s.numbers
+
+-- what holds of a directory's writes and its log, and of what is kept beside them
+pub record IsKeptBeside (d : DirectoryState) (s : StandingState) : Type 0 where
+  pub standing : IsStanding d s
   pub numbered : d.sid < 4096
   pub accepted : AreAccepted d.suffix d.history d.writes
   pub rises : CsnsRise d.sid d.writes
   pub logged : IsLogged d.history d.writes d.log
-  pub touched : AreNumbered d.history d.writes entries numbers

@@ -2,7 +2,8 @@
 -- where a search begins.
 pub mod Commits
 pub mod Directory
-pub mod Snapshot
+pub mod Ready
+pub mod Standing
 pub mod Starting
 pub mod Touches
 pub mod Weights

@@ -25,9 +25,9 @@ prefix_of d (Some cookie) =
 
 -- the same by the text of a request's cookie, which is None where none is given
 -- or it is not servable
-abbrev pub asked_prefix : DirectoryState → Option (List ℕ) → Option ℕ
-asked_prefix d None = None
-asked_prefix d (Some text) = prefix_of d (cookie_of_text text)
+abbrev pub prefix_of_cookie : DirectoryState → Option (List ℕ) → Option ℕ
+prefix_of_cookie d None = None
+prefix_of_cookie d (Some text) = prefix_of d (cookie_of_text text)
 
 -- where a search begins, by whether the log covers the number of its cookie
 abbrev pub start_at : DirectoryState → Option ℕ → Start

@@ -79,16 +79,3 @@ abbrev pub AreNumbered : ℕ → List Write → List Entry → Numbers → Type 
 AreNumbered history writes entries numbers =
     (uuid : ℕ) (entry : Entry) → entry_at entries uuid ≡ Some entry
     → number_at numbers uuid ≡ Some (last_touch (state_of history writes) (length writes) uuid)
-
--- ---- how it is kept
-
--- the log with how many notes it has room for, and the numbers
-pub record TouchState : Type 0 where
-  pub log : Log
-  pub spare : ℕ
-  pub numbers : Numbers
-
--- entries, and what is known of which write touched which
-pub record EntriesState : Type 0 where
-  pub entries : List Entry
-  pub touches : TouchState

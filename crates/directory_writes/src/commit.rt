@@ -4,7 +4,7 @@ ghost use Rattle.std.specs.Prelude.{◌≡◌, List};
 ghost use Rattle.entry_tree.specs.Fitting as fitting;
 ghost use Rattle.entry_tree.specs.declared.entry.Entry.{Entry};
 ghost use Rattle.directory_writes.specs.Commits.{held_refusal, Rejects};
-ghost use Rattle.directory_writes.specs.declared.commit.DirectoryFault.TheVariants.{NoMemory};
+ghost use Rattle.directory_writes.specs.declared.commit.DirectoryCommitFault.TheVariants.{NoMemory};
 
 use entry_tree::CommitRefusal;
 use std::alloc::AllocError;
@@ -17,7 +17,7 @@ const MOST_WEIGHT: u64 = 67_108_864;
 
 /// Why a directory refuses a commit of a replica.
 #[derive(Clone, Copy, Debug, PartialEq, Eq)]
-pub enum DirectoryFault {
+pub enum DirectoryCommitFault {
     /// A limit would be passed: n writes are kept, so much the kept writes may weigh, so high
     /// the counts of CSNs go, n entries there may be, or so much they may weigh.
     LimitReached(u64),
@@ -27,26 +27,26 @@ pub enum DirectoryFault {
     NoMemory,
 }
 
-impl From<AllocError> for DirectoryFault {
+impl From<AllocError> for DirectoryCommitFault {
     ghost from_gives = { λ _ fault. fault ≡ NoMemory };
 
-    fn from(_error: AllocError) -> DirectoryFault {
-        DirectoryFault::NoMemory
+    fn from(_error: AllocError) -> DirectoryCommitFault {
+        DirectoryCommitFault::NoMemory
     }
 }
 
 /// The fault reports the same of the entries.
-impl From<CommitRefusal> for DirectoryFault {
+impl From<CommitRefusal> for DirectoryCommitFault {
     ghost from_gives = { λ given fault. (entries : List Entry)
-        → fitting.Opposes entries given → Rejects (held_refusal entries) fault };
+        → fitting.IsCauseOf entries given → Rejects (held_refusal entries) fault };
 
     #[tactic(auto, using(crate::proofs::Commits::held_opposed))]
-    fn from(refusal: CommitRefusal) -> DirectoryFault {
+    fn from(refusal: CommitRefusal) -> DirectoryCommitFault {
         match refusal {
-            CommitRefusal::TooMany => DirectoryFault::LimitReached(MOST_ENTRIES),
-            CommitRefusal::TooHeavy => DirectoryFault::LimitReached(MOST_WEIGHT),
-            CommitRefusal::SameName(one, other) => DirectoryFault::DuplicateName(one, other),
-            CommitRefusal::NoMemory => DirectoryFault::NoMemory,
+            CommitRefusal::TooMany => DirectoryCommitFault::LimitReached(MOST_ENTRIES),
+            CommitRefusal::TooHeavy => DirectoryCommitFault::LimitReached(MOST_WEIGHT),
+            CommitRefusal::SameName(one, other) => DirectoryCommitFault::DuplicateName(one, other),
+            CommitRefusal::NoMemory => DirectoryCommitFault::NoMemory,
         }
     }
 }

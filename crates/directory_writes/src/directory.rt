@@ -1,46 +1,41 @@
 //! A directory by its accepted writes.
 
-ghost use Rattle.std.specs.Prelude.{◌≡◌, ◌+◌, ◌<◌, ◌≤◌, true, [], ◌∷◌, ◌++◌, length, is_some, None, Some, Ok, IfOk, IfErr, OnOk, OnErr, IfSome, IsTrue};
+ghost use Rattle.std.specs.Prelude.{◌≡◌, ◌+◌, ◌<◌, ◌≤◌, true, [], ◌∷◌, ◌++◌, length, is_some, None, Some, Ok, IfOk, IfErr, OnOk, OnErr, IfSome};
 ghost use Rattle.std.specs.List.{list_all};
 ghost use Rattle.std.specs.List.Sorted.{IsStrictlySortedBy};
 ghost use Rattle.std.specs.Ordering.{nat_cmp};
 ghost use Rattle.csn_cookie.specs.Csn as csn_specs;
 ghost use Rattle.entry_tree.specs.History.{identity as identity_of, state_of, touched_over};
-ghost use Rattle.entry_tree.specs.Fitting.{fits, is_light};
-ghost use Rattle.entry_tree.specs.State.{entry_at, same_named};
-ghost use Rattle.entry_tree.specs.Sound.{is_commit, is_sound_op, is_sound_put};
+ghost use Rattle.entry_tree.specs.Fitting.{fits, is_within_entry_limit};
+ghost use Rattle.entry_tree.specs.State.{entry_at};
+ghost use Rattle.entry_tree.specs.Sound.{is_sound_op, is_sound_put};
 ghost use Rattle.entry_tree.specs.Touched.{touched};
-ghost use Rattle.directory_writes.specs.Commits.{commit_refusal, log_refusal, Rejects};
+ghost use Rattle.directory_writes.specs.Commits.{commit_refusal, Rejects};
 ghost use Rattle.directory_writes.specs.Starting as starting;
 ghost use Rattle.directory_writes.specs.Directory as directory;
+ghost use Rattle.directory_writes.specs.Ready.{IsReadyWrite};
 ghost use Rattle.directory_writes.specs.Starting.{start_of, CanBegin};
 ghost use Rattle.directory_writes.specs.Touches.{last_touch};
 ghost use Rattle.directory_writes.specs.Weights as weights;
 ghost use Rattle.directory_writes.specs.Weights.{kept_weight};
 
 use crate::NoMemory;
-use crate::commit::DirectoryFault;
-use crate::held::Held;
+use crate::commit::DirectoryCommitFault;
+use crate::judging::Drawn;
 use crate::preview::Preview;
+use crate::ready::Ready;
+use crate::standing::Standing;
 use crate::start::Start;
-use crate::touches::Touches;
-use crate::weights::{commit_weight, op_weight};
-use csn_cookie::{Cookie, Csn, CsnMaker};
+use crate::touches::note_each;
+use crate::weights::op_weight;
+use csn_cookie::{Cookie, Csn};
 use dn_names::Dn;
 use entry_tree::{Entry, Op, OpFault, Tree, Write};
 use ldap_ber::{Octets, discard};
 use ldap_constants::{ADMIN_LIMIT_EXCEEDED, SUCCESS};
+use session_log::SessionLog;
 use std::alloc::{AllocError, Global};
 use std::marker::Model;
-
-/// The most writes that are kept.
-const MOST_WRITES: usize = 1_000_000;
-
-/// The most that the kept writes weigh, 512 MiB.
-const MOST_WRITES_WEIGHT: u64 = 536_870_912;
-
-/// The greatest count of the change numbers of one microsecond.
-const GREATEST_COUNT: u64 = 16_777_215;
 
 /// How many notes the session log of a new directory keeps.
 const FIRST_LOG_LIMIT: u64 = 1_000;
@@ -51,33 +46,30 @@ pub struct Directory {
     suffix: Dn,
     sid: u16,
     history: u128,
-    pub(crate) accepted: Vec<Write>,
-    /// What the accepted writes weigh.
-    pub(crate) weight: u64,
-    pub(crate) csn_maker: CsnMaker,
-    pub(crate) held: Held,
+    accepted: Vec<Write>,
+    /// What the latest writes touched.
+    log: SessionLog,
+    /// What is kept beside the writes.
+    standing: Standing,
 }
 
-/// What an operation draws that there is room for: its change number, the maker that drew it, and
-/// what the kept writes weigh with it.
-#[derive(Drop)]
-struct Drawn {
-    csn: Csn,
-    csn_maker: CsnMaker,
-    weight: u64,
-}
-
+/// Contracts see its state, and for how many more writes and notes it has room.
 impl Model for Directory {
-    ghost use Rattle.directory_writes.specs.Directory.{DirectoryState, IsKeptBeside};
+    ghost use Rattle.std.specs.Prelude.{◌-◌, vec_capacity, vec_len};
+    ghost use Rattle.directory_writes.specs.Directory.{DirectoryWithRoom, IsKeptBeside};
 
-    ghost Value = { DirectoryState };
+    ghost Value = { DirectoryWithRoom };
 
     ghost view = { λ d. record {
-      suffix = d.suffix;
-      sid = d.sid;
-      history = d.history;
-      writes = d.accepted.items;
-      log = d.held.touches.log;
+      state = record {
+        suffix = d.suffix;
+        sid = d.sid;
+        history = d.history;
+        writes = d.accepted.items;
+        log = d.log.log;
+      };
+      room = vec_capacity d.accepted - vec_len d.accepted;
+      spare = d.log.spare;
     } };
 
     ghost invariant = { λ d. IsKeptBeside
@@ -86,63 +78,69 @@ impl Model for Directory {
           sid = d.sid;
           history = d.history;
           writes = d.accepted.items;
-          log = d.held.touches.log;
+          log = d.log.log;
         })
-        d.held.entries d.csn_maker d.weight d.held.touches.numbers };
+        d.standing };
 }
 
 impl Directory {
     /// A directory without writes. Its number, which its CSNs carry, is below 4096.
-    #[tactic(auto, using(crate::proofs::Writes::kept_none))]
     pub fn new(alloc: Global, suffix: Dn, sid: u16, history: u128) -> Directory
         requires { sid < 4096 }
-        ensures { result ≡ directory.fresh_directory suffix sid history }
+        ensures { result.state ≡ directory.fresh_directory suffix sid history }
     {
         Directory {
             suffix,
             sid,
             history,
             accepted: Vec::new(alloc),
-            weight: 0,
-            csn_maker: CsnMaker::new(sid),
-            held: Held::new(alloc, FIRST_LOG_LIMIT),
+            log: SessionLog::new(alloc, FIRST_LOG_LIMIT),
+            standing: Standing::new(alloc, sid),
         }
     }
 
     /// Lends the suffix, which names the naming context (RFC 4512, section 5.1): each entry that a
     /// client adds is named at or below it. That of a replica is empty.
     pub fn suffix(&self) -> &Dn
-        ensures { result.now ≡ self.now.suffix }
+        ensures { result.now ≡ self.now.state.suffix }
     {
         &self.suffix
     }
 
     /// Gives the number that distinguishes the cookies of this directory from those of another.
     pub fn history(&self) -> u128
-        ensures { result ≡ self.now.history }
+        ensures { result ≡ self.now.state.history }
     {
         self.history
     }
 
     /// Lends the entries after all writes.
     pub fn tree(&self) -> &Tree
-        ensures { result.now ≡ directory.entries_of self.now }
+        ensures { result.now ≡ directory.entries_of self.now.state }
     {
-        &self.held.tree
+        self.standing.tree()
+    }
+
+    /// Lends what is kept beside the writes, by which the next one is judged.
+    pub fn standing(&self) -> &Standing
+        ensures { directory.IsStanding self.now.state result.now }
+    {
+        &self.standing
     }
 
     /// The accepted writes, the first of which has the number 1.
     pub fn accepted(&self) -> &[Write]
-        ensures value { result.now ≡ self.now.writes }
-        ensures accepted { directory.AreAccepted self.now.suffix self.now.history self.now.writes }
-        ensures rises { directory.CsnsRise self.now.sid self.now.writes }
+        ensures value { result.now ≡ self.now.state.writes }
+        ensures accepted { directory.AreAccepted
+            self.now.state.suffix self.now.state.history self.now.state.writes }
+        ensures rises { directory.CsnsRise self.now.state.sid self.now.state.writes }
     {
         self.accepted.as_slice()
     }
 
     /// How many accepted writes have a CSN that is not greater than this one.
     pub fn upto(&self, csn: Csn) -> u64
-        ensures { result ≡ csn_specs.upto (directory.csns self.now.writes) csn }
+        ensures { result ≡ csn_specs.upto (directory.csns self.now.state.writes) csn }
     {
         let writes = self.accepted.as_slice();
         writes.partition_point(|write| write.csn <= csn) as u64
@@ -151,13 +149,14 @@ impl Directory {
     /// The cookie of the content after all writes.
     pub fn cookie(&self) -> Cookie
         ensures value { result
-            ≡ directory.cookie_at self.now.sid self.now.history (directory.last_csn_of self.now) }
+            ≡ directory.cookie_at self.now.state.sid self.now.state.history
+            (directory.last_csn_of self.now.state) }
         ensures number { result.sid < 4096 }
     {
         Cookie {
             rid: 0,
             sid: self.sid,
-            csn: self.csn_maker.last(),
+            csn: self.standing.last(),
             history: self.history,
         }
     }
@@ -166,29 +165,33 @@ impl Directory {
     /// session log reports them from its floor on. It is `NoMemory` where memory runs out.
     #[tactic(auto, using(crate::proofs::Served::walk_since))]
     pub fn touched_since(&self, number: u64) -> Result<Vec<u128>, NoMemory>
-        requires { self.now.log.floor ≤ number }
+        requires { self.now.state.log.floor ≤ number }
         ensures exact { IfOk result (λ uuids. uuids.items
-            ≡ touched_over self.now.history self.now.writes number (length self.now.writes)) }
+            ≡ touched_over self.now.state.history self.now.state.writes number
+            (length self.now.state.writes)) }
         ensures ascends { IfOk result (λ uuids. IsStrictlySortedBy nat_cmp uuids.items) }
     {
-        self.held.touches.since(number)
+        self.log.since(number)
     }
 
     /// The number of the last write that touched the entry of this identity.
-    #[tactic(auto, using(crate::proofs::Served::number_is))]
-    pub fn number_of(&self, uuid: u128) -> u64
-        requires { is_some (entry_at (directory.entries_of self.now) uuid) ≡ true }
+    pub fn last_touch_of(&self, uuid: u128) -> u64
+        requires { is_some (entry_at (directory.entries_of self.now.state) uuid) ≡ true }
         ensures { result
-            ≡ last_touch (state_of self.now.history self.now.writes) (length self.now.writes) uuid }
+            ≡ last_touch (state_of self.now.state.history self.now.state.writes)
+            (length self.now.state.writes) uuid }
     {
-        self.held.touches.number_of(uuid).unwrap_or(0)
+        match self.standing.last_touch_of(uuid) {
+            Some(number) => number,
+            None => 0,
+        }
     }
 
     /// The number of writes that a request's cookie names, where one is given and is servable: it
     /// is of this directory's history, and its CSN is not above the last one.
-    pub fn asked_prefix(&self, cookie: &Option<Octets>) -> Option<u64>
-        ensures value { result ≡ starting.asked_prefix self.now cookie.now }
-        ensures low { IfSome result (λ number. number ≤ length self.now.writes) }
+    pub fn prefix_of_cookie(&self, cookie: &Option<Octets>) -> Option<u64>
+        ensures value { result ≡ starting.prefix_of_cookie self.now.state cookie.now }
+        ensures low { IfSome result (λ number. number ≤ length self.now.state.writes) }
     {
         match cookie {
             None => None,
@@ -201,10 +204,10 @@ impl Directory {
 
     #[tactic(auto, using(crate::proofs::Csns::upto_low))]
     fn prefix_of(&self, cookie: &Cookie) -> Option<u64>
-        ensures value { result ≡ starting.prefix_of self.now (Some cookie.now) }
-        ensures low { IfSome result (λ number. number ≤ length self.now.writes) }
+        ensures value { result ≡ starting.prefix_of self.now.state (Some cookie.now) }
+        ensures low { IfSome result (λ number. number ≤ length self.now.state.writes) }
     {
-        if cookie.history == self.history && cookie.csn <= self.csn_maker.last() {
+        if cookie.history == self.history && cookie.csn <= self.standing.last() {
             Some(self.upto(cookie.csn))
         } else {
             None
@@ -214,14 +217,14 @@ impl Directory {
     /// Where a search begins that has the content after n writes, or none.
     #[tactic(auto, using(crate::proofs::Served::covered, crate::proofs::Served::uncovered))]
     pub fn start_at(&self, prefix: Option<u64>) -> Start
-        requires { IfSome prefix (λ number. number ≤ length self.now.writes) }
-        ensures value { start_of result ≡ starting.start_at self.now prefix }
-        ensures served { CanBegin self.now (start_of result) }
+        requires { IfSome prefix (λ number. number ≤ length self.now.state.writes) }
+        ensures value { start_of result ≡ starting.start_at self.now.state prefix }
+        ensures served { CanBegin self.now.state (start_of result) }
     {
         match prefix {
             None => Start::InitialContent,
             Some(number) => {
-                if self.held.touches.covers(number) {
+                if self.log.covers(number) {
                     Start::DeletePhase(number)
                 } else {
                     Start::PresentPhase(number)
@@ -232,9 +235,9 @@ impl Directory {
 
     /// The session log keeps n notes from now on.
     pub fn set_log_limit(&mut self, limit: u64)
-        ensures { self.new ≡ directory.with_log_limit self.old limit }
+        ensures { self.new.state ≡ directory.with_log_limit self.old.state limit }
     {
-        self.held.set_log_limit(limit);
+        self.log.trim(limit);
     }
 
     /// Applies a write where the clock shows `now`, in microseconds from the first moment of 1970
@@ -243,14 +246,14 @@ impl Directory {
     #[tactic(auto, using(crate::proofs::Judged::written_good, crate::proofs::Judged::code_good, crate::proofs::Judged::refused_code, crate::proofs::Judged::refused_same))]
     pub fn write(&mut self, op: Op, now: u64) -> Result<u32, NoMemory>
         requires sound { is_sound_op op ≡ true }
-        requires fits { fits (directory.entries_of self.old) op ≡ true }
-        ensures code { IfOk result (λ code. code ≡ directory.write_code self.old op now) }
-        ensures ok { OnOk result (self.new ≡ directory.written self.old op now) }
-        ensures err { OnErr result (self.new ≡ self.old) }
+        requires fits { fits (directory.entries_of self.old.state) op ≡ true }
+        ensures code { IfOk result (λ code. code ≡ directory.write_code self.old.state op now) }
+        ensures ok { OnOk result (self.new.state ≡ directory.written self.old.state op now) }
+        ensures err { OnErr result (self.new.state ≡ self.old.state) }
     {
         match self.preview(&op, now) {
             Ok(preview) => {
-                self.put(op, &preview)?;
+                self.put(op, preview)?;
                 Ok(SUCCESS)
             }
             Err(fault) => {
@@ -264,20 +267,22 @@ impl Directory {
     /// directory is left as it is. It is `Code` or `NoMemory`.
     pub fn preview(&self, op: &Op, now: u64) -> Result<Preview, OpFault>
         requires sound { is_sound_op op.now ≡ true }
-        requires fits { fits (directory.entries_of self.now) op.now ≡ true }
-        ensures accepted { IfOk result (λ preview. directory.judged self.now op.now now
+        requires fits { fits (directory.entries_of self.now.state) op.now ≡ true }
+        ensures accepted { IfOk result (λ preview. directory.judged self.now.state op.now now
             ≡ Ok (record { csn = preview.csn; op = op.now })) }
         ensures touched { IfOk result (λ preview. preview.touched
-            ≡ touched (directory.entries_of self.now)
-            (directory.entries_after self.now.history
-            (self.now.writes ++ record { csn = preview.csn; op = op.now } ∷ []))) }
-        ensures planned { IfOk result (directory.IsPlanned self.now op.now) }
-        ensures refused { IfErr result (directory.Refuses (directory.judged self.now op.now now)) }
+            ≡ touched (directory.entries_of self.now.state)
+            (directory.entries_after self.now.state.history
+            (self.now.state.writes ++ record { csn = preview.csn; op = op.now } ∷ []))) }
+        ensures planned { IfOk result (directory.IsPreview self.now.state op.now) }
+        ensures refused { IfErr result
+            (directory.Refuses (directory.judged self.now.state op.now now)) }
     {
         let drawn = self.draw(op, now)?;
         let number = self.accepted.len() as u64 + 1;
         let uuid = identity(self.history, number);
-        let touched = self.held.tree.preview(op, &self.suffix, uuid, drawn.csn)?;
+        let tree = self.standing.tree();
+        let touched = tree.preview(op, &self.suffix, uuid, drawn.csn)?;
         Ok(Preview {
             csn: drawn.csn,
             csn_maker: drawn.csn_maker,
@@ -286,25 +291,60 @@ impl Directory {
         })
     }
 
-    /// Makes a write that was previewed, which is not judged again. Room for it is made first, and
-    /// then the changes of the entries, after which nothing takes memory. Where memory runs out the
-    /// directory is as it was.
-    pub fn put(&mut self, op: Op, preview: &Preview) -> Result<(), NoMemory>
-        requires { directory.IsPlanned self.old op preview.now }
-        ensures ok { OnOk result (self.new
-            ≡ directory.with_write self.old (record { csn = preview.now.csn; op = op })) }
-        ensures err { OnErr result (self.new ≡ self.old) }
+    /// Makes a write that was previewed, which is not judged again. All that takes memory is made
+    /// first, and nothing after that can fail. Where memory runs out the directory is as it was.
+    pub fn put(&mut self, op: Op, preview: Preview) -> Result<(), NoMemory>
+        requires { directory.IsPreview self.old.state op preview }
+        ensures ok { OnOk result (self.new.state
+            ≡ directory.with_write self.old.state (record { csn = preview.csn; op = op })) }
+        ensures err { OnErr result (self.new.state ≡ self.old.state) }
     {
+        let ready = self.ready(&op, preview)?;
+        self.make_room(1, ready.preview.touched.list().len())?;
+        self.install(op, ready);
+        Ok(())
+    }
+
+    /// A write that was previewed, with what is kept beside the writes after it. The directory is
+    /// left as it is. It is `NoMemory` where memory runs out.
+    pub fn ready(&self, op: &Op, preview: Preview) -> Result<Ready, NoMemory>
+        requires { directory.IsPreview self.now.state op.now preview }
+        ensures ready { IfOk result (IsReadyWrite self.now.state op.now) }
+        ensures preview { IfOk result (λ ready. ready.preview ≡ preview) }
+    {
+        self.standing.ready(op, preview)
+    }
+
+    /// Makes room for as many writes and notes beyond those that are kept. It is `NoMemory` where
+    /// memory runs out.
+    pub fn make_room(&mut self, writes: usize, notes: usize) -> Result<(), NoMemory>
+        ensures state { self.new.state ≡ self.old.state }
+        ensures room { OnOk result (writes ≤ self.new.room) }
+        ensures spare { OnOk result (notes ≤ self.new.spare) }
+    {
+        self.accepted.reserve(writes)?;
+        self.log.reserve(notes)
+    }
+
+    /// Puts a write that is ready in place: it goes after the others, is noted, and what is kept
+    /// after it takes the place of what is kept. It takes no memory, and can't fail.
+    pub fn install(&mut self, op: Op, ready: Ready)
+        requires ready { IsReadyWrite self.old.state op ready }
+        requires room { 0 < self.old.room }
+        requires spare { length ready.preview.touched ≤ self.old.spare }
+        ensures state { self.new.state ≡ directory.with_write self.old.state
+            (record { csn = ready.preview.csn; op = op }) }
+        ensures room { self.old.room ≤ self.new.room + 1 }
+        ensures spare { self.old.spare ≤ self.new.spare + length ready.preview.touched }
+    {
+        let Ready { preview, after } = ready;
         let number = self.accepted.len() as u64 + 1;
-        self.accepted.reserve(1)?;
-        self.held.put(number, &preview.touched)?;
+        note_each(&mut self.log, number, preview.touched.list());
         self.accepted.push_reserved(Write {
             csn: preview.csn,
             op,
         });
-        self.weight = preview.weight;
-        self.csn_maker = preview.csn_maker.copy();
-        Ok(())
+        self.standing = after;
     }
 
     /// Whether a commit that puts these entries and drops these identities may be kept where the
@@ -315,9 +355,10 @@ impl Directory {
         puts: &[Entry],
         drops: &[u128],
         now: u64,
-    ) -> Result<(), DirectoryFault>
-        ensures ok { OnOk result (commit_refusal self.now puts.now drops.now now ≡ None) }
-        ensures refused { IfErr result (Rejects (commit_refusal self.now puts.now drops.now now)) }
+    ) -> Result<(), DirectoryCommitFault>
+        ensures ok { OnOk result (commit_refusal self.now.state puts.now drops.now now ≡ None) }
+        ensures refused { IfErr result
+            (Rejects (commit_refusal self.now.state puts.now drops.now now)) }
     {
         let _ = self.judge_commit(puts, drops, now)?;
         Ok(())
@@ -331,16 +372,17 @@ impl Directory {
         puts: &[Entry],
         drops: &[u128],
         now: u64,
-    ) -> Result<Preview, DirectoryFault>
+    ) -> Result<Preview, DirectoryCommitFault>
         requires sound { list_all is_sound_put puts.now ≡ true }
-        requires light { list_all is_light puts.now ≡ true }
-        ensures ok { OnOk result (commit_refusal self.now puts.now drops.now now ≡ None) }
+        requires light { list_all is_within_entry_limit puts.now ≡ true }
+        ensures ok { OnOk result (commit_refusal self.now.state puts.now drops.now now ≡ None) }
         ensures accepted { IfOk result (λ preview.
-            directory.judged self.now (Op.Commit puts.now drops.now) now
+            directory.judged self.now.state (Op.Commit puts.now drops.now) now
             ≡ Ok (record { csn = preview.csn; op = Op.Commit puts.now drops.now })) }
         ensures planned { IfOk result
-            (directory.IsPlanned self.now (Op.Commit puts.now drops.now)) }
-        ensures refused { IfErr result (Rejects (commit_refusal self.now puts.now drops.now now)) }
+            (directory.IsPreview self.now.state (Op.Commit puts.now drops.now)) }
+        ensures refused { IfErr result
+            (Rejects (commit_refusal self.now.state puts.now drops.now now)) }
     {
         self.judge_commit(puts, drops, now)
     }
@@ -348,98 +390,41 @@ impl Directory {
     /// What `preview_commit` reports, of entries that need not be sound or light. The commit is
     /// judged by what it puts and drops where the write before it is a commit, or it is the first
     /// write.
-    #[tactic(auto, using(crate::proofs::Commits::log_capped, crate::proofs::Commits::first_opposed))]
     fn judge_commit(
         &self,
         puts: &[Entry],
         drops: &[u128],
         now: u64,
-    ) -> Result<Preview, DirectoryFault>
-        ensures ok { OnOk result (commit_refusal self.now puts.now drops.now now ≡ None) }
+    ) -> Result<Preview, DirectoryCommitFault>
+        ensures ok { OnOk result (commit_refusal self.now.state puts.now drops.now now ≡ None) }
         ensures accepted { IfOk result (λ preview.
-            directory.judged self.now (Op.Commit puts.now drops.now) now
+            directory.judged self.now.state (Op.Commit puts.now drops.now) now
             ≡ Ok (record { csn = preview.csn; op = Op.Commit puts.now drops.now })) }
         ensures planned { IfOk result (λ preview.
-            list_all is_sound_put puts.now ≡ true → list_all is_light puts.now ≡ true
-            → directory.IsPlanned self.now (Op.Commit puts.now drops.now) preview) }
-        ensures refused { IfErr result (Rejects (commit_refusal self.now puts.now drops.now now)) }
+            list_all is_sound_put puts.now ≡ true → list_all is_within_entry_limit puts.now ≡ true
+            → directory.IsPreview self.now.state (Op.Commit puts.now drops.now) preview) }
+        ensures refused { IfErr result
+            (Rejects (commit_refusal self.now.state puts.now drops.now now)) }
     {
-        let weight = commit_weight(puts, drops);
-        let drawn = self.draw_within(weight, now)?;
-        let touched = self.held.plan_commit(puts, drops, self.is_apart())?;
-        Ok(Preview {
-            csn: drawn.csn,
-            csn_maker: drawn.csn_maker,
-            weight: drawn.weight,
-            touched,
-        })
-    }
-
-    /// Whether no two entries have one name, as far as the last write shows: a commit leaves none,
-    /// and without writes there are no entries.
-    fn is_apart(&self) -> bool
-        ensures { IsTrue result → same_named (directory.entries_of self.now) ≡ None }
-    {
-        match self.accepted.as_slice().split_last() {
-            None => true,
-            Some((write, _)) => is_commit(&write.op),
-        }
-    }
-
-    /// The change number that one more write of this weight would get, or the first cause against
-    /// it.
-    fn draw_within(&self, weight: u64, now: u64) -> Result<Drawn, DirectoryFault>
-        ensures ok { OnOk result (log_refusal self.now weight now ≡ None) }
-        ensures value { IfOk result (λ drawn.
-            directory.csn_of_next_write self.now now ≡ Some drawn.csn) }
-        ensures maker { IfOk result (λ drawn. drawn.csn_maker ≡ drawn.csn) }
-        ensures weight { IfOk result (λ drawn.
-            drawn.weight ≡ kept_weight self.now.writes + weight) }
-        ensures refused { IfErr result (Rejects (log_refusal self.now weight now)) }
-        ensures full { OnErr result (is_some (log_refusal self.now weight now) ≡ true) }
-    {
-        if self.accepted.len() >= MOST_WRITES {
-            return Err(DirectoryFault::LimitReached(MOST_WRITES as u64));
-        }
-        if weight > MOST_WRITES_WEIGHT - self.weight {
-            return Err(DirectoryFault::LimitReached(MOST_WRITES_WEIGHT));
-        }
-        let mut csn_maker = self.csn_maker.copy();
-        match csn_maker.next(now) {
-            Ok(csn) => Ok(Drawn {
-                csn,
-                csn_maker,
-                weight: self.weight + weight,
-            }),
-            Err(_) => Err(DirectoryFault::LimitReached(GREATEST_COUNT)),
-        }
+        self.standing.preview_commit(puts, drops, now)
     }
 
     /// The change number that this operation would get, or adminLimitExceeded where it cannot be
     /// kept.
     fn draw(&self, op: &Op, now: u64) -> Result<Drawn, OpFault>
-        ensures room { OnOk result (directory.has_room self.now.writes op.now ≡ true) }
+        ensures room { OnOk result (directory.has_room self.now.state.writes op.now ≡ true) }
         ensures value { IfOk result (λ drawn.
-            directory.csn_of_next_write self.now now ≡ Some drawn.csn) }
+            directory.csn_of_next_write self.now.state now ≡ Some drawn.csn) }
         ensures maker { IfOk result (λ drawn. drawn.csn_maker ≡ drawn.csn) }
         ensures weight { IfOk result (λ drawn.
-            drawn.weight ≡ kept_weight self.now.writes + weights.op_weight op.now) }
-        ensures refused { IfErr result (directory.Refuses (directory.judged self.now op.now now)) }
+            drawn.weight ≡ kept_weight self.now.state.writes + weights.op_weight op.now) }
+        ensures refused { IfErr result
+            (directory.Refuses (directory.judged self.now.state op.now now)) }
     {
-        match self.draw_within(op_weight(op), now) {
+        match self.standing.draw_within(op_weight(op), now) {
             Ok(drawn) => Ok(drawn),
             Err(_) => Err(OpFault::Code(ADMIN_LIMIT_EXCEEDED)),
         }
-    }
-}
-
-/// Whether it is a commit.
-fn is_commit(op: &Op) -> bool
-    ensures { result ≡ is_commit op.now }
-{
-    match op {
-        Op::Add(_, _) | Op::Delete(_) | Op::Modify(_, _) | Op::Rename(_, _, _, _) => false,
-        Op::Commit(_, _) => true,
     }
 }
 

@@ -5,16 +5,18 @@
 
 mod commit;
 mod directory;
-mod held;
+mod judging;
 mod preview;
-mod snapshot;
+mod ready;
+mod standing;
 mod start;
 mod touches;
 mod weights;
 
-pub use commit::DirectoryFault;
+pub use commit::DirectoryCommitFault;
 pub use directory::Directory;
 pub use ldap_ber::NoMemory;
 pub use preview::Preview;
-pub use snapshot::DirectorySnapshot;
+pub use ready::Ready;
+pub use standing::Standing;
 pub use start::Start;

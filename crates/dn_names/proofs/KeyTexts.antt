@@ -77,11 +77,6 @@ marks-apart (m ∷ ms) (n ∷ ns) rest more are_one are_other same =
 rdn_key-prefix : (rdn : List TypeAndValue) (rest : List ℕ) → rdn_key rdn ++ rest ≡ joined (pair_set rdn) ++ 0 ∷ rest
 rdn_key-prefix rdn rest = append_assoc (joined (pair_set rdn)) (0 ∷ []) rest
 
--- the keys of two RDNs that begin one text report the same set of pairs, and what follows them is equal
-pub rdn_key-apart : (one other : List TypeAndValue) (rest more : List ℕ) → rdn_key one ++ rest ≡ rdn_key other ++ more → (pair_set one ≡ pair_set other) × (rest ≡ more)
-rdn_key-apart one other rest more same =
-    marks-apart (pair_set one) (pair_set other) rest more (pair_set-marks one) (pair_set-marks other) (sym (rdn_key-prefix one rest) ∙ same ∙ rdn_key-prefix other more)
-
 -- a list with an element in it
 pub not_empty : {X : Type 0} (prefix rest : List X) (x : X) → prefix ++ x ∷ rest ≡ [] → ⊥
 not_empty [] rest x same = (cc)

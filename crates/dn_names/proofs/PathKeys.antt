@@ -1,5 +1,5 @@
 -- What the path keys of names show: the names that are at or below others, and those that are equal.
-use Rattle.std.proofs.Common.{◌≡◌, ℕ, ◌-◌, ◌+◌, ◌<◌, ◌≤◌, ◌^◌, true, false, ◌&&◌, nat_eq, nat_le, nat_lt, List, [], ◌∷◌, ◌++◌, length, map, take, drop, refl, sym, ◌∙◌, ap, arith, inl, inr, subst, append_assoc, append-nil, length-append}
+use Rattle.std.proofs.Common.{◌≡◌, ℕ, ◌-◌, ◌+◌, ◌<◌, ◌≤◌, ◌^◌, true, false, ◌&&◌, nat_eq, nat_le, nat_lt, List, [], ◌∷◌, ◌++◌, length, map, take, drop, refl, sym, ◌∙◌, ap, arith, inl, inr, append_assoc, append-nil, length-append}
 use Rattle.std.specs.Prelude.{bytes_eq}
 use Rattle.std.specs.List.{AllPass, list_all, starts_with}
 use Rattle.std.proofs.lemmas.Bool.{and_parts, and_from, eqb-true, eq-eqb, le-leb, ltb-true, cases_lt}
@@ -41,10 +41,6 @@ pub record IsSoFar (rdns left : Name) (path : List ℕ) : Type 0 where
   pub is : path ≡ path_key done
   pub numbers : AllPass has_small_numbers done
 
--- nothing is done
-pub so_far-none : (rdns : Name) → IsSoFar rdns rdns []
-so_far-none rdns = record { done = []; cut = sym (append-nil rdns); is = refl; numbers = λ k d within. absurd (omega arith) }
-
 -- one RDN more is done
 pub so_far-more : (rdns left below : Name) (path more : List ℕ) (rdn : List TypeAndValue) → IsSoFar rdns left path → left ≡ below ++ rdn ∷ [] → more ≡ path ++ rdn_path rdn
     → has_small_numbers rdn ≡ true → IsSoFar rdns below more
@@ -54,12 +50,6 @@ so_far-more rdns left below path more rdn far last longer small = record {
   is = longer ∙ ap (λ text. text ++ rdn_path rdn) far.is;
   numbers = All-cons counts rdn far.done small far.numbers;
 }
-
--- all is done
-pub so_far-all : (rdns left : Name) (path : List ℕ) → IsSoFar rdns left path → left ≡ [] → IsPathOf rdns path
-so_far-all rdns left path far none =
-    let whole : rdns ≡ far.done = far.cut ∙ ap (λ front. front ++ far.done) none in
-    record { is = far.is ∙ ap path_key (sym whole); numbers = (let P : Name → Type 0 = λ name. AllPass has_small_numbers name in subst P (sym whole) far.numbers) }
 
 -- ---- the path of the parent
 

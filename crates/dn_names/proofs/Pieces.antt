@@ -15,7 +15,7 @@ use Rattle.dn_names.specs.declared.fault.NameFault.{NameFault}
 use Rattle.dn_names.specs.declared.fault.NameFault.TheVariants.{BadName, UnknownType, TooLong, NoMemory}
 use Rattle.dn_names.specs.declared.signs.Sign.{Sign}
 use Rattle.dn_names.specs.declared.signs.Sign.TheVariants.{Stray}
-use Rattle.dn_names.specs.Reading.{IsFaultOf, and_then, with_first, or_bad, is_plain, pair_of, pair_at, pairs_of, type_of, value_of, value_signs, octets_of, is_empty, first_rdn, rdns_of, after_comma, signs_width, sign_width, signs_of, rdn_of, checked_rdn, name_of_text}
+use Rattle.dn_names.specs.Reading.{IsNameFault, and_then, with_first, or_bad, is_plain, pair_of, pair_at, pairs_of, type_of, value_of, value_signs, octets_of_signs, is_empty, first_rdn, rdns_of, after_comma, signs_width, sign_width, signs_of, rdn_of, checked_rdn, name_of_text}
 use Rattle.dn_names.proofs.Cuts.{slice_split-some, slice_split-none, before_first-none}
 
 -- the items before what the rest is read as
@@ -29,7 +29,7 @@ with_all-push items item (Err fault) = refl
 
 -- where each fault of the one is the other's
 pub IsFaultOf-along : {A B : Type 0} (one : Result A NameFault) (other : Result B NameFault) (fault : NameFault)
-    → ((f : NameFault) → one ≡ Err f → other ≡ Err f) → IsFaultOf one fault → IsFaultOf other fault
+    → ((f : NameFault) → one ≡ Err f → other ≡ Err f) → IsNameFault one fault → IsNameFault other fault
 IsFaultOf-along one other (BadName place) along same = along (BadName place) same
 IsFaultOf-along one other (UnknownType place) along same = along (UnknownType place) same
 IsFaultOf-along one other (TooLong place) along same = along (TooLong place) same
@@ -73,17 +73,17 @@ module _ (place : ℕ) (ended : Bool) (whole : Result (List TypeAndValue) NameFa
   last_fault none fault read = rw (so_far, pairs_of-last place ended rest none, read) refl
 
   -- a pair before a plus sign that is refused is the fault of the RDN
-  pub next_refused : list_any (is_plain 43) rest ≡ true → (fault : NameFault) → IsFaultOf (pair_of place true (before_first (is_plain 43) rest)) fault → IsFaultOf whole fault
+  pub next_refused : list_any (is_plain 43) rest ≡ true → (fault : NameFault) → IsNameFault (pair_of place true (before_first (is_plain 43) rest)) fault → IsNameFault whole fault
   next_refused more fault refused = IsFaultOf-along (pair_of place true (before_first (is_plain 43) rest)) whole fault (next_fault more) refused
 
   -- the last pair that is refused is the fault of the RDN
-  pub last_refused : list_any (is_plain 43) rest ≡ false → (fault : NameFault) → IsFaultOf (pair_of place ended (before_first (is_plain 43) rest)) fault → IsFaultOf whole fault
+  pub last_refused : list_any (is_plain 43) rest ≡ false → (fault : NameFault) → IsNameFault (pair_of place ended (before_first (is_plain 43) rest)) fault → IsNameFault whole fault
   last_refused none fault refused = IsFaultOf-along (pair_of place ended (before_first (is_plain 43) rest)) whole fault (last_fault none) refused
 
 -- ---- what was read has a key
 
 value_of-keyed : (kind : ℕ) (signs : List Sign) (value : List ℕ) → value_of kind signs ≡ Some value → is_some (key_of kind value) ≡ true
-value_of-keyed kind signs value read = checked (octets_of signs) read
+value_of-keyed kind signs value read = checked (octets_of_signs signs) read
   where
     tested : (octets : List ℕ) (keyed : Bool) → is_some (key_of kind octets) ≡ keyed → (if keyed then Some octets else None) ≡ Some value → is_some (key_of kind value) ≡ true
     tested octets true is_keyed same = let one : octets ≡ value = (cc) in rw (← one) is_keyed
@@ -182,7 +182,7 @@ module _ (bytes : ℕ) (whole : Result (List (List TypeAndValue)) NameFault) (rd
       rw (so_far, before, rdns_of-full bytes rest rdn read) refl
 
   -- an RDN that is refused is the fault of the name
-  pub rdn_refused : (fault : NameFault) → IsFaultOf (first_rdn bytes rest) fault → IsFaultOf whole fault
+  pub rdn_refused : (fault : NameFault) → IsNameFault (first_rdn bytes rest) fault → IsNameFault whole fault
   rdn_refused fault refused =
       IsFaultOf-along (first_rdn bytes rest) whole fault
       (λ f read. rw (so_far, rdns_of-fault (32 - length rdns) bytes rest f read) refl) refused
@@ -207,7 +207,7 @@ rdn_of-fault place ended signs fault none read = rw (none, read) refl
 
 -- an RDN with a pair that is refused is refused for it
 pub rdn_of-refused : (place : ℕ) (ended : Bool) (signs : List Sign) (fault : NameFault) → nat_lt 0 (prefix_len (is_plain 32) signs) ≡ false
-    → IsFaultOf (pairs_of place ended (slice_split (is_plain 43) signs)) fault → IsFaultOf (rdn_of place ended signs) fault
+    → IsNameFault (pairs_of place ended (slice_split (is_plain 43) signs)) fault → IsNameFault (rdn_of place ended signs) fault
 rdn_of-refused place ended signs fault none refused =
     IsFaultOf-along (pairs_of place ended (slice_split (is_plain 43) signs)) (rdn_of place ended signs) fault (λ f read. rdn_of-fault place ended signs f none read) refused
 

@@ -16,7 +16,7 @@ use Rattle.dn_names.specs.Names.{TypeAndValue}
 use Rattle.dn_names.specs.Keys.{has_double}
 use Rattle.dn_names.specs.Sound.{has_key, is_rdn, IsName}
 use Rattle.dn_names.specs.Writing.{is_special, is_special_at_edge, byte_text, bytes_text, value_text, pair_text, more_pairs_text, rdn_text, more_rdns_text, name_text}
-use Rattle.dn_names.specs.Reading.{is_escapable, escape, signs_of, is_plain, string_byte, is_refused, each_some, octets_of, plain_byte, trimmed, type_of, value_of, value_signs, pair_of, pairs_of, rdn_of, is_empty, with_first, first_rdn, rdns_of, after_comma, without_leading_spaces, signs_width, rdn_of_text, name_of_text}
+use Rattle.dn_names.specs.Reading.{is_escapable, escape, signs_of, is_plain, string_byte, is_refused, each_some, octets_of_signs, plain_byte, trimmed, type_of, value_of, value_signs, pair_of, pairs_of, rdn_of, is_empty, with_first, first_rdn, rdns_of, after_comma, without_leading_spaces, signs_width, rdn_of_text, name_of_text}
 use Rattle.dn_names.proofs.SignLists.{signs_of-cons, signs_of-nil}
 use Rattle.dn_names.proofs.Cuts.{slice_split-none, before_first-none}
 use Rattle.dn_names.proofs.Pieces.{rdn_of-pairs, checked-fine, rdns_of-more, rdns_of-last, name_of_text-empty, name_of_text-rdns}
@@ -243,7 +243,7 @@ string-back : (first : Bool) (value : List ℕ) → each_some string_byte (bytes
 string-back first [] = refl
 string-back first (byte ∷ bytes) = rw (string_byte-back first (nat_eq (length bytes) 0) byte, string-back false bytes) refl
 
-octets-back : (value : List ℕ) → octets_of (bytes_signs true value) ≡ Some value
+octets-back : (value : List ℕ) → octets_of_signs (bytes_signs true value) ≡ Some value
 octets-back [] = refl
 octets-back (byte ∷ bytes) = rw (not_plain true (nat_eq (length bytes) 0) 35 byte (or_right ((35 == 32) && true) true refl)) (string-back true (byte ∷ bytes))
 

@@ -52,7 +52,8 @@ pub record IsPathOf (rdns : List (List TypeAndValue)) (path : List ℕ) : Type 0
   pub numbers : AllPass has_small_numbers rdns
 
 -- the same, and its first octets, this number of them, are the path key of the parent
-pub record IsPathInParts (rdns : List (List TypeAndValue)) (whole : List ℕ) (above : ℕ) : Type 0 where
+pub record IsPathInParts (rdns : List (List TypeAndValue)) (whole : List ℕ)
+    (above : ℕ) : Type 0 where
   pub path : IsPathOf rdns whole
   pub parent : above ≡ length (path_key (parent_of rdns))
 

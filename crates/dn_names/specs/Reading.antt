@@ -35,11 +35,11 @@ or_bad place (Some a) = Ok a
 or_bad place None = Err (BadName place)
 
 -- the fault is the one that was found; out of memory reports nothing
-abbrev pub IsFaultOf : {A : Type 0} → Result A NameFault → NameFault → Type 0
-IsFaultOf {A} read (BadName place) = read ≡ Err (BadName place)
-IsFaultOf {A} read (UnknownType place) = read ≡ Err (UnknownType place)
-IsFaultOf {A} read (TooLong place) = read ≡ Err (TooLong place)
-IsFaultOf {A} read NoMemory = ⊤
+abbrev pub IsNameFault : {A : Type 0} → Result A NameFault → NameFault → Type 0
+IsNameFault {A} read (BadName place) = read ≡ Err (BadName place)
+IsNameFault {A} read (UnknownType place) = read ≡ Err (UnknownType place)
+IsNameFault {A} read (TooLong place) = read ≡ Err (TooLong place)
+IsNameFault {A} read NoMemory = ⊤
 
 -- ---- signs: a byte that stands for itself, or an escape
 
@@ -192,16 +192,16 @@ hex_value digits =
     (each_some plain_byte digits)
 
 -- attributeValue = string / hexstring
-abbrev pub octets_of : List Sign → Option (List ℕ)
-octets_of [] = Some []
-octets_of (sign ∷ signs) =
+abbrev pub octets_of_signs : List Sign → Option (List ℕ)
+octets_of_signs [] = Some []
+octets_of_signs (sign ∷ signs) =
     if is_plain 35 sign then hex_value signs else each_some string_byte (sign ∷ signs)
 
 -- a value that is of the type's syntax
 abbrev pub value_of : ℕ → List Sign → Option (List ℕ)
 value_of kind signs =
     option_and_then (λ value. if is_some (key_of kind value) then Some value else None)
-    (octets_of signs)
+    (octets_of_signs signs)
 
 -- ---- pairs, RDNs and names
 

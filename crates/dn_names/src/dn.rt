@@ -3,7 +3,7 @@ ghost use Rattle.std.specs.Prelude.{◌≡◌, ◌<◌, ◌↔◌, true, List, [
 ghost use Rattle.dn_names.specs.Keys.{name_key};
 ghost use Rattle.dn_names.specs.Names.{TypeAndValue, same_name, is_at_or_below, is_child_of, parent_of, moved_name};
 ghost use Rattle.dn_names.specs.Paths.{path_key, HasPath, ShowsNames};
-ghost use Rattle.dn_names.specs.Reading.{name_of_text, rdns_of, signs_width, limited, IsFaultOf};
+ghost use Rattle.dn_names.specs.Reading.{name_of_text, rdns_of, signs_width, limited, IsNameFault};
 ghost use Rattle.dn_names.specs.Sound.{IsName, most_rdns};
 ghost use Rattle.dn_names.specs.Writing.{name_text};
 
@@ -76,7 +76,7 @@ impl Dn {
     /// `UnknownType` or `TooLong` with its place, or `NoMemory`.
     pub fn parse(alloc: Global, text: &[u8]) -> Result<Dn, NameFault>
         ensures ok { IfOk result (λ dn. name_of_text text.now ≡ Ok dn) }
-        ensures fault { IfErr result (IsFaultOf (name_of_text text.now)) }
+        ensures fault { IfErr result (IsNameFault (name_of_text text.now)) }
     {
         if text.is_empty() {
             return Ok(Dn::empty(alloc));
@@ -207,7 +207,7 @@ impl Dn {
     /// that would have more than 32 RDNs, or `NoMemory`.
     pub fn below(&self, rdn: &Rdn) -> Result<Dn, NameFault>
         ensures ok { IfOk result (λ dn. limited (rdn.now ∷ self.now) ≡ Ok dn) }
-        ensures fault { IfErr result (IsFaultOf (limited (rdn.now ∷ self.now))) }
+        ensures fault { IfErr result (IsNameFault (limited (rdn.now ∷ self.now))) }
     {
         if self.rdns().len() >= MOST_RDNS {
             return Err(NameFault::TooLong(0));
@@ -223,7 +223,7 @@ impl Dn {
     pub fn moved(&self, from: &Dn, to: &Dn) -> Result<Dn, NameFault>
         requires { is_at_or_below self.now from.now ≡ true }
         ensures ok { IfOk result (λ dn. limited (moved_name self.now from.now to.now) ≡ Ok dn) }
-        ensures fault { IfErr result (IsFaultOf (limited (moved_name self.now from.now to.now))) }
+        ensures fault { IfErr result (IsNameFault (limited (moved_name self.now from.now to.now))) }
     {
         let own = self.rdns();
         let kept = &own[..own.len() - from.rdns().len()];
@@ -241,7 +241,7 @@ impl Dn {
 fn read_rdns(alloc: Global, bytes: usize, signs: &[Sign]) -> Result<Vec<Rdn>, NameFault>
     requires { signs_width signs.now ≡ bytes }
     ensures ok { IfOk result (λ rdns. rdns_of most_rdns bytes signs.now ≡ Ok rdns.items) }
-    ensures fault { IfErr result (IsFaultOf (rdns_of most_rdns bytes signs.now)) }
+    ensures fault { IfErr result (IsNameFault (rdns_of most_rdns bytes signs.now)) }
     ensures sound { IfOk result (λ rdns. IsName rdns.items) }
 {
     let mut rdns = Vec::new(alloc);

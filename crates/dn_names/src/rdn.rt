@@ -1,7 +1,7 @@
 //! Relative distinguished names (RFC 4514, section 2.2).
 ghost use Rattle.std.specs.Prelude.{◌≡◌, ◌≤◌, true, nat_lt, length, Ok, IfOk, IfErr};
 ghost use Rattle.std.specs.List.{prefix_len};
-ghost use Rattle.dn_names.specs.Reading.{rdn_of, rdn_of_text, is_plain, IsFaultOf};
+ghost use Rattle.dn_names.specs.Reading.{rdn_of, rdn_of_text, is_plain, IsNameFault};
 ghost use Rattle.dn_names.specs.Sound.{is_rdn, most_bytes};
 ghost use Rattle.dn_names.specs.Writing.{rdn_text};
 
@@ -44,7 +44,7 @@ impl Rdn {
     /// `UnknownType` or `TooLong`, or `NoMemory`.
     pub fn parse(alloc: Global, text: &[u8]) -> Result<Rdn, NameFault>
         ensures ok { IfOk result (λ rdn. rdn_of_text text.now ≡ Ok rdn) }
-        ensures fault { IfErr result (IsFaultOf (rdn_of_text text.now)) }
+        ensures fault { IfErr result (IsNameFault (rdn_of_text text.now)) }
     {
         let signs = signs_of(alloc, text)?;
         Rdn::read(alloc, 0, false, signs.as_slice())
@@ -59,7 +59,7 @@ impl Rdn {
     ) -> Result<Rdn, NameFault>
         ensures ok { IfOk result (λ rdn. rdn_of place ended signs.now ≡ Ok rdn) }
         ensures sound { IfOk result (λ rdn. is_rdn rdn ≡ true) }
-        ensures fault { IfErr result (IsFaultOf (rdn_of place ended signs.now)) }
+        ensures fault { IfErr result (IsNameFault (rdn_of place ended signs.now)) }
     {
         if begins_with_space(signs) {
             return Err(NameFault::BadName(place));

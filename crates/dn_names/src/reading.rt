@@ -24,7 +24,7 @@ pub(crate) fn read_pairs(
 ) -> Result<Vec<Pair>, NameFault>
     ensures ok { IfOk result (λ pairs.
         spec.pairs_of place ended (slice_split (spec.is_plain 43) signs.now) ≡ Ok pairs.items) }
-    ensures fault { IfErr result (spec.IsFaultOf
+    ensures fault { IfErr result (spec.IsNameFault
         (spec.pairs_of place ended (slice_split (spec.is_plain 43) signs.now))) }
 {
     let mut pairs = Vec::with_capacity(alloc, 1)?;
@@ -47,7 +47,7 @@ pub(crate) fn read_pairs(
 /// Reads a pair; `ended` says that a separator follows.
 fn read_pair(alloc: Global, place: usize, ended: bool, signs: &[Sign]) -> Result<Pair, NameFault>
     ensures ok { IfOk result (λ pair. spec.pair_of place ended signs.now ≡ Ok pair) }
-    ensures fault { IfErr result (spec.IsFaultOf (spec.pair_of place ended signs.now)) }
+    ensures fault { IfErr result (spec.IsNameFault (spec.pair_of place ended signs.now)) }
 {
     let (name, Some(value)) = cut(signs, b'=') else {
         return Err(NameFault::BadName(place));
@@ -71,7 +71,7 @@ fn value_signs(ended: bool, signs: &[Sign]) -> &[Sign]
 /// Reads a type that is in the schema and not operational.
 fn read_type(alloc: Global, place: usize, signs: &[Sign]) -> Result<AttributeType, NameFault>
     ensures ok { IfOk result (λ kind. spec.type_of place signs.now ≡ Ok kind) }
-    ensures fault { IfErr result (spec.IsFaultOf (spec.type_of place signs.now)) }
+    ensures fault { IfErr result (spec.IsNameFault (spec.type_of place signs.now)) }
     ensures known { IfOk result (λ kind. is_operational kind ≡ false) }
 {
     let trimmed = without_trailing_spaces(without_leading_spaces(signs));
@@ -165,7 +165,7 @@ fn read_value(
     ensures ok { IfOk result (λ pair.
         (pair.kind ≡ kind) × (spec.value_of kind signs.now ≡ Some pair.value)) }
     ensures fault { IfErr result
-        (spec.IsFaultOf (spec.or_bad place (spec.value_of kind signs.now))) }
+        (spec.IsNameFault (spec.or_bad place (spec.value_of kind signs.now))) }
 {
     let Some(value) = octets_of(alloc, signs)? else {
         return Err(NameFault::BadName(place));

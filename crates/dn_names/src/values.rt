@@ -12,7 +12,8 @@ use std::alloc::{AllocError, Global};
 
 /// The octets of a value, or None where the signs are not a value.
 pub(crate) fn octets_of(alloc: Global, signs: &[Sign]) -> Result<Option<Vec<u8>>, NoMemory>
-    ensures { IfOk result (λ octets. option_map (λ v. v.items) octets ≡ spec.octets_of signs.now) }
+    ensures { IfOk result
+        (λ octets. option_map (λ v. v.items) octets ≡ spec.octets_of_signs signs.now) }
 {
     match signs {
         [] => Ok(Some(Vec::new(alloc))),

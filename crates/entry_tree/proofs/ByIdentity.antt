@@ -1,9 +1,9 @@
 -- Entries at their identities, in the order of these.
 use Rattle.std.proofs.Common.{◌≡◌, ◌<◌, ◌+◌, ℕ, Bool, true, false, not, ◌||◌, cond, nat_eq, nat_lt, List, [], ◌∷◌, ◌++◌, length, map, take, get_or, Some, refl, sym, ap, ◌∙◌, ◌⊎◌, inl, inr, arith}
-use Rattle.std.specs.Prelude.{fold, Option, None, is_none, is_some}
+use Rattle.std.specs.Prelude.{fold, is_none}
 use Rattle.std.specs.BTreeMap.{is_at, insert_entry}
 use Rattle.std.specs.Cmp.{nat_cmp_is, nat_eq_equiv, nat_cmp_total, tied_itself, unsigned_ties}
-use Rattle.std.specs.List.{filter, cons_option}
+use Rattle.std.specs.List.{filter}
 use Rattle.std.specs.Map.{lookup, remove_entry, values_of}
 use Rattle.std.specs.Ordering.{nat_cmp, match_ordering}
 use Rattle.std.specs.declared.cmp.Ordering.TheVariants.{Less, Greater}
@@ -154,21 +154,6 @@ dropped_more start changes i c low is =
 pub put_more_in : (start : List (ℕ × Entry)) (changes : List EntryChange) (i : ℕ) (c : EntryChange) → i < length changes → c ≡ get_or changes i c
     → fold put_in start (puts_of (take (i + 1) changes)) ≡ fold put_in (fold put_in start (puts_of (take i changes))) (puts_of (c ∷ []))
 put_more_in start changes i c low is = part_more put_in puts_of (filter_map-append (λ (x : EntryChange). x.after)) start changes i c low is
-
--- one change by itself puts in or takes out
-pub drops_of-kept : (c : EntryChange) → is_some c.after ≡ true → drops_of (c ∷ []) ≡ []
-drops_of-kept c kept = by c.after kept
-  where
-    by : (after : Option Entry) → is_some after ≡ true → map (λ (x : EntryChange). x.uuid) (cond (is_none after) (c ∷ []) []) ≡ []
-    by None kept = absurd (cc)
-    by (Some e) kept = refl
-
-pub puts_of-gone : (c : EntryChange) → is_some c.after ≡ false → puts_of (c ∷ []) ≡ []
-puts_of-gone c gone = by c.after gone
-  where
-    by : (after : Option Entry) → is_some after ≡ false → cons_option after [] ≡ []
-    by None gone = refl
-    by (Some e) gone = absurd (cc)
 
 -- the entries after changes, step by step
 pub changed_by_steps : (es : List Entry) (start left after : List (ℕ × Entry)) (changes : List EntryChange) → ascends es ≡ true → start ≡ by_identity es

@@ -12,7 +12,7 @@ use Rattle.entry_writes.specs.declared.entry.Entry.{Entry}
 use Rattle.entry_writes.specs.declared.touched.EntryChange.{EntryChange}
 use Rattle.entry_writes.specs.State.{ascends, entry_at, is_named, entry_named, most_entries, most_weight, same_named, total_weight}
 use Rattle.entry_writes.specs.Touched.{change_at, touched, puts_of}
-use Rattle.entry_tree.specs.Fitting.{may_be_held}
+use Rattle.entry_tree.specs.Fitting.{is_directory_content}
 use Rattle.entry_tree.specs.Judging.{AreClear, has_free_name, is_changed, is_free, takes_of}
 use Rattle.entry_tree.proofs.Changing.{both, differs, none_outside, own_uuid, same_where, touched_at}
 use Rattle.entry_tree.proofs.DistinctNames.{distinct_where_none, none_where_distinct, fails_where_none, passes_where_all}
@@ -130,7 +130,7 @@ module _ (old new : List Entry) where
       let light = clear.light in
       omega (arith, both_sides, before, after, light)
 
-  clear_is_held : ascends old ≡ true → ascends new ≡ true → same_named old ≡ None → AreClear old (touched old new) → may_be_held new ≡ true
+  clear_is_held : ascends old ≡ true → ascends new ≡ true → same_named old ≡ None → AreClear old (touched old new) → is_directory_content new ≡ true
   clear_is_held asc up apart clear =
       let few = le-ltb most_entries (length new) (few_after asc up clear) in
       let light = le-ltb most_weight (total_weight new) (light_after asc up clear) in
@@ -139,7 +139,7 @@ module _ (old new : List Entry) where
 
 -- entries after clear changes may be held
 pub held_clear : (old new : List Entry) (changes : List EntryChange) → ascends old ≡ true → ascends new ≡ true → same_named old ≡ None → changes ≡ touched old new → AreClear old changes
-    → may_be_held new ≡ true
+    → is_directory_content new ≡ true
 held_clear old new changes asc up apart is clear = clear_is_held old new asc up apart (subst (AreClear old) is clear)
 
 -- what is clear by the entries that changes remove or replace, and those that they leave or make

@@ -12,8 +12,8 @@ use Rattle.entry_writes.specs.declared.entry.Entry.{Entry}
 use Rattle.entry_writes.specs.declared.touched.EntryChange.{EntryChange}
 use Rattle.entry_writes.specs.Bytes.{is_one_found}
 use Rattle.entry_writes.specs.Effects.{is_one_of, committed}
-use Rattle.entry_tree.specs.Fitting.{may_be_held}
-use Rattle.entry_writes.specs.State.{ascends, entry_at, put, is_crowded, same_named, total_weight, most_entries, most_weight, IsDirectory}
+use Rattle.entry_tree.specs.Fitting.{is_directory_content}
+use Rattle.entry_writes.specs.State.{ascends, entry_at, put, exceeds_limits, same_named, total_weight, most_entries, most_weight, IsDirectory}
 use Rattle.entry_writes.specs.Touched.{identities, joined, change_at, is_change, touched}
 use Rattle.entry_tree.proofs.Directory.{ascends_filter}
 use Rattle.entry_writes.proofs.Identities.{above}
@@ -183,9 +183,9 @@ kept_by_set drops es = λ i. filter (λ e. not (one e i)) es
 
 -- ---- entries that may be held
 
-room : (es : List Entry) → not (is_crowded es) ≡ true → (length es ≤ most_entries) × (total_weight es ≤ most_weight)
+room : (es : List Entry) → not (exceeds_limits es) ≡ true → (length es ≤ most_entries) × (total_weight es ≤ most_weight)
 room es free =
-    let p = or_parts (nat_lt most_entries (length es)) (nat_lt most_weight (total_weight es)) (by (is_crowded es) free) in
+    let p = or_parts (nat_lt most_entries (length es)) (nat_lt most_weight (total_weight es)) (by (exceeds_limits es) free) in
     (ltb-false most_entries (length es) p.0, ltb-false most_weight (total_weight es) p.1)
   where
     by : (b : Bool) → not b ≡ true → b ≡ false
@@ -193,10 +193,10 @@ room es free =
     by false h = refl
 
 -- entries after a commit that may be held are those of a directory
-pub directory_committed : (es puts : List Entry) (drops : List ℕ) (weight : ℕ) → ascends es ≡ true → may_be_held (committed es puts drops) ≡ true → weight ≡ total_weight (committed es puts drops)
+pub directory_committed : (es puts : List Entry) (drops : List ℕ) (weight : ℕ) → ascends es ≡ true → is_directory_content (committed es puts drops) ≡ true → weight ≡ total_weight (committed es puts drops)
     → IsDirectory (committed es puts drops) weight
 directory_committed es puts drops weight asc held weighs =
-    let free = room (committed es puts drops) (and_parts (not (is_crowded (committed es puts drops))) (is_none (same_named (committed es puts drops))) held).0 in
+    let free = room (committed es puts drops) (and_parts (not (exceeds_limits (committed es puts drops))) (is_none (same_named (committed es puts drops))) held).0 in
     let light = free.1 in
     record {
       ascends = ascends_committed es puts drops asc;

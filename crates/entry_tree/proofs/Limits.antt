@@ -7,7 +7,7 @@ use Rattle.schema_rules.specs.declared.attributes.Attribute.{Attribute}
 use Rattle.schema_rules.specs.Attributes.{entry_code, weight_of}
 use Rattle.dn_names.specs.Names.{TypeAndValue}
 use Rattle.entry_writes.specs.declared.entry.Entry.{Entry}
-use Rattle.entry_writes.specs.Codes.{weight_code, room_code, naming_code, place_code, add_code}
+use Rattle.entry_writes.specs.Codes.{weight_code, limit_code, naming_code, add_target_code, add_code}
 use Rattle.entry_writes.specs.State.{total_weight, most_entry_weight, most_entries, most_weight}
 
 -- neither code rejects it
@@ -25,7 +25,7 @@ light_where_none weight total none =
     let within = refused_not (nat_lt most_entry_weight weight || nat_lt most_weight total) ADMIN_LIMIT_EXCEEDED None none in
     ltb-false most_weight total (or_parts (nat_lt most_entry_weight weight) (nat_lt most_weight total) within.0).1
 
-pub room_where_none : (entries : List Entry) (weight : ℕ) → room_code entries weight ≡ None → (length entries < most_entries) × (total_weight entries + weight ≤ most_weight)
+pub room_where_none : (entries : List Entry) (weight : ℕ) → limit_code entries weight ≡ None → (length entries < most_entries) × (total_weight entries + weight ≤ most_weight)
 room_where_none entries weight none =
     let within = refused_not (nat_le most_entries (length entries)) ADMIN_LIMIT_EXCEEDED (weight_code weight (total_weight entries + weight)) none in
     (leb-false most_entries (length entries) within.0, light_where_none weight (total_weight entries + weight) within.1)
@@ -34,8 +34,8 @@ room_where_none entries weight none =
 pub add_where_none : (suffix : List (List TypeAndValue)) (entries : List Entry) (name : List (List TypeAndValue)) (attrs : List Attribute) → add_code suffix entries name attrs ≡ None
     → (length entries < most_entries) × (total_weight entries + weight_of attrs ≤ most_weight)
 add_where_none suffix entries name attrs none =
-    let room = room_code entries (weight_of attrs) in
-    let placed = both_none (place_code suffix entries name) (option_or (entry_code attrs) (option_or (naming_code name attrs) room)) none in
+    let room = limit_code entries (weight_of attrs) in
+    let placed = both_none (add_target_code suffix entries name) (option_or (entry_code attrs) (option_or (naming_code name attrs) room)) none in
     let checked = both_none (entry_code attrs) (option_or (naming_code name attrs) room) placed.1 in
     let named = both_none (naming_code name attrs) room checked.1 in
     room_where_none entries (weight_of attrs) named.1

@@ -7,7 +7,7 @@ use Rattle.csn_cookie.specs.Csn.{CsnValue}
 use Rattle.dn_names.specs.Names.{TypeAndValue}
 use Rattle.entry_writes.specs.declared.edit.Edit.{Edit}
 use Rattle.entry_writes.specs.declared.entry.Entry.{Entry}
-use Rattle.entry_writes.specs.Codes.{modify_code, kept_code, weight_code}
+use Rattle.entry_writes.specs.Codes.{modify_code, rdn_kept_code, weight_code}
 use Rattle.entry_writes.specs.Edits.{after_edits, edits_code}
 use Rattle.entry_writes.specs.Effects.{edited, modified}
 use Rattle.entry_writes.specs.State.{ascends, is_identified, is_named, entry_named, total_weight}
@@ -44,7 +44,7 @@ pub code_placed : (es : List Entry) (name : List (List TypeAndValue)) (place : �
     → modify_code es (entry_named es name) edits
     ≡ option_or (edits_code e.attrs edits)
     (option_or (entry_code (after_edits e.attrs edits))
-    (option_or (kept_code e.dn (after_edits e.attrs edits))
+    (option_or (rdn_kept_code e.dn (after_edits e.attrs edits))
     (weight_code (weight_of (after_edits e.attrs edits)) (others + weight_of (after_edits e.attrs edits)))))
 code_placed es name place e others edits placed rest =
     let f = λ (x : Entry). weight_of x.attrs in
@@ -55,7 +55,7 @@ code_placed es name place e others edits placed rest =
     in
     let same : sum_by f (filter (λ x. not (is_identified e.uuid x)) es) ≡ others = omega (arith, sums, rest) in
     ap (λ o. modify_code es o edits) placed.named
-    ∙ ap (λ n. option_or (edits_code e.attrs edits) (option_or (entry_code after) (option_or (kept_code e.dn after) (weight_code (weight_of after) (n + weight_of after))))) same
+    ∙ ap (λ n. option_or (edits_code e.attrs edits) (option_or (entry_code after) (option_or (rdn_kept_code e.dn after) (weight_code (weight_of after) (n + weight_of after))))) same
 
 -- ---- its effect
 

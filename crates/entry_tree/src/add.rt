@@ -1,8 +1,8 @@
 //! The addition of an entry (RFC 4511, section 4.7).
 ghost use Rattle.std.specs.Prelude.{◌≡◌, None, Some, [], ◌∷◌, filter, IfOk, IfErr, OnOk};
 ghost use Rattle.std.specs.Option.{option_copied};
-ghost use Rattle.entry_writes.specs.Codes.{add_code, room_code};
-ghost use Rattle.entry_writes.specs.Fault.{HasCode};
+ghost use Rattle.entry_writes.specs.Codes.{add_code, limit_code};
+ghost use Rattle.entry_writes.specs.Fault.{HasOpCode};
 ghost use Rattle.entry_writes.specs.State as state;
 ghost use Rattle.entry_writes.specs.Touched.{is_change, IsPlan};
 
@@ -31,7 +31,7 @@ impl Tree {
             (IsPlan self.now
             (state.put (record { uuid = uuid; csn = csn; dn = dn.now; attrs = attrs.now })
             self.now)) }
-        ensures refused { IfErr result (HasCode (add_code suffix.now self.now dn.now attrs.now)) }
+        ensures refused { IfErr result (HasOpCode (add_code suffix.now self.now dn.now attrs.now)) }
     {
         let entry = self.new_entry(suffix, dn, attrs, uuid, csn)?;
         let was = self.get(uuid);
@@ -50,7 +50,7 @@ impl Tree {
         ensures accepted { OnOk result (add_code suffix.now self.now dn.now attrs.now ≡ None) }
         ensures value { IfOk result (λ entry.
             entry ≡ record { uuid = uuid; csn = csn; dn = dn.now; attrs = attrs.now }) }
-        ensures refused { IfErr result (HasCode (add_code suffix.now self.now dn.now attrs.now)) }
+        ensures refused { IfErr result (HasOpCode (add_code suffix.now self.now dn.now attrs.now)) }
     {
         self.check_add(suffix, dn, attrs)?;
         Ok(Entry {
@@ -66,7 +66,7 @@ impl Tree {
     /// adminLimitExceeded (11); or it is `NoMemory`.
     fn check_add(&self, suffix: &Dn, dn: &Dn, attrs: &Attrs) -> Result<(), OpFault>
         ensures ok { OnOk result (add_code suffix.now self.now dn.now attrs.now ≡ None) }
-        ensures fault { IfErr result (HasCode (add_code suffix.now self.now dn.now attrs.now)) }
+        ensures fault { IfErr result (HasOpCode (add_code suffix.now self.now dn.now attrs.now)) }
     {
         self.check_place(suffix, dn)?;
         check_entry(self.alloc, attrs)?;
@@ -76,8 +76,8 @@ impl Tree {
 
     /// Refuses one more entry of this weight.
     fn check_room(&self, weight: u64) -> Result<(), OpFault>
-        ensures ok { OnOk result (room_code self.now weight ≡ None) }
-        ensures fault { IfErr result (HasCode (room_code self.now weight)) }
+        ensures ok { OnOk result (limit_code self.now weight ≡ None) }
+        ensures fault { IfErr result (HasOpCode (limit_code self.now weight)) }
     {
         if self.len() >= MOST_ENTRIES {
             return Err(OpFault::Code(ADMIN_LIMIT_EXCEEDED));

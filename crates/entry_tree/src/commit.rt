@@ -5,13 +5,13 @@ ghost use Rattle.std.specs.Option.{option_copied};
 ghost use Rattle.std.specs.Ordering.{nat_cmp};
 ghost use Rattle.entry_tree.specs.declared.commit.CommitRefusal.TheVariants.{NoMemory};
 ghost use Rattle.entry_writes.specs.Effects.{committed};
-ghost use Rattle.entry_tree.specs.Fitting.{may_be_held, Opposes};
+ghost use Rattle.entry_tree.specs.Fitting.{is_directory_content, IsCauseOf};
 ghost use Rattle.entry_tree.specs.Judging.{change_by};
 ghost use Rattle.entry_writes.specs.State as state;
 ghost use Rattle.entry_writes.specs.Touched.{is_change, touched, IsPlan};
 
 use crate::after::{entries_after, ids_of};
-use crate::held::check_held;
+use crate::held::check_content;
 use crate::judging::latest_of;
 use crate::tree::Tree;
 use entry_writes::{Entry, EntryChange, Touched};
@@ -44,12 +44,13 @@ impl Tree {
     /// directory's may be, and no two of them have one name. Else it is `TooMany`, `TooHeavy` or
     /// `SameName`, the first of these that is so, or `NoMemory`.
     pub fn check_commit(&self, puts: &[Entry], drops: &[u128]) -> Result<(), CommitRefusal>
-        ensures ok { OnOk result (may_be_held (committed self.now puts.now drops.now) ≡ true) }
-        ensures refused { IfErr result (Opposes (committed self.now puts.now drops.now)) }
+        ensures ok { OnOk result
+            (is_directory_content (committed self.now puts.now drops.now) ≡ true) }
+        ensures refused { IfErr result (IsCauseOf (committed self.now puts.now drops.now)) }
     {
         let entries = self.entries()?;
         let after = entries_after(self.alloc, &entries, puts, drops)?;
-        check_held(self.alloc, &after)
+        check_content(self.alloc, &after)
     }
 
     /// What differs after a commit, where the entries after it may be held, or else what
@@ -63,9 +64,10 @@ impl Tree {
         apart: bool,
     ) -> Result<Touched, CommitRefusal>
         requires { IsTrue apart → state.same_named self.now ≡ None }
-        ensures held { OnOk result (may_be_held (committed self.now puts.now drops.now) ≡ true) }
+        ensures held { OnOk result
+            (is_directory_content (committed self.now puts.now drops.now) ≡ true) }
         ensures plan { IfOk result (IsPlan self.now (committed self.now puts.now drops.now)) }
-        ensures refused { IfErr result (Opposes (committed self.now puts.now drops.now)) }
+        ensures refused { IfErr result (IsCauseOf (committed self.now puts.now drops.now)) }
     {
         let entry_changes = self.changes(puts, drops)?;
         self.check_changes(puts, drops, entry_changes.list(), apart)?;
@@ -82,8 +84,9 @@ impl Tree {
     ) -> Result<(), CommitRefusal>
         requires apart { IsTrue apart → state.same_named self.now ≡ None }
         requires exact { changes.now ≡ touched self.now (committed self.now puts.now drops.now) }
-        ensures ok { OnOk result (may_be_held (committed self.now puts.now drops.now) ≡ true) }
-        ensures refused { IfErr result (Opposes (committed self.now puts.now drops.now)) }
+        ensures ok { OnOk result
+            (is_directory_content (committed self.now puts.now drops.now) ≡ true) }
+        ensures refused { IfErr result (IsCauseOf (committed self.now puts.now drops.now)) }
     {
         if apart && self.is_clear(changes)? {
             return Ok(());
@@ -94,7 +97,7 @@ impl Tree {
     /// What differs after identities are dropped and then entries are put, each in the place of one
     /// of its identity.
     pub(crate) fn judge_commit(&self, puts: &[Entry], drops: &[u128]) -> Result<Touched, NoMemory>
-        requires { may_be_held (committed self.now puts.now drops.now) ≡ true }
+        requires { is_directory_content (committed self.now puts.now drops.now) ≡ true }
         ensures { IfOk result (IsPlan self.now (committed self.now puts.now drops.now)) }
     {
         self.changes(puts, drops)

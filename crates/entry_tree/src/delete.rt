@@ -1,7 +1,7 @@
 //! The removal of an entry (RFC 4511, section 4.8).
 ghost use Rattle.std.specs.Prelude.{◌≡◌, not, None, Some, filter, map, IfOk, IfErr, OnOk};
 ghost use Rattle.entry_writes.specs.Codes.{delete_code};
-ghost use Rattle.entry_writes.specs.Fault.{HasCode};
+ghost use Rattle.entry_writes.specs.Fault.{HasOpCode};
 ghost use Rattle.entry_writes.specs.State as state;
 ghost use Rattle.entry_writes.specs.Touched.{IsPlan};
 
@@ -17,7 +17,7 @@ impl Tree {
         ensures accepted { OnOk result (delete_code self.now dn.now ≡ None) }
         ensures plan { IfOk result
             (IsPlan self.now (filter (λ e. not (state.is_named dn.now e)) self.now)) }
-        ensures refused { IfErr result (HasCode (delete_code self.now dn.now)) }
+        ensures refused { IfErr result (HasOpCode (delete_code self.now dn.now)) }
     {
         self.check_delete(dn)?;
         let entries = self.at_name(dn)?;

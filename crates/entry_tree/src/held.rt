@@ -3,7 +3,7 @@ ghost use Rattle.std.specs.Prelude.{◌≡◌, ◌-◌, ◌^◌, true, map, min,
 ghost use Rattle.std.specs.Option.{option_or};
 ghost use Rattle.dn_names.specs.Keys.{name_key};
 ghost use Rattle.dn_names.specs.Sound.{IsName};
-ghost use Rattle.entry_tree.specs.Fitting.{may_be_held, Opposes};
+ghost use Rattle.entry_tree.specs.Fitting.{is_directory_content, IsCauseOf};
 ghost use Rattle.entry_writes.specs.State as state;
 
 use crate::commit::CommitRefusal;
@@ -15,9 +15,9 @@ use std::collections::BTreeMap;
 /// Whether a directory may have these entries: they are no more and no heavier than its limits
 /// allow, and no two of them have one name. Else it is `TooMany`, `TooHeavy` or `SameName`, the
 /// first of these that is so, or `NoMemory`.
-pub fn check_held(alloc: Global, entries: &[&Entry]) -> Result<(), CommitRefusal>
-    ensures ok { OnOk result (may_be_held (map (λ e. e.now) entries.now) ≡ true) }
-    ensures refused { IfErr result (Opposes (map (λ e. e.now) entries.now)) }
+pub fn check_content(alloc: Global, entries: &[&Entry]) -> Result<(), CommitRefusal>
+    ensures ok { OnOk result (is_directory_content (map (λ e. e.now) entries.now) ≡ true) }
+    ensures refused { IfErr result (IsCauseOf (map (λ e. e.now) entries.now)) }
 {
     if entries.len() > MOST_ENTRIES {
         return Err(CommitRefusal::TooMany);

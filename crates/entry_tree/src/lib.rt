@@ -50,7 +50,7 @@ pub use edit::{Edit, Edits};
 pub use entry::{Entry, EntryList};
 pub use entry_writes::read_op;
 pub use fault::OpFault;
-pub use held::check_held;
+pub use held::check_content;
 pub use ldap_ber::NoMemory;
 pub use op::{Op, Write};
 pub use spec::{Scope, Spec};

@@ -4,7 +4,7 @@ ghost use Rattle.std.specs.List.{list_all};
 ghost use Rattle.schema_rules.specs.Attributes.{weight_of};
 ghost use Rattle.entry_writes.specs.Codes as codes;
 ghost use Rattle.entry_writes.specs.Effects as effects;
-ghost use Rattle.entry_writes.specs.Fault.{HasCode};
+ghost use Rattle.entry_writes.specs.Fault.{HasOpCode};
 ghost use Rattle.entry_writes.specs.Sound.{is_sound_edit};
 ghost use Rattle.entry_writes.specs.State as state;
 ghost use Rattle.entry_writes.specs.Touched.{is_change, IsPlan};
@@ -29,7 +29,7 @@ impl Tree {
             (IsPlan self.now
             (effects.modified self.now (state.entry_named self.now dn.now) edits.now csn)) }
         ensures refused { IfErr result
-            (HasCode (codes.modify_code self.now (state.entry_named self.now dn.now) edits.now)) }
+            (HasOpCode (codes.modify_code self.now (state.entry_named self.now dn.now) edits.now)) }
     {
         let Some(was) = self.find(dn) else {
             return Err(OpFault::Code(NO_SUCH_OBJECT));

@@ -1,7 +1,7 @@
 //! Which names have entries.
 ghost use Rattle.std.specs.Prelude.{◌≡◌, None, IfErr, OnOk};
 ghost use Rattle.entry_writes.specs.Codes as codes;
-ghost use Rattle.entry_writes.specs.Fault.{HasCode};
+ghost use Rattle.entry_writes.specs.Fault.{HasOpCode};
 ghost use Rattle.entry_writes.specs.State as state;
 
 use crate::names::has_longer;
@@ -14,8 +14,9 @@ impl Tree {
     /// Refuses the name of a new entry with noSuchObject (32) where it has no place in the
     /// directory with this suffix, else with entryAlreadyExists (68) where an entry has it.
     pub(crate) fn check_place(&self, suffix: &Dn, dn: &Dn) -> Result<(), OpFault>
-        ensures ok { OnOk result (codes.place_code suffix.now self.now dn.now ≡ None) }
-        ensures fault { IfErr result (HasCode (codes.place_code suffix.now self.now dn.now)) }
+        ensures ok { OnOk result (codes.add_target_code suffix.now self.now dn.now ≡ None) }
+        ensures fault { IfErr result
+            (HasOpCode (codes.add_target_code suffix.now self.now dn.now)) }
     {
         if self.has_no_place(suffix, dn) {
             return Err(OpFault::Code(NO_SUCH_OBJECT));
@@ -67,7 +68,7 @@ impl Tree {
     /// name, else with notAllowedOnNonLeaf (66) where there are entries below it.
     pub(crate) fn check_delete(&self, dn: &Dn) -> Result<(), OpFault>
         ensures ok { OnOk result (codes.delete_code self.now dn.now ≡ None) }
-        ensures fault { IfErr result (HasCode (codes.delete_code self.now dn.now)) }
+        ensures fault { IfErr result (HasOpCode (codes.delete_code self.now dn.now)) }
     {
         if !self.has_name(dn) {
             return Err(OpFault::Code(NO_SUCH_OBJECT));

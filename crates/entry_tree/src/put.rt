@@ -20,56 +20,28 @@ impl Tree {
         ensures ok { OnOk result (self.new ≡ changing.with_changes self.old entry_changes.now) }
         ensures err { OnErr result (self.new ≡ self.old) }
     {
+        *self = self.with_changes(entry_changes)?;
+        Ok(())
+    }
+
+    /// The entries after such changes, beside these, with which they share what did not change. To
+    /// put them in the place of these takes no memory.
+    pub fn with_changes(&self, entry_changes: &Touched) -> Result<Tree, NoMemory>
+        requires { changing.CanBeMade self.now entry_changes.now }
+        ensures { IfOk result (λ after.
+            after ≡ changing.with_changes self.now entry_changes.now) }
+    {
         let changes = entry_changes.list();
         let weight = weight_with(self.weight, changes);
         let names = reindexed(self.alloc, &self.names, changes)?;
-        change_entries(&mut self.entries, changes)?;
-        self.names = names;
-        self.weight = weight;
-        Ok(())
+        let entries = changed(&self.entries, changes)?;
+        Ok(Tree {
+            alloc: self.alloc,
+            entries,
+            names,
+            weight,
+        })
     }
-}
-
-/// Makes the changes. One change by itself is made where the entries stand, and of several all are
-/// made or none.
-fn change_entries(entries: &mut Entries, changes: &[EntryChange]) -> Result<(), NoMemory>
-    requires keyed { entries.old ≡ by_identity (values_of entries.old) }
-    requires ascends { state.ascends (values_of entries.old) ≡ true }
-    ensures ok { OnOk result (entries.new
-        ≡ by_identity (changing.with_changes (values_of entries.old) changes.now)) }
-    ensures err { OnErr result (entries.new ≡ entries.old) }
-{
-    match changes {
-        [change] => change_one(entries, change),
-        _ => change_each(entries, changes),
-    }
-}
-
-/// Makes the one change.
-fn change_one(entries: &mut Entries, change: &EntryChange) -> Result<(), NoMemory>
-    requires keyed { entries.old ≡ by_identity (values_of entries.old) }
-    requires ascends { state.ascends (values_of entries.old) ≡ true }
-    ensures ok { OnOk result (entries.new
-        ≡ by_identity (changing.with_changes (values_of entries.old) (change.now ∷ []))) }
-    ensures err { OnErr result (entries.new ≡ entries.old) }
-{
-    if change.after.is_some() {
-        return put_one(entries, change);
-    }
-    remove_one(entries, change)
-}
-
-/// Makes all the changes.
-fn change_each(entries: &mut Entries, changes: &[EntryChange]) -> Result<(), NoMemory>
-    requires keyed { entries.old ≡ by_identity (values_of entries.old) }
-    requires ascends { state.ascends (values_of entries.old) ≡ true }
-    ensures ok { OnOk result (entries.new
-        ≡ by_identity (changing.with_changes (values_of entries.old) changes.now)) }
-    ensures err { OnErr result (entries.new ≡ entries.old) }
-{
-    let after = changed(entries, changes)?;
-    *entries = after;
-    Ok(())
 }
 
 /// The entries after the changes.

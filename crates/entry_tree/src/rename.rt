@@ -4,7 +4,7 @@ ghost use Rattle.std.specs.Option.{option_or};
 ghost use Rattle.schema_rules.specs.Attributes.{entry_code, weight_of};
 ghost use Rattle.entry_writes.specs.Codes as codes;
 ghost use Rattle.entry_writes.specs.Effects as effects;
-ghost use Rattle.entry_writes.specs.Fault.{HasCode};
+ghost use Rattle.entry_writes.specs.Fault.{HasOpCode};
 ghost use Rattle.entry_writes.specs.State as state;
 ghost use Rattle.entry_writes.specs.Touched.{move_changes, IsPlan};
 
@@ -42,7 +42,7 @@ impl Tree {
             (effects.renamed self.now (state.entry_named self.now dn.now) rdn.now deletes
             superior.now csn)) }
         ensures refused { IfErr result
-            (HasCode (codes.rename_code suffix.now self.now (state.entry_named self.now dn.now)
+            (HasOpCode (codes.rename_code suffix.now self.now (state.entry_named self.now dn.now)
             rdn.now deletes superior.now)) }
     {
         let alloc = self.alloc;
@@ -79,7 +79,7 @@ impl Tree {
             (codes.weight_code (weight_of attrs)
             (state.weight_with self.now top.now (weight_of attrs))))
             ≡ None) }
-        ensures refused { IfErr result (HasCode (codes.moved_code suffix.now self.now top.now
+        ensures refused { IfErr result (HasOpCode (codes.moved_code suffix.now self.now top.now
             (effects.new_name top.now rdn.now superior.now)
             (effects.new_attributes top.now rdn.now deletes) superior.now)) }
     {
@@ -110,7 +110,7 @@ fn moved(
     ensures accepted { OnOk result
         (codes.length_code tree.now top.now renamed.now.name ≡ None) }
     ensures refused { IfErr result
-        (HasCode (codes.length_code tree.now top.now renamed.now.name)) }
+        (HasOpCode (codes.length_code tree.now top.now renamed.now.name)) }
 {
     let entries = tree.at_or_below(&top.dn)?;
     moved_entries(alloc, &entries, top, renamed, csn)

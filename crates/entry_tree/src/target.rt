@@ -4,7 +4,7 @@ ghost use Rattle.std.specs.Result.{result_ok};
 ghost use Rattle.dn_names.specs.Names.{TypeAndValue};
 ghost use Rattle.dn_names.specs.Reading.{limited};
 ghost use Rattle.entry_writes.specs.Codes as codes;
-ghost use Rattle.entry_writes.specs.Fault.{HasCode};
+ghost use Rattle.entry_writes.specs.Fault.{HasOpCode};
 
 use crate::names::has_other;
 use crate::tree::Tree;
@@ -29,7 +29,7 @@ impl Tree {
             → codes.target_code suffix.now self.now top.now new superior.now ≡ None) }
         ensures fault { IfErr result (λ fault. (new : List (List TypeAndValue))
             → name.now ≡ result_ok (limited new)
-            → HasCode (codes.target_code suffix.now self.now top.now new superior.now) fault) }
+            → HasOpCode (codes.target_code suffix.now self.now top.now new superior.now) fault) }
     {
         if !self.has_superior(superior) {
             return Err(OpFault::Code(NO_SUCH_OBJECT));

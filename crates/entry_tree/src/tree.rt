@@ -5,7 +5,7 @@ ghost use Rattle.dn_names.specs.Names.{TypeAndValue};
 ghost use Rattle.dn_names.specs.Paths.{path_key, HasPath};
 ghost use Rattle.entry_writes.specs.Codes.{code_of};
 ghost use Rattle.entry_writes.specs.Effects.{effect};
-ghost use Rattle.entry_writes.specs.Fault.{HasCode};
+ghost use Rattle.entry_writes.specs.Fault.{HasOpCode};
 ghost use Rattle.entry_tree.specs.Fitting.{fits};
 ghost use Rattle.entry_tree.specs.Selection.{search_of, select};
 ghost use Rattle.entry_writes.specs.Sound.{is_sound_op};
@@ -122,7 +122,7 @@ impl Tree {
         ensures accepted { OnOk result (code_of suffix.now self.old op.now ≡ None) }
         ensures effect { OnOk result (self.new ≡ effect self.old op.now uuid csn) }
         ensures touched { IfOk result (λ entry_changes. entry_changes ≡ touched self.old self.new) }
-        ensures refused { IfErr result (HasCode (code_of suffix.now self.old op.now)) }
+        ensures refused { IfErr result (HasOpCode (code_of suffix.now self.old op.now)) }
         ensures err { OnErr result (self.new ≡ self.old) }
     {
         let entry_changes = self.preview(op, suffix, uuid, csn)?;
@@ -141,7 +141,7 @@ impl Tree {
         ensures effect { IfOk result (λ entry_changes.
             with_changes self.now entry_changes ≡ effect self.now op.now uuid csn) }
         ensures fit { IfOk result (CanBeMade self.now) }
-        ensures refused { IfErr result (HasCode (code_of suffix.now self.now op.now)) }
+        ensures refused { IfErr result (HasOpCode (code_of suffix.now self.now op.now)) }
     {
         self.judge(op, suffix, uuid, csn)
     }
@@ -152,7 +152,7 @@ impl Tree {
         requires fits { fits self.now op.now ≡ true }
         ensures accepted { OnOk result (code_of suffix.now self.now op.now ≡ None) }
         ensures plan { IfOk result (IsPlan self.now (effect self.now op.now uuid csn)) }
-        ensures refused { IfErr result (HasCode (code_of suffix.now self.now op.now)) }
+        ensures refused { IfErr result (HasOpCode (code_of suffix.now self.now op.now)) }
     {
         match op {
             Op::Add(dn, attrs) => self.judge_add(suffix, dn, attrs, uuid, csn),

@@ -2,7 +2,7 @@
 use Rattle.std.proofs.Common.{◌≡◌, ℕ, ◌+◌, ◌<◌, List, [], ◌∷◌, ◌++◌, length, take, drop, get_or, Option, None, Some, ap, sym, ◌∙◌, refl}
 use Rattle.std.specs.Option.{option_or}
 use Rattle.std.proofs.lemmas.List.{take_more, take-append-drop}
-use Rattle.entry_writes.specs.Fault.{first_code, HasCode}
+use Rattle.entry_writes.specs.Fault.{first_code, HasOpCode}
 use Rattle.entry_writes.specs.declared.fault.OpFault.{OpFault}
 use Rattle.entry_writes.specs.declared.fault.OpFault.TheVariants.{Code, NoMemory}
 use Rattle.schema_rules.proofs.Lists.{option_or-assoc}
@@ -30,6 +30,6 @@ first_code_some h xs i x n low at before some =
     ∙ ap (λ o. option_or o (first_code h (drop (i + 1) xs))) (first_code-more h xs i x low at before ∙ ap (λ o. option_or o None) some)
 
 -- a fault that reports one code reports the other
-pub HasCode-same : (one two : Option ℕ) (fault : OpFault) → ((n : ℕ) → one ≡ Some n → two ≡ Some n) → HasCode one fault → HasCode two fault
+pub HasCode-same : (one two : Option ℕ) (fault : OpFault) → ((n : ℕ) → one ≡ Some n → two ≡ Some n) → HasOpCode one fault → HasOpCode two fault
 HasCode-same one two (Code n) same shown = same n shown
 HasCode-same one two NoMemory same shown = tt

@@ -34,8 +34,8 @@ has_no_place suffix entries name =
     not (is_at_or_below name suffix)
     || (not (same_name name suffix) && not (has_parent entries name))
 
-abbrev pub room_code : List Entry → ℕ → Option ℕ
-room_code entries weight =
+abbrev pub limit_code : List Entry → ℕ → Option ℕ
+limit_code entries weight =
     if nat_le most_entries (length entries) then Some ADMIN_LIMIT_EXCEEDED
     else weight_code weight (total_weight entries + weight)
 
@@ -44,17 +44,18 @@ abbrev pub naming_code : List (List TypeAndValue) → List Attribute → Option 
 naming_code name attrs = if has_own_pairs attrs name then None else Some NAMING_VIOLATION
 
 -- noSuchObject, then entryAlreadyExists
-abbrev pub place_code : List (List TypeAndValue) → List Entry → List (List TypeAndValue) → Option ℕ
-place_code suffix entries name =
+abbrev pub add_target_code : List (List TypeAndValue) → List Entry → List (List TypeAndValue)
+    → Option ℕ
+add_target_code suffix entries name =
     if has_no_place suffix entries name then Some NO_SUCH_OBJECT
     else if has_name entries name then Some ENTRY_ALREADY_EXISTS else None
 
 abbrev pub add_code :
     List (List TypeAndValue) → List Entry → List (List TypeAndValue) → List Attribute → Option ℕ
 add_code suffix entries name attrs =
-    option_or (place_code suffix entries name)
+    option_or (add_target_code suffix entries name)
     (option_or (entry_code attrs)
-    (option_or (naming_code name attrs) (room_code entries (weight_of attrs))))
+    (option_or (naming_code name attrs) (limit_code entries (weight_of attrs))))
 
 -- ---- Delete (section 4.8)
 
@@ -67,14 +68,14 @@ delete_code entries name =
 -- ---- Modify (section 4.6)
 
 -- notAllowedOnRDN
-abbrev pub kept_code : List (List TypeAndValue) → List Attribute → Option ℕ
-kept_code name attrs = if has_own_pairs attrs name then None else Some NOT_ALLOWED_ON_RDN
+abbrev pub rdn_kept_code : List (List TypeAndValue) → List Attribute → Option ℕ
+rdn_kept_code name attrs = if has_own_pairs attrs name then None else Some NOT_ALLOWED_ON_RDN
 
 -- the code against an entry that has got these attributes
 abbrev pub edited_code : List Entry → Entry → List Attribute → Option ℕ
 edited_code entries e attrs =
     option_or (entry_code attrs)
-    (option_or (kept_code e.dn attrs)
+    (option_or (rdn_kept_code e.dn attrs)
     (weight_code (weight_of attrs) (weight_with entries e (weight_of attrs))))
 
 abbrev pub modify_code : List Entry → Option Entry → List Edit → Option ℕ

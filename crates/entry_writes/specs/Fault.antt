@@ -5,9 +5,9 @@ use Rattle.entry_writes.specs.declared.fault.OpFault.{OpFault}
 use Rattle.entry_writes.specs.declared.fault.OpFault.TheVariants.{Code, NoMemory}
 
 -- the fault reports this code; out of memory reports nothing
-abbrev pub HasCode : Option ℕ → OpFault → Type 0
-HasCode code (Code number) = code ≡ Some number
-HasCode code NoMemory = Unit {0}
+abbrev pub HasOpCode : Option ℕ → OpFault → Type 0
+HasOpCode code (Code number) = code ≡ Some number
+HasOpCode code NoMemory = Unit {0}
 
 -- the first code against the items of a list
 abbrev pub first_code : {X : Type 0} → (X → Option ℕ) → List X → Option ℕ

@@ -74,8 +74,8 @@ abbrev pub most_weight : ℕ
 most_weight = 67108864
 
 -- more entries than a directory may have, or heavier ones
-abbrev pub is_crowded : List Entry → Bool
-is_crowded entries =
+abbrev pub exceeds_limits : List Entry → Bool
+exceeds_limits entries =
     nat_lt most_entries (length entries) || nat_lt most_weight (total_weight entries)
 
 -- the first entry whose name a later one has, with the first such

@@ -4,7 +4,7 @@ ghost use Rattle.std.specs.List.{list_any, list_all};
 ghost use Rattle.dn_names.specs.Names.{same_pair, has_pair};
 ghost use Rattle.entry_writes.specs.Codes.{has_own_pairs};
 ghost use Rattle.entry_writes.specs.Edits as spec;
-ghost use Rattle.entry_writes.specs.Fault.{HasCode};
+ghost use Rattle.entry_writes.specs.Fault.{HasOpCode};
 ghost use Rattle.entry_writes.specs.Sound.{is_sound_edit};
 ghost use Rattle.entry_writes.specs.State as state;
 
@@ -126,7 +126,7 @@ fn unmatched(
 /// not there.
 fn check_edit(alloc: Global, attributes: &[Attribute], edit: &Edit) -> Result<(), OpFault>
     ensures ok { OnOk result (spec.edit_code attributes.now edit.now ≡ None) }
-    ensures fault { IfErr result (HasCode (spec.edit_code attributes.now edit.now)) }
+    ensures fault { IfErr result (HasOpCode (spec.edit_code attributes.now edit.now)) }
 {
     let kind = edit.kind;
     let values = edit.values.list();
@@ -313,7 +313,7 @@ pub(crate) fn edited(alloc: Global, attrs: &Attrs, edits: &[Edit]) -> Result<Att
     requires { list_all is_sound_edit edits.now ≡ true }
     ensures value { IfOk result (λ after. after ≡ spec.after_edits attrs.now edits.now) }
     ensures ok { OnOk result (spec.edits_code attrs.now edits.now ≡ None) }
-    ensures fault { IfErr result (HasCode (spec.edits_code attrs.now edits.now)) }
+    ensures fault { IfErr result (HasOpCode (spec.edits_code attrs.now edits.now)) }
 {
     let mut after = attrs.copy()?;
     for edit in edits {

@@ -1,7 +1,7 @@
 //! The codes against a write (RFC 4511, sections 4.6 to 4.9).
 ghost use Rattle.std.specs.Prelude.{◌≡◌, ◌+◌, ◌≤◌, None, IfErr, OnOk};
 ghost use Rattle.entry_writes.specs.Codes as spec;
-ghost use Rattle.entry_writes.specs.Fault.{HasCode};
+ghost use Rattle.entry_writes.specs.Fault.{HasOpCode};
 ghost use Rattle.entry_writes.specs.State as state;
 
 use crate::changing::has_own_pairs;
@@ -25,7 +25,7 @@ pub const MOST_WEIGHT: u64 = 67_108_864;
 pub fn check_weight(weight: u64, others: u64) -> Result<(), OpFault>
     requires { others ≤ state.most_weight }
     ensures ok { OnOk result (spec.weight_code weight (others + weight) ≡ None) }
-    ensures fault { IfErr result (HasCode (spec.weight_code weight (others + weight))) }
+    ensures fault { IfErr result (HasOpCode (spec.weight_code weight (others + weight))) }
 {
     if weight > MOST_ENTRY_WEIGHT || others + weight > MOST_WEIGHT {
         return Err(OpFault::Code(ADMIN_LIMIT_EXCEEDED));
@@ -37,7 +37,7 @@ pub fn check_weight(weight: u64, others: u64) -> Result<(), OpFault>
 /// section 4.7); or it is `NoMemory`.
 pub fn check_naming(alloc: Global, dn: &Dn, attrs: &Attrs) -> Result<(), OpFault>
     ensures ok { OnOk result (spec.naming_code dn.now attrs.now ≡ None) }
-    ensures fault { IfErr result (HasCode (spec.naming_code dn.now attrs.now)) }
+    ensures fault { IfErr result (HasOpCode (spec.naming_code dn.now attrs.now)) }
 {
     if !has_own_pairs(alloc, attrs.list(), dn)? {
         return Err(OpFault::Code(NAMING_VIOLATION));
@@ -47,8 +47,8 @@ pub fn check_naming(alloc: Global, dn: &Dn, attrs: &Attrs) -> Result<(), OpFault
 
 /// Refuses attributes of the entry that have lost values of its RDN.
 pub(crate) fn check_kept(alloc: Global, dn: &Dn, attrs: &Attrs) -> Result<(), OpFault>
-    ensures ok { OnOk result (spec.kept_code dn.now attrs.now ≡ None) }
-    ensures fault { IfErr result (HasCode (spec.kept_code dn.now attrs.now)) }
+    ensures ok { OnOk result (spec.rdn_kept_code dn.now attrs.now ≡ None) }
+    ensures fault { IfErr result (HasOpCode (spec.rdn_kept_code dn.now attrs.now)) }
 {
     if !has_own_pairs(alloc, attrs.list(), dn)? {
         return Err(OpFault::Code(NOT_ALLOWED_ON_RDN));

@@ -1,7 +1,7 @@
 //! Why a write is refused.
 ghost use Rattle.std.specs.Prelude.{◌≡◌, ℕ, Option};
 ghost use Rattle.schema_rules.specs.Fault as schema;
-ghost use Rattle.entry_writes.specs.Fault.{HasCode};
+ghost use Rattle.entry_writes.specs.Fault.{HasOpCode};
 ghost use Rattle.entry_writes.specs.declared.fault.OpFault.TheVariants.{NoMemory};
 
 use schema_rules::SchemaFault;
@@ -34,7 +34,7 @@ impl<T: Drop> From<AllocFailed<T>> for OpFault {
 /// The fault reports the same code.
 impl From<SchemaFault> for OpFault {
     ghost from_gives = { λ given fault. (code : Option ℕ)
-        → schema.HasCode code given → HasCode code fault };
+        → schema.HasCode code given → HasOpCode code fault };
 
     fn from(fault: SchemaFault) -> OpFault {
         match fault {

@@ -6,7 +6,7 @@ ghost use Rattle.schema_rules.specs.Attributes.{entry_code, weight_of};
 ghost use Rattle.entry_writes.specs.Codes as codes;
 ghost use Rattle.entry_writes.specs.Edits.{after_edits, edits_code};
 ghost use Rattle.entry_writes.specs.Effects as effects;
-ghost use Rattle.entry_writes.specs.Fault.{HasCode};
+ghost use Rattle.entry_writes.specs.Fault.{HasOpCode};
 ghost use Rattle.entry_writes.specs.Sound.{is_sound_edit};
 ghost use Rattle.entry_writes.specs.State as state;
 
@@ -40,14 +40,14 @@ pub fn edited_entry(
         let attrs = after_edits entry.now.attrs edits.now in
         option_or (edits_code entry.now.attrs edits.now)
         (option_or (entry_code attrs)
-        (option_or (codes.kept_code entry.now.dn attrs)
+        (option_or (codes.rdn_kept_code entry.now.dn attrs)
         (codes.weight_code (weight_of attrs) (others + weight_of attrs)))) ≡ None) }
     ensures refused { IfErr result (
         let attrs = after_edits entry.now.attrs edits.now in
-        HasCode
+        HasOpCode
         (option_or (edits_code entry.now.attrs edits.now)
         (option_or (entry_code attrs)
-        (option_or (codes.kept_code entry.now.dn attrs)
+        (option_or (codes.rdn_kept_code entry.now.dn attrs)
         (codes.weight_code (weight_of attrs) (others + weight_of attrs)))))) }
 {
     let attrs = edited(alloc, &entry.attrs, edits.list())?;
@@ -66,11 +66,11 @@ fn check_edited(alloc: Global, dn: &Dn, attrs: &Attrs, others: u64) -> Result<()
     ensures light { OnOk result (others + weight_of attrs.now ≤ state.most_weight) }
     ensures accepted { OnOk result (
         option_or (entry_code attrs.now)
-        (option_or (codes.kept_code dn.now attrs.now)
+        (option_or (codes.rdn_kept_code dn.now attrs.now)
         (codes.weight_code (weight_of attrs.now) (others + weight_of attrs.now))) ≡ None) }
-    ensures refused { IfErr result (HasCode (
+    ensures refused { IfErr result (HasOpCode (
         option_or (entry_code attrs.now)
-        (option_or (codes.kept_code dn.now attrs.now)
+        (option_or (codes.rdn_kept_code dn.now attrs.now)
         (codes.weight_code (weight_of attrs.now) (others + weight_of attrs.now))))) }
 {
     check_entry(alloc, attrs)?;

@@ -2,7 +2,7 @@
 ghost use Rattle.std.specs.Prelude.{◌≡◌, true, false, None, Some, Ok, IfOk, IfErr, OnOk};
 ghost use Rattle.std.specs.List.{list_all};
 ghost use Rattle.std.specs.Result.{result_err};
-ghost use Rattle.entry_writes.specs.Fault.{HasCode};
+ghost use Rattle.entry_writes.specs.Fault.{HasOpCode};
 ghost use Rattle.entry_writes.specs.Reading as spec;
 ghost use Rattle.entry_writes.specs.Sound as sound;
 ghost use Rattle.entry_writes.specs.Sound.{is_sound_op, is_sound_edit, is_commit};
@@ -29,7 +29,7 @@ pub fn read_op(alloc: Global, change: &Change) -> Result<Op, OpFault>
     ensures ok { IfOk result (λ op. spec.read_change change.now ≡ Ok op) }
     ensures sound { IfOk result (λ op. is_sound_op op ≡ true) }
     ensures asked { IfOk result (λ op. is_commit op ≡ false) }
-    ensures fault { IfErr result (HasCode (result_err (spec.read_change change.now))) }
+    ensures fault { IfErr result (HasOpCode (result_err (spec.read_change change.now))) }
 {
     match change {
         Change::Add(name, raws) => {
@@ -57,7 +57,7 @@ pub fn read_op(alloc: Global, change: &Change) -> Result<Op, OpFault>
 
 fn read_name(alloc: Global, text: &Octets) -> Result<Dn, OpFault>
     ensures ok { IfOk result (λ dn. spec.read_name text.now ≡ Ok dn) }
-    ensures fault { IfErr result (HasCode (result_err (spec.read_name text.now))) }
+    ensures fault { IfErr result (HasOpCode (result_err (spec.read_name text.now))) }
 {
     match Dn::parse(alloc, text.as_slice()) {
         Ok(dn) => Ok(dn),
@@ -70,7 +70,7 @@ fn read_name(alloc: Global, text: &Octets) -> Result<Dn, OpFault>
 
 fn read_rdn(alloc: Global, text: &Octets) -> Result<Rdn, OpFault>
     ensures ok { IfOk result (λ rdn. spec.read_rdn text.now ≡ Ok rdn) }
-    ensures fault { IfErr result (HasCode (result_err (spec.read_rdn text.now))) }
+    ensures fault { IfErr result (HasOpCode (result_err (spec.read_rdn text.now))) }
 {
     match Rdn::parse(alloc, text.as_slice()) {
         Ok(rdn) => Ok(rdn),
@@ -83,7 +83,7 @@ fn read_rdn(alloc: Global, text: &Octets) -> Result<Rdn, OpFault>
 
 fn read_superior(alloc: Global, text: &Option<Octets>) -> Result<Option<Dn>, OpFault>
     ensures ok { IfOk result (λ dn. spec.read_superior text.now ≡ Ok dn) }
-    ensures fault { IfErr result (HasCode (result_err (spec.read_superior text.now))) }
+    ensures fault { IfErr result (HasOpCode (result_err (spec.read_superior text.now))) }
 {
     match text {
         None => Ok(None),
@@ -94,7 +94,7 @@ fn read_superior(alloc: Global, text: &Option<Octets>) -> Result<Option<Dn>, OpF
 fn read_edits(alloc: Global, raws: &EditList) -> Result<Edits, OpFault>
     ensures ok { IfOk result (λ edits. spec.read_edits raws.now ≡ Ok edits) }
     ensures sound { IfOk result (λ edits. list_all is_sound_edit edits ≡ true) }
-    ensures fault { IfErr result (HasCode (result_err (spec.read_edits raws.now))) }
+    ensures fault { IfErr result (HasOpCode (result_err (spec.read_edits raws.now))) }
 {
     let mut edits = Edits::new(alloc);
     for raw in raws.list() {
@@ -109,7 +109,7 @@ fn read_edit(alloc: Global, raw: &RawEdit) -> Result<Edit, OpFault>
     ensures typed { IfOk result (λ edit. spec.typed raw.now ≡ Some edit) }
     ensures sound { IfOk result (λ edit. is_sound_edit edit ≡ true) }
     ensures ok { OnOk result (spec.raw_code raw.now ≡ None) }
-    ensures fault { IfErr result (HasCode (spec.raw_code raw.now)) }
+    ensures fault { IfErr result (HasOpCode (spec.raw_code raw.now)) }
 {
     let Some(kind) = AttributeType::find(raw.attribute.name.as_slice()) else {
         return Err(OpFault::Code(UNDEFINED_ATTRIBUTE_TYPE));

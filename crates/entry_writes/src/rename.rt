@@ -4,7 +4,7 @@ ghost use Rattle.dn_names.specs.Names.{is_at_or_below, moved_name};
 ghost use Rattle.dn_names.specs.Sound.{most_rdns};
 ghost use Rattle.entry_writes.specs.Codes as codes;
 ghost use Rattle.entry_writes.specs.Effects as effects;
-ghost use Rattle.entry_writes.specs.Fault.{HasCode};
+ghost use Rattle.entry_writes.specs.Fault.{HasOpCode};
 ghost use Rattle.entry_writes.specs.Touched.{move_changes};
 
 use crate::entry::Entry;
@@ -39,7 +39,7 @@ pub fn moved_entries(
     ensures accepted { OnOk result
         (codes.length_code (map (λ e. e.now) entries.now) top.now renamed.now.name ≡ None) }
     ensures refused { IfErr result
-        (HasCode (codes.length_code (map (λ e. e.now) entries.now) top.now renamed.now.name)) }
+        (HasOpCode (codes.length_code (map (λ e. e.now) entries.now) top.now renamed.now.name)) }
 {
     let mut entry_changes = Touched::new(alloc);
     for entry in entries {
@@ -57,7 +57,7 @@ fn moved_entry(entry: &Entry, top: &Entry, renamed: &Renamed, csn: Csn) -> Resul
         (is_at_or_below entry.now.dn top.now.dn
         && nat_lt most_rdns (length (moved_name entry.now.dn top.now.dn renamed.now.name)))
         ≡ false) }
-    ensures refused { IfErr result (HasCode (
+    ensures refused { IfErr result (HasOpCode (
         if is_at_or_below entry.now.dn top.now.dn
         && nat_lt most_rdns (length (moved_name entry.now.dn top.now.dn renamed.now.name))
         then Some ADMIN_LIMIT_EXCEEDED
@@ -88,7 +88,7 @@ fn moved_dn(dn: &Dn, from: &Dn, to: &Dn) -> Result<Dn, OpFault>
     ensures short { OnOk result
         (nat_lt most_rdns (length (moved_name dn.now from.now to.now)) ≡ false) }
     ensures refused { IfErr result
-        (HasCode (if nat_lt most_rdns (length (moved_name dn.now from.now to.now))
+        (HasOpCode (if nat_lt most_rdns (length (moved_name dn.now from.now to.now))
         then Some ADMIN_LIMIT_EXCEEDED
         else None)) }
 {

@@ -2,7 +2,7 @@
 ghost use Rattle.std.specs.Prelude.{◌≡◌, ◌<◌, ◌≤◌, ◌-◌, ◌==◌, length, drop, take_while, Ok, IfOk, OnOk};
 ghost use Rattle.std.specs.Bool.{OnTrue, OnFalse};
 ghost use Rattle.ldap_ber.specs.Gives.{Gives};
-ghost use Rattle.ldap_filter.specs.Fault.{Fails};
+ghost use Rattle.ldap_filter.specs.Fault.{FilterFails};
 ghost use Rattle.ldap_filter.specs.Grammar as grammar;
 ghost use Rattle.ldap_filter.specs.Reading as spec;
 
@@ -78,7 +78,7 @@ impl<'a> FilterCursor<'a> {
 
     /// Goes past the byte, which has to be the next one.
     pub(crate) fn pass(&mut self, byte: u8) -> Result<(), FilterFault>
-        ensures read { Gives Fails (λ _. Ok self.new.left) result
+        ensures read { Gives FilterFails (λ _. Ok self.new.left) result
             (spec.past byte self.old.stop self.old.left) }
         ensures stop { self.new.stop ≡ self.old.stop }
         ensures shorter { OnOk result (length self.new.left < length self.old.left) }
@@ -116,7 +116,7 @@ impl<'a> FilterCursor<'a> {
 
     /// The next byte of a value.
     pub(crate) fn value_byte(&mut self) -> Result<u8, FilterFault>
-        ensures read { Gives Fails (λ byte. Ok (byte, self.new.left)) result
+        ensures read { Gives FilterFails (λ byte. Ok (byte, self.new.left)) result
             (spec.value_byte_at self.old.stop self.old.left) }
         ensures stop { self.new.stop ≡ self.old.stop }
         ensures shorter { OnOk result (length self.new.left < length self.old.left) }
@@ -138,7 +138,7 @@ impl<'a> FilterCursor<'a> {
     /// The byte that two hexadecimal digits write.
     #[tactic(auto, unfolding(crate::specs::Reading::escaped_at))]
     fn escaped(&mut self) -> Result<u8, FilterFault>
-        ensures read { Gives Fails (λ byte. Ok (byte, self.new.left)) result
+        ensures read { Gives FilterFails (λ byte. Ok (byte, self.new.left)) result
             (spec.escaped_at self.old.stop self.old.left) }
         ensures stop { self.new.stop ≡ self.old.stop }
         ensures shorter { OnOk result (length self.new.left < length self.old.left) }
@@ -149,7 +149,7 @@ impl<'a> FilterCursor<'a> {
     }
 
     fn hex_digit(&mut self) -> Result<u8, FilterFault>
-        ensures read { Gives Fails (λ digit. Ok (digit, self.new.left)) result
+        ensures read { Gives FilterFails (λ digit. Ok (digit, self.new.left)) result
             (spec.hex_at self.old.stop self.old.left) }
         ensures small { IfOk result (λ digit. digit < 16) }
         ensures stop { self.new.stop ≡ self.old.stop }

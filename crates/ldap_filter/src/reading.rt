@@ -1,7 +1,7 @@
 //! Reading a filter's text (RFC 4515, section 3; RFC 4526).
 ghost use Rattle.std.specs.Prelude.{◌≡◌, ◌<◌, ◌≤◌, ◌-◌, length, map, take, Ok, IfOk, IfErr, OnOk};
 ghost use Rattle.ldap_ber.specs.Gives.{Gives};
-ghost use Rattle.ldap_filter.specs.Fault.{Fails};
+ghost use Rattle.ldap_filter.specs.Fault.{FilterFails};
 ghost use Rattle.ldap_filter.specs.Reading as spec;
 ghost use Rattle.ldap_filter.specs.FilterTree.{tree_of, trees, parts_of};
 
@@ -24,7 +24,7 @@ impl Filter {
     #[tactic(auto, unfolding(crate::specs::Reading::read_filter))]
     pub fn read_text(alloc: Global, text: &[u8]) -> Result<Filter, FilterFault>
         ensures ok { IfOk result (λ filter. spec.read_filter text.now ≡ Ok (tree_of filter)) }
-        ensures fault { IfErr result (λ fault. Fails fault (spec.read_filter text.now)) }
+        ensures fault { IfErr result (λ fault. FilterFails fault (spec.read_filter text.now)) }
     {
         let valid = text_len(text);
         if valid == text.len() {
@@ -40,7 +40,7 @@ impl Filter {
 /// A filter and nothing after it.
 #[tactic(auto, unfolding(crate::specs::Reading::whole_at))]
 fn whole(alloc: Global, text: &[u8]) -> Result<Filter, FilterFault>
-    ensures { Gives Fails (λ filter. Ok (tree_of filter)) result (spec.whole_at text.now) }
+    ensures { Gives FilterFails (λ filter. Ok (tree_of filter)) result (spec.whole_at text.now) }
 {
     let mut cursor = FilterCursor::new(text);
     let filter = filter_in(alloc, &mut cursor, LEVELS)?;
@@ -54,7 +54,7 @@ fn whole(alloc: Global, text: &[u8]) -> Result<Filter, FilterFault>
 /// A filter in at most n levels.
 #[cycle(filters)]
 fn filter_in(alloc: Global, cursor: &mut FilterCursor, levels: usize) -> Result<Filter, FilterFault>
-    ensures read { Gives Fails (λ filter. Ok (tree_of filter, cursor.new.left)) result
+    ensures read { Gives FilterFails (λ filter. Ok (tree_of filter, cursor.new.left)) result
         (spec.filter_in levels cursor.old.stop cursor.old.left) }
     ensures stop { cursor.new.stop ≡ cursor.old.stop }
     ensures shorter { OnOk result (length cursor.new.left < length cursor.old.left) }
@@ -68,7 +68,7 @@ fn filter_in(alloc: Global, cursor: &mut FilterCursor, levels: usize) -> Result<
 /// Why no filter may stand here.
 #[tactic(auto, unfolding(crate::specs::Reading::filter_in))]
 fn no_level(cursor: &FilterCursor) -> FilterFault
-    ensures { Fails result (spec.filter_in 0 cursor.now.stop cursor.now.left) }
+    ensures { FilterFails result (spec.filter_in 0 cursor.now.stop cursor.now.left) }
 {
     if cursor.begins_with(b'(') {
         FilterFault::TooDeep
@@ -80,7 +80,7 @@ fn no_level(cursor: &FilterCursor) -> FilterFault
 /// filter = LPAREN filtercomp RPAREN.
 #[cycle(filters)]
 fn enclosed(alloc: Global, cursor: &mut FilterCursor, levels: usize) -> Result<Filter, FilterFault>
-    ensures read { Gives Fails (λ filter. Ok (tree_of filter, cursor.new.left)) result
+    ensures read { Gives FilterFails (λ filter. Ok (tree_of filter, cursor.new.left)) result
         (spec.enclosed_at (spec.filter_in levels) cursor.old.stop cursor.old.left) }
     ensures stop { cursor.new.stop ≡ cursor.old.stop }
     ensures shorter { OnOk result (length cursor.new.left < length cursor.old.left) }
@@ -94,7 +94,7 @@ fn enclosed(alloc: Global, cursor: &mut FilterCursor, levels: usize) -> Result<F
 /// filtercomp = and / or / not / item.
 #[cycle(filters)]
 fn component(alloc: Global, cursor: &mut FilterCursor, levels: usize) -> Result<Filter, FilterFault>
-    ensures read { Gives Fails (λ filter. Ok (tree_of filter, cursor.new.left)) result
+    ensures read { Gives FilterFails (λ filter. Ok (tree_of filter, cursor.new.left)) result
         (spec.component_at (spec.filter_in levels) cursor.old.stop cursor.old.left) }
     ensures stop { cursor.new.stop ≡ cursor.old.stop }
     ensures shorter { OnOk result (length cursor.new.left ≤ length cursor.old.left) }
@@ -120,7 +120,8 @@ fn filters(
     cursor: &mut FilterCursor,
     levels: usize,
 ) -> Result<FilterList, FilterFault>
-    ensures read { Gives Fails (λ list. Ok (map tree_of (parts_of list), cursor.new.left)) result
+    ensures read { Gives FilterFails
+        (λ list. Ok (map tree_of (parts_of list), cursor.new.left)) result
         (spec.filters_at (spec.filter_in levels) cursor.old.stop cursor.old.left) }
     ensures stop { cursor.new.stop ≡ cursor.old.stop }
     ensures shorter { OnOk result (length cursor.new.left ≤ length cursor.old.left) }
@@ -135,7 +136,7 @@ fn filters(
 /// item = simple / present / substring.
 #[tactic(auto, unfolding(crate::specs::Reading::item_at))]
 fn item(alloc: Global, cursor: &mut FilterCursor) -> Result<Filter, FilterFault>
-    ensures read { Gives Fails (λ filter. Ok (tree_of filter, cursor.new.left)) result
+    ensures read { Gives FilterFails (λ filter. Ok (tree_of filter, cursor.new.left)) result
         (spec.item_at cursor.old.stop cursor.old.left) }
     ensures stop { cursor.new.stop ≡ cursor.old.stop }
     ensures shorter { OnOk result (length cursor.new.left ≤ length cursor.old.left) }
@@ -145,7 +146,7 @@ fn item(alloc: Global, cursor: &mut FilterCursor) -> Result<Filter, FilterFault>
 }
 
 fn type_name(alloc: Global, cursor: &mut FilterCursor) -> Result<Octets, FilterFault>
-    ensures read { Gives Fails (λ name. Ok (name, cursor.new.left)) result
+    ensures read { Gives FilterFails (λ name. Ok (name, cursor.new.left)) result
         (spec.type_at cursor.old.stop cursor.old.left) }
     ensures stop { cursor.new.stop ≡ cursor.old.stop }
     ensures shorter { OnOk result (length cursor.new.left ≤ length cursor.old.left) }
@@ -159,7 +160,7 @@ fn type_name(alloc: Global, cursor: &mut FilterCursor) -> Result<Octets, FilterF
 
 /// What stands after the type of an item.
 fn item_of(alloc: Global, cursor: &mut FilterCursor, name: Octets) -> Result<Filter, FilterFault>
-    ensures read { Gives Fails (λ filter. Ok (tree_of filter, cursor.new.left)) result
+    ensures read { Gives FilterFails (λ filter. Ok (tree_of filter, cursor.new.left)) result
         (spec.item_of name cursor.old.stop cursor.old.left) }
     ensures stop { cursor.new.stop ≡ cursor.old.stop }
     ensures shorter { OnOk result (length cursor.new.left ≤ length cursor.old.left) }
@@ -182,7 +183,7 @@ fn item_of(alloc: Global, cursor: &mut FilterCursor, name: Octets) -> Result<Fil
 /// The value after a sign of two characters, of which the second is `=`.
 #[tactic(auto, unfolding(crate::specs::Reading::compared_at))]
 fn compared(alloc: Global, cursor: &mut FilterCursor) -> Result<Octets, FilterFault>
-    ensures read { Gives Fails (λ value. Ok (value, cursor.new.left)) result
+    ensures read { Gives FilterFails (λ value. Ok (value, cursor.new.left)) result
         (spec.compared_at cursor.old.stop cursor.old.left) }
     ensures stop { cursor.new.stop ≡ cursor.old.stop }
     ensures shorter { OnOk result (length cursor.new.left ≤ length cursor.old.left) }
@@ -194,7 +195,7 @@ fn compared(alloc: Global, cursor: &mut FilterCursor) -> Result<Octets, FilterFa
 /// An equality, presence, or pieces.
 #[tactic(auto, unfolding(crate::specs::Reading::equal_at))]
 fn equality(alloc: Global, cursor: &mut FilterCursor, name: Octets) -> Result<Filter, FilterFault>
-    ensures read { Gives Fails (λ filter. Ok (tree_of filter, cursor.new.left)) result
+    ensures read { Gives FilterFails (λ filter. Ok (tree_of filter, cursor.new.left)) result
         (spec.equal_at name cursor.old.stop cursor.old.left) }
     ensures stop { cursor.new.stop ≡ cursor.old.stop }
     ensures shorter { OnOk result (length cursor.new.left ≤ length cursor.old.left) }
@@ -262,7 +263,7 @@ fn list_of(alloc: Global, items: Vec<Octets>) -> Result<OctetsList, NoMemory>
 /// Values, each after its `*`.
 #[tactic(auto, unfolding(crate::specs::Reading::stars_at, crate::specs::Reading::many_at))]
 fn starred_values(alloc: Global, cursor: &mut FilterCursor) -> Result<Vec<Octets>, FilterFault>
-    ensures read { Gives Fails (λ values. Ok (values.items, cursor.new.left)) result
+    ensures read { Gives FilterFails (λ values. Ok (values.items, cursor.new.left)) result
         (spec.stars_at cursor.old.stop cursor.old.left) }
     ensures stop { cursor.new.stop ≡ cursor.old.stop }
     ensures shorter { OnOk result (length cursor.new.left ≤ length cursor.old.left) }
@@ -276,7 +277,7 @@ fn starred_values(alloc: Global, cursor: &mut FilterCursor) -> Result<Vec<Octets
 
 #[tactic(auto, unfolding(crate::specs::Reading::starred_at))]
 fn starred(alloc: Global, cursor: &mut FilterCursor) -> Result<Octets, FilterFault>
-    ensures read { Gives Fails (λ value. Ok (value, cursor.new.left)) result
+    ensures read { Gives FilterFails (λ value. Ok (value, cursor.new.left)) result
         (spec.starred_at cursor.old.stop cursor.old.left) }
     ensures stop { cursor.new.stop ≡ cursor.old.stop }
     ensures shorter { OnOk result (length cursor.new.left < length cursor.old.left) }
@@ -288,7 +289,7 @@ fn starred(alloc: Global, cursor: &mut FilterCursor) -> Result<Octets, FilterFau
 /// assertionvalue = *(normal / escaped).
 #[tactic(auto, unfolding(crate::specs::Reading::value_at, crate::specs::Reading::many_at))]
 fn value(alloc: Global, cursor: &mut FilterCursor) -> Result<Octets, FilterFault>
-    ensures read { Gives Fails (λ value. Ok (value, cursor.new.left)) result
+    ensures read { Gives FilterFails (λ value. Ok (value, cursor.new.left)) result
         (spec.value_at cursor.old.stop cursor.old.left) }
     ensures stop { cursor.new.stop ≡ cursor.old.stop }
     ensures shorter { OnOk result (length cursor.new.left ≤ length cursor.old.left) }

@@ -14,7 +14,7 @@ use Rattle.ldap_messages.specs.declared.frame.Frame.{Frame}
 use Rattle.ldap_messages.specs.declared.frame.Frame.TheVariants.{Partial, Refused, Long, Held}
 use Rattle.ldap_messages.specs.declared.fault.MessageFault.{MessageFault}
 use Rattle.ldap_messages.specs.declared.message.Message.{Message}
-use Rattle.ldap_messages.specs.Whole.{Whole, whole_of, MessageForm, message_at}
+use Rattle.ldap_messages.specs.Whole.{MessageValue, message_value, MessageForm, message_at}
 use Rattle.ldap_messages.specs.Frame.{framed, frame_at, Read, message, held, in_frame, read_of, HasMeaning, Spells}
 use Rattle.ldap_messages.proofs.MessageLemmas.{message_exact}
 
@@ -105,26 +105,26 @@ within_limit (tag ∷ b ∷ octets) k h body s =
     let big : 1 < k = omega (arith, size, length-append s.octets (body ++ [])) in
     frame_within s.octets body [] k s.counted size b (second k tag b octets s.octets (body ++ []) s.parts some big) (header_is tag b octets k h)
 
-in_held : (bytes : List ℕ) (m : Whole) (k j : ℕ) (r : Result Whole ℕ) → whole_at place_of message_at (take j bytes) ≡ r → held j r ≡ message m k → (Held j ≡ Held k) × (whole_at place_of message_at (take k bytes) ≡ Ok m)
+in_held : (bytes : List ℕ) (m : MessageValue) (k j : ℕ) (r : Result MessageValue ℕ) → whole_at place_of message_at (take j bytes) ≡ r → held j r ≡ message m k → (Held j ≡ Held k) × (whole_at place_of message_at (take k bytes) ≡ Ok m)
 in_held bytes m k j (Ok n) e h =
     let same : j ≡ k = cc in
     let value : n ≡ m = cc in
-    (ap (λ (x : ℕ). Held x) same, subst (λ (x : ℕ). whole_at place_of message_at (take x bytes) ≡ Ok m) same (e ∙ ap (λ (x : Whole). Ok x) value))
+    (ap (λ (x : ℕ). Held x) same, subst (λ (x : ℕ). whole_at place_of message_at (take x bytes) ≡ Ok m) same (e ∙ ap (λ (x : MessageValue). Ok x) value))
 in_held bytes m k j (Err at) e h = absurd cc
 
-read_is : (bytes : List ℕ) (m : Whole) (k : ℕ) (f : Frame) → frame_at bytes ≡ f → in_frame bytes f ≡ message m k → (f ≡ Held k) × (whole_at place_of message_at (take k bytes) ≡ Ok m)
+read_is : (bytes : List ℕ) (m : MessageValue) (k : ℕ) (f : Frame) → frame_at bytes ≡ f → in_frame bytes f ≡ message m k → (f ≡ Held k) × (whole_at place_of message_at (take k bytes) ≡ Ok m)
 read_is bytes m k Partial e h = absurd cc
 read_is bytes m k (Refused at) e h = absurd cc
 read_is bytes m k Long e h = absurd cc
 read_is bytes m k (Held j) e h = in_held bytes m k j (whole_at place_of message_at (take j bytes)) refl h
 
-pub read_found : (bytes : List ℕ) (m : Whole) (k : ℕ) → read_of bytes ≡ message m k → Spells (take k bytes) m
+pub read_found : (bytes : List ℕ) (m : MessageValue) (k : ℕ) → read_of bytes ≡ message m k → Spells (take k bytes) m
 unfolding MessageForm read_of
 read_found bytes m k h =
     let r = read_is bytes m k (frame_at bytes) refl h in
     (whole_found place_of MessageForm message_at message_exact (take k bytes) m r.1, within_limit bytes k r.0)
 
-pub read_only : (prefix after : List ℕ) (m : Whole) → Spells prefix m → read_of (prefix ++ after) ≡ message m (length prefix)
+pub read_only : (prefix after : List ℕ) (m : MessageValue) → Spells prefix m → read_of (prefix ++ after) ≡ message m (length prefix)
 unfolding MessageForm read_of
 read_only prefix after m h =
     let w = whole_only place_of MessageForm message_at message_exact prefix m h.0 in
@@ -132,10 +132,10 @@ read_only prefix after m h =
     let body : Begins prefix 48 b.0 [] = b.2 in
     rw (frame_there prefix after b.0 body (h.1 b.0 body), take-append_seam prefix after, w) refl
 
-pub found_meaning : (bytes : List ℕ) (r : Result (Option (Message × ℕ)) MessageFault) → HasMeaning r (read_of bytes) → IfOk r (λ o. IfSome o (λ x. Spells (take x.1 bytes) (whole_of x.0)))
+pub found_meaning : (bytes : List ℕ) (r : Result (Option (Message × ℕ)) MessageFault) → HasMeaning r (read_of bytes) → IfOk r (λ o. IfSome o (λ x. Spells (take x.1 bytes) (message_value x.0)))
 found_meaning bytes (Ok None) h = tt
-found_meaning bytes (Ok (Some x)) h = read_found bytes (whole_of x.0) x.1 h
+found_meaning bytes (Ok (Some x)) h = read_found bytes (message_value x.0) x.1 h
 found_meaning bytes (Err e) h = tt
 
-pub only_meaning : (result : Result (Option (Message × ℕ)) MessageFault) (bytes : List ℕ) (whole : Whole) (prefix after : List ℕ) → HasMeaning result (read_of bytes) → bytes ≡ prefix ++ after → Spells prefix whole → HasMeaning result (message whole (length prefix))
+pub only_meaning : (result : Result (Option (Message × ℕ)) MessageFault) (bytes : List ℕ) (whole : MessageValue) (prefix after : List ℕ) → HasMeaning result (read_of bytes) → bytes ≡ prefix ++ after → Spells prefix whole → HasMeaning result (message whole (length prefix))
 only_meaning result bytes whole prefix after t e h = subst (λ (r : Read). HasMeaning result r) (ap read_of e ∙ read_only prefix after whole h) t

@@ -3,15 +3,15 @@ use Rattle.std.proofs.Common.{ℕ, zero, suc, ◌≤◌, List, [], Option, Some,
 use Rattle.std.specs.Prelude.{IfOk, IfSome}
 use Rattle.ldap_ber.specs.Form.{Many}
 use Rattle.ldap_filter.specs.FilterTree.{FilterTree, Trees, all_of, any_of, negated, equal, substrings, at_least, at_most, present, approx, extensible, no_trees, more_trees, depth, deepest}
-use Rattle.ldap_parts.specs.Components.{IsWithin, RangeForm}
+use Rattle.ldap_parts.specs.Components.{IsInRange, RangeForm}
 use Rattle.ldap_parts.specs.Filters.{listed, FilterIn}
 use Rattle.ldap_messages.specs.declared.fault.MessageFault.{MessageFault}
 use Rattle.ldap_messages.specs.declared.message.Message.{Message}
-use Rattle.ldap_messages.specs.Search.{Reach, ReachForm}
+use Rattle.ldap_messages.specs.Search.{SearchBounds, SearchBoundsForm}
 use Rattle.ldap_messages.specs.Operation.{Operation, bind, unbind, search, modify, add, delete, rename, compare, abandon, extended, bind_response, entry, search_done, reference, modify_response, add_response, delete_response, rename_response, compare_response, extended_response, intermediate, OperationForm, IsOfGrammar}
-use Rattle.ldap_messages.specs.Whole.{Whole, whole_of, MessageForm, HasSpelling}
+use Rattle.ldap_messages.specs.Whole.{MessageValue, message_value, MessageForm, HasSpelling}
 use Rattle.ldap_messages.specs.Frame.{HasMeaning, read_of}
-use Rattle.ldap_messages.proofs.OutcomeLemmas.{outcome_is, response_is}
+use Rattle.ldap_messages.proofs.OutcomeLemmas.{ldap_result_is, response_is}
 use Rattle.ldap_messages.proofs.FrameLemmas.{read_found}
 
 each_depth : (d : ℕ) → ((bytes : List ℕ) (t : FilterTree) (rest : List ℕ) → FilterIn d bytes t rest → depth t ≤ d) → (bytes : List ℕ) (ts : Trees) → Many (FilterIn d) bytes (listed ts) → deepest ts ≤ d
@@ -36,23 +36,23 @@ filter_depth (suc d) bytes (approx n v) rest h = omega arith
 filter_depth (suc d) bytes (extensible v) rest h = omega arith
 
 range_bounds : (least most tag : ℕ) (bytes : List ℕ) (value : ℕ) (rest : List ℕ) → RangeForm least most tag bytes value rest → (least ≤ value) × (value ≤ most)
-range_bounds least most tag bytes value rest h = let w : IsWithin least most h.0 value = h.2 in (w.1, w.2)
+range_bounds least most tag bytes value rest h = let w : IsInRange least most h.0 value = h.2 in (w.1, w.2)
 
-reach_is : (reach : Reach) (bytes rest : List ℕ) → ReachForm bytes reach rest → (reach.1.1.0 ≤ 3) × (reach.1.1.1.0 ≤ 2147483647) × (reach.1.1.1.1.0 ≤ 2147483647)
-reach_is reach bytes rest h =
+search_bounds_is : (search_bounds : SearchBounds) (bytes rest : List ℕ) → SearchBoundsForm bytes search_bounds rest → (search_bounds.1.1.0 ≤ 3) × (search_bounds.1.1.1.0 ≤ 2147483647) × (search_bounds.1.1.1.1.0 ≤ 2147483647)
+search_bounds_is search_bounds bytes rest h =
     let beyond = h.2.2 in
-    let deref = range_bounds 0 3 10 _ reach.1.1.0 _ beyond.1 in
+    let deref = range_bounds 0 3 10 _ search_bounds.1.1.0 _ beyond.1 in
     let limits = beyond.2 in
-    let size = range_bounds 0 2147483647 2 _ reach.1.1.1.0 _ limits.1 in
-    let time = range_bounds 0 2147483647 2 _ reach.1.1.1.1.0 _ limits.2.1 in
+    let size = range_bounds 0 2147483647 2 _ search_bounds.1.1.1.0 _ limits.1 in
+    let time = range_bounds 0 2147483647 2 _ search_bounds.1.1.1.1.0 _ limits.2.1 in
     (deref.1, size.1, time.1)
 
 operation_is : (op : Operation) (bytes rest : List ℕ) → OperationForm bytes op rest → IsOfGrammar op
 operation_is (bind x) bytes rest h = range_bounds 1 127 2 h.0 x.0 _ h.3.1
 operation_is (unbind x) bytes rest h = tt
 operation_is (search x) bytes rest h =
-    let reach = reach_is x.0 h.0 h.3.0 h.3.1 in
-    (reach.0, reach.1, reach.2, filter_depth 32 _ x.1.0 _ h.3.2.1)
+    let search_bounds = search_bounds_is x.0 h.0 h.3.0 h.3.1 in
+    (search_bounds.0, search_bounds.1, search_bounds.2, filter_depth 32 _ x.1.0 _ h.3.2.1)
 operation_is (modify x) bytes rest h = tt
 operation_is (add x) bytes rest h = tt
 operation_is (delete x) bytes rest h = tt
@@ -60,7 +60,7 @@ operation_is (rename x) bytes rest h = tt
 operation_is (compare x) bytes rest h = tt
 operation_is (abandon x) bytes rest h = tt
 operation_is (extended x) bytes rest h = tt
-operation_is (bind_response x) bytes rest h = outcome_is h.0 x.0 _ h.3.1
+operation_is (bind_response x) bytes rest h = ldap_result_is h.0 x.0 _ h.3.1
 operation_is (entry x) bytes rest h = tt
 operation_is (search_done x) bytes rest h = response_is 101 bytes x rest h
 operation_is (reference uris) bytes rest h = h.2.1
@@ -69,17 +69,17 @@ operation_is (add_response x) bytes rest h = response_is 105 bytes x rest h
 operation_is (delete_response x) bytes rest h = response_is 107 bytes x rest h
 operation_is (rename_response x) bytes rest h = response_is 109 bytes x rest h
 operation_is (compare_response x) bytes rest h = response_is 111 bytes x rest h
-operation_is (extended_response x) bytes rest h = outcome_is h.0 x.0 _ h.3.1
+operation_is (extended_response x) bytes rest h = ldap_result_is h.0 x.0 _ h.3.1
 operation_is (intermediate x) bytes rest h = tt
 
-message_is : (bytes rest : List ℕ) (whole : Whole) → MessageForm bytes whole rest → HasSpelling whole
+message_is : (bytes rest : List ℕ) (whole : MessageValue) → MessageForm bytes whole rest → HasSpelling whole
 unfolding MessageForm
 message_is bytes rest whole h =
     let id = range_bounds 0 2147483647 2 h.0 whole.0 _ h.3.1 in
     let beyond = h.3.2 in
     (id.1, operation_is whole.1.0 _ _ beyond.1)
 
-pub grammar_meaning : (result : Result (Option (Message × ℕ)) MessageFault) (bytes : List ℕ) → HasMeaning result (read_of bytes) → IfOk result (λ o. IfSome o (λ x. HasSpelling (whole_of x.0)))
+pub grammar_meaning : (result : Result (Option (Message × ℕ)) MessageFault) (bytes : List ℕ) → HasMeaning result (read_of bytes) → IfOk result (λ o. IfSome o (λ x. HasSpelling (message_value x.0)))
 grammar_meaning (Ok None) bytes h = tt
-grammar_meaning (Ok (Some x)) bytes h = message_is _ [] (whole_of x.0) (read_found bytes (whole_of x.0) x.1 h).0
+grammar_meaning (Ok (Some x)) bytes h = message_is _ [] (message_value x.0) (read_found bytes (message_value x.0) x.1 h).0
 grammar_meaning (Err e) bytes h = tt

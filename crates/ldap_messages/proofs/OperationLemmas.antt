@@ -16,7 +16,7 @@ use Rattle.ldap_messages.specs.declared.bind.Authentication.TheVariants.{Simple,
 use Rattle.ldap_messages.specs.Outcome.{ResponseForm, response_at}
 use Rattle.ldap_messages.specs.Bind.{BindForm, bind_at, BindResponseForm, bind_response_at, AuthenticationForm, authentication_at}
 use Rattle.ldap_messages.specs.Unbind.{UnbindForm, unbind_at, IsNull, null_of}
-use Rattle.ldap_messages.specs.Search.{ReachForm, reach_at, SearchForm, search_at, EntryForm, entry_at, ReferenceForm, reference_at}
+use Rattle.ldap_messages.specs.Search.{SearchBoundsForm, search_bounds_at, SearchForm, search_at, EntryForm, entry_at, ReferenceForm, reference_at}
 use Rattle.ldap_messages.specs.Modify.{ModifyForm, modify_at}
 use Rattle.ldap_messages.specs.Add.{AddForm, add_at}
 use Rattle.ldap_messages.specs.Delete.{DeleteForm, delete_at}
@@ -27,7 +27,7 @@ use Rattle.ldap_messages.specs.Extended.{ExtendedForm, extended_at, ExtendedResp
 use Rattle.ldap_messages.specs.Intermediate.{IntermediateForm, intermediate_at}
 use Rattle.ldap_messages.specs.Operation.{Operation, bind, unbind, search, modify, add, delete, rename, compare, abandon, extended, bind_response, entry, search_done, reference, modify_response, add_response, delete_response, rename_response, compare_response, extended_response, intermediate, OperationForm, other_response_at, write_response_at, search_response_at, session_response_at, write_request_at, entry_request_at, operation_at}
 use Rattle.ldap_messages.proofs.UriLemmas.{uris_exact}
-use Rattle.ldap_messages.proofs.OutcomeLemmas.{outcome_exact, response_exact}
+use Rattle.ldap_messages.proofs.OutcomeLemmas.{ldap_result_exact, response_exact}
 use Rattle.ldap_messages.proofs.ModifyLemmas.{modify_exact}
 
 -- ---- one by one
@@ -53,7 +53,7 @@ bind_exact = sequence_exact place_of 96 _ _ (both_exact _ _ _ _ (range_exact 1 1
 
 bind_response_exact : Exact BindResponseForm bind_response_at
 unfolding bind_response_at
-bind_response_exact = sequence_exact place_of 97 _ _ (both_exact _ _ _ _ outcome_exact (option_exact 135))
+bind_response_exact = sequence_exact place_of 97 _ _ (both_exact _ _ _ _ ldap_result_exact (option_exact 135))
 
 null_there : (place : ℕ) (body : List ℕ) (u : Unit {0}) → null_of place body ≡ Ok u → IsNull body u
 null_there place [] u h = refl
@@ -69,15 +69,15 @@ unbind_exact : Exact UnbindForm unbind_at
 unfolding unbind_at
 unbind_exact = meaning_exact IsNull null_of (OctetString 66) (string_at 66) null_there null_back (string_exact 66)
 
-reach_exact : Exact ReachForm reach_at
-unfolding reach_at
-reach_exact =
+search_bounds_exact : Exact SearchBoundsForm search_bounds_at
+unfolding search_bounds_at
+search_bounds_exact =
     both_exact _ _ _ _ (string_exact 4) (both_exact _ _ _ _ (range_exact 0 2 10) (both_exact _ _ _ _ (range_exact 0 3 10) (both_exact _ _ _ _ (range_exact 0 2147483647 2)
     (both_exact _ _ _ _ (range_exact 0 2147483647 2) truth_exact))))
 
 search_exact : Exact SearchForm search_at
 unfolding search_at
-search_exact = sequence_exact place_of 99 _ _ (both_exact _ _ _ _ reach_exact (both_exact _ _ _ _ (filter_exact 32) (strings_exact 48)))
+search_exact = sequence_exact place_of 99 _ _ (both_exact _ _ _ _ search_bounds_exact (both_exact _ _ _ _ (filter_exact 32) (strings_exact 48)))
 
 entry_exact : Exact EntryForm entry_at
 unfolding entry_at
@@ -112,7 +112,7 @@ extended_exact = sequence_exact place_of 119 _ _ (both_exact _ _ _ _ (string_exa
 
 extended_response_exact : Exact ExtendedResponseForm extended_response_at
 unfolding extended_response_at
-extended_response_exact = sequence_exact place_of 120 _ _ (both_exact _ _ _ _ outcome_exact (both_exact _ _ _ _ (option_exact 138) (option_exact 139)))
+extended_response_exact = sequence_exact place_of 120 _ _ (both_exact _ _ _ _ ldap_result_exact (both_exact _ _ _ _ (option_exact 138) (option_exact 139)))
 
 intermediate_exact : Exact IntermediateForm intermediate_at
 unfolding intermediate_at

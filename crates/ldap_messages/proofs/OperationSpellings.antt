@@ -14,10 +14,10 @@ use Rattle.ldap_parts.proofs.FilterSpellings.{assertion_spelled, filter_spelled}
 use Rattle.ldap_messages.specs.declared.bind.Authentication.{Authentication}
 use Rattle.ldap_messages.specs.declared.bind.Authentication.TheVariants.{Simple, Sasl}
 use Rattle.ldap_messages.specs.Uris.{HaveOne}
-use Rattle.ldap_messages.specs.Outcome.{OutcomeForm, outcome_octets}
+use Rattle.ldap_messages.specs.Outcome.{LdapResultForm, ldap_result_octets}
 use Rattle.ldap_messages.specs.Bind.{AuthenticationForm, BindForm, BindResponseForm, authentication_octets, bind_octets, bind_response_octets}
 use Rattle.ldap_messages.specs.Unbind.{UnbindForm, unbind_octets}
-use Rattle.ldap_messages.specs.Search.{Reach, ReachForm, SearchForm, EntryForm, ReferenceForm, reach_octets, search_octets, entry_octets, reference_octets}
+use Rattle.ldap_messages.specs.Search.{SearchBounds, SearchBoundsForm, SearchForm, EntryForm, ReferenceForm, search_bounds_octets, search_octets, entry_octets, reference_octets}
 use Rattle.ldap_messages.specs.Add.{AddForm, add_octets}
 use Rattle.ldap_messages.specs.ModifyDn.{RenameForm, rename_octets}
 use Rattle.ldap_messages.specs.Compare.{CompareForm, compare_octets}
@@ -25,7 +25,7 @@ use Rattle.ldap_messages.specs.Extended.{ExtendedForm, ExtendedResponseForm, ext
 use Rattle.ldap_messages.specs.Intermediate.{IntermediateForm, intermediate_octets}
 use Rattle.ldap_messages.specs.Operation.{Operation, bind, unbind, search, modify, add, delete, rename, compare, abandon, extended, bind_response, entry, search_done, reference, modify_response, add_response, delete_response, rename_response, compare_response, extended_response, intermediate, OperationForm, operation_octets, IsOfGrammar, IsHeld}
 use Rattle.ldap_messages.proofs.UriLemmas.{uris_spelled}
-use Rattle.ldap_messages.proofs.OutcomeLemmas.{IsOutcome, outcome_spelled, response_spelled}
+use Rattle.ldap_messages.proofs.OutcomeLemmas.{IsLdapResult, ldap_result_spelled, response_spelled}
 use Rattle.ldap_messages.proofs.ModifyLemmas.{modify_spelled}
 
 -- one component, and the other after it, whatever that is
@@ -56,8 +56,8 @@ authentication_spelled = record { spells = λ x rest small sound after. authenti
 bind_spelled : Spelled BindForm bind_octets (λ x. ((1 ≤ x.0) × (x.0 ≤ 127)) × (Unit {0} × Unit {0})) Anything
 bind_spelled = sequence_spelled 96 _ _ _ _ (omega arith) (and_then (range_spelled 1 127 2 (omega arith) (omega arith)) (and_then (octets_spelled 4 (omega arith)) authentication_spelled)) tt
 
-bind_response_spelled : Spelled BindResponseForm bind_response_octets (λ x. IsOutcome x.0 × Unit {0}) Anything
-bind_response_spelled = sequence_spelled 97 _ _ _ _ (omega arith) (and_option 163 135 (omega arith) (omega arith) outcome_spelled) (none_next 163, none_next 135)
+bind_response_spelled : Spelled BindResponseForm bind_response_octets (λ x. IsLdapResult x.0 × Unit {0}) Anything
+bind_response_spelled = sequence_spelled 97 _ _ _ _ (omega arith) (and_option 163 135 (omega arith) (omega arith) ldap_result_spelled) (none_next 163, none_next 135)
 
 unbind_goes : (rest : List ℕ) → UnbindForm (unbind_octets ++ rest) tt rest
 unbind_goes rest = ([], element_spells 66 [] rest (omega arith) (omega arith), refl)
@@ -68,17 +68,17 @@ IsBetween least most number = (least ≤ number) × (number ≤ most)
 abbrev FitsFilter : FilterTree → Type 0
 FitsFilter filter = (depth filter ≤ 32) × (have_piece filter ≡ true)
 
-abbrev IsReach : Reach → Type 0
-IsReach reach =
-    Unit {0} × (IsBetween 0 2 reach.1.0 × (IsBetween 0 3 reach.1.1.0 × (IsBetween 0 2147483647 reach.1.1.1.0 × (IsBetween 0 2147483647 reach.1.1.1.1.0 × Unit {0}))))
+abbrev HasBounds : SearchBounds → Type 0
+HasBounds search_bounds =
+    Unit {0} × (IsBetween 0 2 search_bounds.1.0 × (IsBetween 0 3 search_bounds.1.1.0 × (IsBetween 0 2147483647 search_bounds.1.1.1.0 × (IsBetween 0 2147483647 search_bounds.1.1.1.1.0 × Unit {0}))))
 
-reach_spelled : Spelled ReachForm reach_octets IsReach Anything
-unfolding reach_octets
-reach_spelled = and_then (octets_spelled 4 (omega arith)) (and_then (range_spelled 0 2 10 (omega arith) (omega arith)) (and_then (range_spelled 0 3 10 (omega arith) (omega arith))
+search_bounds_spelled : Spelled SearchBoundsForm search_bounds_octets HasBounds Anything
+unfolding search_bounds_octets
+search_bounds_spelled = and_then (octets_spelled 4 (omega arith)) (and_then (range_spelled 0 2 10 (omega arith) (omega arith)) (and_then (range_spelled 0 3 10 (omega arith) (omega arith))
     (and_then (range_spelled 0 2147483647 2 (omega arith) (omega arith)) (and_then (range_spelled 0 2147483647 2 (omega arith) (omega arith)) (boolean_spelled 1 (omega arith))))))
 
-search_spelled : Spelled SearchForm search_octets (λ x. IsReach x.0 × (FitsFilter x.1.0 × Unit {0})) Anything
-search_spelled = sequence_spelled 99 _ _ _ _ (omega arith) (and_then reach_spelled (and_then (filter_spelled 32) (strings_spelled 48 (omega arith)))) tt
+search_spelled : Spelled SearchForm search_octets (λ x. HasBounds x.0 × (FitsFilter x.1.0 × Unit {0})) Anything
+search_spelled = sequence_spelled 99 _ _ _ _ (omega arith) (and_then search_bounds_spelled (and_then (filter_spelled 32) (strings_spelled 48 (omega arith)))) tt
 
 entry_spelled : Spelled EntryForm entry_octets (λ x. Unit {0} × Unit {0}) Anything
 entry_spelled = sequence_spelled 100 _ _ _ _ (omega arith) (and_then (octets_spelled 4 (omega arith)) attributes_spelled) tt
@@ -114,10 +114,10 @@ names_octets p = string_octets 138 p.0 ++ string_octets 139 p.1
 names_lack : (p : Option (List ℕ) × Option (List ℕ)) (rest : List ℕ) → Lacks 163 rest → Lacks 163 (names_octets p ++ rest)
 names_lack p rest after = rw (append_assoc (string_octets 138 p.0) (string_octets 139 p.1) rest) (option_lacks 163 138 p.0 (string_octets 139 p.1 ++ rest) (omega arith) (option_lacks 163 139 p.1 rest (omega arith) after))
 
-extended_response_spelled : Spelled ExtendedResponseForm extended_response_octets (λ x. IsOutcome x.0 × (Unit {0} × Unit {0})) Anything
+extended_response_spelled : Spelled ExtendedResponseForm extended_response_octets (λ x. IsLdapResult x.0 × (Unit {0} × Unit {0})) Anything
 extended_response_spelled = sequence_spelled 120 _ _ _ _ (omega arith)
-    (both_spelled OutcomeForm (Both (OptionForm 138) (OptionForm 139)) outcome_octets names_octets IsOutcome (λ p. Unit {0} × Unit {0}) (Lacks 163) NoneOfThese
-    outcome_spelled (record { spells = λ p rest small sound after. (options_spelled 138 139 (omega arith) (omega arith) (omega arith)).spells p rest small sound after.1 })
+    (both_spelled LdapResultForm (Both (OptionForm 138) (OptionForm 139)) ldap_result_octets names_octets IsLdapResult (λ p. Unit {0} × Unit {0}) (Lacks 163) NoneOfThese
+    ldap_result_spelled (record { spells = λ p rest small sound after. (options_spelled 138 139 (omega arith) (omega arith) (omega arith)).spells p rest small sound after.1 })
     (λ p rest sound after. names_lack p rest after.0))
     (none_next 163, (none_next 138, none_next 139))
 

@@ -13,20 +13,20 @@ use Rattle.ldap_parts.specs.Components.{string_at, number_at}
 use Rattle.ldap_parts.proofs.ComponentLemmas.{string_exact, number_exact}
 use Rattle.ldap_messages.specs.declared.outcome.LdapResult.{LdapResult}
 use Rattle.ldap_messages.specs.Uris.{HaveOne, UrisForm, uris_at, uris_octets}
-use Rattle.ldap_messages.specs.Outcome.{RefersOn, Parts, outcome_parts, outcome_with, OutcomeForm, ResponseForm, referral_at, outcome_at, response_at, referral_octets, outcome_octets, response_octets}
+use Rattle.ldap_messages.specs.Outcome.{HasReferral, Parts, ldap_result_parts, ldap_result_with, LdapResultForm, ResponseForm, referral_at, ldap_result_at, response_at, referral_octets, ldap_result_octets, response_octets}
 use Rattle.ldap_messages.proofs.UriLemmas.{uris_exact, uris_spelled}
 
 -- ---- read
 
-pub outcome_exact : Exact OutcomeForm outcome_at
-unfolding outcome_at
-outcome_exact = made_exact outcome_parts outcome_with (Both (Integer 10) (Both (OctetString 4) (Both (OctetString 4) (Optional 163 (UrisForm 163)))))
+pub ldap_result_exact : Exact LdapResultForm ldap_result_at
+unfolding ldap_result_at
+ldap_result_exact = made_exact ldap_result_parts ldap_result_with (Both (Integer 10) (Both (OctetString 4) (Both (OctetString 4) (Optional 163 (UrisForm 163)))))
     (both_at (number_at 10) (both_at (string_at 4) (both_at (string_at 4) referral_at))) (λ x. refl) (λ y. refl)
     (both_exact _ _ _ _ (number_exact 10) (both_exact _ _ _ _ (string_exact 4) (both_exact _ _ _ _ (string_exact 4) (optional_exact 163 (UrisForm 163) (uris_at 163) (uris_exact 163)))))
 
 pub response_exact : (tag : ℕ) → Exact (ResponseForm tag) (response_at tag)
 unfolding response_at
-response_exact tag = sequence_exact place_of tag OutcomeForm outcome_at outcome_exact
+response_exact tag = sequence_exact place_of tag LdapResultForm ldap_result_at ldap_result_exact
 
 -- ---- written
 
@@ -53,19 +53,19 @@ texts_spelled = both_spelled (OctetString 4) (Both (OctetString 4) (Optional 163
 abbrev pub HasCode : LdapResult → Type 0
 HasCode outcome = FitsSigned w64 outcome.code
 
-abbrev pub IsOutcome : LdapResult → Type 0
-IsOutcome outcome = HasCode outcome × RefersOn outcome
+abbrev pub IsLdapResult : LdapResult → Type 0
+IsLdapResult outcome = HasCode outcome × HasReferral outcome
 
-pub outcome_spelled : Spelled OutcomeForm outcome_octets IsOutcome (Lacks 163)
-outcome_spelled = record {
+pub ldap_result_spelled : Spelled LdapResultForm ldap_result_octets IsLdapResult (Lacks 163)
+ldap_result_spelled = record {
   spells = λ outcome rest small sound after.
-      (made_spelled outcome_parts (Both (Integer 10) (Both (OctetString 4) (Both (OctetString 4) (Optional 163 (UrisForm 163))))) parts_octets (λ p. FitsSigned w64 p.0 × (Unit {0} × (Unit {0} × IsReferral p.1.1.1))) (Lacks 163)
+      (made_spelled ldap_result_parts (Both (Integer 10) (Both (OctetString 4) (Both (OctetString 4) (Optional 163 (UrisForm 163))))) parts_octets (λ p. FitsSigned w64 p.0 × (Unit {0} × (Unit {0} × IsReferral p.1.1.1))) (Lacks 163)
       (both_spelled (Integer 10) (Both (OctetString 4) (Both (OctetString 4) (Optional 163 (UrisForm 163)))) (λ code. element 10 (integer_octets code)) texts_octets (FitsSigned w64) (λ p. Unit {0} × (Unit {0} × IsReferral p.1.1)) Anything (Lacks 163)
       (integer_spelled 10 (omega arith)) texts_spelled (λ y rest sound after. tt))).spells outcome rest small (sound.0, (tt, (tt, sound.1))) after;
 }
 
-pub response_spelled : (tag : ℕ) → tag % 32 ≢ 31 → Spelled (ResponseForm tag) (response_octets tag) IsOutcome Anything
-response_spelled tag low = sequence_spelled tag OutcomeForm outcome_octets IsOutcome (Lacks 163) low outcome_spelled (none_next 163)
+pub response_spelled : (tag : ℕ) → tag % 32 ≢ 31 → Spelled (ResponseForm tag) (response_octets tag) IsLdapResult Anything
+response_spelled tag low = sequence_spelled tag LdapResultForm ldap_result_octets IsLdapResult (Lacks 163) low ldap_result_spelled (none_next 163)
 
 -- ---- of the grammar
 
@@ -73,8 +73,8 @@ referral_is : (bytes : List ℕ) (referral : Option (List (List ℕ))) (rest : L
 referral_is bytes None rest h = tt
 referral_is bytes (Some uris) rest h = h.1.2.1
 
-pub outcome_is : (bytes : List ℕ) (outcome : LdapResult) (rest : List ℕ) → OutcomeForm bytes outcome rest → RefersOn outcome
-outcome_is bytes outcome rest h = referral_is _ outcome.referral rest h.2.2.2
+pub ldap_result_is : (bytes : List ℕ) (outcome : LdapResult) (rest : List ℕ) → LdapResultForm bytes outcome rest → HasReferral outcome
+ldap_result_is bytes outcome rest h = referral_is _ outcome.referral rest h.2.2.2
 
-pub response_is : (tag : ℕ) (bytes : List ℕ) (outcome : LdapResult) (rest : List ℕ) → ResponseForm tag bytes outcome rest → RefersOn outcome
-response_is tag bytes outcome rest h = outcome_is h.0 outcome _ h.3
+pub response_is : (tag : ℕ) (bytes : List ℕ) (outcome : LdapResult) (rest : List ℕ) → ResponseForm tag bytes outcome rest → HasReferral outcome
+response_is tag bytes outcome rest h = ldap_result_is h.0 outcome _ h.3

@@ -6,10 +6,10 @@ use Rattle.ldap_ber.specs.Element.{Begins, IsLength, number_after}
 use Rattle.ldap_ber.proofs.LengthLemmas.{seam}
 use Rattle.ldap_ber.proofs.ElementLemmas.{no_prefix}
 use Rattle.ldap_messages.specs.declared.frame.Frame.TheVariants.{Partial}
-use Rattle.ldap_messages.specs.Whole.{Whole, MessageForm}
+use Rattle.ldap_messages.specs.Whole.{MessageValue, MessageForm}
 use Rattle.ldap_messages.specs.Frame.{framed, frame_at, in_frame, read_of, partial, Spells}
 
-pub one_message : (prefix more : List ℕ) (one other : Whole) → MessageForm prefix one [] → MessageForm (prefix ++ more) other [] → more ≡ []
+pub one_message : (prefix more : List ℕ) (one other : MessageValue) → MessageForm prefix one [] → MessageForm (prefix ++ more) other [] → more ≡ []
 unfolding MessageForm
 one_message prefix more one other h k = no_prefix prefix more 48 48 h.0 k.0 h.2 k.2
 
@@ -58,7 +58,7 @@ some_more : (xs : List ℕ) → xs ≢ [] → 0 < length xs
 some_more [] some = absurd (some refl)
 some_more (x ∷ xs) some = omega arith
 
-pub message_cut : (prefix more : List ℕ) (whole : Whole) → Spells (prefix ++ more) whole → more ≢ [] → read_of prefix ≡ partial
+pub message_cut : (prefix more : List ℕ) (whole : MessageValue) → Spells (prefix ++ more) whole → more ≢ [] → read_of prefix ≡ partial
 unfolding MessageForm read_of
 message_cut prefix more whole h some =
     let m = h.0 in

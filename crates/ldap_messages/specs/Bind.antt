@@ -9,7 +9,7 @@ use Rattle.ldap_parts.specs.Components.{RangeForm, OptionForm, string_at, range_
 use Rattle.ldap_messages.specs.declared.bind.Authentication.{Authentication}
 use Rattle.ldap_messages.specs.declared.bind.Authentication.TheVariants.{Simple, Sasl}
 use Rattle.ldap_messages.specs.declared.outcome.LdapResult.{LdapResult}
-use Rattle.ldap_messages.specs.Outcome.{OutcomeForm, outcome_at, outcome_octets}
+use Rattle.ldap_messages.specs.Outcome.{LdapResultForm, ldap_result_at, ldap_result_octets}
 
 -- AuthenticationChoice
 abbrev pub AuthenticationForm : Form Authentication
@@ -20,7 +20,7 @@ abbrev pub BindForm : Form (ℕ × (List ℕ × Authentication))
 BindForm = Sequence 96 (Both (RangeForm 1 127 2) (Both (OctetString 4) AuthenticationForm))
 
 abbrev pub BindResponseForm : Form (LdapResult × Option (List ℕ))
-BindResponseForm = Sequence 97 (Both OutcomeForm (OptionForm 135))
+BindResponseForm = Sequence 97 (Both LdapResultForm (OptionForm 135))
 
 unfoldable pub authentication_at : Reading ℕ Authentication
 authentication_at stop bytes =
@@ -34,7 +34,7 @@ bind_at stop bytes =
 
 unfoldable pub bind_response_at : Reading ℕ (LdapResult × Option (List ℕ))
 bind_response_at stop bytes =
-    sequence_at place_of 97 (both_at outcome_at (option_at 135)) stop bytes
+    sequence_at place_of 97 (both_at ldap_result_at (option_at 135)) stop bytes
 
 abbrev pub authentication_octets : Authentication → List ℕ
 authentication_octets (Simple password) = element 128 password
@@ -45,4 +45,4 @@ bind_octets parts =
     element 96 (number_octets 2 parts.0 ++ (element 4 parts.1.0 ++ authentication_octets parts.1.1))
 
 abbrev pub bind_response_octets : LdapResult × Option (List ℕ) → List ℕ
-bind_response_octets parts = element 97 (outcome_octets parts.0 ++ string_octets 135 parts.1)
+bind_response_octets parts = element 97 (ldap_result_octets parts.0 ++ string_octets 135 parts.1)

@@ -6,13 +6,13 @@ use Rattle.ldap_ber.specs.Canonical.{element}
 use Rattle.ldap_parts.specs.Faults.{place_of}
 use Rattle.ldap_parts.specs.Components.{OptionForm, string_at, option_at, string_octets}
 use Rattle.ldap_messages.specs.declared.outcome.LdapResult.{LdapResult}
-use Rattle.ldap_messages.specs.Outcome.{OutcomeForm, outcome_at, outcome_octets}
+use Rattle.ldap_messages.specs.Outcome.{LdapResultForm, ldap_result_at, ldap_result_octets}
 
 abbrev pub ExtendedForm : Form (List ℕ × Option (List ℕ))
 ExtendedForm = Sequence 119 (Both (OctetString 128) (OptionForm 129))
 
 abbrev pub ExtendedResponseForm : Form (LdapResult × (Option (List ℕ) × Option (List ℕ)))
-ExtendedResponseForm = Sequence 120 (Both OutcomeForm (Both (OptionForm 138) (OptionForm 139)))
+ExtendedResponseForm = Sequence 120 (Both LdapResultForm (Both (OptionForm 138) (OptionForm 139)))
 
 unfoldable pub extended_at : Reading ℕ (List ℕ × Option (List ℕ))
 extended_at stop bytes =
@@ -21,7 +21,7 @@ extended_at stop bytes =
 unfoldable pub extended_response_at : Reading ℕ (LdapResult × (Option (List ℕ) × Option (List ℕ)))
 extended_response_at stop bytes =
     sequence_at place_of 120
-    (both_at outcome_at (both_at (option_at 138) (option_at 139))) stop bytes
+    (both_at ldap_result_at (both_at (option_at 138) (option_at 139))) stop bytes
 
 abbrev pub extended_octets : List ℕ × Option (List ℕ) → List ℕ
 extended_octets parts = element 119 (element 128 parts.0 ++ string_octets 129 parts.1)
@@ -29,4 +29,4 @@ extended_octets parts = element 119 (element 128 parts.0 ++ string_octets 129 pa
 abbrev pub extended_response_octets : LdapResult × (Option (List ℕ) × Option (List ℕ)) → List ℕ
 extended_response_octets parts =
     element 120
-    (outcome_octets parts.0 ++ (string_octets 138 parts.1.0 ++ string_octets 139 parts.1.1))
+    (ldap_result_octets parts.0 ++ (string_octets 138 parts.1.0 ++ string_octets 139 parts.1.1))

@@ -8,7 +8,7 @@ use Rattle.ldap_messages.specs.declared.frame.Frame.TheVariants.{Partial, Refuse
 use Rattle.ldap_messages.specs.declared.fault.MessageFault.{MessageFault}
 use Rattle.ldap_messages.specs.declared.fault.MessageFault.TheVariants.{BadMessage, TooLong, NoMemory}
 use Rattle.ldap_messages.specs.declared.message.Message.{Message}
-use Rattle.ldap_messages.specs.Whole.{Whole, whole_of, MessageForm, message_at}
+use Rattle.ldap_messages.specs.Whole.{MessageValue, message_value, MessageForm, message_at}
 
 -- a header, a body of this length, and the bytes so far
 abbrev pub framed : ℕ → ℕ → ℕ → Frame
@@ -32,9 +32,9 @@ pub data Read : Type 0 where
   partial : Read
   refused : ℕ → Read
   long : Read
-  message : Whole → ℕ → Read
+  message : MessageValue → ℕ → Read
 
-abbrev pub held : ℕ → Result Whole ℕ → Read
+abbrev pub held : ℕ → Result MessageValue ℕ → Read
 held count (Ok whole) = message whole count
 held count (Err place) = refused place
 
@@ -50,12 +50,12 @@ read_of bytes = in_frame bytes (frame_at bytes)
 -- what `read` answered, beside what the bytes are
 abbrev pub HasMeaning : Result (Option (Message × ℕ)) MessageFault → Read → Type 0
 HasMeaning (Ok None) read = read ≡ partial
-HasMeaning (Ok (Some found)) read = read ≡ message (whole_of found.0) found.1
+HasMeaning (Ok (Some found)) read = read ≡ message (message_value found.0) found.1
 HasMeaning (Err (BadMessage place)) read = read ≡ refused place
 HasMeaning (Err TooLong) read = read ≡ long
 HasMeaning (Err NoMemory) read = Unit {0}
 
 -- the bytes spell a message, whose announced length is within the limit
-abbrev pub Spells : List ℕ → Whole → Type 0
+abbrev pub Spells : List ℕ → MessageValue → Type 0
 Spells bytes whole =
     MessageForm bytes whole [] × ((body : List ℕ) → Begins bytes 48 body [] → length body ≤ 4194304)

@@ -15,10 +15,10 @@ use Rattle.ldap_messages.specs.declared.outcome.LdapResult.{LdapResult}
 use Rattle.ldap_messages.specs.declared.protocol.Protocol.{Protocol}
 use Rattle.ldap_messages.specs.declared.protocol.Protocol.TheVariants.{BindRequest, BindResponse, UnbindRequest, SearchRequest, SearchResultEntry, SearchResultDone, Write, ModifyResponse, AddResponse, DelResponse, ModifyDnResponse, CompareRequest, CompareResponse, AbandonRequest, SearchResultReference, ExtendedRequest, ExtendedResponse, IntermediateResponse}
 use Rattle.ldap_messages.specs.Uris.{HaveOne}
-use Rattle.ldap_messages.specs.Outcome.{RefersOn, ResponseForm, response_at, response_octets}
+use Rattle.ldap_messages.specs.Outcome.{HasReferral, ResponseForm, response_at, response_octets}
 use Rattle.ldap_messages.specs.Bind.{BindForm, bind_at, bind_octets, BindResponseForm, bind_response_at, bind_response_octets}
 use Rattle.ldap_messages.specs.Unbind.{UnbindForm, unbind_at, unbind_octets}
-use Rattle.ldap_messages.specs.Search.{SearchForm, search_at, search_octets, EntryForm, entry_at, entry_octets, ReferenceForm, reference_at, reference_octets, Search, scope_number}
+use Rattle.ldap_messages.specs.Search.{SearchForm, search_at, search_octets, EntryForm, entry_at, entry_octets, ReferenceForm, reference_at, reference_octets, SearchParts, scope_number}
 use Rattle.ldap_messages.specs.Modify.{ModifyForm, modify_at, modify_octets}
 use Rattle.ldap_messages.specs.Add.{AddForm, add_at, add_octets}
 use Rattle.ldap_messages.specs.Delete.{DeleteForm, delete_at, delete_octets}
@@ -32,7 +32,7 @@ use Rattle.ldap_messages.specs.Intermediate.{IntermediateForm, intermediate_at, 
 pub data Operation : Type 0 where
   bind : ℕ × (List ℕ × Authentication) → Operation
   unbind : Unit {0} → Operation
-  search : Search → Operation
+  search : SearchParts → Operation
   modify : List ℕ × List RawEdit → Operation
   add : List ℕ × List RawAttribute → Operation
   delete : List ℕ → Operation
@@ -199,14 +199,14 @@ IsOfGrammar (search parts) =
     (parts.0.1.1.0 ≤ 3) × (parts.0.1.1.1.0 ≤ 2147483647) × (parts.0.1.1.1.1.0 ≤ 2147483647)
     × (depth parts.1.0 ≤ 32)
 IsOfGrammar (reference uris) = HaveOne uris
-IsOfGrammar (bind_response parts) = RefersOn parts.0
-IsOfGrammar (search_done outcome) = RefersOn outcome
-IsOfGrammar (modify_response outcome) = RefersOn outcome
-IsOfGrammar (add_response outcome) = RefersOn outcome
-IsOfGrammar (delete_response outcome) = RefersOn outcome
-IsOfGrammar (rename_response outcome) = RefersOn outcome
-IsOfGrammar (compare_response outcome) = RefersOn outcome
-IsOfGrammar (extended_response parts) = RefersOn parts.0
+IsOfGrammar (bind_response parts) = HasReferral parts.0
+IsOfGrammar (search_done outcome) = HasReferral outcome
+IsOfGrammar (modify_response outcome) = HasReferral outcome
+IsOfGrammar (add_response outcome) = HasReferral outcome
+IsOfGrammar (delete_response outcome) = HasReferral outcome
+IsOfGrammar (rename_response outcome) = HasReferral outcome
+IsOfGrammar (compare_response outcome) = HasReferral outcome
+IsOfGrammar (extended_response parts) = HasReferral parts.0
 IsOfGrammar _ = Unit {0}
 
 -- what an operation has by the types that hold it: the scope is one of three, each substring filter

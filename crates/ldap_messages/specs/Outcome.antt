@@ -11,12 +11,12 @@ use Rattle.ldap_messages.specs.Uris.{HaveOne, UrisForm, uris_at, uris_octets}
 abbrev pub Parts : Type 0
 Parts = ℤ × (List ℕ × (List ℕ × Option (List (List ℕ))))
 
-abbrev pub outcome_parts : LdapResult → Parts
-outcome_parts outcome =
+abbrev pub ldap_result_parts : LdapResult → Parts
+ldap_result_parts outcome =
     (outcome.code, (outcome.matched_dn, (outcome.diagnostic_message, outcome.referral)))
 
-abbrev pub outcome_with : Parts → LdapResult
-outcome_with parts =
+abbrev pub ldap_result_with : Parts → LdapResult
+ldap_result_with parts =
     record {
       code = parts.0;
       matched_dn = parts.1.0;
@@ -25,39 +25,39 @@ outcome_with parts =
     }
 
 -- the components of an LDAPResult
-abbrev pub OutcomeForm : Form LdapResult
-OutcomeForm =
-    MadeOf outcome_parts
+abbrev pub LdapResultForm : Form LdapResult
+LdapResultForm =
+    MadeOf ldap_result_parts
     (Both (Integer 10)
     (Both (OctetString 4) (Both (OctetString 4) (Optional 163 (UrisForm 163)))))
 
 -- a referral has a URI
-abbrev pub RefersOn : LdapResult → Type 0
-RefersOn outcome = IfSome outcome.referral HaveOne
+abbrev pub HasReferral : LdapResult → Type 0
+HasReferral outcome = IfSome outcome.referral HaveOne
 
 abbrev pub ResponseForm : ℕ → Form LdapResult
-ResponseForm tag = Sequence tag OutcomeForm
+ResponseForm tag = Sequence tag LdapResultForm
 
 abbrev pub referral_at : Reading ℕ (Option (List (List ℕ)))
 referral_at = optional_at 163 (uris_at 163)
 
-unfoldable pub outcome_at : Reading ℕ LdapResult
-outcome_at stop bytes =
-    made_at outcome_with
+unfoldable pub ldap_result_at : Reading ℕ LdapResult
+ldap_result_at stop bytes =
+    made_at ldap_result_with
     (both_at (number_at 10) (both_at (string_at 4) (both_at (string_at 4) referral_at)))
     stop bytes
 
 unfoldable pub response_at : ℕ → Reading ℕ LdapResult
-response_at tag stop bytes = sequence_at place_of tag outcome_at stop bytes
+response_at tag stop bytes = sequence_at place_of tag ldap_result_at stop bytes
 
 abbrev pub referral_octets : Option (List (List ℕ)) → List ℕ
 referral_octets = option_octets (uris_octets 163)
 
-abbrev pub outcome_octets : LdapResult → List ℕ
-outcome_octets outcome =
+abbrev pub ldap_result_octets : LdapResult → List ℕ
+ldap_result_octets outcome =
     element 10 (integer_octets outcome.code)
     ++ (element 4 outcome.matched_dn
     ++ (element 4 outcome.diagnostic_message ++ referral_octets outcome.referral))
 
 abbrev pub response_octets : ℕ → LdapResult → List ℕ
-response_octets tag outcome = element tag (outcome_octets outcome)
+response_octets tag outcome = element tag (ldap_result_octets outcome)

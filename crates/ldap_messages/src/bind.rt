@@ -22,14 +22,14 @@ ghost use Rattle.std.specs.Int.{w64};
 ghost use Rattle.ldap_ber.specs.Reading.{made_at};
 ghost use Rattle.ldap_ber.specs.Writer.{after_bytes};
 ghost use Rattle.ldap_ber.specs.Gives.{Gives};
-ghost use Rattle.ldap_parts.specs.Faults.{Fails};
+ghost use Rattle.ldap_parts.specs.Faults.{ComponentFails};
 ghost use Rattle.ldap_messages.specs.Bind.{authentication_at, bind_at, bind_response_at, authentication_octets, bind_octets, bind_response_octets};
 ghost use Rattle.ldap_messages.specs.Operation.{operation_of, bind, bind_response};
 
-use crate::outcome::{LdapResult, outcome_of, put_outcome};
+use crate::outcome::{LdapResult, ldap_result_of, put_ldap_result};
 use crate::protocol::Protocol;
 use ldap_ber::{NoMemory, Octets, Reader, Writer};
-use ldap_parts::{PartFault, option_of, put_number, put_option, range_of, string_of};
+use ldap_parts::{ComponentFault, option_of, put_number, put_option, range_of, string_of};
 use std::alloc::Global;
 
 /// How a client shows who it is.
@@ -43,8 +43,8 @@ pub enum Authentication {
 
 /// The BindRequest that comes next.
 #[tactic(auto, unfolding(crate::specs::Bind::bind_at, crate::specs::Operation::operation_of))]
-pub(crate) fn bind_of(alloc: Global, reader: &mut Reader) -> Result<Protocol, PartFault>
-    ensures exact { Gives Fails (λ op. Ok (operation_of op, reader.new.left)) result
+pub(crate) fn bind_of(alloc: Global, reader: &mut Reader) -> Result<Protocol, ComponentFault>
+    ensures exact { Gives ComponentFails (λ op. Ok (operation_of op, reader.new.left)) result
         (made_at bind bind_at reader.old.stop reader.old.left) }
     ensures stop { reader.new.stop ≡ reader.old.stop }
 {
@@ -62,8 +62,9 @@ pub(crate) fn bind_of(alloc: Global, reader: &mut Reader) -> Result<Protocol, Pa
 }
 
 #[tactic(auto, unfolding(crate::specs::Bind::authentication_at))]
-fn authentication_of(alloc: Global, reader: &mut Reader) -> Result<Authentication, PartFault>
-    ensures exact { Gives Fails (λ authentication. Ok (authentication, reader.new.left)) result
+fn authentication_of(alloc: Global, reader: &mut Reader) -> Result<Authentication, ComponentFault>
+    ensures exact { Gives ComponentFails
+        (λ authentication. Ok (authentication, reader.new.left)) result
         (authentication_at reader.old.stop reader.old.left) }
     ensures stop { reader.new.stop ≡ reader.old.stop }
 {
@@ -75,14 +76,17 @@ fn authentication_of(alloc: Global, reader: &mut Reader) -> Result<Authenticatio
 
 /// The BindResponse that comes next.
 #[tactic(auto, unfolding(crate::specs::Bind::bind_response_at, crate::specs::Operation::operation_of))]
-pub(crate) fn bind_response_of(alloc: Global, reader: &mut Reader) -> Result<Protocol, PartFault>
-    ensures exact { Gives Fails (λ op. Ok (operation_of op, reader.new.left)) result
+pub(crate) fn bind_response_of(
+    alloc: Global,
+    reader: &mut Reader,
+) -> Result<Protocol, ComponentFault>
+    ensures exact { Gives ComponentFails (λ op. Ok (operation_of op, reader.new.left)) result
         (made_at bind_response bind_response_at reader.old.stop reader.old.left) }
     ensures stop { reader.new.stop ≡ reader.old.stop }
 {
     let whole = reader.expect(0x61)?;
     let mut inner = Reader::inside(&whole);
-    let result = outcome_of(alloc, &mut inner)?;
+    let result = ldap_result_of(alloc, &mut inner)?;
     let sasl = option_of(alloc, &mut inner, 0x87)?;
     inner.skip()?;
     Ok(Protocol::BindResponse { result, sasl })
@@ -124,7 +128,7 @@ pub(crate) fn put_bind_response(
     ensures code { OnOk result (FitsSigned w64 outcome.now.code) }
 {
     writer.begin(0x61)?;
-    put_outcome(writer, outcome)?;
+    put_ldap_result(writer, outcome)?;
     put_option(writer, 0x87, sasl)?;
     writer.end()
 }

@@ -12,19 +12,19 @@ ghost use Rattle.std.specs.Prelude.{◌≡◌, Ok, OnOk};
 ghost use Rattle.ldap_ber.specs.Reading.{made_at};
 ghost use Rattle.ldap_ber.specs.Writer.{after_bytes};
 ghost use Rattle.ldap_ber.specs.Gives.{Gives};
-ghost use Rattle.ldap_parts.specs.Faults.{Fails};
+ghost use Rattle.ldap_parts.specs.Faults.{ComponentFails};
 ghost use Rattle.ldap_messages.specs.Compare.{compare_at, compare_octets};
 ghost use Rattle.ldap_messages.specs.Operation.{operation_of, compare};
 
 use crate::protocol::Protocol;
 use ldap_ber::{NoMemory, Octets, Reader, Writer};
-use ldap_parts::{PartFault, assertion_of, put_assertion, string_of};
+use ldap_parts::{ComponentFault, assertion_of, put_assertion, string_of};
 use std::alloc::Global;
 
 /// The CompareRequest that comes next.
 #[tactic(auto, unfolding(crate::specs::Compare::compare_at, crate::specs::Operation::operation_of))]
-pub(crate) fn compare_of(alloc: Global, reader: &mut Reader) -> Result<Protocol, PartFault>
-    ensures exact { Gives Fails (λ op. Ok (operation_of op, reader.new.left)) result
+pub(crate) fn compare_of(alloc: Global, reader: &mut Reader) -> Result<Protocol, ComponentFault>
+    ensures exact { Gives ComponentFails (λ op. Ok (operation_of op, reader.new.left)) result
         (made_at compare compare_at reader.old.stop reader.old.left) }
     ensures stop { reader.new.stop ≡ reader.old.stop }
 {

@@ -16,20 +16,20 @@ ghost use Rattle.std.specs.Int.{w64};
 ghost use Rattle.ldap_ber.specs.Reading.{made_at};
 ghost use Rattle.ldap_ber.specs.Writer.{after_bytes};
 ghost use Rattle.ldap_ber.specs.Gives.{Gives};
-ghost use Rattle.ldap_parts.specs.Faults.{Fails};
+ghost use Rattle.ldap_parts.specs.Faults.{ComponentFails};
 ghost use Rattle.ldap_messages.specs.Extended.{extended_at, extended_response_at, extended_octets, extended_response_octets};
 ghost use Rattle.ldap_messages.specs.Operation.{operation_of, extended, extended_response};
 
-use crate::outcome::{LdapResult, outcome_of, put_outcome};
+use crate::outcome::{LdapResult, ldap_result_of, put_ldap_result};
 use crate::protocol::Protocol;
 use ldap_ber::{NoMemory, Octets, Reader, Writer};
-use ldap_parts::{PartFault, option_of, put_option, string_of};
+use ldap_parts::{ComponentFault, option_of, put_option, string_of};
 use std::alloc::Global;
 
 /// The ExtendedRequest that comes next.
 #[tactic(auto, unfolding(crate::specs::Extended::extended_at, crate::specs::Operation::operation_of))]
-pub(crate) fn extended_of(alloc: Global, reader: &mut Reader) -> Result<Protocol, PartFault>
-    ensures exact { Gives Fails (λ op. Ok (operation_of op, reader.new.left)) result
+pub(crate) fn extended_of(alloc: Global, reader: &mut Reader) -> Result<Protocol, ComponentFault>
+    ensures exact { Gives ComponentFails (λ op. Ok (operation_of op, reader.new.left)) result
         (made_at extended extended_at reader.old.stop reader.old.left) }
     ensures stop { reader.new.stop ≡ reader.old.stop }
 {
@@ -46,14 +46,14 @@ pub(crate) fn extended_of(alloc: Global, reader: &mut Reader) -> Result<Protocol
 pub(crate) fn extended_response_of(
     alloc: Global,
     reader: &mut Reader,
-) -> Result<Protocol, PartFault>
-    ensures exact { Gives Fails (λ op. Ok (operation_of op, reader.new.left)) result
+) -> Result<Protocol, ComponentFault>
+    ensures exact { Gives ComponentFails (λ op. Ok (operation_of op, reader.new.left)) result
         (made_at extended_response extended_response_at reader.old.stop reader.old.left) }
     ensures stop { reader.new.stop ≡ reader.old.stop }
 {
     let whole = reader.expect(0x78)?;
     let mut inner = Reader::inside(&whole);
-    let result = outcome_of(alloc, &mut inner)?;
+    let result = ldap_result_of(alloc, &mut inner)?;
     let name = option_of(alloc, &mut inner, 0x8A)?;
     let value = option_of(alloc, &mut inner, 0x8B)?;
     inner.skip()?;
@@ -89,7 +89,7 @@ pub(crate) fn put_extended_response(
     ensures code { OnOk result (FitsSigned w64 outcome.now.code) }
 {
     writer.begin(0x78)?;
-    put_outcome(writer, outcome)?;
+    put_ldap_result(writer, outcome)?;
     put_option(writer, 0x8A, name)?;
     put_option(writer, 0x8B, value)?;
     writer.end()

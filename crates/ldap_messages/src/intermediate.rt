@@ -10,19 +10,22 @@ ghost use Rattle.std.specs.Prelude.{◌≡◌, Ok, OnOk};
 ghost use Rattle.ldap_ber.specs.Reading.{made_at};
 ghost use Rattle.ldap_ber.specs.Writer.{after_bytes};
 ghost use Rattle.ldap_ber.specs.Gives.{Gives};
-ghost use Rattle.ldap_parts.specs.Faults.{Fails};
+ghost use Rattle.ldap_parts.specs.Faults.{ComponentFails};
 ghost use Rattle.ldap_messages.specs.Intermediate.{intermediate_at, intermediate_octets};
 ghost use Rattle.ldap_messages.specs.Operation.{operation_of, intermediate};
 
 use crate::protocol::Protocol;
 use ldap_ber::{NoMemory, Octets, Reader, Writer};
-use ldap_parts::{PartFault, option_of, put_option};
+use ldap_parts::{ComponentFault, option_of, put_option};
 use std::alloc::Global;
 
 /// The IntermediateResponse that comes next.
 #[tactic(auto, unfolding(crate::specs::Intermediate::intermediate_at, crate::specs::Operation::operation_of))]
-pub(crate) fn intermediate_of(alloc: Global, reader: &mut Reader) -> Result<Protocol, PartFault>
-    ensures exact { Gives Fails (λ op. Ok (operation_of op, reader.new.left)) result
+pub(crate) fn intermediate_of(
+    alloc: Global,
+    reader: &mut Reader,
+) -> Result<Protocol, ComponentFault>
+    ensures exact { Gives ComponentFails (λ op. Ok (operation_of op, reader.new.left)) result
         (made_at intermediate intermediate_at reader.old.stop reader.old.left) }
     ensures stop { reader.new.stop ≡ reader.old.stop }
 {

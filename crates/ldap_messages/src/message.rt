@@ -11,16 +11,16 @@ ghost use Rattle.std.specs.Prelude.{◌≡◌, ◌≤◌, ℕ, List, [], ◌++�
 ghost use Rattle.ldap_ber.specs.Reading.{whole_at};
 ghost use Rattle.ldap_ber.specs.Writer.{after_bytes, IsSmall};
 ghost use Rattle.ldap_ber.specs.Gives.{Gives};
-ghost use Rattle.ldap_parts.specs.Faults.{Fails, place_of};
+ghost use Rattle.ldap_parts.specs.Faults.{ComponentFails, place_of};
 ghost use Rattle.ldap_messages.specs.Operation.{operation_of, IsHeld};
-ghost use Rattle.ldap_messages.specs.Whole.{Whole, whole_of, MessageForm, message_at, parts_octets, message_octets, HasSpelling};
+ghost use Rattle.ldap_messages.specs.Whole.{MessageValue, message_value, MessageForm, message_at, parts_octets, message_octets, HasSpelling};
 ghost use Rattle.ldap_messages.specs.Frame.{message, read_of, HasMeaning, Spells};
 
 use crate::fault::MessageFault;
 use crate::frame::{Frame, frame_of};
 use crate::protocol::{Protocol, operation_of, put_operation};
 use ldap_ber::{NoMemory, Octets, Reader, Writer, discard};
-use ldap_parts::{ControlList, PartFault, controls_of, put_controls, put_number, range_of};
+use ldap_parts::{ComponentFault, ControlList, controls_of, put_controls, put_number, range_of};
 use std::alloc::Global;
 
 #[derive(Drop)]
@@ -41,9 +41,9 @@ impl Message {
         ensures exact { HasMeaning result (read_of bytes.now) }
         ensures within { IfOk result (λ o. IfSome o (λ x. x.1 ≤ length bytes.now)) }
         ensures found { IfOk result
-            (λ o. IfSome o (λ x. Spells (take x.1 bytes.now) (whole_of x.0))) }
-        ensures has_spelling { IfOk result (λ o. IfSome o (λ x. HasSpelling (whole_of x.0))) }
-        ensures only { (whole : Whole) (prefix after : List ℕ) → bytes.now ≡ prefix ++ after
+            (λ o. IfSome o (λ x. Spells (take x.1 bytes.now) (message_value x.0))) }
+        ensures has_spelling { IfOk result (λ o. IfSome o (λ x. HasSpelling (message_value x.0))) }
+        ensures only { (whole : MessageValue) (prefix after : List ℕ) → bytes.now ≡ prefix ++ after
             → Spells prefix whole → HasMeaning result (message whole (length prefix)) }
     {
         read_message(alloc, bytes)
@@ -52,18 +52,20 @@ impl Message {
     /// Writes the canonical spelling, which is read again as the same message where it is not
     /// longer than a frame may be (RFC 4511, section 5.1). It is `NoMemory` where memory runs out.
     pub fn write(&self, alloc: Global) -> Result<Octets, NoMemory>
-        requires { HasSpelling (whole_of self.now) }
-        ensures canonical { IfOk result (λ octets. octets ≡ message_octets (whole_of self.now)) }
-        ensures spelled { IfOk result (λ octets. MessageForm octets (whole_of self.now) []) }
+        requires { HasSpelling (message_value self.now) }
+        ensures canonical { IfOk result
+            (λ octets. octets ≡ message_octets (message_value self.now)) }
+        ensures spelled { IfOk result (λ octets. MessageForm octets (message_value self.now) []) }
         ensures read_again { IfOk result (λ octets. length octets ≤ 4194304 → (after : List ℕ)
-            → read_of (octets ++ after) ≡ message (whole_of self.now) (length octets)) }
+            → read_of (octets ++ after) ≡ message (message_value self.now) (length octets)) }
     {
         self.spelling(alloc)
     }
 
     #[tactic(auto, unfolding(crate::specs::Whole::message_octets))]
     fn spelling(&self, alloc: Global) -> Result<Octets, NoMemory>
-        ensures canonical { IfOk result (λ octets. octets ≡ message_octets (whole_of self.now)) }
+        ensures canonical { IfOk result
+            (λ octets. octets ≡ message_octets (message_value self.now)) }
         ensures small { IfOk result IsSmall }
         ensures held { IfOk result (λ octets. IsHeld (operation_of self.now.op)) }
     {
@@ -76,7 +78,7 @@ impl Message {
 
     fn put_parts(&self, writer: &mut Writer) -> Result<(), NoMemory>
         ensures ok { OnOk result
-            (writer.new ≡ after_bytes writer.old (parts_octets (whole_of self.now))) }
+            (writer.new ≡ after_bytes writer.old (parts_octets (message_value self.now))) }
         ensures held { OnOk result (IsHeld (operation_of self.now.op)) }
     {
         put_number(writer, 0x02, self.id)?;
@@ -98,16 +100,17 @@ fn read_message(alloc: Global, bytes: &[u8]) -> Result<Option<(Message, usize)>,
             let (prefix, _) = bytes.split_at(count);
             match message_in(alloc, prefix) {
                 Ok(message) => Ok(Some((message, count))),
-                Err(PartFault::Refused(place)) => Err(MessageFault::BadMessage(place)),
-                Err(PartFault::NoMemory) => Err(MessageFault::NoMemory),
+                Err(ComponentFault::Refused(place)) => Err(MessageFault::BadMessage(place)),
+                Err(ComponentFault::NoMemory) => Err(MessageFault::NoMemory),
             }
         }
     }
 }
 
 /// The message that all of the bytes spell.
-fn message_in(alloc: Global, bytes: &[u8]) -> Result<Message, PartFault>
-    ensures { Gives Fails (λ x. Ok (whole_of x)) result (whole_at place_of message_at bytes.now) }
+fn message_in(alloc: Global, bytes: &[u8]) -> Result<Message, ComponentFault>
+    ensures { Gives ComponentFails (λ x. Ok (message_value x)) result
+        (whole_at place_of message_at bytes.now) }
 {
     let mut reader = Reader::new(bytes);
     let message = message_of(alloc, &mut reader)?;
@@ -115,15 +118,16 @@ fn message_in(alloc: Global, bytes: &[u8]) -> Result<Message, PartFault>
         Ok(()) => Ok(message),
         Err(fault) => {
             discard(message);
-            Err(PartFault::from(fault))
+            Err(ComponentFault::from(fault))
         }
     }
 }
 
 /// The message that comes next.
 #[tactic(auto, unfolding(crate::specs::Whole::message_at))]
-fn message_of(alloc: Global, reader: &mut Reader) -> Result<Message, PartFault>
-    ensures exact { Gives Fails (λ message. Ok (whole_of message, reader.new.left)) result
+fn message_of(alloc: Global, reader: &mut Reader) -> Result<Message, ComponentFault>
+    ensures exact { Gives ComponentFails
+        (λ message. Ok (message_value message, reader.new.left)) result
         (message_at reader.old.stop reader.old.left) }
     ensures stop { reader.new.stop ≡ reader.old.stop }
 {
@@ -142,7 +146,7 @@ fn message_of(alloc: Global, reader: &mut Reader) -> Result<Message, PartFault>
         Ok(()) => Ok(Message { id, op, controls }),
         Err(fault) => {
             discard(op);
-            Err(PartFault::from(fault))
+            Err(ComponentFault::from(fault))
         }
     }
 }

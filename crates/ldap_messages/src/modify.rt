@@ -19,20 +19,20 @@ ghost use Rattle.std.specs.List.{flat_map};
 ghost use Rattle.ldap_ber.specs.Reading.{made_at, many_at};
 ghost use Rattle.ldap_ber.specs.Writer.{after_bytes};
 ghost use Rattle.ldap_ber.specs.Gives.{Gives};
-ghost use Rattle.ldap_parts.specs.Faults.{Fails};
+ghost use Rattle.ldap_parts.specs.Faults.{ComponentFails};
 ghost use Rattle.ldap_messages.specs.Modify.{how_number, how_at, edit_at, edits_at, modify_at, edit_octets, edits_octets, modify_octets};
 ghost use Rattle.ldap_messages.specs.Operation.{operation_of, modify};
 
 use crate::protocol::Protocol;
 use ldap_ber::{NoMemory, Octets, Reader, Writer};
-use ldap_parts::{PartFault, attribute_of, number_of, put_attribute, string_of};
+use ldap_parts::{ComponentFault, attribute_of, number_of, put_attribute, string_of};
 use schema_rules::{Change, EditList, How, RawEdit};
 use std::alloc::Global;
 
 /// The ModifyRequest that comes next.
 #[tactic(auto, unfolding(crate::specs::Modify::modify_at, crate::specs::Operation::operation_of))]
-pub(crate) fn modify_of(alloc: Global, reader: &mut Reader) -> Result<Protocol, PartFault>
-    ensures exact { Gives Fails (λ op. Ok (operation_of op, reader.new.left)) result
+pub(crate) fn modify_of(alloc: Global, reader: &mut Reader) -> Result<Protocol, ComponentFault>
+    ensures exact { Gives ComponentFails (λ op. Ok (operation_of op, reader.new.left)) result
         (made_at modify modify_at reader.old.stop reader.old.left) }
     ensures stop { reader.new.stop ≡ reader.old.stop }
 {
@@ -44,8 +44,8 @@ pub(crate) fn modify_of(alloc: Global, reader: &mut Reader) -> Result<Protocol, 
     Ok(Protocol::Write(Change::Modify(name, edits)))
 }
 
-fn edits_of(alloc: Global, reader: &mut Reader) -> Result<EditList, PartFault>
-    ensures exact { Gives Fails (λ edits. Ok (edits, reader.new.left)) result
+fn edits_of(alloc: Global, reader: &mut Reader) -> Result<EditList, ComponentFault>
+    ensures exact { Gives ComponentFails (λ edits. Ok (edits, reader.new.left)) result
         (edits_at reader.old.stop reader.old.left) }
     ensures stop { reader.new.stop ≡ reader.old.stop }
 {
@@ -56,8 +56,8 @@ fn edits_of(alloc: Global, reader: &mut Reader) -> Result<EditList, PartFault>
 
 /// The edits that are left.
 #[tactic(auto, using(crate::proofs::ModifyLemmas::edits_go_on, crate::proofs::ModifyLemmas::edits_fail, crate::proofs::ModifyLemmas::edits_end))]
-fn edits_in(alloc: Global, reader: &mut Reader) -> Result<EditList, PartFault>
-    ensures { Gives Fails (λ edits. Ok edits) result
+fn edits_in(alloc: Global, reader: &mut Reader) -> Result<EditList, ComponentFault>
+    ensures { Gives ComponentFails (λ edits. Ok edits) result
         (many_at edit_at reader.old.stop reader.old.left) }
 {
     let room = reader.count().unwrap_or(0);
@@ -71,8 +71,8 @@ fn edits_in(alloc: Global, reader: &mut Reader) -> Result<EditList, PartFault>
 
 /// The edit that comes next.
 #[tactic(auto, unfolding(crate::specs::Modify::edit_at))]
-fn edit_of(alloc: Global, reader: &mut Reader) -> Result<RawEdit, PartFault>
-    ensures exact { Gives Fails (λ edit. Ok (edit, reader.new.left)) result
+fn edit_of(alloc: Global, reader: &mut Reader) -> Result<RawEdit, ComponentFault>
+    ensures exact { Gives ComponentFails (λ edit. Ok (edit, reader.new.left)) result
         (edit_at reader.old.stop reader.old.left) }
     ensures stop { reader.new.stop ≡ reader.old.stop }
     ensures shorter { OnOk result (length reader.new.left < length reader.old.left) }
@@ -85,8 +85,8 @@ fn edit_of(alloc: Global, reader: &mut Reader) -> Result<RawEdit, PartFault>
     Ok(RawEdit { how, attribute })
 }
 
-fn how_of(reader: &mut Reader) -> Result<How, PartFault>
-    ensures exact { Gives Fails (λ how. Ok (how, reader.new.left)) result
+fn how_of(reader: &mut Reader) -> Result<How, ComponentFault>
+    ensures exact { Gives ComponentFails (λ how. Ok (how, reader.new.left)) result
         (how_at reader.old.stop reader.old.left) }
     ensures stop { reader.new.stop ≡ reader.old.stop }
 {
@@ -96,7 +96,7 @@ fn how_of(reader: &mut Reader) -> Result<How, PartFault>
         0 => Ok(How::Add),
         1 => Ok(How::Delete),
         2 => Ok(How::Replace),
-        _ => Err(PartFault::Refused(place)),
+        _ => Err(ComponentFault::Refused(place)),
     }
 }
 

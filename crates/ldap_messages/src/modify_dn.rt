@@ -14,20 +14,20 @@ ghost use Rattle.std.specs.Prelude.{◌≡◌, Ok, OnOk};
 ghost use Rattle.ldap_ber.specs.Reading.{made_at};
 ghost use Rattle.ldap_ber.specs.Writer.{after_bytes};
 ghost use Rattle.ldap_ber.specs.Gives.{Gives};
-ghost use Rattle.ldap_parts.specs.Faults.{Fails};
+ghost use Rattle.ldap_parts.specs.Faults.{ComponentFails};
 ghost use Rattle.ldap_messages.specs.ModifyDn.{rename_at, rename_octets};
 ghost use Rattle.ldap_messages.specs.Operation.{operation_of, rename};
 
 use crate::protocol::Protocol;
 use ldap_ber::{NoMemory, Octets, Reader, Writer};
-use ldap_parts::{PartFault, option_of, put_option, string_of, truth_of};
+use ldap_parts::{ComponentFault, option_of, put_option, string_of, truth_of};
 use schema_rules::Change;
 use std::alloc::Global;
 
 /// The ModifyDNRequest that comes next.
 #[tactic(auto, unfolding(crate::specs::ModifyDn::rename_at, crate::specs::Operation::operation_of))]
-pub(crate) fn rename_of(alloc: Global, reader: &mut Reader) -> Result<Protocol, PartFault>
-    ensures exact { Gives Fails (λ op. Ok (operation_of op, reader.new.left)) result
+pub(crate) fn rename_of(alloc: Global, reader: &mut Reader) -> Result<Protocol, ComponentFault>
+    ensures exact { Gives ComponentFails (λ op. Ok (operation_of op, reader.new.left)) result
         (made_at rename rename_at reader.old.stop reader.old.left) }
     ensures stop { reader.new.stop ≡ reader.old.stop }
 {

@@ -12,12 +12,12 @@ ghost use Rattle.std.specs.Prelude.{◌≡◌, Ok, OnOk, FitsSigned};
 ghost use Rattle.std.specs.Int.{w64};
 ghost use Rattle.ldap_ber.specs.Writer.{after_bytes};
 ghost use Rattle.ldap_ber.specs.Gives.{Gives};
-ghost use Rattle.ldap_parts.specs.Faults.{Fails};
-ghost use Rattle.ldap_messages.specs.Outcome.{referral_at, outcome_at, response_at, referral_octets, outcome_octets, response_octets};
+ghost use Rattle.ldap_parts.specs.Faults.{ComponentFails};
+ghost use Rattle.ldap_messages.specs.Outcome.{referral_at, ldap_result_at, response_at, referral_octets, ldap_result_octets, response_octets};
 
 use crate::uris::uris_of;
 use ldap_ber::{NoMemory, Octets, OctetsList, Reader, Writer};
-use ldap_parts::{PartFault, number_of, put_strings, string_of};
+use ldap_parts::{ComponentFault, number_of, put_strings, string_of};
 use std::alloc::Global;
 
 /// The result of an operation.
@@ -37,23 +37,26 @@ pub(crate) fn response_of(
     alloc: Global,
     reader: &mut Reader,
     tag: u8,
-) -> Result<LdapResult, PartFault>
-    ensures exact { Gives Fails (λ result. Ok (result, reader.new.left)) result
+) -> Result<LdapResult, ComponentFault>
+    ensures exact { Gives ComponentFails (λ result. Ok (result, reader.new.left)) result
         (response_at tag reader.old.stop reader.old.left) }
     ensures stop { reader.new.stop ≡ reader.old.stop }
 {
     let whole = reader.expect(tag)?;
     let mut inner = Reader::inside(&whole);
-    let outcome = outcome_of(alloc, &mut inner)?;
+    let outcome = ldap_result_of(alloc, &mut inner)?;
     inner.skip()?;
     Ok(outcome)
 }
 
 /// The components of a result that come next.
-#[tactic(auto, unfolding(crate::specs::Outcome::outcome_at))]
-pub(crate) fn outcome_of(alloc: Global, reader: &mut Reader) -> Result<LdapResult, PartFault>
-    ensures exact { Gives Fails (λ outcome. Ok (outcome, reader.new.left)) result
-        (outcome_at reader.old.stop reader.old.left) }
+#[tactic(auto, unfolding(crate::specs::Outcome::ldap_result_at))]
+pub(crate) fn ldap_result_of(
+    alloc: Global,
+    reader: &mut Reader,
+) -> Result<LdapResult, ComponentFault>
+    ensures exact { Gives ComponentFails (λ outcome. Ok (outcome, reader.new.left)) result
+        (ldap_result_at reader.old.stop reader.old.left) }
     ensures stop { reader.new.stop ≡ reader.old.stop }
 {
     let code = number_of(reader, 0x0A)?;
@@ -69,8 +72,8 @@ pub(crate) fn outcome_of(alloc: Global, reader: &mut Reader) -> Result<LdapResul
 }
 
 /// The referral, where one comes next.
-fn referral_of(alloc: Global, reader: &mut Reader) -> Result<Option<OctetsList>, PartFault>
-    ensures exact { Gives Fails (λ referral. Ok (referral, reader.new.left)) result
+fn referral_of(alloc: Global, reader: &mut Reader) -> Result<Option<OctetsList>, ComponentFault>
+    ensures exact { Gives ComponentFails (λ referral. Ok (referral, reader.new.left)) result
         (referral_at reader.old.stop reader.old.left) }
     ensures stop { reader.new.stop ≡ reader.old.stop }
 {
@@ -91,13 +94,14 @@ pub(crate) fn put_response(
     ensures code { OnOk result (FitsSigned w64 outcome.now.code) }
 {
     writer.begin(tag)?;
-    put_outcome(writer, outcome)?;
+    put_ldap_result(writer, outcome)?;
     writer.end()
 }
 
 /// Writes the components of a result.
-pub(crate) fn put_outcome(writer: &mut Writer, outcome: &LdapResult) -> Result<(), NoMemory>
-    ensures ok { OnOk result (writer.new ≡ after_bytes writer.old (outcome_octets outcome.now)) }
+pub(crate) fn put_ldap_result(writer: &mut Writer, outcome: &LdapResult) -> Result<(), NoMemory>
+    ensures ok { OnOk result
+        (writer.new ≡ after_bytes writer.old (ldap_result_octets outcome.now)) }
     ensures code { FitsSigned w64 outcome.now.code }
 {
     writer.integer(0x0A, outcome.code)?;

@@ -29,7 +29,7 @@
 ghost use Rattle.std.specs.Prelude.{◌≡◌, true, Ok, OnOk};
 ghost use Rattle.ldap_ber.specs.Writer.{after_bytes};
 ghost use Rattle.ldap_ber.specs.Gives.{Gives};
-ghost use Rattle.ldap_parts.specs.Faults.{Fails};
+ghost use Rattle.ldap_parts.specs.Faults.{ComponentFails};
 ghost use Rattle.ldap_messages.specs.Operation.{operation_of, change_of, other_response_at, write_response_at, search_response_at, session_response_at, write_request_at, entry_request_at, operation_at, operation_octets, IsHeld};
 
 use crate::abandon::abandon_of;
@@ -43,12 +43,12 @@ use crate::modify::{modify_of, put_modify};
 use crate::modify_dn::{put_rename, rename_of};
 use crate::outcome::{LdapResult, put_response, response_of};
 use crate::search::{
-    AskedSearch, SearchScope, entry_of, put_entry, put_search, reference_of, search_of,
+    SearchFields, SearchScope, entry_of, put_entry, put_search, reference_of, search_of,
 };
 use crate::unbind::{put_unbind, unbind_of};
 use ldap_ber::{NoMemory, Octets, OctetsList, Reader, Writer};
 use ldap_filter::Filter;
-use ldap_parts::{PartFault, put_strings};
+use ldap_parts::{ComponentFault, put_strings};
 use schema_rules::{Change, RawList};
 use std::alloc::Global;
 
@@ -116,8 +116,8 @@ pub enum Protocol {
 
 /// The operation that comes next.
 #[tactic(auto, unfolding(crate::specs::Operation::operation_at))]
-pub(crate) fn operation_of(alloc: Global, reader: &mut Reader) -> Result<Protocol, PartFault>
-    ensures exact { Gives Fails (λ op. Ok (operation_of op, reader.new.left)) result
+pub(crate) fn operation_of(alloc: Global, reader: &mut Reader) -> Result<Protocol, ComponentFault>
+    ensures exact { Gives ComponentFails (λ op. Ok (operation_of op, reader.new.left)) result
         (operation_at reader.old.stop reader.old.left) }
     ensures stop { reader.new.stop ≡ reader.old.stop }
 {
@@ -138,8 +138,8 @@ pub(crate) fn operation_of(alloc: Global, reader: &mut Reader) -> Result<Protoco
 
 /// A question or a write that comes next, or what a server sends.
 #[tactic(auto, unfolding(crate::specs::Operation::entry_request_at))]
-fn entry_request_of(alloc: Global, reader: &mut Reader) -> Result<Protocol, PartFault>
-    ensures exact { Gives Fails (λ op. Ok (operation_of op, reader.new.left)) result
+fn entry_request_of(alloc: Global, reader: &mut Reader) -> Result<Protocol, ComponentFault>
+    ensures exact { Gives ComponentFails (λ op. Ok (operation_of op, reader.new.left)) result
         (entry_request_at reader.old.stop reader.old.left) }
     ensures stop { reader.new.stop ≡ reader.old.stop }
 {
@@ -154,8 +154,8 @@ fn entry_request_of(alloc: Global, reader: &mut Reader) -> Result<Protocol, Part
 
 /// The write that comes next, or what a server sends.
 #[tactic(auto, unfolding(crate::specs::Operation::write_request_at))]
-fn write_request_of(alloc: Global, reader: &mut Reader) -> Result<Protocol, PartFault>
-    ensures exact { Gives Fails (λ op. Ok (operation_of op, reader.new.left)) result
+fn write_request_of(alloc: Global, reader: &mut Reader) -> Result<Protocol, ComponentFault>
+    ensures exact { Gives ComponentFails (λ op. Ok (operation_of op, reader.new.left)) result
         (write_request_at reader.old.stop reader.old.left) }
     ensures stop { reader.new.stop ≡ reader.old.stop }
 {
@@ -176,8 +176,8 @@ fn write_request_of(alloc: Global, reader: &mut Reader) -> Result<Protocol, Part
 
 /// What comes next of what a server sends.
 #[tactic(auto, unfolding(crate::specs::Operation::session_response_at))]
-fn session_response_of(alloc: Global, reader: &mut Reader) -> Result<Protocol, PartFault>
-    ensures exact { Gives Fails (λ op. Ok (operation_of op, reader.new.left)) result
+fn session_response_of(alloc: Global, reader: &mut Reader) -> Result<Protocol, ComponentFault>
+    ensures exact { Gives ComponentFails (λ op. Ok (operation_of op, reader.new.left)) result
         (session_response_at reader.old.stop reader.old.left) }
     ensures stop { reader.new.stop ≡ reader.old.stop }
 {
@@ -192,8 +192,8 @@ fn session_response_of(alloc: Global, reader: &mut Reader) -> Result<Protocol, P
 
 /// The answer to a search that comes next, or another response but those of a session.
 #[tactic(auto, unfolding(crate::specs::Operation::search_response_at, crate::specs::Operation::operation_of))]
-fn search_response_of(alloc: Global, reader: &mut Reader) -> Result<Protocol, PartFault>
-    ensures exact { Gives Fails (λ op. Ok (operation_of op, reader.new.left)) result
+fn search_response_of(alloc: Global, reader: &mut Reader) -> Result<Protocol, ComponentFault>
+    ensures exact { Gives ComponentFails (λ op. Ok (operation_of op, reader.new.left)) result
         (search_response_at reader.old.stop reader.old.left) }
     ensures stop { reader.new.stop ≡ reader.old.stop }
 {
@@ -211,8 +211,8 @@ fn search_response_of(alloc: Global, reader: &mut Reader) -> Result<Protocol, Pa
 
 /// The answer to a write that comes next, or one to a comparison, or an intermediate one.
 #[tactic(auto, unfolding(crate::specs::Operation::write_response_at, crate::specs::Operation::operation_of))]
-fn write_response_of(alloc: Global, reader: &mut Reader) -> Result<Protocol, PartFault>
-    ensures exact { Gives Fails (λ op. Ok (operation_of op, reader.new.left)) result
+fn write_response_of(alloc: Global, reader: &mut Reader) -> Result<Protocol, ComponentFault>
+    ensures exact { Gives ComponentFails (λ op. Ok (operation_of op, reader.new.left)) result
         (write_response_at reader.old.stop reader.old.left) }
     ensures stop { reader.new.stop ≡ reader.old.stop }
 {
@@ -233,8 +233,8 @@ fn write_response_of(alloc: Global, reader: &mut Reader) -> Result<Protocol, Par
 
 /// The answer to a comparison that comes next, or else an intermediate response.
 #[tactic(auto, unfolding(crate::specs::Operation::other_response_at, crate::specs::Operation::operation_of))]
-fn other_response_of(alloc: Global, reader: &mut Reader) -> Result<Protocol, PartFault>
-    ensures exact { Gives Fails (λ op. Ok (operation_of op, reader.new.left)) result
+fn other_response_of(alloc: Global, reader: &mut Reader) -> Result<Protocol, ComponentFault>
+    ensures exact { Gives ComponentFails (λ op. Ok (operation_of op, reader.new.left)) result
         (other_response_at reader.old.stop reader.old.left) }
     ensures stop { reader.new.stop ≡ reader.old.stop }
 {
@@ -269,7 +269,7 @@ pub(crate) fn put_operation(writer: &mut Writer, op: &Protocol) -> Result<(), No
             attributes,
         } => put_search(
             writer,
-            &AskedSearch {
+            &SearchFields {
                 base,
                 scope: *scope,
                 deref: *deref,

@@ -36,9 +36,9 @@ ghost use Rattle.ldap_ber.specs.Reading.{made_at};
 ghost use Rattle.ldap_ber.specs.Writer.{after_bytes};
 ghost use Rattle.ldap_filter.specs.FilterTree.{tree_of};
 ghost use Rattle.ldap_ber.specs.Gives.{Gives};
-ghost use Rattle.ldap_parts.specs.Faults.{Fails};
+ghost use Rattle.ldap_parts.specs.Faults.{ComponentFails};
 ghost use Rattle.ldap_parts.specs.Filters.{have_piece};
-ghost use Rattle.ldap_messages.specs.Search.{scope_number, scope_at, reach_at, search_at, entry_at, reference_at, reach_octets, search_octets, entry_octets};
+ghost use Rattle.ldap_messages.specs.Search.{scope_number, scope_at, search_bounds_at, search_at, entry_at, reference_at, search_bounds_octets, search_octets, entry_octets};
 ghost use Rattle.ldap_messages.specs.Operation.{operation_of, search, entry, reference};
 
 use crate::protocol::Protocol;
@@ -46,7 +46,7 @@ use crate::uris::uris_of;
 use ldap_ber::{NoMemory, Octets, OctetsList, Reader, Writer};
 use ldap_filter::Filter;
 use ldap_parts::{
-    PartFault, attributes_of, filter_of, put_attributes, put_filter, put_number, put_strings,
+    ComponentFault, attributes_of, filter_of, put_attributes, put_filter, put_number, put_strings,
     range_of, string_of, strings_of, truth_of,
 };
 use schema_rules::RawAttribute;
@@ -68,7 +68,7 @@ pub enum SearchScope {
 
 /// How far a search reaches.
 #[derive(Drop)]
-struct Reach {
+struct SearchBounds {
     base: Octets,
     scope: SearchScope,
     deref: u8,
@@ -79,7 +79,7 @@ struct Reach {
 
 /// A SearchRequest that is held elsewhere.
 #[derive(Clone, Copy)]
-pub(crate) struct AskedSearch<'a> {
+pub(crate) struct SearchFields<'a> {
     pub(crate) base: &'a Octets,
     pub(crate) scope: SearchScope,
     pub(crate) deref: u8,
@@ -92,46 +92,46 @@ pub(crate) struct AskedSearch<'a> {
 
 /// The SearchRequest that comes next.
 #[tactic(auto, unfolding(crate::specs::Search::search_at, crate::specs::Operation::operation_of))]
-pub(crate) fn search_of(alloc: Global, reader: &mut Reader) -> Result<Protocol, PartFault>
-    ensures exact { Gives Fails (λ op. Ok (operation_of op, reader.new.left)) result
+pub(crate) fn search_of(alloc: Global, reader: &mut Reader) -> Result<Protocol, ComponentFault>
+    ensures exact { Gives ComponentFails (λ op. Ok (operation_of op, reader.new.left)) result
         (made_at search search_at reader.old.stop reader.old.left) }
     ensures stop { reader.new.stop ≡ reader.old.stop }
 {
     let whole = reader.expect(0x63)?;
     let mut inner = Reader::inside(&whole);
-    let reach = reach_of(alloc, &mut inner)?;
+    let search_bounds = search_bounds_of(alloc, &mut inner)?;
     let filter = filter_of(alloc, &mut inner, LEVELS)?;
     let attributes = strings_of(alloc, &mut inner, 0x30)?;
     inner.skip()?;
     Ok(Protocol::SearchRequest {
-        base: reach.base,
-        scope: reach.scope,
-        deref: reach.deref,
-        size_limit: reach.size_limit,
-        time_limit: reach.time_limit,
-        types_only: reach.types_only,
+        base: search_bounds.base,
+        scope: search_bounds.scope,
+        deref: search_bounds.deref,
+        size_limit: search_bounds.size_limit,
+        time_limit: search_bounds.time_limit,
+        types_only: search_bounds.types_only,
         filter,
         attributes,
     })
 }
 
 /// The components in front of the filter, which come next.
-#[tactic(auto, unfolding(crate::specs::Search::reach_at))]
-fn reach_of(alloc: Global, reader: &mut Reader) -> Result<Reach, PartFault>
-    ensures exact { Gives Fails (λ reach. Ok (
+#[tactic(auto, unfolding(crate::specs::Search::search_bounds_at))]
+fn search_bounds_of(alloc: Global, reader: &mut Reader) -> Result<SearchBounds, ComponentFault>
+    ensures exact { Gives ComponentFails (λ search_bounds. Ok (
       (
-        reach.base,
+        search_bounds.base,
         (
-          scope_number reach.scope,
+          scope_number search_bounds.scope,
           (
-            reach.deref,
-            (reach.size_limit, (reach.time_limit, reach.types_only)),
+            search_bounds.deref,
+            (search_bounds.size_limit, (search_bounds.time_limit, search_bounds.types_only)),
           ),
         ),
       ),
       reader.new.left,
     )) result
-        (reach_at reader.old.stop reader.old.left) }
+        (search_bounds_at reader.old.stop reader.old.left) }
     ensures stop { reader.new.stop ≡ reader.old.stop }
 {
     let base = string_of(alloc, reader, 0x04)?;
@@ -140,7 +140,7 @@ fn reach_of(alloc: Global, reader: &mut Reader) -> Result<Reach, PartFault>
     let size_limit = range_of(reader, 0x02, 0, MOST)?;
     let time_limit = range_of(reader, 0x02, 0, MOST)?;
     let types_only = truth_of(reader)?;
-    Ok(Reach {
+    Ok(SearchBounds {
         base,
         scope,
         deref: deref as u8,
@@ -150,8 +150,8 @@ fn reach_of(alloc: Global, reader: &mut Reader) -> Result<Reach, PartFault>
     })
 }
 
-fn scope_of(reader: &mut Reader) -> Result<SearchScope, PartFault>
-    ensures exact { Gives Fails (λ scope. Ok (scope_number scope, reader.new.left)) result
+fn scope_of(reader: &mut Reader) -> Result<SearchScope, ComponentFault>
+    ensures exact { Gives ComponentFails (λ scope. Ok (scope_number scope, reader.new.left)) result
         (scope_at reader.old.stop reader.old.left) }
     ensures stop { reader.new.stop ≡ reader.old.stop }
 {
@@ -165,8 +165,8 @@ fn scope_of(reader: &mut Reader) -> Result<SearchScope, PartFault>
 
 /// The SearchResultEntry that comes next.
 #[tactic(auto, unfolding(crate::specs::Search::entry_at, crate::specs::Operation::operation_of))]
-pub(crate) fn entry_of(alloc: Global, reader: &mut Reader) -> Result<Protocol, PartFault>
-    ensures exact { Gives Fails (λ op. Ok (operation_of op, reader.new.left)) result
+pub(crate) fn entry_of(alloc: Global, reader: &mut Reader) -> Result<Protocol, ComponentFault>
+    ensures exact { Gives ComponentFails (λ op. Ok (operation_of op, reader.new.left)) result
         (made_at entry entry_at reader.old.stop reader.old.left) }
     ensures stop { reader.new.stop ≡ reader.old.stop }
 {
@@ -180,8 +180,8 @@ pub(crate) fn entry_of(alloc: Global, reader: &mut Reader) -> Result<Protocol, P
 
 /// The SearchResultReference that comes next.
 #[tactic(auto, unfolding(crate::specs::Operation::operation_of))]
-pub(crate) fn reference_of(alloc: Global, reader: &mut Reader) -> Result<Protocol, PartFault>
-    ensures exact { Gives Fails (λ op. Ok (operation_of op, reader.new.left)) result
+pub(crate) fn reference_of(alloc: Global, reader: &mut Reader) -> Result<Protocol, ComponentFault>
+    ensures exact { Gives ComponentFails (λ op. Ok (operation_of op, reader.new.left)) result
         (made_at reference reference_at reader.old.stop reader.old.left) }
     ensures stop { reader.new.stop ≡ reader.old.stop }
 {
@@ -189,7 +189,7 @@ pub(crate) fn reference_of(alloc: Global, reader: &mut Reader) -> Result<Protoco
     Ok(Protocol::SearchResultReference(uris))
 }
 
-pub(crate) fn put_search(writer: &mut Writer, asked: &AskedSearch) -> Result<(), NoMemory>
+pub(crate) fn put_search(writer: &mut Writer, asked: &SearchFields) -> Result<(), NoMemory>
     ensures ok { OnOk result (writer.new ≡ after_bytes writer.old (search_octets (
       (
         asked.now.base.now,
@@ -207,16 +207,16 @@ pub(crate) fn put_search(writer: &mut Writer, asked: &AskedSearch) -> Result<(),
     ensures scope { OnOk result (scope_number asked.now.scope ≤ 2) }
 {
     writer.begin(0x63)?;
-    put_reach(writer, asked)?;
+    put_search_bounds(writer, asked)?;
     put_filter(writer, asked.filter)?;
     put_strings(writer, 0x30, asked.attributes.list())?;
     writer.end()
 }
 
 /// Writes the components in front of the filter.
-#[tactic(auto, unfolding(crate::specs::Search::reach_octets))]
-fn put_reach(writer: &mut Writer, asked: &AskedSearch) -> Result<(), NoMemory>
-    ensures ok { OnOk result (writer.new ≡ after_bytes writer.old (reach_octets (
+#[tactic(auto, unfolding(crate::specs::Search::search_bounds_octets))]
+fn put_search_bounds(writer: &mut Writer, asked: &SearchFields) -> Result<(), NoMemory>
+    ensures ok { OnOk result (writer.new ≡ after_bytes writer.old (search_bounds_octets (
       asked.now.base.now,
       (
         scope_number asked.now.scope,

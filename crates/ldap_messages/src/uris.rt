@@ -9,24 +9,28 @@
 
 ghost use Rattle.std.specs.Prelude.{◌≡◌, Ok};
 ghost use Rattle.ldap_ber.specs.Gives.{Gives};
-ghost use Rattle.ldap_parts.specs.Faults.{Fails};
+ghost use Rattle.ldap_parts.specs.Faults.{ComponentFails};
 ghost use Rattle.ldap_messages.specs.Uris.{uris_at};
 
 use ldap_ber::{OctetsList, Reader};
-use ldap_parts::{PartFault, strings_of};
+use ldap_parts::{ComponentFault, strings_of};
 use std::alloc::Global;
 
 /// The URIs that come next, of which there has to be one.
 #[tactic(auto, unfolding(crate::specs::Uris::uris_at))]
-pub(crate) fn uris_of(alloc: Global, reader: &mut Reader, tag: u8) -> Result<OctetsList, PartFault>
-    ensures exact { Gives Fails (λ uris. Ok (uris, reader.new.left)) result
+pub(crate) fn uris_of(
+    alloc: Global,
+    reader: &mut Reader,
+    tag: u8,
+) -> Result<OctetsList, ComponentFault>
+    ensures exact { Gives ComponentFails (λ uris. Ok (uris, reader.new.left)) result
         (uris_at tag reader.old.stop reader.old.left) }
     ensures stop { reader.new.stop ≡ reader.old.stop }
 {
     let place = reader.place();
     let uris = strings_of(alloc, reader, tag)?;
     if uris.list().is_empty() {
-        return Err(PartFault::Refused(place));
+        return Err(ComponentFault::Refused(place));
     }
     Ok(uris)
 }

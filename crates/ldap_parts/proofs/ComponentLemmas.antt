@@ -11,7 +11,7 @@ use Rattle.ldap_ber.proofs.ExactLemmas.{Exact, Shortens, reworded_exact, octets_
 use Rattle.ldap_ber.proofs.CanonicalLemmas.{Spelled, Anything, Always, Lacks, octets_spelled, optional_spelled, meaning_spelled, begins_with, option_sound}
 use Rattle.ldap_ber.proofs.IntegerLemmas.{integer_spelled}
 use Rattle.ldap_parts.specs.Faults.{place_of}
-use Rattle.ldap_parts.specs.Components.{IsWithin, RangeForm, FlagForm, OptionForm, string_at, number_at, truth_at, flag_at, within, range_at, option_at, number_octets, string_octets}
+use Rattle.ldap_parts.specs.Components.{IsInRange, RangeForm, FlagForm, OptionForm, string_at, number_at, truth_at, flag_at, within, range_at, option_at, number_octets, string_octets}
 
 -- ---- read
 
@@ -33,7 +33,7 @@ truth_exact = reworded_exact place_of (Boolean 1) (boolean_at 1) (boolean_exact 
 pub flag_exact : Exact FlagForm flag_at
 flag_exact = reworded_exact place_of FlagForm (default_at 1 false (boolean_at 1)) (default_exact 1 false (Boolean 1) (boolean_at 1) (boolean_exact 1))
 
-within_found : (least most place : ℕ) (number : ℤ) (value : ℕ) → within least most place number ≡ Ok value → IsWithin least most number value
+within_found : (least most place : ℕ) (number : ℤ) (value : ℕ) → within least most place number ≡ Ok value → IsInRange least most number value
 within_found least most place (pos k) value h =
     let g = guard_on (leb least k && leb k most) place (Ok k) value h in
     let e = ok_is {E = ℕ} k value g.1 in
@@ -42,14 +42,14 @@ within_found least most place (pos k) value h =
     (ap (λ (x : ℕ). pos x) e, omega arith, omega arith)
 within_found least most place (negsuc k) value h = absurd cc
 
-within_only : (least most place : ℕ) (number : ℤ) (value : ℕ) → IsWithin least most number value → within least most place number ≡ Ok value
+within_only : (least most place : ℕ) (number : ℤ) (value : ℕ) → IsInRange least most number value → within least most place number ≡ Ok value
 within_only least most place number value h =
     let t : (leb least value && leb value most) ≡ true = grind (arith, nat_tests) in
     rw (h.0, t) refl
 
 -- so is an integer within bounds
 pub range_exact : (least most tag : ℕ) → Exact (RangeForm least most tag) (range_at least most tag)
-range_exact least most tag = meaning_exact (IsWithin least most) (within least most) (Integer tag) (number_at tag) (within_found least most) (within_only least most) (number_exact tag)
+range_exact least most tag = meaning_exact (IsInRange least most) (within least most) (Integer tag) (number_at tag) (within_found least most) (within_only least most) (number_exact tag)
 
 -- so is an octet string that may be absent
 pub option_exact : (tag : ℕ) → Exact (OptionForm tag) (option_at tag)
@@ -60,7 +60,7 @@ option_exact tag = optional_exact tag (OctetString tag) (string_at tag) (string_
 -- what is written of an integer within its bounds is an encoding of it
 pub range_spelled : (least most tag : ℕ) → tag % 32 ≢ 31 → most < 2 ^ 63 → Spelled (RangeForm least most tag) (number_octets tag) (λ value. (least ≤ value) × (value ≤ most)) Anything
 range_spelled least most tag low few =
-    meaning_spelled (IsWithin least most) (Integer tag) (λ number. element tag (integer_octets number)) (FitsSigned w64) Anything (λ value. pos value) (λ value. (least ≤ value) × (value ≤ most))
+    meaning_spelled (IsInRange least most) (Integer tag) (λ number. element tag (integer_octets number)) (FitsSigned w64) Anything (λ value. pos value) (λ value. (least ≤ value) × (value ≤ most))
     (λ value fits. ((refl, fits.0, fits.1), omega arith)) (integer_spelled tag low)
 
 -- so is what is written of an optional octet string, where no element with its tag follows

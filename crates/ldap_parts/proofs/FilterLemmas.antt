@@ -13,9 +13,9 @@ use Rattle.ldap_ber.proofs.ExactLemmas.{Exact, Shortens, made_ok, both_exact, me
 use Rattle.ldap_filter.specs.declared.filter.Filter.{Filter}
 use Rattle.ldap_filter.specs.Pieces.{has_piece}
 use Rattle.ldap_filter.specs.FilterTree.{FilterTree, Trees, all_of, any_of, negated, equal, substrings, at_least, at_most, present, approx, extensible, no_trees, more_trees, trees, tree_of}
-use Rattle.ldap_parts.specs.declared.fault.PartFault.{PartFault}
-use Rattle.ldap_parts.specs.declared.fault.PartFault.TheVariants.{Refused, NoMemory}
-use Rattle.ldap_parts.specs.Faults.{Fails, place_of}
+use Rattle.ldap_parts.specs.declared.fault.ComponentFault.{ComponentFault}
+use Rattle.ldap_parts.specs.declared.fault.ComponentFault.TheVariants.{Refused, NoMemory}
+use Rattle.ldap_parts.specs.Faults.{ComponentFails, place_of}
 use Rattle.ldap_parts.specs.Components.{OptionForm, string_at, option_at}
 use Rattle.ldap_parts.specs.Filters.{listed, While, while_at, Parts, ArePieces, PiecesForm, SubstringsForm, AssertionForm, FilterIn, pieces_of, parts_at, pieces_at, substrings_at, assertion_at, all_with, any_with, substrings_with, equal_with, at_least_with, at_most_with, approx_with, item_at, filter_in}
 use Rattle.ldap_parts.proofs.ComponentLemmas.{string_exact, string_shortens, option_exact}
@@ -34,7 +34,7 @@ pub middle_goes_on : (prefix next : List (List ℕ)) (stop after : ℕ) (bytes :
     → next ≡ prefix ++ x ∷ [] → after ≡ stop → and_prefix prefix (while_at 129 (string_at 129) stop bytes) ≡ all → and_prefix next (while_at 129 (string_at 129) after rest) ≡ all
 middle_goes_on prefix next stop after bytes x rest all here h n a e = rw (n, a) (while_goes_on 129 (string_at 129) piece_advances prefix stop bytes x rest (sym here) h ∙ e)
 
-pub middle_fails : (prefix : List (List ℕ)) (stop : ℕ) (bytes : List ℕ) (fault : PartFault) (all : Result (List (List ℕ) × List ℕ) ℕ) → true ≡ has_tag 129 bytes → Fails fault (string_at 129 stop bytes) → and_prefix prefix (while_at 129 (string_at 129) stop bytes) ≡ all → Fails fault all
+pub middle_fails : (prefix : List (List ℕ)) (stop : ℕ) (bytes : List ℕ) (fault : ComponentFault) (all : Result (List (List ℕ) × List ℕ) ℕ) → true ≡ has_tag 129 bytes → ComponentFails fault (string_at 129 stop bytes) → and_prefix prefix (while_at 129 (string_at 129) stop bytes) ≡ all → ComponentFails fault all
 middle_fails prefix stop bytes (Refused place) all here h e = sym e ∙ while_fails 129 (string_at 129) piece_advances prefix stop bytes place (sym here) h
 middle_fails prefix stop bytes NoMemory all here h e = tt
 

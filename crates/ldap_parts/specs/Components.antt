@@ -9,12 +9,12 @@ use Rattle.ldap_parts.specs.Faults.{place_of}
 
 -- ---- how they are spelled
 
-abbrev pub IsWithin : ℕ → ℕ → ℤ → ℕ → Type 0
-IsWithin least most number value = (number ≡ pos value) × (least ≤ value) × (value ≤ most)
+abbrev pub IsInRange : ℕ → ℕ → ℤ → ℕ → Type 0
+IsInRange least most number value = (number ≡ pos value) × (least ≤ value) × (value ≤ most)
 
 -- an INTEGER or ENUMERATED with bounds
 abbrev pub RangeForm : ℕ → ℕ → ℕ → Form ℕ
-RangeForm least most tag = Meaning (IsWithin least most) (Integer tag)
+RangeForm least most tag = Meaning (IsInRange least most) (Integer tag)
 
 -- BOOLEAN DEFAULT FALSE
 abbrev pub FlagForm : Form Bool

@@ -15,12 +15,12 @@ ghost use Rattle.ldap_ber.specs.Canonical.{element};
 ghost use Rattle.ldap_ber.specs.Reading.{many_at};
 ghost use Rattle.ldap_ber.specs.Writer.{after_bytes};
 ghost use Rattle.ldap_ber.specs.Gives.{Gives};
-ghost use Rattle.ldap_parts.specs.Faults.{Fails};
+ghost use Rattle.ldap_parts.specs.Faults.{ComponentFails};
 ghost use Rattle.ldap_parts.specs.Components.{strings_octets};
 ghost use Rattle.ldap_parts.specs.Attributes.{attribute_at, attributes_at, attribute_octets, attributes_octets};
 
 use crate::component::string_of;
-use crate::fault::PartFault;
+use crate::fault::ComponentFault;
 use crate::lists::{put_strings, strings_of};
 use ldap_ber::{NoMemory, Reader, Writer};
 use schema_rules::{RawAttribute, RawList};
@@ -30,8 +30,8 @@ use std::alloc::Global;
 /// the first element that is not so, or `NoMemory`, and the reader is as before.
 #[inline(always)]
 #[tactic(auto, unfolding(crate::specs::Attributes::attribute_at))]
-pub fn attribute_of(alloc: Global, reader: &mut Reader) -> Result<RawAttribute, PartFault>
-    ensures exact { Gives Fails (λ attribute. Ok (attribute, reader.new.left)) result
+pub fn attribute_of(alloc: Global, reader: &mut Reader) -> Result<RawAttribute, ComponentFault>
+    ensures exact { Gives ComponentFails (λ attribute. Ok (attribute, reader.new.left)) result
         (attribute_at reader.old.stop reader.old.left) }
     ensures stop { reader.new.stop ≡ reader.old.stop }
     ensures shorter { OnOk result (length reader.new.left < length reader.old.left) }
@@ -49,8 +49,8 @@ pub fn attribute_of(alloc: Global, reader: &mut Reader) -> Result<RawAttribute, 
 
 /// The list of attributes that comes next (RFC 4511, section 4.1.7). Else it is `Refused` with the
 /// place of the first element that is not so, or `NoMemory`, and the reader is as before.
-pub fn attributes_of(alloc: Global, reader: &mut Reader) -> Result<RawList, PartFault>
-    ensures exact { Gives Fails (λ attributes. Ok (attributes, reader.new.left)) result
+pub fn attributes_of(alloc: Global, reader: &mut Reader) -> Result<RawList, ComponentFault>
+    ensures exact { Gives ComponentFails (λ attributes. Ok (attributes, reader.new.left)) result
         (attributes_at reader.old.stop reader.old.left) }
     ensures stop { reader.new.stop ≡ reader.old.stop }
     ensures err { OnErr result (reader.new ≡ reader.old) }
@@ -65,8 +65,8 @@ pub fn attributes_of(alloc: Global, reader: &mut Reader) -> Result<RawList, Part
 
 /// The attributes that are left.
 #[tactic(auto, using(crate::proofs::AttributeLemmas::attributes_go_on, crate::proofs::AttributeLemmas::attributes_fail, crate::proofs::AttributeLemmas::attributes_end))]
-fn attributes_in(alloc: Global, reader: &mut Reader) -> Result<RawList, PartFault>
-    ensures { Gives Fails (λ attributes. Ok attributes) result
+fn attributes_in(alloc: Global, reader: &mut Reader) -> Result<RawList, ComponentFault>
+    ensures { Gives ComponentFails (λ attributes. Ok attributes) result
         (many_at attribute_at reader.old.stop reader.old.left) }
 {
     let room = reader.count().unwrap_or(0);

@@ -18,18 +18,18 @@
 ghost use Rattle.std.specs.Prelude.{◌≡◌, ◌<◌, ◌≤◌, length, Ok, IfOk, OnOk, OnErr};
 ghost use Rattle.ldap_ber.specs.Writer.{after_bytes};
 ghost use Rattle.ldap_ber.specs.Gives.{Gives};
-ghost use Rattle.ldap_parts.specs.Faults.{Fails};
+ghost use Rattle.ldap_parts.specs.Faults.{ComponentFails};
 ghost use Rattle.ldap_parts.specs.Components.{string_at, number_at, truth_at, range_at, option_at, number_octets, string_octets};
 
-use crate::fault::PartFault;
+use crate::fault::ComponentFault;
 use ldap_ber::{NoMemory, Octets, Reader, Writer};
 use std::alloc::Global;
 
 /// The octet string with this tag that comes next. Else it is `Refused` with the place of the first
 /// element that is not so, or `NoMemory`, and the reader is as before.
 #[inline(always)]
-pub fn string_of(alloc: Global, reader: &mut Reader, tag: u8) -> Result<Octets, PartFault>
-    ensures exact { Gives Fails (λ string. Ok (string, reader.new.left)) result
+pub fn string_of(alloc: Global, reader: &mut Reader, tag: u8) -> Result<Octets, ComponentFault>
+    ensures exact { Gives ComponentFails (λ string. Ok (string, reader.new.left)) result
         (string_at tag reader.old.stop reader.old.left) }
     ensures stop { reader.new.stop ≡ reader.old.stop }
     ensures shorter { OnOk result (length reader.new.left < length reader.old.left) }
@@ -43,8 +43,12 @@ pub fn string_of(alloc: Global, reader: &mut Reader, tag: u8) -> Result<Octets, 
 
 /// The octet string with this tag, where one comes next. It is `Refused` with the place of an
 /// element with this tag that is none, or `NoMemory`, and then the reader is as before.
-pub fn option_of(alloc: Global, reader: &mut Reader, tag: u8) -> Result<Option<Octets>, PartFault>
-    ensures exact { Gives Fails (λ option. Ok (option, reader.new.left)) result
+pub fn option_of(
+    alloc: Global,
+    reader: &mut Reader,
+    tag: u8,
+) -> Result<Option<Octets>, ComponentFault>
+    ensures exact { Gives ComponentFails (λ option. Ok (option, reader.new.left)) result
         (option_at tag reader.old.stop reader.old.left) }
     ensures stop { reader.new.stop ≡ reader.old.stop }
     ensures err { OnErr result (reader.new ≡ reader.old) }
@@ -57,8 +61,8 @@ pub fn option_of(alloc: Global, reader: &mut Reader, tag: u8) -> Result<Option<O
 
 /// The integer with this tag that comes next. Else it is `Refused` with its place, and the reader
 /// is as before.
-pub fn number_of(reader: &mut Reader, tag: u8) -> Result<i64, PartFault>
-    ensures exact { Gives Fails (λ number. Ok (number, reader.new.left)) result
+pub fn number_of(reader: &mut Reader, tag: u8) -> Result<i64, ComponentFault>
+    ensures exact { Gives ComponentFails (λ number. Ok (number, reader.new.left)) result
         (number_at tag reader.old.stop reader.old.left) }
     ensures stop { reader.new.stop ≡ reader.old.stop }
     ensures err { OnErr result (reader.new ≡ reader.old) }
@@ -69,8 +73,8 @@ pub fn number_of(reader: &mut Reader, tag: u8) -> Result<i64, PartFault>
 
 /// The truth value that comes next. Else it is `Refused` with its place, and the reader is as
 /// before.
-pub fn truth_of(reader: &mut Reader) -> Result<bool, PartFault>
-    ensures exact { Gives Fails (λ truth. Ok (truth, reader.new.left)) result
+pub fn truth_of(reader: &mut Reader) -> Result<bool, ComponentFault>
+    ensures exact { Gives ComponentFails (λ truth. Ok (truth, reader.new.left)) result
         (truth_at reader.old.stop reader.old.left) }
     ensures stop { reader.new.stop ≡ reader.old.stop }
     ensures err { OnErr result (reader.new ≡ reader.old) }
@@ -81,8 +85,8 @@ pub fn truth_of(reader: &mut Reader) -> Result<bool, PartFault>
 
 /// The integer with this tag that comes next, which has to be within these bounds. Else it is
 /// `Refused` with its place, and the reader is as before.
-pub fn range_of(reader: &mut Reader, tag: u8, least: u32, most: u32) -> Result<u32, PartFault>
-    ensures exact { Gives Fails (λ number. Ok (number, reader.new.left)) result
+pub fn range_of(reader: &mut Reader, tag: u8, least: u32, most: u32) -> Result<u32, ComponentFault>
+    ensures exact { Gives ComponentFails (λ number. Ok (number, reader.new.left)) result
         (range_at least most tag reader.old.stop reader.old.left) }
     ensures stop { reader.new.stop ≡ reader.old.stop }
     ensures most { IfOk result (λ number. number ≤ most) }
@@ -92,14 +96,14 @@ pub fn range_of(reader: &mut Reader, tag: u8, least: u32, most: u32) -> Result<u
     let mut ahead = reader.copy();
     let number = number_of(&mut ahead, tag)?;
     if number < 0 {
-        return Err(PartFault::Refused(place));
+        return Err(ComponentFault::Refused(place));
     }
     let size = number as u64;
     if (least as u64) <= size && size <= (most as u64) {
         *reader = ahead;
         return Ok(size as u32);
     }
-    Err(PartFault::Refused(place))
+    Err(ComponentFault::Refused(place))
 }
 
 /// Writes an octet string with this tag where there is one. It is `NoMemory` where memory runs out,

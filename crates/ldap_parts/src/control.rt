@@ -15,12 +15,12 @@ ghost use Rattle.ldap_ber.specs.Canonical.{element, flag_octets};
 ghost use Rattle.ldap_ber.specs.Reading.{many_at};
 ghost use Rattle.ldap_ber.specs.Writer.{after_bytes};
 ghost use Rattle.ldap_ber.specs.Gives.{Gives};
-ghost use Rattle.ldap_parts.specs.Faults.{Fails};
+ghost use Rattle.ldap_parts.specs.Faults.{ComponentFails};
 ghost use Rattle.ldap_parts.specs.Components.{string_octets};
 ghost use Rattle.ldap_parts.specs.Controls.{control_at, controls_at, control_octets, controls_octets};
 
 use crate::component::{option_of, put_option, string_of};
-use crate::fault::PartFault;
+use crate::fault::ComponentFault;
 use ldap_ber::{NoMemory, Octets, Reader, Writer};
 use std::alloc::Global;
 use std::marker::Model;
@@ -87,8 +87,8 @@ impl ControlList {
 /// The controls of a message, where they come next, or none (RFC 4511, section 4.1.11). Else it is
 /// `Refused` with the place of the first element that is not so, or `NoMemory`, and the reader is
 /// as before.
-pub fn controls_of(alloc: Global, reader: &mut Reader) -> Result<ControlList, PartFault>
-    ensures exact { Gives Fails (λ controls. Ok (controls, reader.new.left)) result
+pub fn controls_of(alloc: Global, reader: &mut Reader) -> Result<ControlList, ComponentFault>
+    ensures exact { Gives ComponentFails (λ controls. Ok (controls, reader.new.left)) result
         (controls_at reader.old.stop reader.old.left) }
     ensures stop { reader.new.stop ≡ reader.old.stop }
     ensures err { OnErr result (reader.new ≡ reader.old) }
@@ -106,8 +106,8 @@ pub fn controls_of(alloc: Global, reader: &mut Reader) -> Result<ControlList, Pa
 
 /// The controls that are left.
 #[tactic(auto, using(crate::proofs::ControlLemmas::controls_go_on, crate::proofs::ControlLemmas::controls_fail, crate::proofs::ControlLemmas::controls_end))]
-fn controls_in(alloc: Global, reader: &mut Reader) -> Result<ControlList, PartFault>
-    ensures { Gives Fails (λ controls. Ok controls) result
+fn controls_in(alloc: Global, reader: &mut Reader) -> Result<ControlList, ComponentFault>
+    ensures { Gives ComponentFails (λ controls. Ok controls) result
         (many_at control_at reader.old.stop reader.old.left) }
 {
     let room = reader.count().unwrap_or(0);
@@ -121,8 +121,8 @@ fn controls_in(alloc: Global, reader: &mut Reader) -> Result<ControlList, PartFa
 
 /// The control that comes next.
 #[tactic(auto, unfolding(crate::specs::Controls::control_at))]
-fn control_of(alloc: Global, reader: &mut Reader) -> Result<Control, PartFault>
-    ensures exact { Gives Fails (λ control. Ok (control, reader.new.left)) result
+fn control_of(alloc: Global, reader: &mut Reader) -> Result<Control, ComponentFault>
+    ensures exact { Gives ComponentFails (λ control. Ok (control, reader.new.left)) result
         (control_at reader.old.stop reader.old.left) }
     ensures stop { reader.new.stop ≡ reader.old.stop }
     ensures shorter { OnOk result (length reader.new.left < length reader.old.left) }

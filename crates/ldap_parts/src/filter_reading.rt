@@ -31,12 +31,12 @@ ghost use Rattle.std.specs.Prelude.{◌≡◌, ◌<◌, ◌≤◌, length, map, 
 ghost use Rattle.ldap_ber.specs.Reading.{many_at, list_at, made_at, tagged_at};
 ghost use Rattle.ldap_filter.specs.FilterTree.{tree_of, parts_of};
 ghost use Rattle.ldap_ber.specs.Gives.{Gives};
-ghost use Rattle.ldap_parts.specs.Faults.{Fails, place_of};
+ghost use Rattle.ldap_parts.specs.Faults.{ComponentFails, place_of};
 ghost use Rattle.ldap_parts.specs.Components.{string_at};
 ghost use Rattle.ldap_parts.specs.Filters.{while_at, pieces_at, substrings_at, substrings_with, assertion_at, item_at, filter_in};
 
 use crate::component::{option_of, string_of};
-use crate::fault::PartFault;
+use crate::fault::ComponentFault;
 use ldap_ber::{Octets, OctetsList, Reader};
 use ldap_filter::{Filter, FilterList, Pieces};
 use std::alloc::Global;
@@ -46,15 +46,19 @@ use std::alloc::Global;
 /// or `NoMemory`, and the reader is as before.
 #[cycle(filters)]
 #[tactic(auto, unfolding(crate::specs::Filters::filter_in))]
-pub fn filter_of(alloc: Global, reader: &mut Reader, levels: usize) -> Result<Filter, PartFault>
-    ensures exact { Gives Fails (λ filter. Ok (tree_of filter, reader.new.left)) result
+pub fn filter_of(
+    alloc: Global,
+    reader: &mut Reader,
+    levels: usize,
+) -> Result<Filter, ComponentFault>
+    ensures exact { Gives ComponentFails (λ filter. Ok (tree_of filter, reader.new.left)) result
         (filter_in levels reader.old.stop reader.old.left) }
     ensures stop { reader.new.stop ≡ reader.old.stop }
     ensures shorter { OnOk result (length reader.new.left < length reader.old.left) }
     ensures err { OnErr result (reader.new ≡ reader.old) }
 {
     if levels == 0 {
-        return Err(PartFault::Refused(reader.place()));
+        return Err(ComponentFault::Refused(reader.place()));
     }
     if reader.has(0xA0) {
         return Ok(Filter::And(list_of(alloc, reader, 0xA0, levels - 1)?));
@@ -79,8 +83,9 @@ fn list_of(
     reader: &mut Reader,
     tag: u8,
     levels: usize,
-) -> Result<FilterList, PartFault>
-    ensures exact { Gives Fails (λ list. Ok (map tree_of (parts_of list), reader.new.left)) result
+) -> Result<FilterList, ComponentFault>
+    ensures exact { Gives ComponentFails
+        (λ list. Ok (map tree_of (parts_of list), reader.new.left)) result
         (list_at place_of tag (filter_in levels) reader.old.stop reader.old.left) }
     ensures stop { reader.new.stop ≡ reader.old.stop }
     ensures shorter { OnOk result (length reader.new.left < length reader.old.left) }
@@ -97,8 +102,12 @@ fn list_of(
 /// The filters that are left.
 #[cycle(filters)]
 #[tactic(auto, using(crate::proofs::FilterLemmas::filters_go_on, crate::proofs::FilterLemmas::filters_fail, crate::proofs::FilterLemmas::filters_end))]
-fn filters_in(alloc: Global, reader: &mut Reader, levels: usize) -> Result<FilterList, PartFault>
-    ensures { Gives Fails (λ list. Ok (map tree_of (parts_of list))) result
+fn filters_in(
+    alloc: Global,
+    reader: &mut Reader,
+    levels: usize,
+) -> Result<FilterList, ComponentFault>
+    ensures { Gives ComponentFails (λ list. Ok (map tree_of (parts_of list))) result
         (many_at (filter_in levels) reader.old.stop reader.old.left) }
 {
     let room = reader.count().unwrap_or(0);
@@ -112,8 +121,8 @@ fn filters_in(alloc: Global, reader: &mut Reader, levels: usize) -> Result<Filte
 
 /// The filter in the element of a `not`, whose tag is explicit.
 #[cycle(filters)]
-fn negated_of(alloc: Global, reader: &mut Reader, levels: usize) -> Result<Filter, PartFault>
-    ensures exact { Gives Fails (λ filter. Ok (tree_of filter, reader.new.left)) result
+fn negated_of(alloc: Global, reader: &mut Reader, levels: usize) -> Result<Filter, ComponentFault>
+    ensures exact { Gives ComponentFails (λ filter. Ok (tree_of filter, reader.new.left)) result
         (tagged_at place_of 162 (filter_in levels) reader.old.stop reader.old.left) }
     ensures stop { reader.new.stop ≡ reader.old.stop }
     ensures shorter { OnOk result (length reader.new.left < length reader.old.left) }
@@ -127,8 +136,8 @@ fn negated_of(alloc: Global, reader: &mut Reader, levels: usize) -> Result<Filte
 
 /// The item that comes next.
 #[tactic(auto, unfolding(crate::specs::Filters::item_at))]
-fn item_of(alloc: Global, reader: &mut Reader) -> Result<Filter, PartFault>
-    ensures exact { Gives Fails (λ filter. Ok (tree_of filter, reader.new.left)) result
+fn item_of(alloc: Global, reader: &mut Reader) -> Result<Filter, ComponentFault>
+    ensures exact { Gives ComponentFails (λ filter. Ok (tree_of filter, reader.new.left)) result
         (item_at reader.old.stop reader.old.left) }
     ensures stop { reader.new.stop ≡ reader.old.stop }
     ensures shorter { OnOk result (length reader.new.left < length reader.old.left) }
@@ -166,8 +175,8 @@ pub fn assertion_of(
     alloc: Global,
     reader: &mut Reader,
     tag: u8,
-) -> Result<(Octets, Octets), PartFault>
-    ensures exact { Gives Fails (λ item. Ok (item, reader.new.left)) result
+) -> Result<(Octets, Octets), ComponentFault>
+    ensures exact { Gives ComponentFails (λ item. Ok (item, reader.new.left)) result
         (assertion_at tag reader.old.stop reader.old.left) }
     ensures stop { reader.new.stop ≡ reader.old.stop }
     ensures shorter { OnOk result (length reader.new.left < length reader.old.left) }
@@ -184,8 +193,8 @@ pub fn assertion_of(
 }
 
 /// The substring filter that comes next.
-fn substrings_of(alloc: Global, reader: &mut Reader) -> Result<Filter, PartFault>
-    ensures exact { Gives Fails (λ filter. Ok (tree_of filter, reader.new.left)) result
+fn substrings_of(alloc: Global, reader: &mut Reader) -> Result<Filter, ComponentFault>
+    ensures exact { Gives ComponentFails (λ filter. Ok (tree_of filter, reader.new.left)) result
         (made_at substrings_with substrings_at reader.old.stop reader.old.left) }
     ensures stop { reader.new.stop ≡ reader.old.stop }
     ensures shorter { OnOk result (length reader.new.left < length reader.old.left) }
@@ -202,8 +211,8 @@ fn substrings_of(alloc: Global, reader: &mut Reader) -> Result<Filter, PartFault
 }
 
 /// The pieces that come next, one at least.
-fn pieces_of(alloc: Global, reader: &mut Reader) -> Result<Pieces, PartFault>
-    ensures exact { Gives Fails
+fn pieces_of(alloc: Global, reader: &mut Reader) -> Result<Pieces, ComponentFault>
+    ensures exact { Gives ComponentFails
         (λ pieces. Ok ((pieces.initial, (pieces.middle, pieces.last)), reader.new.left)) result
         (pieces_at reader.old.stop reader.old.left) }
     ensures stop { reader.new.stop ≡ reader.old.stop }
@@ -216,7 +225,7 @@ fn pieces_of(alloc: Global, reader: &mut Reader) -> Result<Pieces, PartFault>
     let last = option_of(alloc, &mut inner, 0x82)?;
     inner.end()?;
     if initial.is_none() && middle.list().is_empty() && last.is_none() {
-        return Err(PartFault::Refused(place));
+        return Err(ComponentFault::Refused(place));
     }
     Ok(Pieces {
         initial,
@@ -227,8 +236,8 @@ fn pieces_of(alloc: Global, reader: &mut Reader) -> Result<Pieces, PartFault>
 
 /// The pieces that are neither first nor last, as many as come next.
 #[tactic(auto, using(crate::proofs::FilterLemmas::middle_begins, crate::proofs::FilterLemmas::middle_goes_on, crate::proofs::FilterLemmas::middle_fails, crate::proofs::FilterLemmas::middle_ends))]
-fn middle_of(alloc: Global, reader: &mut Reader) -> Result<OctetsList, PartFault>
-    ensures exact { Gives Fails (λ pieces. Ok (pieces, reader.new.left)) result
+fn middle_of(alloc: Global, reader: &mut Reader) -> Result<OctetsList, ComponentFault>
+    ensures exact { Gives ComponentFails (λ pieces. Ok (pieces, reader.new.left)) result
         (while_at 129 (string_at 129) reader.old.stop reader.old.left) }
     ensures stop { reader.new.stop ≡ reader.old.stop }
 {

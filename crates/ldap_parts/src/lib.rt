@@ -22,7 +22,7 @@ mod lists;
 pub use attributes::{attribute_of, attributes_of, put_attribute, put_attributes};
 pub use component::{number_of, option_of, put_number, put_option, range_of, string_of, truth_of};
 pub use control::{Control, ControlList, controls_of, put_controls};
-pub use fault::PartFault;
+pub use fault::ComponentFault;
 pub use filter_reading::{assertion_of, filter_of};
 pub use filter_writing::{put_assertion, put_filter};
 pub use laws::{canonical_spellings, components_are_read};

@@ -6,19 +6,19 @@ ghost use Rattle.ldap_ber.specs.Reading.{many_at};
 ghost use Rattle.ldap_ber.specs.Canonical.{element};
 ghost use Rattle.ldap_ber.specs.Writer.{after_bytes};
 ghost use Rattle.ldap_ber.specs.Gives.{Gives};
-ghost use Rattle.ldap_parts.specs.Faults.{Fails};
+ghost use Rattle.ldap_parts.specs.Faults.{ComponentFails};
 ghost use Rattle.ldap_parts.specs.Components.{string_at, strings_at, strings_from_first, strings_octets};
 
 use crate::component::string_of;
-use crate::fault::PartFault;
+use crate::fault::ComponentFault;
 use ldap_ber::{NoMemory, Octets, OctetsList, Reader, Writer};
 use std::alloc::Global;
 
 /// The element with this tag that comes next: octet strings alone. Else it is `Refused` with the
 /// place of the first element that is not so, or `NoMemory`, and the reader is as before.
 #[inline(always)]
-pub fn strings_of(alloc: Global, reader: &mut Reader, tag: u8) -> Result<OctetsList, PartFault>
-    ensures exact { Gives Fails (λ strings. Ok (strings, reader.new.left)) result
+pub fn strings_of(alloc: Global, reader: &mut Reader, tag: u8) -> Result<OctetsList, ComponentFault>
+    ensures exact { Gives ComponentFails (λ strings. Ok (strings, reader.new.left)) result
         (strings_at tag reader.old.stop reader.old.left) }
     ensures stop { reader.new.stop ≡ reader.old.stop }
     ensures err { OnErr result (reader.new ≡ reader.old) }
@@ -34,8 +34,8 @@ pub fn strings_of(alloc: Global, reader: &mut Reader, tag: u8) -> Result<OctetsL
 /// The octet strings that are left. The only one takes no memory for a list.
 #[inline(always)]
 #[tactic(auto, using(crate::proofs::StringLemmas::strings_first, crate::proofs::StringLemmas::strings_only, crate::proofs::StringLemmas::strings_refused, crate::proofs::StringLemmas::strings_none))]
-fn strings_in(alloc: Global, reader: &mut Reader) -> Result<OctetsList, PartFault>
-    ensures { Gives Fails (λ strings. Ok strings) result
+fn strings_in(alloc: Global, reader: &mut Reader) -> Result<OctetsList, ComponentFault>
+    ensures { Gives ComponentFails (λ strings. Ok strings) result
         (many_at (string_at 4) reader.old.stop reader.old.left) }
 {
     if reader.is_empty() {
@@ -56,8 +56,8 @@ fn strings_after(
     alloc: Global,
     first: Octets,
     reader: &mut Reader,
-) -> Result<Vec<Octets>, PartFault>
-    ensures { Gives Fails (λ strings. Ok strings.items) result
+) -> Result<Vec<Octets>, ComponentFault>
+    ensures { Gives ComponentFails (λ strings. Ok strings.items) result
         (strings_from_first first reader.old.stop reader.old.left) }
 {
     let room = reader.count().unwrap_or(0);

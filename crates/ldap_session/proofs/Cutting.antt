@@ -2,7 +2,7 @@
 use Rattle.std.proofs.Common.{◌≡◌, ℕ, zero, suc, ◌<◌, ◌≤◌, List, [], ◌∷◌, ◌++◌, length, drop, Option, Some, None, refl, sym, ap, ◌∙◌, arith, append_assoc, length-drop}
 use Rattle.std.specs.Prelude.{is_some, if◌then◌else◌}
 use Rattle.std.proofs.lemmas.List.{append-nil, drop-append-le}
-use Rattle.ldap_messages.specs.Whole.{Whole}
+use Rattle.ldap_messages.specs.Whole.{MessageValue}
 use Rattle.ldap_messages.specs.Frame.{Read, partial, refused, long, message, read_of}
 use Rattle.ldap_messages.proofs.StableLemmas.{read_stays}
 use Rattle.ldap_session.specs.declared.ended.Ended.{Ended}
@@ -47,7 +47,7 @@ grows_wrong prefix after place one other =
       calm = λ none. absurd (let wrong = rw (one, wrong_ends place) at none in cc);
     }
 
-grows_message : (prefix after : List ℕ) (whole : Whole) (count : ℕ) → incoming_in prefix ≡ Arrived whole ∷ incoming_in (drop count prefix) → incoming_in (prefix ++ after) ≡ Arrived whole ∷ incoming_in (drop count prefix ++ after)
+grows_message : (prefix after : List ℕ) (whole : MessageValue) (count : ℕ) → incoming_in prefix ≡ Arrived whole ∷ incoming_in (drop count prefix) → incoming_in (prefix ++ after) ≡ Arrived whole ∷ incoming_in (drop count prefix ++ after)
     → rest_of prefix ≡ rest_of (drop count prefix) → Grows (drop count prefix) after → Grows prefix after
 grows_message prefix after whole count one other rests later = step (end_of (Answers (Arrived whole) 0)) refl
   where

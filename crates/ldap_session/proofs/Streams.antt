@@ -1,7 +1,7 @@
 -- The messages of a stream, from its first byte on.
 use Rattle.std.proofs.Common.{◌≡◌, ℕ, zero, suc, ◌<◌, ◌≤◌, List, [], ◌∷◌, length, take, drop, refl, sym, ap, subst, ◌∙◌, arith, length-drop}
 use Rattle.std.proofs.lemmas.List.{length-take, take-append-drop}
-use Rattle.ldap_messages.specs.Whole.{Whole}
+use Rattle.ldap_messages.specs.Whole.{MessageValue}
 use Rattle.ldap_messages.specs.Frame.{Read, partial, refused, long, message, read_of}
 use Rattle.ldap_messages.proofs.FrameLemmas.{read_found, read_only}
 use Rattle.ldap_session.specs.Incoming.{Incoming, Arrived, Wrong, incoming_then, incoming_within, incoming_in, rest_then, rest_within, rest_of}
@@ -17,17 +17,17 @@ count_of long = 0
 count_of (message whole count) = count
 
 -- the frame of a message is what it was read of
-frame_is : (bytes : List ℕ) (whole : Whole) (count : ℕ) → read_of bytes ≡ message whole count → count ≡ length (take count bytes)
+frame_is : (bytes : List ℕ) (whole : MessageValue) (count : ℕ) → read_of bytes ≡ message whole count → count ≡ length (take count bytes)
 unfolding count_of
 frame_is bytes whole count is =
     let again = read_only (take count bytes) (drop count bytes) whole (read_found bytes whole count is) in
     let there = subst (λ (xs : List ℕ). read_of xs ≡ message whole (length (take count bytes))) (take-append-drop count bytes) again in
     ap count_of (sym is ∙ there)
 
-pub frame_within : (bytes : List ℕ) (whole : Whole) (count : ℕ) → read_of bytes ≡ message whole count → count ≤ length bytes
+pub frame_within : (bytes : List ℕ) (whole : MessageValue) (count : ℕ) → read_of bytes ≡ message whole count → count ≤ length bytes
 frame_within bytes whole count is = omega (arith, frame_is bytes whole count is, length-take count bytes)
 
-pub frame_some : (bytes : List ℕ) (whole : Whole) (count : ℕ) → read_of bytes ≡ message whole count → 0 < count
+pub frame_some : (bytes : List ℕ) (whole : MessageValue) (count : ℕ) → read_of bytes ≡ message whole count → 0 < count
 frame_some bytes whole zero is =
     let again = read_only [] [] whole (read_found bytes whole zero is) in
     absurd (cc (again, nothing_read))
@@ -109,13 +109,13 @@ incoming_refused bytes place is = incoming_by bytes (refused place) is
 pub incoming_long : (bytes : List ℕ) → read_of bytes ≡ long → incoming_in bytes ≡ Wrong 0 ∷ []
 incoming_long bytes is = incoming_by bytes long is
 
-pub incoming_more : (bytes : List ℕ) (whole : Whole) (count : ℕ) → read_of bytes ≡ message whole count → incoming_in bytes ≡ Arrived whole ∷ incoming_in (drop count bytes)
+pub incoming_more : (bytes : List ℕ) (whole : MessageValue) (count : ℕ) → read_of bytes ≡ message whole count → incoming_in bytes ≡ Arrived whole ∷ incoming_in (drop count bytes)
 unfolding incoming_in
 incoming_more bytes whole count is =
     incoming_by bytes (message whole count) is
     ∙ ap (λ (more : List Incoming). Arrived whole ∷ more) (incoming_enough (length bytes) (length (drop count bytes)) (drop count bytes) (omega (arith, length-drop count bytes)) (omega arith))
 
-pub rest_more : (bytes : List ℕ) (whole : Whole) (count : ℕ) → read_of bytes ≡ message whole count → rest_of bytes ≡ rest_of (drop count bytes)
+pub rest_more : (bytes : List ℕ) (whole : MessageValue) (count : ℕ) → read_of bytes ≡ message whole count → rest_of bytes ≡ rest_of (drop count bytes)
 unfolding rest_of
 rest_more bytes whole count is =
     rest_by bytes (message whole count) is

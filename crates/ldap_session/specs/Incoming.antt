@@ -1,12 +1,12 @@
 -- The messages of a stream of bytes (RFC 4511, section 5.2).
 use Rattle.std.specs.Prelude.{ℕ, zero, suc, List, [], ◌∷◌, length, drop}
-use Rattle.ldap_messages.specs.Whole.{Whole}
+use Rattle.ldap_messages.specs.Whole.{MessageValue}
 use Rattle.ldap_messages.specs.Frame.{Read, partial, refused, long, message, read_of}
 
 -- a whole message, or what stands in a message's place and is refused, at a place from its first
 -- byte on
 pub data Incoming : Type 0 where
-  Arrived : Whole → Incoming
+  Arrived : MessageValue → Incoming
   Wrong : ℕ → Incoming
 
 -- the first message, and those that are found later

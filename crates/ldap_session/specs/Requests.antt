@@ -12,7 +12,7 @@ use Rattle.schema_rules.specs.declared.raw.Change.TheVariants.{Add, Delete, Modi
 
 -- what a search is asked about: its base, its scope by number, how many entries at most, whether
 -- types alone are wanted, its filter, and the attributes
-pub record SearchAsked : Type 0 where
+pub record SearchParametersValue : Type 0 where
   pub base : List ℕ
   pub scope : ℕ
   pub size_limit : ℕ
@@ -26,7 +26,7 @@ pub data Request : Type 0 where
   Unbinds : Request
   Writes : Change → Request
   Compares : (entry name value : List ℕ) → Request
-  Searches : SearchAsked → Request
+  Searches : SearchParametersValue → Request
   Abandons : ℤ → Request
   Extends : (name : List ℕ) → (value : Option (List ℕ)) → Request
   -- what a server alone sends

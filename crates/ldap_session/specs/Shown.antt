@@ -1,12 +1,12 @@
 -- A request of the code, without where it lies in memory.
 use Rattle.ldap_filter.specs.FilterTree.{tree_of}
 use Rattle.ldap_messages.specs.Search.{scope_number}
-use Rattle.ldap_session.specs.declared.request.AskedSearch.{AskedSearch}
+use Rattle.ldap_session.specs.declared.request.SearchParameters.{SearchParameters}
 use Rattle.ldap_session.specs.declared.request.Request as code
 use Rattle.ldap_session.specs.declared.request.Request.TheVariants.{Bind, Unbind, Write, Compare, Search, Abandon, Extended, Response}
-use Rattle.ldap_session.specs.Requests.{SearchAsked, Request, Binds, Unbinds, Writes, Compares, Searches, Abandons, Extends, Responds}
+use Rattle.ldap_session.specs.Requests.{SearchParametersValue, Request, Binds, Unbinds, Writes, Compares, Searches, Abandons, Extends, Responds}
 
-abbrev pub search_shown : AskedSearch → SearchAsked
+abbrev pub search_shown : SearchParameters → SearchParametersValue
 search_shown search = record {
   base = search.base;
   scope = scope_number search.scope;

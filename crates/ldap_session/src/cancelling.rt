@@ -2,12 +2,12 @@
 
 ghost use Rattle.std.specs.Prelude.{◌≡◌, Ok, IfOk};
 ghost use Rattle.ldap_ber.specs.Gives.{Gives};
-ghost use Rattle.ldap_parts.specs.Faults.{Fails, place_of};
+ghost use Rattle.ldap_parts.specs.Faults.{ComponentFails, place_of};
 ghost use Rattle.ldap_ber.specs.Reading.{whole_at};
 ghost use Rattle.ldap_session.specs.Cancelling.{is_cancel, cancel_at, target_of};
 
 use ldap_ber::{NoMemory, Octets, Reader};
-use ldap_parts::{PartFault, range_of};
+use ldap_parts::{ComponentFault, range_of};
 use std::alloc::AllocError;
 
 /// The object identifier of Cancel.
@@ -32,14 +32,14 @@ pub fn target_of(value: &Option<Octets>) -> Result<Option<i64>, NoMemory>
     };
     match read_target(value.as_slice()) {
         Ok(id) => Ok(Some(i64::from(id))),
-        Err(PartFault::Refused(_)) => Ok(None),
-        Err(PartFault::NoMemory) => Err(AllocError),
+        Err(ComponentFault::Refused(_)) => Ok(None),
+        Err(ComponentFault::NoMemory) => Err(AllocError),
     }
 }
 
 /// The message ID that all of the bytes encode.
-fn read_target(bytes: &[u8]) -> Result<u32, PartFault>
-    ensures { Gives Fails (λ id. Ok id) result (whole_at place_of cancel_at bytes.now) }
+fn read_target(bytes: &[u8]) -> Result<u32, ComponentFault>
+    ensures { Gives ComponentFails (λ id. Ok id) result (whole_at place_of cancel_at bytes.now) }
 {
     let mut reader = Reader::new(bytes);
     let id = next_target(&mut reader)?;
@@ -49,8 +49,8 @@ fn read_target(bytes: &[u8]) -> Result<u32, PartFault>
 
 /// The message ID that comes next.
 #[tactic(auto, unfolding(crate::specs::Cancelling::cancel_at))]
-fn next_target(reader: &mut Reader) -> Result<u32, PartFault>
-    ensures exact { Gives Fails (λ id. Ok (id, reader.new.left)) result
+fn next_target(reader: &mut Reader) -> Result<u32, ComponentFault>
+    ensures exact { Gives ComponentFails (λ id. Ok (id, reader.new.left)) result
         (cancel_at reader.old.stop reader.old.left) }
     ensures stop { reader.new.stop ≡ reader.old.stop }
 {

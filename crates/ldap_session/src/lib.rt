@@ -19,4 +19,4 @@ pub use laws::{
     cuts_change_no_message, the_configured_bind_alone_binds, the_input_decides_the_end,
 };
 pub use ldap_ber::NoMemory;
-pub use request::{AskedSearch, Request, has_unknown_critical, request_of};
+pub use request::{Request, SearchParameters, has_unknown_critical, request_of};

@@ -17,7 +17,7 @@ const MANAGE_DSA_IT: &[u8] = b"2.16.840.1.113730.3.4.2";
 
 /// What a search is asked about.
 #[derive(Drop)]
-pub struct AskedSearch {
+pub struct SearchParameters {
     pub base: Octets,
     pub scope: SearchScope,
     /// How many entries at most, or 0 for any number.
@@ -36,7 +36,7 @@ pub enum Request {
     Write(Change),
     /// The entry's name, and the assertion.
     Compare(Octets, Octets, Octets),
-    Search(AskedSearch),
+    Search(SearchParameters),
     /// The message ID of the operation that is to be abandoned.
     Abandon(i64),
     Extended(Octets, Option<Octets>),
@@ -66,7 +66,7 @@ pub fn request_of(op: Protocol) -> Request
             filter,
             attributes,
             ..
-        } => Request::Search(AskedSearch {
+        } => Request::Search(SearchParameters {
             base,
             scope,
             size_limit,

@@ -12,6 +12,12 @@ use schema_rules::{Attribute, Attrs};
 use std::alloc::Global;
 use uuid::Uuid;
 
+/// Room for what a line has beside its name and its value.
+const MARKS_ROOM: usize = 4;
+
+/// Room for the lines of entryUUID and entryCSN, and for the marks of the first line and the last.
+const OPERATIONAL_ROOM: usize = 112;
+
 /// The entry of this name as a record of LDIF, ended by an empty line, with its entryUUID and its
 /// entryCSN where they are given (RFC 2849). Lines are not folded. A value that could not be read
 /// again as it stands is written in base64. It is `NoMemory` where memory runs out.
@@ -23,12 +29,21 @@ pub fn write_entry(
 ) -> Result<Vec<u8>, NoMemory>
     ensures { IfOk result (λ text. text.items ≡ spec.entry_text name.now attrs.now operational) }
 {
-    let mut text = Vec::new(alloc);
+    let mut text = Vec::with_capacity(alloc, entry_room(name, attrs))?;
     push_line(alloc, &mut text, b"dn", name)?;
     push_attributes(alloc, &mut text, attrs.list())?;
     push_operational(alloc, &mut text, operational)?;
     text.push(b'\n')?;
     Ok(text)
+}
+
+/// How many bytes the text of an entry takes, as a hint of the room that it needs.
+fn entry_room(name: &[u8], attrs: &Attrs) -> usize {
+    let marks = attrs.list().len().saturating_mul(MARKS_ROOM);
+    name.len()
+        .saturating_add(attrs.weight() as usize)
+        .saturating_add(marks)
+        .saturating_add(OPERATIONAL_ROOM)
 }
 
 fn push_attributes(

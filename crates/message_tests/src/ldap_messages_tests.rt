@@ -4,7 +4,7 @@
 //! written are what the DER encoder of pyasn1 0.6.3 gives by the definitions of RFC 4511, appendix
 //! B, of the values beside them; those that are refused were made of such spellings by hand.
 ghost use Rattle.std.specs.Prelude.{IfOk};
-ghost use Rattle.ldap_messages.specs.Whole.{whole_of, HasSpelling};
+ghost use Rattle.ldap_messages.specs.Whole.{message_value, HasSpelling};
 
 use crate::assertions::{assert_same, assert_same_of};
 use ldap_ber::{Octets, discard};
@@ -22,7 +22,7 @@ use std::test::Fail;
 
 /// The message of the whole of the bytes.
 pub(crate) fn message_of(alloc: Global, bytes: &[u8]) -> Result<Message, MessageFault>
-    ensures { IfOk result (λ message. HasSpelling (whole_of message)) }
+    ensures { IfOk result (λ message. HasSpelling (message_value message)) }
 {
     match Message::read(alloc, bytes)? {
         Some((message, count)) => {

@@ -9,7 +9,7 @@ use crate::assertions::assert_same_of;
 use ldap_ber::{NoMemory, Octets, OctetsList, Reader, Writer, discard};
 use ldap_filter::Filter;
 use ldap_parts::{
-    Control, ControlList, PartFault, assertion_of, attribute_of, attributes_of, controls_of,
+    ComponentFault, Control, ControlList, assertion_of, attribute_of, attributes_of, controls_of,
     filter_of, number_of, option_of, put_assertion, put_attribute, put_attributes, put_controls,
     put_filter, put_number, put_option, put_strings, range_of, string_of, strings_of, truth_of,
 };
@@ -48,14 +48,14 @@ enum Component {
 // fault: so no proof goes through the kinds of components at each of its ends.
 
 /// The component that all of the bytes are.
-fn read(alloc: Global, kind: Kind, bytes: &[u8]) -> Result<Component, PartFault> {
+fn read(alloc: Global, kind: Kind, bytes: &[u8]) -> Result<Component, ComponentFault> {
     let mut reader = Reader::new(bytes);
     let component = read_next(alloc, kind, &mut reader)?;
     match reader.end() {
         Ok(()) => Ok(component),
         Err(fault) => {
             discard(component);
-            Err(PartFault::from(fault))
+            Err(ComponentFault::from(fault))
         }
     }
 }
@@ -69,31 +69,31 @@ fn says(alloc: Global, kind: Kind, bytes: &[u8]) -> Result<Vec<u8>, Fail> {
 }
 
 /// What is written of the component that all of the bytes are.
-fn written_again(alloc: Global, kind: Kind, bytes: &[u8]) -> Result<Octets, PartFault> {
+fn written_again(alloc: Global, kind: Kind, bytes: &[u8]) -> Result<Octets, ComponentFault> {
     let component = read(alloc, kind, bytes)?;
     let spelling = written(alloc, &component);
     discard(component);
     Ok(spelling?)
 }
 
-fn read_assertion(alloc: Global, reader: &mut Reader) -> Result<Component, PartFault> {
+fn read_assertion(alloc: Global, reader: &mut Reader) -> Result<Component, ComponentFault> {
     let (name, value) = assertion_of(alloc, reader, 0x30)?;
     Ok(Component::Assertion(name, value))
 }
 
-fn read_names(alloc: Global, reader: &mut Reader) -> Result<Component, PartFault> {
+fn read_names(alloc: Global, reader: &mut Reader) -> Result<Component, ComponentFault> {
     let name = string_of(alloc, reader, 0x04)?;
     let superior = option_of(alloc, reader, 0x80)?;
     Ok(Component::Names(name, superior))
 }
 
-fn read_numbers(reader: &mut Reader) -> Result<Component, PartFault> {
+fn read_numbers(reader: &mut Reader) -> Result<Component, ComponentFault> {
     let code = number_of(reader, 0x0A)?;
     let version = range_of(reader, 0x02, 1, 127)?;
     Ok(Component::Numbers(code, version, truth_of(reader)?))
 }
 
-fn read_next(alloc: Global, kind: Kind, reader: &mut Reader) -> Result<Component, PartFault> {
+fn read_next(alloc: Global, kind: Kind, reader: &mut Reader) -> Result<Component, ComponentFault> {
     match kind {
         Kind::Assertion => read_assertion(alloc, reader),
         Kind::Attribute => Ok(Component::Attribute(attribute_of(alloc, reader)?)),
@@ -389,7 +389,7 @@ fn assert_written_again(
     alloc: Global,
     kind: Kind,
     spelling: &[u8],
-) -> Result<(), PartFault> {
+) -> Result<(), ComponentFault> {
     let written = written_again(alloc, kind, spelling)?;
     assert_same_of(rt, spelling, &written.as_slice(), &spelling);
     Ok(())
@@ -568,7 +568,7 @@ const REFUSED: [(Kind, &[u8], usize); 41] = [
     (Kind::Numbers, b"\x0a\x01\x05\x02\x01\x03\x01\0", 6),
 ];
 
-fn fault_of(alloc: Global, kind: Kind, bytes: &[u8]) -> Option<PartFault> {
+fn fault_of(alloc: Global, kind: Kind, bytes: &[u8]) -> Option<ComponentFault> {
     read(alloc, kind, bytes).err()
 }
 
@@ -576,6 +576,6 @@ fn fault_of(alloc: Global, kind: Kind, bytes: &[u8]) -> Option<PartFault> {
 fn refusals(rt: HostRuntime) {
     for (kind, bytes, place) in &REFUSED {
         let fault = fault_of(rt.alloc(), *kind, bytes);
-        assert_same_of(&rt, bytes, &fault, &Some(PartFault::Refused(*place)));
+        assert_same_of(&rt, bytes, &fault, &Some(ComponentFault::Refused(*place)));
     }
 }

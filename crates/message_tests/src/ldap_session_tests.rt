@@ -8,8 +8,8 @@ use dn_names::Dn;
 use ldap_ber::{NoMemory, Octets, discard};
 use ldap_messages::{Authentication, Control, ControlList, Message, MessageFault};
 use ldap_session::{
-    Access, AskedSearch, Request, bind_code, binds_as, cancels, has_unknown_critical, may_write,
-    request_of, target_of,
+    Access, Request, SearchParameters, bind_code, binds_as, cancels, has_unknown_critical,
+    may_write, request_of, target_of,
 };
 use schema_rules::Change;
 use std::alloc::Global;
@@ -53,7 +53,7 @@ fn bind_reported(
     Ok(format!(in alloc; "bind {version} {name} {kind} {given:?}")?)
 }
 
-fn search_reported(alloc: Global, search: &AskedSearch) -> Result<String, Fail> {
+fn search_reported(alloc: Global, search: &SearchParameters) -> Result<String, Fail> {
     let filter = search.filter.write_text(alloc)?;
     let mut text = format!(in alloc;
         "search {} {:?} {} {} {}",

@@ -1,5 +1,6 @@
-//! Tests of the messages of LDAP, their components, and what a session makes of them. Each file
-//! tests the crate that it is named for, by its public calls.
+//! Tests of the messages of LDAP and their components, of what a session makes of them, of the
+//! messages of a search, and of a consumer. Each file tests the crate that it is named for, by its
+//! public calls.
 #![tactic(auto)]
 
 #[cfg(test)]
@@ -10,3 +11,17 @@ mod ldap_messages_tests;
 mod ldap_parts_tests;
 #[cfg(test)]
 mod ldap_session_tests;
+#[cfg(test)]
+mod messages;
+#[cfg(test)]
+mod plain_copy;
+#[cfg(test)]
+mod plain_tests;
+#[cfg(test)]
+mod requests;
+#[cfg(test)]
+mod rows;
+#[cfg(test)]
+mod sync_consumer_tests;
+#[cfg(test)]
+mod sync_wire_tests;

@@ -2,7 +2,7 @@
 //! identity that is dropped.
 ghost use Rattle.std.specs.Prelude.{◌≡◌, true, nat_le, IfOk};
 ghost use Rattle.std.specs.List.{list_all};
-ghost use Rattle.entry_tree.specs.Fitting.{is_light};
+ghost use Rattle.entry_tree.specs.Fitting.{is_within_entry_limit};
 ghost use Rattle.entry_tree.specs.Sound.{is_sound_attribute, is_sound_put};
 ghost use Rattle.entry_tree.specs.State.{most_entry_weight};
 ghost use Rattle.schema_rules.specs.Attributes.{weight_of};
@@ -13,7 +13,7 @@ use csn_cookie::Csn;
 use dn_names::Dn;
 use entry_tree::{Entry, EntryList};
 use ldap_ber::{NoMemory, discard};
-use schema_rules::Attrs;
+use schema_rules::{Attrs, RawList};
 use std::alloc::Global;
 use std::test::Fail;
 use sync_messages::IdList;
@@ -59,7 +59,7 @@ pub(crate) fn commit_both(
 
 fn staged(alloc: Global, of: &str) -> Result<StagedCommit, Fail>
     ensures sound { IfOk result (λ commit. list_all is_sound_put commit.puts ≡ true) }
-    ensures light { IfOk result (λ commit. list_all is_light commit.puts ≡ true) }
+    ensures light { IfOk result (λ commit. list_all is_within_entry_limit commit.puts ≡ true) }
 {
     Ok(StagedCommit {
         puts: puts_of(alloc, of)?,
@@ -83,7 +83,7 @@ fn push_refusal(alloc: Global, text: &mut String, fault: CommitFault) -> Result<
 #[tactic(auto, using(crate::proofs::Puts::one_more))]
 pub(crate) fn puts_of(alloc: Global, of: &str) -> Result<EntryList, Fail>
     ensures sound { IfOk result (λ puts. list_all is_sound_put puts ≡ true) }
-    ensures light { IfOk result (λ puts. list_all is_light puts ≡ true) }
+    ensures light { IfOk result (λ puts. list_all is_within_entry_limit puts ≡ true) }
 {
     let mut entries = EntryList::new(alloc);
     for put in of.split(' ') {
@@ -106,9 +106,9 @@ pub(crate) fn drops_of(alloc: Global, of: &str) -> Result<IdList, NoMemory> {
 
 fn entry_of(alloc: Global, uuid: u64, name: &str) -> Result<Entry, Fail>
     ensures sound { IfOk result (λ entry. is_sound_put entry ≡ true) }
-    ensures light { IfOk result (λ entry. is_light entry ≡ true) }
+    ensures light { IfOk result (λ entry. is_within_entry_limit entry ≡ true) }
 {
-    let attrs = attributes(alloc, &unit(alloc, name)?)?;
+    let attrs = attributes(alloc, raw_list(alloc, &unit(alloc, name)?, ' ', ',')?)?;
     Ok(Entry {
         uuid: u128::from(uuid),
         csn: Csn::parse(STAMP)?,
@@ -118,11 +118,10 @@ fn entry_of(alloc: Global, uuid: u64, name: &str) -> Result<Entry, Fail>
 }
 
 #[tactic(auto, using(crate::proofs::Puts::sound_attributes))]
-fn attributes(alloc: Global, text: &str) -> Result<Attrs, Fail>
+pub(crate) fn attributes(alloc: Global, list: RawList) -> Result<Attrs, Fail>
     ensures sound { IfOk result (λ attrs. list_all is_sound_attribute attrs ≡ true) }
     ensures light { IfOk result (λ attrs. nat_le (weight_of attrs) most_entry_weight ≡ true) }
 {
-    let list = raw_list(alloc, text)?;
     let attrs = Attrs::read(alloc, &list);
     discard(list);
     match attrs {

@@ -8,7 +8,7 @@ ghost use Rattle.directory_writes.specs.Directory.{entries_of};
 use crate::commits::{drops_of, puts_of};
 use crate::rows::{number, parted, push_counted, push_csn, push_word};
 use crate::writes::change;
-use directory_writes::{Directory, DirectoryFault, Preview, Start};
+use directory_writes::{Directory, DirectoryCommitFault, Preview, Ready, Standing, Start};
 use dn_names::Dn;
 use entry_tree::{EntryChange, Op, OpFault, read_op};
 use ldap_ber::{NoMemory, discard};
@@ -20,7 +20,7 @@ use std::test::Fail;
 /// that is not yet done: its CSN and a letter for each entry that it adds, changes or deletes, or
 /// its code; the numbers of writes and entries then; and when it is done its code, these numbers,
 /// and the last CSN. Of a commit that something rejects: that alone. A plan is a commit that is not
-/// done.
+/// done, and turns are two, of which the second is judged as it would be after the first.
 const ROWS: &str = "\
 0 first => 19700101000000.000000Z#000001#001#000000 a n0 e0 c0 n1 e1 19700101000000.000000Z#000001#001#000000
 0 plan 9:ou=a,dc=x 7:ou=b,dc=x => 19700101000000.000000Z#000002#001#000000 aa n1 e1
@@ -45,7 +45,8 @@ const ROWS: &str = "\
 0 commit -7 -8 => 19700101000001.000001Z#000003#001#000000  n7 e3 c0 n8 e3 19700101000001.000001Z#000003#001#000000
 0 commit 9:OU=A,dc=x -9 => 19700101000001.000001Z#000004#001#000000  n8 e3 c0 n9 e3 19700101000001.000001Z#000004#001#000000
 0 since => 7 9 2 3
-0 moment => n9 e3 19700101000001.000001Z#000004#001#000000
+0 turns 10:ou=f,dc=x & 11:ou=f,dc=x => 19700101000001.000001Z#000005#001#000000 a same10,11 n9 e3
+0 turns 10:ou=f,dc=x & 10:ou=g,dc=x => 19700101000001.000001Z#000005#001#000000 a 19700101000001.000001Z#000006#001#000000 c n9 e3
 ";
 
 #[test]
@@ -79,12 +80,8 @@ fn take_step(
     match word {
         "commit" => commit(alloc, directory, of, text),
         "plan" => plan(alloc, directory, of, text),
-        "moment" => {
-            let snapshot = directory.snapshot()?;
-            directory.return_to_snapshot(snapshot);
-            push_state(alloc, directory, text)
-        }
         "since" => push_since(alloc, directory, text),
+        "turns" => turns(alloc, directory, of, text),
         _ => write(alloc, directory, word, of, number(now), text),
     }
 }
@@ -142,13 +139,48 @@ fn plan(alloc: Global, directory: &Directory, of: &str, text: &mut String) -> Re
     }
 }
 
+/// Reports of two commits, with ` & ` between them, the second as it would be after the first.
+/// Neither is done.
+fn turns(alloc: Global, directory: &Directory, of: &str, text: &mut String) -> Result<(), Fail> {
+    let (first, second) = of.split_once(" & ").ok_or(of)?;
+    let ready = ready(alloc, directory.standing(), first, text)?;
+    let judged = judge(alloc, &ready.after, second, text);
+    discard(ready);
+    judged?;
+    push_numbers(alloc, directory, text)
+}
+
+/// Reports of a commit by what is kept beside the writes before it, and makes it ready.
+fn ready(alloc: Global, standing: &Standing, of: &str, text: &mut String) -> Result<Ready, Fail> {
+    let puts = puts_of(alloc, of)?;
+    let drops = drops_of(alloc, of)?;
+    let entries = puts.list();
+    let identities = drops.list();
+    let Ok(preview) = standing.preview_commit(entries, identities, 0) else {
+        return Err(Fail::from("the first is rejected"));
+    };
+    push_planned(&preview, text)?;
+    let op = Op::Commit(puts, drops);
+    Ok(standing.ready(&op, preview)?)
+}
+
+/// Reports of a commit by what is kept beside the writes before it.
+fn judge(alloc: Global, standing: &Standing, of: &str, text: &mut String) -> Result<(), Fail> {
+    let puts = puts_of(alloc, of)?;
+    let drops = drops_of(alloc, of)?;
+    match standing.preview_commit(puts.list(), drops.list(), 0) {
+        Ok(preview) => Ok(push_planned(&preview, text)?),
+        Err(fault) => push_fault(alloc, fault, text),
+    }
+}
+
 /// Two entries of one name, which alone may be against a commit here.
-fn push_fault(alloc: Global, fault: DirectoryFault, text: &mut String) -> Result<(), Fail> {
+fn push_fault(alloc: Global, fault: DirectoryCommitFault, text: &mut String) -> Result<(), Fail> {
     match fault {
-        DirectoryFault::DuplicateName(one, other) => {
+        DirectoryCommitFault::DuplicateName(one, other) => {
             Ok(push_word(text, &format!(in alloc; "same{one},{other}")?)?)
         }
-        DirectoryFault::LimitReached(_) | DirectoryFault::NoMemory => Err(Fail::from(
+        DirectoryCommitFault::LimitReached(_) | DirectoryCommitFault::NoMemory => Err(Fail::from(
             "a limit, or out of memory",
         )),
     }
@@ -163,7 +195,7 @@ fn done(
     text: &mut String,
 ) -> Result<(), Fail>
     requires sound { is_sound_op op ≡ true }
-    requires fits { fits (entries_of directory.old) op ≡ true }
+    requires fits { fits (entries_of directory.old.state) op ≡ true }
 {
     let preview = directory.preview(&op, now);
     let notified = push_preview(alloc, directory, &preview, text);

@@ -27,4 +27,10 @@ mod spellings;
 #[cfg(test)]
 mod sync_provider_tests;
 #[cfg(test)]
+mod tree_lines;
+#[cfg(test)]
+mod tree_rows;
+#[cfg(test)]
+mod tree_writes;
+#[cfg(test)]
 mod writes;

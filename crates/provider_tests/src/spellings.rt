@@ -2,7 +2,7 @@
 //! element, apart from this program.
 ghost use Rattle.std.specs.Prelude.{◌≡◌, IsTrue};
 ghost use Rattle.ldap_messages.specs.Operation.{IsOfGrammar, operation_of};
-ghost use Rattle.ldap_messages.specs.Outcome.{RefersOn};
+ghost use Rattle.ldap_messages.specs.Outcome.{HasReferral};
 
 use crate::rows::{number, push_word};
 use ldap_ber::discard;
@@ -98,7 +98,7 @@ fn is_entry_or_end(operation: &Protocol) -> bool
 }
 
 fn has_no_referral(outcome: &LdapResult) -> bool
-    ensures { IsTrue result → RefersOn outcome.now }
+    ensures { IsTrue result → HasReferral outcome.now }
 {
     match &outcome.referral {
         None => true,

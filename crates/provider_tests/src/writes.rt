@@ -84,20 +84,20 @@ pub(crate) fn change(alloc: Global, word: &str, of: &str) -> Result<Change, Fail
         "add" => added(alloc, name, &unit(alloc, name)?),
         "person" => added(alloc, name, "objectClass=person cn=k sn=s"),
         "delete" => Ok(Change::Delete(octets(alloc, name)?)),
-        "replace" => replaced(alloc, name, attribute(alloc, rest)?),
+        "replace" => replaced(alloc, name, attribute(alloc, rest, ',')?),
         "swell" => replaced(alloc, name, description(alloc, number(rest))?),
         "rename" => renamed(alloc, name, rest),
         _ => Err(Fail::from(word)),
     }
 }
 
-fn octets(alloc: Global, text: &str) -> Result<Octets, NoMemory> {
+pub(crate) fn octets(alloc: Global, text: &str) -> Result<Octets, NoMemory> {
     Octets::from_slice(alloc, text.as_bytes())
 }
 
 fn added(alloc: Global, name: &str, attributes: &str) -> Result<Change, Fail> {
     let name = octets(alloc, name)?;
-    Ok(Change::Add(name, raw_list(alloc, attributes)?))
+    Ok(Change::Add(name, raw_list(alloc, attributes, ' ', ',')?))
 }
 
 /// The attributes of the unit with this name.
@@ -107,25 +107,43 @@ pub(crate) fn unit(alloc: Global, name: &str) -> Result<String, NoMemory> {
     format!(in alloc; "objectClass=organizationalUnit ou={value}")
 }
 
-/// The attributes of words `type=value,value`.
-pub(crate) fn raw_list(alloc: Global, text: &str) -> Result<RawList, NoMemory> {
+/// The attributes of the text, where these signs stand between attributes and between values.
+pub(crate) fn raw_list(
+    alloc: Global,
+    text: &str,
+    sign: char,
+    between: char,
+) -> Result<RawList, NoMemory> {
     let mut list = RawList::new(alloc);
-    for word in text.split(' ') {
-        list.push(attribute(alloc, word)?)?;
+    for piece in text.split(sign) {
+        list.push(attribute(alloc, piece, between)?)?;
     }
     Ok(list)
 }
 
-fn attribute(alloc: Global, text: &str) -> Result<RawAttribute, NoMemory> {
-    let (name, list) = text.split_once('=').unwrap_or((text, ""));
-    let mut values = OctetsList::new(alloc);
-    for value in list.split(',') {
-        values.push(octets(alloc, value)?)?;
-    }
+/// The attribute of `type=value,value`, or of `type` alone, with this sign between values.
+pub(crate) fn attribute(
+    alloc: Global,
+    text: &str,
+    between: char,
+) -> Result<RawAttribute, NoMemory> {
+    let (name, values) = match text.split_once('=') {
+        None => (text, OctetsList::new(alloc)),
+        Some((name, list)) => (name, values_of(alloc, list, between)?),
+    };
     Ok(RawAttribute {
         name: octets(alloc, name)?,
         values,
     })
+}
+
+/// The values of the text, with this sign between them.
+pub(crate) fn values_of(alloc: Global, list: &str, between: char) -> Result<OctetsList, NoMemory> {
+    let mut values = OctetsList::new(alloc);
+    for value in list.split(between) {
+        values.push(octets(alloc, value)?)?;
+    }
+    Ok(values)
 }
 
 /// A description of n octets.

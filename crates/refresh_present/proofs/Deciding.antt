@@ -10,14 +10,14 @@ use Rattle.refresh_present.specs.declared.decision.Decision.{Decision}
 use Rattle.refresh_present.specs.declared.decision.Decision.TheVariants.{Send, Present}
 use Rattle.refresh_present.specs.Item.{identities, selected_of}
 use Rattle.refresh_present.specs.Decision.{identity_of}
-use Rattle.refresh_present.specs.Present.{is_news, decided, planned}
+use Rattle.refresh_present.specs.Present.{is_new_to_client, decided, planned}
 use Rattle.refresh_present.proofs.Ascending.{ascends-filter}
 
 -- each selected item once, and no other
 pub identities_of-planned : (after : Option ℕ) (items : List Item)
     → map identity_of (planned after items) ≡ identities (selected_of items)
 identities_of-planned after [] = refl
-identities_of-planned after (item ∷ items) = step item.selected (is_news after item) (identities_of-planned after items) where
+identities_of-planned after (item ∷ items) = step item.selected (is_new_to_client after item) (identities_of-planned after items) where
   step : (selected news : Bool) → map identity_of (planned after items) ≡ identities (selected_of items)
       → map identity_of (cons_option (if not selected then None else if news then Some (Send item.uuid) else Some (Present item.uuid)) (planned after items))
       ≡ identities (cond selected (item ∷ selected_of items) (selected_of items))

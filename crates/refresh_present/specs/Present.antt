@@ -7,15 +7,15 @@ use Rattle.refresh_present.specs.declared.decision.Decision.TheVariants.{Send, P
 
 -- a client that has the content after a write has the entry as it is, but where a later one
 -- touched it; a client that has none has no entry
-abbrev pub is_news : Option ℕ → Item → Bool
-is_news None item = true
-is_news (Some after) item = nat_lt after item.touched
+abbrev pub is_new_to_client : Option ℕ → Item → Bool
+is_new_to_client None item = true
+is_new_to_client (Some after) item = nat_lt after item.touched
 
 -- what is selected is sent, or named as present where the client has it
 abbrev pub decided : Option ℕ → Item → Option Decision
 decided after item =
     if not item.selected then None
-    else if is_news after item then Some (Send item.uuid)
+    else if is_new_to_client after item then Some (Send item.uuid)
     else Some (Present item.uuid)
 
 -- one after the other

@@ -18,8 +18,8 @@ pub struct Item {
 impl Item {
     /// Whether the client cannot have the entry as it is, where it has the content after write
     /// `after`, or none.
-    pub(crate) fn is_news(&self, after: Option<u64>) -> bool
-        ensures { result ≡ spec.is_news after self.now }
+    pub(crate) fn is_new_to_client(&self, after: Option<u64>) -> bool
+        ensures { result ≡ spec.is_new_to_client after self.now }
     {
         match after {
             None => true,

@@ -62,7 +62,7 @@ fn decide(item: &Item, after: Option<u64>) -> Option<Decision>
 {
     if !item.selected {
         None
-    } else if item.is_news(after) {
+    } else if item.is_new_to_client(after) {
         Some(Decision::Send(item.uuid))
     } else {
         Some(Decision::Present(item.uuid))

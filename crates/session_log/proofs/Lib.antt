@@ -1,3 +1,4 @@
 pub mod Keeping
 pub mod Searches
 pub mod Covering
+pub mod InOrder

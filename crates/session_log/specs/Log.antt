@@ -1,6 +1,7 @@
 -- A bounded log of which entries were touched by which write.
 use Rattle.std.specs.Prelude.{ℕ, ◌-◌, max, nat_lt, nat_le, Bool, List, [], ◌∷◌, ◌++◌, length, take, drop, map, filter}
 use Rattle.std.specs.List.{fold}
+use Rattle.std.specs.List.Sorted.{IsNonDecreasingBy}
 use Rattle.std.specs.BTreeSet.{insert_key}
 use Rattle.std.specs.Ordering.{nat_cmp}
 use Rattle.session_log.specs.declared.note.Note.{Note}
@@ -39,6 +40,10 @@ limited limit notes floor =
       limit = limit;
       floor = greatest floor (before_last limit notes);
     }
+
+-- no note has a lower number than one before it
+abbrev pub NumbersRise : List Note → Type 0
+NumbersRise notes = IsNonDecreasingBy (λ note. note.number) notes
 
 abbrev pub fresh : ℕ → Log
 fresh limit = record { notes = []; limit = limit; floor = 0 }

@@ -2,6 +2,7 @@
 //! deleted since a client's cookie (RFC 4533, section 3.3.2).
 #![tactic(auto)]
 
+mod ascending;
 mod ending;
 mod law;
 mod log;

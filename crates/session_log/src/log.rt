@@ -4,9 +4,9 @@ ghost use Rattle.std.specs.List.Sorted.{IsStrictlySortedBy};
 ghost use Rattle.std.specs.Ordering.{nat_cmp};
 ghost use Rattle.session_log.specs.Log as spec;
 
+use crate::ascending::{in_order_with, insert_later};
 use crate::ending::keep_last;
 use crate::note::Note;
-use crate::searching::insert_after;
 use std::alloc::{AllocError, Global};
 use std::collections::{BTreeSet, VecDeque};
 use std::marker::Model;
@@ -22,12 +22,15 @@ pub struct SessionLog {
     notes: VecDeque<Note>,
     limit: u64,
     floor: u64,
+    /// True only where no note has a lower number than the one before it, as where writes are noted
+    /// one after another. What is looked for is then found by halves.
+    in_order: bool,
 }
 
 impl Model for SessionLog {
-    ghost use Rattle.std.specs.Prelude.{◌-◌};
+    ghost use Rattle.std.specs.Prelude.{◌-◌, IsTrue};
     ghost use Rattle.std.specs.VecDeque.{deque_capacity, deque_len};
-    ghost use Rattle.session_log.specs.Log.{LogWithRoom};
+    ghost use Rattle.session_log.specs.Log.{LogWithRoom, NumbersRise};
 
     ghost Value = { LogWithRoom };
 
@@ -35,6 +38,8 @@ impl Model for SessionLog {
       log = record { notes = l.notes.items; limit = l.limit; floor = l.floor };
       spare = deque_capacity l.notes - deque_len l.notes;
     } };
+
+    ghost invariant = { λ l. IsTrue l.in_order → NumbersRise l.notes.items };
 }
 
 impl SessionLog {
@@ -46,6 +51,7 @@ impl SessionLog {
             notes: VecDeque::new(alloc),
             limit,
             floor: 0,
+            in_order: true,
         }
     }
 
@@ -61,6 +67,7 @@ impl SessionLog {
             notes: VecDeque::from(notes),
             limit: self.limit,
             floor: self.floor,
+            in_order: self.in_order,
         })
     }
 
@@ -80,6 +87,7 @@ impl SessionLog {
         ensures log { self.new.log ≡ spec.noted number uuid self.old.log }
         ensures spare { self.old.spare ≤ self.new.spare + 1 }
     {
+        self.in_order = in_order_with(&self.notes, number, self.in_order);
         self.notes.push_back_reserved(Note { number, uuid });
         self.floor = keep_last(&mut self.notes, self.limit, self.floor);
     }
@@ -91,8 +99,9 @@ impl SessionLog {
         self.floor <= number
     }
 
-    /// The identities of the entries that were touched after write `number`, ascending. It is
-    /// `NoMemory` where memory runs out.
+    /// The identities of the entries that were touched after write `number`, ascending. Where the
+    /// numbers were noted in rising order, the notes up to that number are not looked at one by
+    /// one. It is `NoMemory` where memory runs out.
     pub fn since(&self, number: u64) -> Result<Vec<u128>, NoMemory>
         requires { self.now.log.floor ≤ number }
         ensures exact { IfOk result (λ uuids. uuids.items ≡ spec.since number self.now.log) }
@@ -100,9 +109,9 @@ impl SessionLog {
     {
         let alloc = *self.notes.allocator();
         let mut uuids = BTreeSet::new(alloc);
-        let (prefix, back) = self.notes.as_slices();
-        insert_after(&mut uuids, prefix, number)?;
-        insert_after(&mut uuids, back, number)?;
+        let slices = self.notes.as_slices();
+        insert_later(&mut uuids, slices.0, number, self.in_order)?;
+        insert_later(&mut uuids, slices.1, number, self.in_order)?;
         uuids.iter().copied().collect(alloc)
     }
 

@@ -2,7 +2,7 @@
 
 ghost use Rattle.std.specs.Prelude.{◌≡◌, true, false};
 ghost use Rattle.std.specs.List.{list_all};
-ghost use Rattle.entry_tree.specs.Fitting.{is_light};
+ghost use Rattle.entry_tree.specs.Fitting.{is_within_entry_limit};
 ghost use Rattle.entry_tree.specs.Sound.{is_commit, is_sound_op, is_sound_put};
 ghost use Rattle.sync_provider.specs.Ports.{PortState, WriteReplies, CommitReplies, SearchReplies, CompareReplies, AcceptReplies, HandOutReplies, DropReplies, WritesReplies};
 ghost use Rattle.shared_directory.specs.Desks.{IsAnswered};
@@ -50,7 +50,7 @@ pub(crate) struct CommitCall {
     pub(crate) drops: IdList,
     pub(crate) now: u64,
     ghost sound: { list_all is_sound_put puts ≡ true },
-    ghost light: { list_all is_light puts ≡ true },
+    ghost light: { list_all is_within_entry_limit puts ≡ true },
 }
 
 impl Call for CommitCall {

@@ -2,7 +2,7 @@
 
 ghost use Rattle.std.specs.Prelude.{◌≡◌, ◌<◌, ◌≤◌, ◌++◌, [], ◌∷◌, true, false, length, slice_index, vec_len, vec_capacity};
 ghost use Rattle.std.specs.List.{list_all};
-ghost use Rattle.entry_tree.specs.Fitting.{is_light};
+ghost use Rattle.entry_tree.specs.Fitting.{is_within_entry_limit};
 ghost use Rattle.entry_tree.specs.Sound.{is_commit, is_sound_op, is_sound_put};
 ghost use Rattle.sync_provider.specs.Ports.{WriteReplies, CommitReplies, SearchReplies, CompareReplies, AcceptReplies, HandOutReplies, DropReplies, WritesReplies};
 ghost use Rattle.shared_directory.specs.Desks as desks;
@@ -120,7 +120,7 @@ impl NumberedProvider {
         now: u64,
     ) -> Result<u64, CommitFault>
         requires sound { list_all is_sound_put puts ≡ true }
-        requires light { list_all is_light puts ≡ true }
+        requires light { list_all is_within_entry_limit puts ≡ true }
         ensures { IsAnswered number self.old self.new
             (λ p q. CommitReplies p puts drops now result q) }
     {

@@ -21,11 +21,6 @@ module _ {K X : Type 0} (P : K → Type 0) where
   keys_after [] r all = all
   keys_after (e ∷ l) r all = keys_after l r all.1
 
-  pub keys_together : (l r : List (K × X)) → AllByRecursion P (keys_of l)
-      → AllByRecursion P (keys_of r) → AllByRecursion P (keys_of (l ++ r))
-  keys_together [] r before after = after
-  keys_together (e ∷ l) r before after = (before.0, keys_together l r before.1 after)
-
 module _ {K X : Type 0} (cmp : K → K → Ordering) where
   -- what stands before ascends, and so does what stands after
   pub ascends_before : (l r : List (K × X)) → IsStrictlySortedBy cmp (keys_of (l ++ r))

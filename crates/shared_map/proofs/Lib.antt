@@ -1,3 +1,4 @@
+pub mod Alike
 pub mod Around
 pub mod Changes
 pub mod Counts

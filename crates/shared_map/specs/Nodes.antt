@@ -18,6 +18,10 @@ pairs (Fork' p lower pair higher height) = pairs lower ++ pair_of pair ∷ pairs
 abbrev pub pairs_of : {K V : Type 0} → Node K V → List (K × V)
 pairs_of node = pairs node.lower ++ pair_of node.pair ∷ pairs node.higher
 
+-- the pairs of a node but for its own
+abbrev pub pairs_beside : {K V : Type 0} → Node K V → List (K × V)
+pairs_beside node = pairs node.lower ++ pairs node.higher
+
 -- how many pairs there are after one is put in, whose key is new or was there
 abbrev pub count_with : Bool → ℕ → ℕ
 count_with is_new count = if is_new then count + 1 else count

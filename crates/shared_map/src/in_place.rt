@@ -115,7 +115,7 @@ fn put_anew<K: Ord + Drop, V: Drop>(
 }
 
 /// The node with those below it, in balance where there is memory for that.
-fn in_balance<K: Drop, V: Drop>(alloc: Global, shared: Arc<Node<K, V>>) -> Nodes<K, V>
+pub(crate) fn in_balance<K: Drop, V: Drop>(alloc: Global, shared: Arc<Node<K, V>>) -> Nodes<K, V>
     ensures { pairs result ≡ pairs_of shared.value }
 {
     if shared.is_level() {

@@ -1,6 +1,6 @@
 //! Ordered maps whose copies share their nodes: a copy counts one reference up, and a change makes
 //! the nodes on the way to its place anew, so that the other copies stay what they were. Nodes that
-//! no other map shares are changed where they stand by an insertion.
+//! no other map shares are changed where they stand.
 #![tactic(auto)]
 
 mod balance;
@@ -12,6 +12,7 @@ mod placing;
 mod queries;
 mod seeking;
 mod taking;
+mod taking_out;
 mod walking;
 
 pub use crossing::{map_is_sent, map_is_shared};

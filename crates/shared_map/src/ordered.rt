@@ -11,7 +11,7 @@ use crate::in_place::put_into;
 use crate::nodes::{Nodes, Pair};
 use crate::queries::Query;
 use crate::seeking::{first_pair, last_pair, pair_after, pair_from, value_at};
-use crate::taking::without;
+use crate::taking_out::take_from;
 use crate::walking::{push_values, push_values_after};
 use std::alloc::{AllocError, Global};
 use std::marker::Model;
@@ -20,7 +20,8 @@ use std::sync::Arc;
 
 const MOST_PAIRS: usize = 0x7fff_ffff_ffff_ffff;
 
-/// Down to how many levels a pair is put in where it goes: as many as a height can say.
+/// Down to how many levels a pair is put in or taken out where it stands: as many as a height can
+/// say.
 const MOST_LEVELS: u8 = 255;
 
 /// Pairs of a key and a value in ascending order of key, one pair at most for a key.
@@ -172,7 +173,9 @@ impl<K: Ord + Drop, V: Drop> SharedMap<K, V> {
         Ok(())
     }
 
-    /// Takes the pair of the key out. Where there is none, no memory is taken.
+    /// Takes the pair of the key out. The nodes on the way to it are made anew only where another
+    /// map shares them. Where there is none, no memory is taken. It is `AllocError` where memory
+    /// runs out, and the map is as before.
     pub fn remove<Q: Query<K>>(&mut self, key: Q) -> Result<(), AllocError>
         ensures ok { OnOk result
             (self.new ≡ remove_entry (is_at (Q.compare key)) self.old) }
@@ -181,8 +184,10 @@ impl<K: Ord + Drop, V: Drop> SharedMap<K, V> {
         if self.get(key).is_none() {
             return Ok(());
         }
-        let root = without(self.alloc, &self.root, key)?;
+        let root = mem::replace(&mut self.root, Nodes::Nothing);
+        let (root, answer) = take_from(self.alloc, MOST_LEVELS, root, key);
         self.root = root;
+        answer?;
         self.len -= 1;
         Ok(())
     }

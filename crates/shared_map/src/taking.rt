@@ -1,4 +1,4 @@
-//! How a pair is taken out.
+//! How a pair is taken out of nodes that are made anew.
 ghost use Rattle.std.specs.Prelude.{◌≡◌, ◌++◌, IfOk, drop};
 ghost use Rattle.std.specs.BTreeMap.{is_at};
 ghost use Rattle.std.specs.List.Sorted.{IsStrictlySortedBy};
@@ -41,7 +41,7 @@ pub(crate) fn without<K: Ord + Drop, V: Drop, Q: Query<K>>(
 }
 
 /// The lower pairs and the higher ones, of which the first goes between them.
-fn joined<K: Drop, V: Drop>(
+pub(crate) fn joined<K: Drop, V: Drop>(
     alloc: Global,
     lower: &Nodes<K, V>,
     higher: &Nodes<K, V>,

@@ -40,7 +40,8 @@ abbrev pub name_in : List ℕ → Result Name NameFault → Result (Option Name)
 name_in key (Ok name) = Ok (Some name)
 name_in key (Err fault) = Err (BadValue key)
 
-abbrev pub name_of : List ℕ → Result (Option (List ℕ)) ConfigFault → Result (Option Name) ConfigFault
+abbrev pub name_of : List ℕ → Result (Option (List ℕ)) ConfigFault
+    → Result (Option Name) ConfigFault
 name_of key (Ok None) = Ok None
 name_of key (Ok (Some text)) = name_in key (name_of_text text)
 name_of key (Err fault) = Err fault

@@ -7,7 +7,7 @@ use Rattle.std.proofs.lemmas.Bool.{and_parts, and_from, eq-eqb}
 use Rattle.ldap_constants.specs.declared.result_codes.TheConstants.{SUCCESS}
 use Rattle.entry_tree.specs.declared.entry.Entry.{Entry}
 use Rattle.entry_tree.specs.Effects.{committed}
-use Rattle.entry_tree.specs.Fitting.{is_light}
+use Rattle.entry_tree.specs.Fitting.{is_within_entry_limit}
 use Rattle.entry_tree.specs.Sound.{is_sound_put}
 use Rattle.entry_tree.specs.State.{ascends}
 use Rattle.ldap_messages.specs.declared.protocol.Protocol.{Protocol}
@@ -49,14 +49,14 @@ more_fit : (o : Option Entry) (entries : List Entry) → FitOption o → AreFit 
 more_fit None entries fit rest = rest
 more_fit (Some entry) entries fit rest = record {
   sound = and_from (is_sound_put entry) (list_all is_sound_put entries) fit.sound rest.sound;
-  light = and_from (is_light entry) (list_all is_light entries) fit.light rest.light;
+  light = and_from (is_within_entry_limit entry) (list_all is_within_entry_limit entries) fit.light rest.light;
 }
 
 rest_fit : (o : Option Entry) (entries : List Entry) → AreFit (cons_option o entries) → FitOption o × AreFit entries
 rest_fit None entries all = (tt, all)
 rest_fit (Some entry) entries all =
     let sound = and_parts (is_sound_put entry) (list_all is_sound_put entries) all.sound in
-    let light = and_parts (is_light entry) (list_all is_light entries) all.light in
+    let light = and_parts (is_within_entry_limit entry) (list_all is_within_entry_limit entries) all.light in
     (record { sound = sound.0; light = light.0 }, record { sound = sound.1; light = light.1 })
 
 -- ---- stages

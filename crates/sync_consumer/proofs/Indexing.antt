@@ -16,7 +16,7 @@ use Rattle.entry_tree.proofs.Order.{at_head}
 use Rattle.entry_tree.proofs.Changing.{own_uuid}
 use Rattle.sync_model.specs.Copy.{Stage, effected, slot}
 use Rattle.sync_model.proofs.Taking.{IsKeyed, at-effected, ascends-effected}
-use Rattle.sync_consumer.specs.Committing.{AreNamedApart}
+use Rattle.sync_consumer.specs.Committing.{HaveUniqueNames}
 use Rattle.sync_consumer.specs.Holding.{HeldNames, id_at, is_id, has_path, between, stays, after_stage, HasLeft, Notes, NotesAll, ArePathsApart, IsIndexOf, IsPathed}
 use Rattle.sync_consumer.specs.Staging.{entry_staged}
 use Rattle.sync_consumer.proofs.Naming.{all_apart}
@@ -92,7 +92,7 @@ paths_apart es none pathed path one other has has' = by (entry_at es one) refl (
     by (Some e) is (Some x) is' p q h h' =
         let paths : path_key e.dn ≡ path_key x.dn = (bytes_decides (path_key e.dn) path).0 h ∙ sym ((bytes_decides (path_key x.dn) path).0 h') in
         let same : same_name e.dn x.dn ≡ true = sym (equal_is_same e.dn x.dn p q) ∙ (bytes_decides (path_key e.dn) (path_key x.dn)).1 paths in
-        let all : AreNamedApart es = all_apart es none in
+        let all : HaveUniqueNames es = all_apart es none in
         let first : All (λ (y : Entry). same_name e.dn y.dn ≡ true → e ≡ y) es = all_at (λ (z : Entry). All (λ (y : Entry). same_name z.dn y.dn ≡ true → z ≡ y) es) es one e all is in
         let one_is : e ≡ x = all_at (λ (y : Entry). same_name e.dn y.dn ≡ true → e ≡ y) es other x first is' same in
         sym (own_uuid es one e is) ∙ ap (λ (y : Entry). y.uuid) one_is ∙ own_uuid es other x is'

@@ -6,13 +6,13 @@ use Rattle.std.proofs.lemmas.List.Elements.{All-nil, All-cons, All-head, All-tai
 use Rattle.dn_names.specs.Names.{same_name}
 use Rattle.dn_names.proofs.EqualNames.{name_sym}
 use Rattle.entry_tree.specs.declared.entry.Entry.{Entry}
-use Rattle.entry_tree.specs.Fitting.{may_be_held}
-use Rattle.entry_tree.specs.State.{is_crowded, is_named, entry_named, same_named}
+use Rattle.entry_tree.specs.Fitting.{is_directory_content}
+use Rattle.entry_tree.specs.State.{exceeds_limits, is_named, entry_named, same_named}
 use Rattle.sync_model.specs.Copy.Fault.{StageFull, DuplicateName}
 use Rattle.sync_model.specs.Copy.{Fault}
 use Rattle.sync_model.specs.Within.{against}
 use Rattle.sync_model.proofs.Limits.{option_or-none, option_map-none}
-use Rattle.sync_consumer.specs.Committing.{AreNamedApart}
+use Rattle.sync_consumer.specs.Committing.{HaveUniqueNames}
 
 -- ---- no two of one name
 
@@ -43,7 +43,7 @@ with_first e (x ∷ es) all off rest =
     (with_first e es all (All-tail (λ (y : Entry). is_named e.dn y ≡ false) x es off) (All-tail (λ (one : Entry). All (Differs one) all) x es rest))
 
 -- entries of which no two have one name are named apart
-pub all_apart : (es : List Entry) → same_named es ≡ None → AreNamedApart es
+pub all_apart : (es : List Entry) → same_named es ≡ None → HaveUniqueNames es
 all_apart [] none = All-nil (λ (one : Entry). All (Differs one) [])
 all_apart (e ∷ es) none =
     let p = option_or-none (option_map (λ (other : Entry). (e.uuid, other.uuid)) (entry_named es e.dn)) (same_named es) none in
@@ -58,16 +58,16 @@ abbrev by_name : Option (ℕ × ℕ) → Option Fault
 by_name pair = option_map (λ (p : ℕ × ℕ). DuplicateName p.0 p.1) pair
 
 -- entries that a directory may have are named apart
-pub named_apart : (es : List Entry) → against es ≡ None → AreNamedApart es
-named_apart es none = all_apart es (by (is_crowded es) (same_named es) none) where
+pub named_apart : (es : List Entry) → against es ≡ None → HaveUniqueNames es
+named_apart es none = all_apart es (by (exceeds_limits es) (same_named es) none) where
   by : (crowded : Bool) (pair : Option (ℕ × ℕ)) → cond crowded (Some StageFull) (by_name pair) ≡ None → pair ≡ None
   by true pair h = absurd (cc)
   by false None h = refl
   by false (Some pair) h = absurd (cc)
 
 -- entries that no limit refuses may be held
-pub held_allowed : (es : List Entry) → against es ≡ None → may_be_held es ≡ true
-held_allowed es none = by (is_crowded es) (same_named es) none where
+pub held_allowed : (es : List Entry) → against es ≡ None → is_directory_content es ≡ true
+held_allowed es none = by (exceeds_limits es) (same_named es) none where
   by : (crowded : Bool) (pair : Option (ℕ × ℕ)) → cond crowded (Some StageFull) (by_name pair) ≡ None → (not crowded && is_none pair) ≡ true
   by true pair h = absurd (cc)
   by false None h = refl

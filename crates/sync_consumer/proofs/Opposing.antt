@@ -5,8 +5,8 @@ use Rattle.std.proofs.lemmas.Bool.{lt-ltb, or_left, or_right}
 use Rattle.entry_tree.specs.declared.commit.CommitRefusal.{CommitRefusal}
 use Rattle.entry_tree.specs.declared.commit.CommitRefusal.TheVariants.{TooMany, TooHeavy, SameName, NoMemory}
 use Rattle.entry_tree.specs.declared.entry.Entry.{Entry}
-use Rattle.entry_tree.specs.Fitting.{may_be_held, Opposes}
-use Rattle.entry_tree.specs.State.{is_crowded, same_named, most_entries, most_weight, total_weight}
+use Rattle.entry_tree.specs.Fitting.{is_directory_content, IsCauseOf}
+use Rattle.entry_tree.specs.State.{exceeds_limits, same_named, most_entries, most_weight, total_weight}
 use Rattle.sync_model.specs.Copy.Fault.{StageFull, DuplicateName}
 use Rattle.sync_model.specs.Copy.{Fault}
 use Rattle.sync_model.specs.Within.{against}
@@ -16,11 +16,11 @@ use Rattle.sync_consumer.specs.Taking.{refusal_against}
 abbrev by_name : Option (ℕ × ℕ) → Option Fault
 by_name pair = option_map (λ (p : ℕ × ℕ). DuplicateName p.0 p.1) pair
 
-crowded : (entries : List Entry) → is_crowded entries ≡ true → against entries ≡ Some StageFull
+crowded : (entries : List Entry) → exceeds_limits entries ≡ true → against entries ≡ Some StageFull
 crowded entries many = ap (λ b. cond b (Some StageFull) (by_name (same_named entries))) many
 
 -- a refusal of entries is the first limit that they pass
-pub opposed : (entries : List Entry) (found : CommitRefusal) → Opposes entries found → RefusesBy (against entries) (refusal_against found)
+pub opposed : (entries : List Entry) (found : CommitRefusal) → IsCauseOf entries found → RefusesBy (against entries) (refusal_against found)
 opposed entries TooMany many =
     (StageFull, crowded entries (or_left (nat_lt most_entries (length entries)) (nat_lt most_weight (total_weight entries)) (lt-ltb most_entries (length entries) many)), refl)
 opposed entries TooHeavy heavy =
@@ -33,8 +33,8 @@ opposed entries (SameName one other) same = (
 opposed entries NoMemory none = tt
 
 -- entries that may be held pass no limit
-pub unopposed : (entries : List Entry) → may_be_held entries ≡ true → against entries ≡ None
-unopposed entries held = by (is_crowded entries) (same_named entries) held
+pub unopposed : (entries : List Entry) → is_directory_content entries ≡ true → against entries ≡ None
+unopposed entries held = by (exceeds_limits entries) (same_named entries) held
   where
     by : (b : Bool) (pair : Option (ℕ × ℕ)) → (not b && is_none pair) ≡ true → cond b (Some StageFull) (by_name pair) ≡ None
     by true pair h = absurd (cc)

@@ -11,7 +11,7 @@ use Rattle.schema_rules.specs.Attributes.{weight_of}
 use Rattle.entry_tree.specs.declared.entry.Entry.{Entry}
 use Rattle.entry_tree.specs.State.{found_weight, total_weight, most_entries, most_weight}
 use Rattle.sync_model.specs.Copy.{Stage, slot, staged, puts_of}
-use Rattle.sync_model.specs.Within.{is_crowded}
+use Rattle.sync_model.specs.Within.{exceeds_limits}
 use Rattle.sync_consumer.specs.Staging.{rises, count_of, entry_staged}
 use Rattle.sync_consumer.proofs.Keyed.{total, at_slot, total-staged_each}
 use Rattle.sync_consumer.proofs.Stages.{limits, within_limits}
@@ -77,7 +77,7 @@ staged_weight stage u o up =
     omega (arith, slots.1, more, after, now)
 
 -- a stage keeps within the limits where an identity loses its entry
-pub dropped_within : (stage : Stage) (u : ℕ) → rises (keys_of stage) ≡ true → is_crowded (puts_of stage) ≡ false → is_crowded (puts_of (staged u None stage)) ≡ false
+pub dropped_within : (stage : Stage) (u : ℕ) → rises (keys_of stage) ≡ true → exceeds_limits (puts_of stage) ≡ false → exceeds_limits (puts_of (staged u None stage)) ≡ false
 dropped_within stage u up within =
     let count = staged_count stage u None up in
     let weight = staged_weight stage u None up in
@@ -89,7 +89,7 @@ dropped_within stage u up within =
 -- by what is counted and weighed without the entry of the identity
 crowded_with : (stage : Stage) (entry : Entry) (n w : ℕ) → rises (keys_of stage) ≡ true
     → n + count_of (entry_staged stage entry.uuid) ≡ length (puts_of stage) → w + found_weight (entry_staged stage entry.uuid) ≡ total_weight (puts_of stage)
-    → is_crowded (puts_of (staged entry.uuid (Some entry) stage)) ≡ (nat_lt most_entries (n + 1) || nat_lt most_weight (w + weight_of entry.attrs))
+    → exceeds_limits (puts_of (staged entry.uuid (Some entry) stage)) ≡ (nat_lt most_entries (n + 1) || nat_lt most_weight (w + weight_of entry.attrs))
 crowded_with stage entry n w up few light =
     let count = staged_count stage entry.uuid (Some entry) up in
     let weight = staged_weight stage entry.uuid (Some entry) up in
@@ -101,7 +101,7 @@ crowded_with stage entry n w up few light =
 pub room_by_weight : (stage : Stage) (entry : Entry) (n w : ℕ) → rises (keys_of stage) ≡ true
     → n + count_of (entry_staged stage entry.uuid) ≡ length (puts_of stage) → w + found_weight (entry_staged stage entry.uuid) ≡ total_weight (puts_of stage) → n < most_entries
     → (own all : ℕ) → own ≡ min (weight_of entry.attrs) (2 ^ 64 - 1) → all ≡ min (w + own) (2 ^ 64 - 1)
-    → nat_le all most_weight ≡ not (is_crowded (puts_of (staged entry.uuid (Some entry) stage)))
+    → nat_le all most_weight ≡ not (exceeds_limits (puts_of (staged entry.uuid (Some entry) stage)))
 room_by_weight stage entry n w up few light less own all its whole =
     turned all
     ∙ ap not (same (cases_lt most_weight (w + weight_of entry.attrs)))
@@ -119,7 +119,7 @@ room_by_weight stage entry n w up few light less own all its whole =
 -- a stage has no room for an entry where it puts the most entries already
 pub no_room : (stage : Stage) (entry : Entry) (n w : ℕ) → rises (keys_of stage) ≡ true
     → n + count_of (entry_staged stage entry.uuid) ≡ length (puts_of stage) → w + found_weight (entry_staged stage entry.uuid) ≡ total_weight (puts_of stage) → most_entries ≤ n
-    → false ≡ not (is_crowded (puts_of (staged entry.uuid (Some entry) stage)))
+    → false ≡ not (exceeds_limits (puts_of (staged entry.uuid (Some entry) stage)))
 no_room stage entry n w up few light more =
     sym (ap not (crowded_with stage entry n w up few light)
     ∙ ap (λ b. not (b || nat_lt most_weight (w + weight_of entry.attrs))) (lt-ltb most_entries (n + 1) (omega (arith, more))))

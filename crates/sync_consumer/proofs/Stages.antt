@@ -13,7 +13,7 @@ use Rattle.std.proofs.lemmas.Map.Lookups.{exact_unsigned}
 use Rattle.entry_tree.specs.declared.entry.Entry.{Entry}
 use Rattle.entry_tree.specs.State.{total_weight, most_entries, most_weight}
 use Rattle.sync_model.specs.Copy.{Stage, slot, is_put, staged, puts_of}
-use Rattle.sync_model.specs.Within.{is_crowded}
+use Rattle.sync_model.specs.Within.{exceeds_limits}
 use Rattle.sync_consumer.specs.declared.stage.StagedChange.{StagedChange}
 use Rattle.sync_consumer.specs.Staging.{rises, IsStage, entry_staged, change_of, changes_kept}
 use Rattle.sync_consumer.proofs.Keyed.{AreOwn, head_own, own-insert, rises-staged_each}
@@ -68,7 +68,7 @@ same_stage changes changes' count weight same is = subst (λ (cs : List (ℕ × 
 -- one more change is staged
 pub more_staged : (es new : List (ℕ × StagedChange)) (u : ℕ) (s : StagedChange) (stage : Stage) (count weight : ℕ)
     → own_id s ≡ u → AreOwn own_id es → rises (keys_of (changes_kept es)) ≡ true → new ≡ insert_entry nat_cmp es u s → stage ≡ staged u (change_of s).1 (changes_kept es)
-    → count ≡ length (puts_of stage) → weight ≡ total_weight (puts_of stage) → is_crowded (puts_of stage) ≡ false → IsStage new count weight
+    → count ≡ length (puts_of stage) → weight ≡ total_weight (puts_of stage) → exceeds_limits (puts_of stage) ≡ false → IsStage new count weight
 more_staged es new u s stage count weight is own up inserted put counted weighed within =
     let kept : changes_kept new ≡ stage = ap changes_kept inserted ∙ kept_insert es u s is own ∙ sym put in
     record {
@@ -76,17 +76,17 @@ more_staged es new u s stage count weight is own up inserted put counted weighed
       ordered = ap (λ (s : Stage). rises (keys_of s)) (kept ∙ put) ∙ rises-staged_each (changes_kept es) u (change_of s).1 up;
       counted = counted ∙ sym (ap (λ (s : Stage). length (puts_of s)) kept);
       weighed = weighed ∙ sym (ap (λ (s : Stage). total_weight (puts_of s)) kept);
-      within = ap (λ (s : Stage). is_crowded (puts_of s)) kept ∙ within;
+      within = ap (λ (s : Stage). exceeds_limits (puts_of s)) kept ∙ within;
     }
 
 -- what is within the limits is no more and no heavier than they allow
-pub limits : (es : List Entry) → is_crowded es ≡ false → (length es ≤ most_entries) × (total_weight es ≤ most_weight)
+pub limits : (es : List Entry) → exceeds_limits es ≡ false → (length es ≤ most_entries) × (total_weight es ≤ most_weight)
 limits es within =
     let p = or_parts (nat_lt most_entries (length es)) (nat_lt most_weight (total_weight es)) within in
     (ltb-false most_entries (length es) p.0, ltb-false most_weight (total_weight es) p.1)
 
 -- and the other way round
-pub within_limits : (es : List Entry) → length es ≤ most_entries → total_weight es ≤ most_weight → is_crowded es ≡ false
+pub within_limits : (es : List Entry) → length es ≤ most_entries → total_weight es ≤ most_weight → exceeds_limits es ≡ false
 within_limits es few light = ap (λ b. b || nat_lt most_weight (total_weight es)) (le-ltb most_entries (length es) few) ∙ le-ltb most_weight (total_weight es) light
 
 -- ---- what is staged of an identity

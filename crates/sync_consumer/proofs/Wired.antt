@@ -11,7 +11,7 @@ use Rattle.schema_rules.specs.declared.raw.RawAttribute.{RawAttribute}
 use Rattle.schema_rules.specs.Attributes.{is_of_syntax, kinds_of, joined, values_of, weight_of}
 use Rattle.schema_rules.specs.Schema.{type_named, is_operational}
 use Rattle.entry_tree.specs.declared.entry.Entry.{Entry}
-use Rattle.entry_tree.specs.Fitting.{is_light}
+use Rattle.entry_tree.specs.Fitting.{is_within_entry_limit}
 use Rattle.entry_tree.specs.Sound.{is_sound_attribute, is_sound_put}
 use Rattle.entry_tree.specs.State.{most_entry_weight}
 use Rattle.entry_tree.proofs.Passing.{list_all-filter}
@@ -78,7 +78,7 @@ sound_by (a ∷ attrs) free h =
 -- an entry may be put by a commit
 pub record IsFit (e : Entry) : Type 0 where
   pub sound : is_sound_put e ≡ true
-  pub light : is_light e ≡ true
+  pub light : is_within_entry_limit e ≡ true
 
 -- the entry, where there is one, is fit
 abbrev pub EntryFits : Result Entry DecodeFault → Type 0

@@ -8,7 +8,7 @@ use Rattle.entry_tree.specs.Fitting.{fits}
 use Rattle.entry_tree.specs.declared.entry.Entry.{Entry}
 use Rattle.entry_tree.specs.declared.op.Op.TheVariants as write
 use Rattle.sync_model.specs.Copy as model
-use Rattle.sync_consumer.specs.Holding.{MayHold}
+use Rattle.sync_consumer.specs.Holding.{IsDirectoryContent}
 use Rattle.sync_consumer.specs.Staging.{rises}
 use Rattle.sync_consumer.specs.Taking.{AreFit}
 use Rattle.sync_consumer.specs.declared.commit.Commit.{Commit}
@@ -17,8 +17,8 @@ use Rattle.sync_consumer.specs.declared.consumer.Taken.TheVariants.{Staged, Stor
 
 -- no two of the entries have one name (RFC 4512, section 2.3): where the names of two are the same,
 -- they are one entry
-abbrev pub AreNamedApart : List Entry → Type 0
-AreNamedApart entries =
+abbrev pub HaveUniqueNames : List Entry → Type 0
+HaveUniqueNames entries =
     All
     (λ (one : Entry).
     All (λ (other : Entry). same_name one.dn other.dn ≡ true → one ≡ other) entries) entries
@@ -62,5 +62,5 @@ pub record IsReady (stage : model.Stage) : Type 0 where
 
 -- the entries may be held, and what is staged is ready to take effect
 pub record IsReadyOn (entries : List Entry) (stage : model.Stage) : Type 0 where
-  pub held : MayHold entries
+  pub held : IsDirectoryContent entries
   pub staged : IsReady stage

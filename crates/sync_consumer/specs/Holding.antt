@@ -15,8 +15,8 @@ use Rattle.sync_model.specs.Copy.{Stage, slot}
 use Rattle.sync_model.specs.Within.{against}
 
 -- entries that a consumer may hold: they ascend by identity, and nothing rejects them
-abbrev pub MayHold : List Entry → Type 0
-MayHold entries = (ascends entries ≡ true) × (against entries ≡ None)
+abbrev pub IsDirectoryContent : List Entry → Type 0
+IsDirectoryContent entries = (ascends entries ≡ true) × (against entries ≡ None)
 
 -- each entry is kept by its own identity, in ascending order, with what all of them weigh, which is
 -- a number of 64 bits
@@ -61,7 +61,7 @@ pub record IsIndexOf (names : HeldNames) (entries : List Entry) : Type 0 where
 
 -- entries that may be held, with their names
 pub record IsEntryMap (entries : List Entry) (names : HeldNames) : Type 0 where
-  pub held : MayHold entries
+  pub held : IsDirectoryContent entries
   pub index : IsIndexOf names entries
 
 -- ---- names that changes take away and bring

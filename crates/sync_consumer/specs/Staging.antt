@@ -4,7 +4,7 @@ use Rattle.std.proofs.Common.{Bor}
 use Rattle.std.specs.List.{list_all}
 use Rattle.std.specs.Option.{option_and_then}
 use Rattle.std.specs.Map.{keys_of, values_of}
-use Rattle.entry_tree.specs.State.{is_crowded, total_weight}
+use Rattle.entry_tree.specs.State.{exceeds_limits, total_weight}
 use Rattle.entry_tree.specs.declared.entry.Entry.{Entry}
 use Rattle.sync_model.specs.Copy.{Stage, puts_of, slot}
 use Rattle.sync_consumer.specs.declared.stage.StagedChange.{StagedChange}
@@ -71,4 +71,4 @@ pub record IsStage (changes : List (ℕ × StagedChange)) (count weight : ℕ) :
   pub ordered : rises (keys_of (changes_kept changes)) ≡ true
   pub counted : count ≡ length (puts_of (changes_kept changes))
   pub weighed : weight ≡ total_weight (puts_of (changes_kept changes))
-  pub within : is_crowded (puts_of (changes_kept changes)) ≡ false
+  pub within : exceeds_limits (puts_of (changes_kept changes)) ≡ false

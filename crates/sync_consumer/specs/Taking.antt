@@ -1,14 +1,14 @@
 -- A consumer, what it asks for, and what it makes of each message.
 use Rattle.std.specs.Prelude.{◌≡◌, ⊤, ℕ, Bool, true, false, ◌==◌, nat_lt, if◌then◌else◌, List, [], Option, Some, None, Result, Ok, Err}
 use Rattle.std.specs.List.{list_all}
-use Rattle.entry_tree.specs.Fitting.{is_light}
+use Rattle.entry_tree.specs.Fitting.{is_within_entry_limit}
 use Rattle.entry_tree.specs.Selection.{Search}
 use Rattle.entry_tree.specs.Sound.{is_sound_put}
 use Rattle.entry_tree.specs.declared.commit.CommitRefusal.{CommitRefusal}
 use Rattle.entry_tree.specs.declared.commit.CommitRefusal.TheVariants as opposing
 use Rattle.entry_tree.specs.declared.entry.Entry.{Entry}
 use Rattle.ldap_messages.specs.declared.message.Message.{Message}
-use Rattle.ldap_messages.specs.Whole.{Whole}
+use Rattle.ldap_messages.specs.Whole.{MessageValue}
 use Rattle.sync_messages.specs.declared.request.Mode.{Mode}
 use Rattle.sync_messages.specs.declared.request.SyncRequest.{SyncRequest}
 use Rattle.sync_model.specs.Message.{SyncMessage}
@@ -55,7 +55,7 @@ abbrev pub asked_of : ConsumerState → Mode → SyncRequest
 asked_of following mode =
     record { mode = mode; cookie = following.copy.cookie; reload_hint = following.reload }
 
-abbrev pub request_of : ConsumerState → ℕ → Mode → Whole
+abbrev pub request_of : ConsumerState → ℕ → Mode → MessageValue
 request_of following id mode =
     search_request following.spec id mode following.reload following.copy.cookie
 
@@ -171,7 +171,7 @@ KeepsCookie before after NoMemory = after.cookie ≡ before.cookie
 -- operational, and each weighs no more than an entry of a directory may
 pub record AreFit (entries : List Entry) : Type 0 where
   pub sound : list_all is_sound_put entries ≡ true
-  pub light : list_all is_light entries ≡ true
+  pub light : list_all is_within_entry_limit entries ≡ true
 
 -- what a stage that took effect puts is fit for a commit of a replica
 abbrev pub PutsFit : Taken → Type 0

@@ -1,9 +1,9 @@
 //! The consumer.
 
 ghost use Rattle.std.specs.Prelude.{◌≡◌, true, Ok, None, Some, option_map, is_some, IfOk, OnOk, OnErr};
-ghost use Rattle.entry_tree.specs.Fitting.{may_be_held};
+ghost use Rattle.entry_tree.specs.Fitting.{is_directory_content};
 ghost use Rattle.entry_tree.specs.Selection.{search_of};
-ghost use Rattle.ldap_messages.specs.Whole.{whole_of};
+ghost use Rattle.ldap_messages.specs.Whole.{message_value};
 ghost use Rattle.sync_model.specs.Copy as model;
 ghost use Rattle.sync_wire.specs.Kind as kind;
 ghost use Rattle.sync_wire.specs.Requesting.{persists};
@@ -11,7 +11,7 @@ ghost use Rattle.sync_consumer.specs.declared.consumer.Taken.TheVariants.{Fault}
 ghost use Rattle.sync_consumer.specs.declared.fault.PeerFault.TheVariants.{OutOfPlace};
 ghost use Rattle.sync_consumer.specs.SyncSession.{session_of, copy_of, copy_with};
 ghost use Rattle.sync_messages.specs.Request.{request_of, request_octets};
-ghost use Rattle.sync_consumer.specs.Committing.{AreNamedApart, CanBeCommitted};
+ghost use Rattle.sync_consumer.specs.Committing.{HaveUniqueNames, CanBeCommitted};
 ghost use Rattle.sync_consumer.specs.Taking as taking;
 
 use crate::commit::Commit;
@@ -114,7 +114,7 @@ impl Consumer {
     /// before.
     pub fn request(&mut self, id: u32, mode: Mode) -> Result<Message, NoMemory>
         ensures message { IfOk result
-            (λ message. whole_of message ≡ taking.request_of self.old id mode) }
+            (λ message. message_value message ≡ taking.request_of self.old id mode) }
         // The value of its control is read again as what is asked.
         ensures read_again { IfOk result (λ message.
             request_of (request_octets (taking.asked_of self.old mode))
@@ -144,8 +144,8 @@ impl Consumer {
         ensures fit { taking.PutsFit result }
         // Whatever came of the message, no name is there twice, and a directory may have the
         // entries.
-        ensures names { AreNamedApart self.new.copy.held }
-        ensures clear { may_be_held self.new.copy.held ≡ true }
+        ensures names { HaveUniqueNames self.new.copy.held }
+        ensures clear { is_directory_content self.new.copy.held ≡ true }
         // The puts and drops of a stage that took effect are a commit: a directory with the entries
         // before has room for it, and is left with those after it.
         ensures committed { CanBeCommitted self.old.copy self.new.copy result }

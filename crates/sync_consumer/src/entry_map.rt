@@ -3,7 +3,7 @@
 ghost use Rattle.std.specs.Prelude.{◌≡◌, ◌==◌, ◌-◌, ◌++◌, [], true, false, None, length, map, option_map, IfOk, IfErr, IfSome, IfNone, OnOk, IsTrue};
 ghost use Rattle.std.specs.List.{slice_get};
 ghost use Rattle.std.specs.Option.{option_copied};
-ghost use Rattle.entry_tree.specs.State.{ascends, entry_at, is_crowded, same_named};
+ghost use Rattle.entry_tree.specs.State.{ascends, entry_at, exceeds_limits, same_named};
 ghost use Rattle.sync_model.specs.Copy.{effected};
 ghost use Rattle.sync_model.specs.Within.{against};
 ghost use Rattle.sync_consumer.specs.SyncSession.{RefusesBy};
@@ -13,7 +13,7 @@ use crate::fault::Refusal;
 use crate::names::{Names, names_after};
 use crate::stage::{MOST_ENTRIES, MOST_WEIGHT, Stage};
 use crate::weighed::{WeighedEntries, entries_after};
-use entry_tree::{Entry, check_held};
+use entry_tree::{Entry, check_content};
 use ldap_ber::NoMemory;
 use shared_map::SharedMap;
 use std::alloc::Global;
@@ -129,8 +129,8 @@ impl EntryMap {
     {
         let changes = stage.list()?;
         let entries = entries_after(&self.entries, &changes)?;
-        let (names, are_apart) = names_after(&self.names, &self.entries, &changes)?;
-        check(self.alloc, &entries, are_apart)?;
+        let (names, has_unique_names) = names_after(&self.names, &self.entries, &changes)?;
+        check(self.alloc, &entries, has_unique_names)?;
         Ok(EntryMap {
             alloc: self.alloc,
             entries,
@@ -142,22 +142,22 @@ impl EntryMap {
 /// Refuses entries that a directory may not have. All their names are compared only where they are
 /// not known to be apart, or where there are too many entries, or too heavy ones.
 #[tactic(auto, using(crate::proofs::Opposing::opposed, crate::proofs::Opposing::unopposed))]
-fn check(alloc: Global, entries: &WeighedEntries, are_apart: bool) -> Result<(), Refusal>
-    requires { IsTrue are_apart → same_named entries.now ≡ None }
+fn check(alloc: Global, entries: &WeighedEntries, has_unique_names: bool) -> Result<(), Refusal>
+    requires { IsTrue has_unique_names → same_named entries.now ≡ None }
     ensures ok { OnOk result (against entries.now ≡ None) }
     ensures fault { IfErr result (RefusesBy (against entries.now)) }
 {
-    if are_apart && is_within(entries) {
+    if has_unique_names && is_within(entries) {
         return Ok(());
     }
     let list = entries.list()?;
-    check_held(alloc, &list)?;
+    check_content(alloc, &list)?;
     Ok(())
 }
 
 /// Whether the entries are no more and no heavier than a directory may have.
 fn is_within(entries: &WeighedEntries) -> bool
-    ensures { IsTrue result → is_crowded entries.now ≡ false }
+    ensures { IsTrue result → exceeds_limits entries.now ≡ false }
 {
     entries.len() <= MOST_ENTRIES && entries.weight() <= MOST_WEIGHT
 }

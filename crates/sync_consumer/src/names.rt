@@ -28,7 +28,7 @@ pub(crate) fn names_after(
     requires index { IsIndexOf names.now held.now }
     requires ascends { ascends held.now ≡ true }
     requires ordered { rises (keys_of (changes_in changes.now)) ≡ true }
-    ensures apart { IfOk result (λ after.
+    ensures unique_names { IfOk result (λ after.
         IsTrue after.1 → same_named (effected held.now (changes_in changes.now)) ≡ None) }
     ensures index { IfOk result (λ after.
         same_named (effected held.now (changes_in changes.now)) ≡ None
@@ -36,8 +36,8 @@ pub(crate) fn names_after(
 {
     let mut after = names.copy()?;
     forget_each(&mut after, held, changes)?;
-    let are_apart = note_each(&mut after, held, changes)?;
-    Ok((after, are_apart))
+    let has_unique_names = note_each(&mut after, held, changes)?;
+    Ok((after, has_unique_names))
 }
 
 /// Takes the names away that the entries have of which a change is, but for those that stay.
@@ -137,14 +137,14 @@ fn note_each(
     ensures pathed { OnOk result
         ((uuid : ℕ) → IsPathed (entry_staged (changes_in changes.now) uuid)) }
 {
-    let mut are_apart = true;
+    let mut has_unique_names = true;
     let mut left = changes.len();
     while left > 0 {
         left -= 1;
         let is_free = note_for(names, held, changes[left])?;
-        are_apart &= is_free;
+        has_unique_names &= is_free;
     }
-    Ok(are_apart)
+    Ok(has_unique_names)
 }
 
 /// Notes the name of the entry that the change puts, if any, unless its identity has it. Whether it

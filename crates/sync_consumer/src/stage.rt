@@ -6,7 +6,7 @@ ghost use Rattle.std.specs.Option.{option_copied};
 ghost use Rattle.entry_tree.specs.State.{found_weight, most_weight, total_weight};
 ghost use Rattle.sync_model.specs.Copy as model;
 ghost use Rattle.sync_model.specs.Copy.{puts_of, staged};
-ghost use Rattle.sync_model.specs.Within.{is_crowded};
+ghost use Rattle.sync_model.specs.Within.{exceeds_limits};
 ghost use Rattle.sync_consumer.specs.Staging as spec;
 ghost use Rattle.sync_consumer.specs.Staging.{change_of, changes_in, entry_staged, rises};
 
@@ -132,7 +132,7 @@ impl Stage {
     /// Whether there is room for the entry, in place of the one that is staged of its identity.
     pub(crate) fn has_room(&self, entry: &Entry) -> bool
         ensures { result
-            ≡ not (is_crowded (puts_of (staged entry.now.uuid (Some entry.now) self.now))) }
+            ≡ not (exceeds_limits (puts_of (staged entry.now.uuid (Some entry.now) self.now))) }
     {
         let load = self.load_without(entry.uuid);
         load.count < MOST_ENTRIES && load.weight.saturating_add(entry.attrs.weight()) <= MOST_WEIGHT
@@ -140,7 +140,7 @@ impl Stage {
 
     /// What is staged with the entry, in place of what is staged of its identity.
     pub(crate) fn with_entry(&self, entry: Entry) -> Result<Stage, NoMemory>
-        requires { is_crowded (puts_of (staged entry.uuid (Some entry) self.now)) ≡ false }
+        requires { exceeds_limits (puts_of (staged entry.uuid (Some entry) self.now)) ≡ false }
         ensures { IfOk result (λ stage. stage ≡ staged entry.uuid (Some entry) self.now) }
     {
         let mut stage = self.copy()?;
@@ -150,7 +150,7 @@ impl Stage {
 
     /// Stages the entry, in place of what is staged of its identity.
     pub(crate) fn put(&mut self, entry: Entry) -> Result<(), NoMemory>
-        requires { is_crowded (puts_of (staged entry.uuid (Some entry) self.old)) ≡ false }
+        requires { exceeds_limits (puts_of (staged entry.uuid (Some entry) self.old)) ≡ false }
         ensures ok { OnOk result (self.new ≡ staged entry.uuid (Some entry) self.old) }
         ensures err { OnErr result (self.new ≡ self.old) }
     {
@@ -214,7 +214,8 @@ impl Stage {
 
     /// The load with the entry in place of the one that is staged of its identity.
     fn load_with(&self, entry: &Entry) -> Load
-        requires { is_crowded (puts_of (staged entry.now.uuid (Some entry.now) self.now)) ≡ false }
+        requires { exceeds_limits (puts_of (staged entry.now.uuid (Some entry.now) self.now))
+            ≡ false }
         ensures count { result.count
             ≡ length (puts_of (staged entry.now.uuid (Some entry.now) self.now)) }
         ensures weight { result.weight

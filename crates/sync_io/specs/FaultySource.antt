@@ -1,5 +1,5 @@
 -- What a source that plays a list of steps does.
-use Rattle.std.specs.Prelude.{◌≡◌, ℕ, Bool, true, false, IsTrue, List, [], ◌∷◌, length, min, take, drop, flat_map}
+use Rattle.std.specs.Prelude.{◌≡◌, ◌⊎◌, ℕ, Bool, true, false, IsTrue, List, [], ◌∷◌, length, min, take, drop, flat_map}
 use Rattle.std.specs.List.{list_all, list_any}
 use Rattle.sync_io.specs.Faults.{one_more}
 use Rattle.sync_io.specs.declared.source.Piece.{Piece}
@@ -56,6 +56,10 @@ Plays (Give bytes ∷ steps) new piece buffer =
     × (new ≡ with_gift (drop count bytes) steps)
 Plays (Quiet ∷ steps) new piece buffer = (piece ≡ pieces.Quiet) × (new ≡ steps)
 Plays (Fail ∷ steps) new piece buffer = (piece ≡ Failed) × (new ≡ steps)
+
+-- a read plays the first step, or it fails and leaves them all
+abbrev pub PlaysOrFails : List Step → List Step → Piece → List ℕ → Type 0
+PlaysOrFails old new piece buffer = Plays old new piece buffer ⊎ ((piece ≡ Failed) × (new ≡ old))
 
 -- how many reads have failed after one that gave this
 abbrev pub faults_after : Piece → ℕ → ℕ

@@ -3,6 +3,7 @@ pub mod Faults
 pub mod FaultySink
 pub mod FaultySource
 pub mod Links
+pub mod MemoryDial
 pub mod MemoryLink
 pub mod MemorySink
 pub mod Net
@@ -10,4 +11,5 @@ pub mod Shelf
 pub mod Sides
 pub mod Sink
 pub mod Source
+pub mod ToCome
 pub mod Words

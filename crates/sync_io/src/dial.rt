@@ -1,5 +1,5 @@
 //! Links to others, asked for by address.
-ghost use Rattle.std.specs.Prelude.{◌≡◌, ◌+◌, ◌<◌, ◌≤◌, ℕ, Option, IfOk, IfSome, IsErrOf, is_ok, option_map, length};
+ghost use Rattle.std.specs.Prelude.{◌≡◌, ◌+◌, ◌<◌, ◌≤◌, ℕ, Option, IfOk, IfSome, IsErrOf, [], is_ok, option_map, length};
 
 use crate::Link;
 
@@ -16,11 +16,12 @@ pub enum NetFault {
 pub trait Dial {
     type Link: Link;
 
-    ghost use Rattle.sync_io.specs.Faults.{Rose, one_more};
+    ghost use Rattle.sync_io.specs.Faults.{CountHasRisen, one_more};
     ghost use Rattle.sync_io.specs.Dial.{Dialled, dials, hangs_up};
     ghost use Rattle.sync_io.specs.Links.{HasNoFaults, IsUnused};
+    ghost use Rattle.sync_io.specs.ToCome.{IsNext};
 
-    /// What it was asked and what came back to it, where it reports that.
+    /// What it was asked, what came of it and what is still to come, where it reports that.
     ghost dialled: { Self → Option (Dialled Self.Link) };
 
     /// How many of its calls have failed, and how many links came back with faults.
@@ -30,11 +31,17 @@ pub trait Dial {
     fn faults(&self) -> u64
         ensures { result ≡ dial_fault_count self.now };
 
-    /// Gives a link to this address.
+    /// Gives a link to this address. Where it reports what is to come, that is the next link, and it
+    /// fails only where none is left.
     fn connect(&mut self, address: &str) -> Result<Self::Link, NetFault>
         ensures asked { ¬ (IsErrOf result NetFault.NoMemory)
             → dialled self.new ≡ option_map (dials address.now (is_ok result)) (dialled self.old) }
         ensures unasked { IsErrOf result NetFault.NoMemory → dialled self.new ≡ dialled self.old }
+
+        ensures next { IfOk result (λ link. IfSome (dialled self.old) (λ d.
+            IsNext link d.to_come)) }
+        ensures spent { IsErrOf result NetFault.Failed
+            → IfSome (dialled self.old) (λ d. d.to_come ≡ []) }
 
         ensures sound { IfOk result (λ link. HasNoFaults
             (Self.Link.read_fault_count link) (Self.Link.write_fault_count link)) }
@@ -42,7 +49,9 @@ pub trait Dial {
             (Self.Link.bytes_read link) (Self.Link.bytes_held link))) }
 
         ensures failed { IsErrOf result NetFault.Failed
-            → Rose (dial_fault_count self.old) (dial_fault_count self.new) }
+            → CountHasRisen (dial_fault_count self.old) (dial_fault_count self.new) }
+        ensures faultless { ¬ (IsErrOf result NetFault.Failed)
+            → dial_fault_count self.new ≡ dial_fault_count self.old }
         ensures later { dial_fault_count self.old ≤ dial_fault_count self.new };
 
     /// Takes back a link. It counts a fault exactly where a call of the link failed.

@@ -1,7 +1,7 @@
 //! A sink that fails where it was reported to.
-ghost use Rattle.std.specs.Prelude.{◌≡◌, ◌<◌, ◌≤◌, [], Some, None, IsTrue, not, if◌then◌else◌, length};
-ghost use Rattle.std.specs.Bool.{OnFalse};
-ghost use Rattle.sync_io.specs.Faults.{one_more, Rose};
+ghost use Rattle.std.specs.Prelude.{◌≡◌, ◌≢◌, ◌<◌, ◌≤◌, [], Some, None, IsTrue, not, if◌then◌else◌, length};
+ghost use Rattle.std.specs.Bool.{OnTrue, OnFalse};
+ghost use Rattle.sync_io.specs.Faults.{one_more, CountHasRisen};
 ghost use Rattle.sync_io.specs.declared.sink.Put.TheVariants.{Failed};
 
 use crate::{MemorySink, Put, Sink};
@@ -92,7 +92,9 @@ impl Sink for FaultySink {
 
         ensures chosen { IsTrue (fails_next self.old) → result ≡ Failed }
         ensures failed { result ≡ Failed
-            → Rose self.old.contents.faults self.new.contents.faults }
+            → CountHasRisen self.old.contents.faults self.new.contents.faults }
+        ensures sound { result ≢ Failed
+            → self.new.contents.faults ≡ self.old.contents.faults }
         ensures later { self.old.contents.faults ≤ self.new.contents.faults }
 
         ensures calls { self.new.calls ≡ one_more self.old.calls }
@@ -108,7 +110,9 @@ impl Sink for FaultySink {
         ensures bytes { self.new.contents.bytes ≡ self.old.contents.bytes }
 
         ensures chosen { result ≡ not (fails_next self.old) }
-        ensures failed { OnFalse result (Rose self.old.contents.faults self.new.contents.faults) }
+        ensures failed { OnFalse result
+            (CountHasRisen self.old.contents.faults self.new.contents.faults) }
+        ensures sound { OnTrue result (self.new.contents.faults ≡ self.old.contents.faults) }
         ensures later { self.old.contents.faults ≤ self.new.contents.faults }
 
         ensures calls { self.new.calls ≡ one_more self.old.calls }

@@ -1,5 +1,5 @@
 //! A source that fails and waits where it was reported to.
-ghost use Rattle.std.specs.Prelude.{◌≡◌, ◌<◌, ◌≤◌, Some, None, IsTrue, length, filter};
+ghost use Rattle.std.specs.Prelude.{◌≡◌, ◌≢◌, ◌<◌, ◌≤◌, Some, None, IsTrue, length, filter};
 ghost use Rattle.std.specs.List.{list_any};
 ghost use Rattle.sync_io.specs.declared.source.Piece.TheVariants.{Quiet};
 ghost use Rattle.sync_io.specs.Source.{FitsBuffer};
@@ -70,6 +70,7 @@ impl Model for FaultySource {
 
 impl FaultySource {
     ghost use Rattle.sync_io.specs.FaultySource.{is_quiet, is_played, Plays, faults_after};
+    ghost use Rattle.sync_io.specs.declared.source.Piece.TheVariants.{Failed};
 
     /// A source that plays these steps. It is one that waits where one of them is `Quiet`.
     pub fn new(mut steps: Vec<Step>) -> FaultySource
@@ -104,6 +105,7 @@ impl FaultySource {
         ensures quiet { result ≡ Quiet → IsTrue self.old.waits }
         ensures waits { self.new.waits ≡ self.old.waits }
         ensures faults { self.new.faults ≡ faults_after result self.old.faults }
+        ensures sound { result ≢ Failed → self.new.faults ≡ self.old.faults }
         ensures later { self.old.faults ≤ self.new.faults }
     {
         let count = self.gift.fill(buffer);
@@ -135,7 +137,7 @@ fn has_quiet(steps: &[Step]) -> bool
 
 impl Source for FaultySource {
     ghost use Rattle.std.specs.Io.KnownBytes.{IsAtEnd};
-    ghost use Rattle.sync_io.specs.Faults.{Rose};
+    ghost use Rattle.sync_io.specs.Faults.{CountHasRisen};
     ghost use Rattle.sync_io.specs.FaultySource.{bytes_of, faults_after, Plays};
     ghost use Rattle.sync_io.specs.Source.{GivesNext};
     ghost use Rattle.sync_io.specs.declared.source.Piece.TheVariants.{End, Failed};
@@ -169,7 +171,8 @@ impl Source for FaultySource {
         ensures quiet { result ≡ Quiet → IsTrue self.old.waits }
         ensures waits { self.new.waits ≡ self.old.waits }
 
-        ensures failed { result ≡ Failed → Rose self.old.faults self.new.faults }
+        ensures failed { result ≡ Failed → CountHasRisen self.old.faults self.new.faults }
+        ensures sound { result ≢ Failed → self.new.faults ≡ self.old.faults }
         ensures later { self.old.faults ≤ self.new.faults }
     {
         self.play(buffer)

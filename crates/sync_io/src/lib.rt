@@ -46,7 +46,7 @@ pub use faulty_sink::FaultySink;
 pub use faulty_source::{FaultySource, Step};
 pub use file_shelf::FileShelf;
 pub use link::Link;
-pub use memory_dial::{Asked, MemoryDial};
+pub use memory_dial::{DialAttempt, MemoryDial};
 pub use memory_link::{LinkPlan, MemoryLink};
 pub use memory_net::{MemoryDoor, MemoryNet};
 pub use memory_shelf::{MemoryShelf, NamedFile};

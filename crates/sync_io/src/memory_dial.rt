@@ -9,7 +9,7 @@ use std::vec::IntoIter;
 
 /// An address at which a link was asked for, and whether one came.
 #[derive(Drop)]
-pub struct Asked {
+pub struct DialAttempt {
     pub address: String,
     pub came: bool,
 }
@@ -18,7 +18,7 @@ pub struct Asked {
 #[derive(Drop)]
 pub struct MemoryDial {
     plans: IntoIter<LinkPlan, Global>,
-    asked: Vec<Asked>,
+    asked: Vec<DialAttempt>,
     came: usize,
     hung_up: Vec<MemoryLink>,
     faults: u64,
@@ -45,7 +45,7 @@ impl MemoryDial {
     }
 
     /// The addresses at which a link was asked for, in order.
-    pub fn asked(&self) -> &[Asked]
+    pub fn asked(&self) -> &[DialAttempt]
         ensures { result.now ≡ self.now.asked.items }
     {
         self.asked.as_slice()
@@ -80,10 +80,13 @@ impl MemoryDial {
 impl Dial for MemoryDial {
     type Link = MemoryLink;
 
+    ghost use Rattle.sync_io.specs.MemoryLink.{link_of};
+
     ghost dialled = { λ d. Some (record {
       asked = map (λ a. (string_bytes a.address, a.came)) d.asked.items;
       came = d.came;
       hung_up = d.hung_up.items;
+      to_come = map link_of (into_iter_items d.plans);
     }) };
 
     ghost dial_fault_count = { λ d. d.faults };
@@ -99,7 +102,7 @@ impl Dial for MemoryDial {
         let alloc = *self.asked.allocator();
         match self.plans.next() {
             Some(plan) => {
-                self.asked.push_reserved(Asked {
+                self.asked.push_reserved(DialAttempt {
                     address,
                     came: true,
                 });
@@ -107,7 +110,7 @@ impl Dial for MemoryDial {
                 Ok(MemoryLink::new(alloc, plan))
             }
             None => {
-                self.asked.push_reserved(Asked {
+                self.asked.push_reserved(DialAttempt {
                     address,
                     came: false,
                 });

@@ -1,6 +1,5 @@
 //! A link in memory.
-ghost use Rattle.std.specs.Prelude.{◌≡◌, [], filter, Some, refl};
-ghost use Rattle.std.specs.List.{list_any};
+ghost use Rattle.std.specs.Prelude.{◌≡◌, ◌≢◌, ◌<◌, ◌≤◌, ◌++◌, Some, IsTrue, length, not, refl};
 
 use crate::{FaultySink, FaultySource, Link, Piece, Put, Sink, Source, Step};
 use std::alloc::Global;
@@ -31,19 +30,12 @@ impl Model for MemoryLink {
 }
 
 impl MemoryLink {
-    ghost use Rattle.sync_io.specs.FaultySource.{is_played, is_quiet};
+    ghost use Rattle.sync_io.specs.MemoryLink.{link_of};
 
     /// A link from which nothing was read and to which nothing was written. It is one that waits
     /// where one of the steps is `Quiet`.
     pub fn new(alloc: Global, plan: LinkPlan) -> MemoryLink
-        ensures steps { result.source.steps ≡ filter is_played plan.steps.items }
-        ensures waits { result.source.waits ≡ list_any is_quiet plan.steps.items }
-        ensures failing { result.sink.failing ≡ plan.failing.items }
-        ensures calls { result.sink.calls ≡ 0 }
-        ensures read { result.read ≡ [] }
-        ensures held { result.sink.contents.bytes ≡ [] }
-        ensures read_faults { result.source.faults ≡ 0 }
-        ensures write_faults { result.sink.contents.faults ≡ 0 }
+        ensures { result ≡ link_of plan }
     {
         let LinkPlan { steps, failing } = plan;
         MemoryLink {
@@ -69,7 +61,11 @@ impl MemoryLink {
 }
 
 impl Source for MemoryLink {
-    ghost use Rattle.sync_io.specs.FaultySource.{bytes_of};
+    ghost use Rattle.std.specs.Io.KnownBytes.{IsAtEnd};
+    ghost use Rattle.sync_io.specs.Faults.{CountHasRisen};
+    ghost use Rattle.sync_io.specs.FaultySource.{bytes_of, PlaysOrFails};
+    ghost use Rattle.sync_io.specs.Source.{FitsBuffer, GivesNext, bytes_given};
+    ghost use Rattle.sync_io.specs.declared.source.Piece.TheVariants.{Quiet, End, Failed};
 
     ghost bytes_left = { λ l. Some (bytes_of l.source.steps) };
 
@@ -88,8 +84,28 @@ impl Source for MemoryLink {
         self.source.read_faults()
     }
 
-    /// A read that finds no memory to keep its bytes fails, and takes none of them.
-    fn read(&mut self, buffer: &mut [u8]) -> Piece {
+    /// A read plays the first of the steps that are left. One that finds no memory to keep its bytes
+    /// fails, and leaves the steps.
+    fn read(&mut self, buffer: &mut [u8]) -> Piece
+        requires room { 0 < length buffer.old }
+
+        ensures step { PlaysOrFails self.old.source.steps self.new.source.steps
+            result buffer.new }
+        ensures count { FitsBuffer result buffer.new }
+        ensures bytes { GivesNext (Some (bytes_of self.old.source.steps))
+            (Some (bytes_of self.new.source.steps)) result buffer.new }
+        ensures end { result ≡ End → IsAtEnd (Some (bytes_of self.new.source.steps)) }
+        ensures given { self.new.read ≡ self.old.read ++ bytes_given result buffer.new }
+        ensures sink { self.new.sink ≡ self.old.sink }
+
+        ensures quiet { result ≡ Quiet → IsTrue self.old.source.waits }
+        ensures waits { self.new.source.waits ≡ self.old.source.waits }
+
+        ensures failed { result ≡ Failed
+            → CountHasRisen self.old.source.faults self.new.source.faults }
+        ensures sound { result ≢ Failed → self.new.source.faults ≡ self.old.source.faults }
+        ensures later { self.old.source.faults ≤ self.new.source.faults }
+    {
         if self.read.reserve(buffer.len()).is_err() {
             self.source.fail();
             return Piece::Failed;
@@ -103,9 +119,8 @@ impl Source for MemoryLink {
 }
 
 impl Sink for MemoryLink {
-    ghost use Rattle.std.specs.Prelude.{◌<◌, ◌≤◌, IsTrue, length, not};
-    ghost use Rattle.std.specs.Bool.{OnFalse};
-    ghost use Rattle.sync_io.specs.Faults.{one_more, Rose};
+    ghost use Rattle.std.specs.Bool.{OnTrue, OnFalse};
+    ghost use Rattle.sync_io.specs.Faults.{one_more, CountHasRisen};
     ghost use Rattle.sync_io.specs.FaultySink.{fails_next};
     ghost use Rattle.sync_io.specs.FaultySource.{bytes_of};
     ghost use Rattle.sync_io.specs.Sink.{AppendsPiece, FitsPiece};
@@ -138,7 +153,9 @@ impl Sink for MemoryLink {
 
         ensures chosen { IsTrue (fails_next self.old.sink) → result ≡ Failed }
         ensures failed { result ≡ Failed
-            → Rose self.old.sink.contents.faults self.new.sink.contents.faults }
+            → CountHasRisen self.old.sink.contents.faults self.new.sink.contents.faults }
+        ensures sound { result ≢ Failed
+            → self.new.sink.contents.faults ≡ self.old.sink.contents.faults }
         ensures later { self.old.sink.contents.faults ≤ self.new.sink.contents.faults }
 
         ensures calls { self.new.sink.calls ≡ one_more self.old.sink.calls }
@@ -155,7 +172,9 @@ impl Sink for MemoryLink {
 
         ensures chosen { result ≡ not (fails_next self.old.sink) }
         ensures failed { OnFalse result
-            (Rose self.old.sink.contents.faults self.new.sink.contents.faults) }
+            (CountHasRisen self.old.sink.contents.faults self.new.sink.contents.faults) }
+        ensures sound { OnTrue result
+            (self.new.sink.contents.faults ≡ self.old.sink.contents.faults) }
         ensures later { self.old.sink.contents.faults ≤ self.new.sink.contents.faults }
 
         ensures calls { self.new.sink.calls ≡ one_more self.old.sink.calls }

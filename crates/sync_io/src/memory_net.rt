@@ -108,6 +108,9 @@ impl Net for MemoryNet {
 
     type Caller = MemoryDial;
 
+    ghost use Rattle.sync_io.specs.MemoryLink.{link_of};
+    ghost use Rattle.sync_io.specs.MemoryDial.{dialler_of};
+
     ghost served = { λ n. Some (record {
       asked = map string_bytes n.asked.items;
       accepted = n.accepted;
@@ -115,6 +118,8 @@ impl Net for MemoryNet {
       callers = n.callers;
       retired = n.retired.items;
       gone = n.gone.items;
+      links_to_come = map link_of (into_iter_items n.links);
+      callers_to_come = map (λ plans. Some (dialler_of plans.items)) (into_iter_items n.calls);
     }) };
 
     ghost net_fault_count = { λ n. n.faults };

@@ -1,5 +1,5 @@
 //! A sink in memory.
-ghost use Rattle.std.specs.Prelude.{◌≡◌, ◌≤◌, Some, None, []};
+ghost use Rattle.std.specs.Prelude.{◌≡◌, ◌≤◌, true, Some, None, []};
 ghost use Rattle.sync_io.specs.Faults.{one_more};
 
 use crate::faults::count_fault;
@@ -72,7 +72,12 @@ impl Sink for MemorySink {
         }
     }
 
-    fn flush(&mut self) -> bool {
+    /// A flush never fails.
+    fn flush(&mut self) -> bool
+        ensures passes { result ≡ true }
+        ensures same { self.new ≡ self.old }
+        ensures later { self.old.faults ≤ self.new.faults }
+    {
         true
     }
 }

@@ -1,5 +1,5 @@
 //! A net: links that others ask for, and callers that ask others for links.
-ghost use Rattle.std.specs.Prelude.{◌≡◌, ◌+◌, ◌<◌, ◌≤◌, ℕ, Option, IfOk, IfSome, IsErrOf, is_ok, option_map, length};
+ghost use Rattle.std.specs.Prelude.{◌≡◌, ◌+◌, ◌<◌, ◌≤◌, ℕ, Option, IfOk, IfSome, IsErrOf, IsNone, [], is_ok, option_map, length};
 
 use crate::{Dial, Link, NetFault};
 
@@ -11,7 +11,7 @@ pub trait Net {
 
     type Caller: Dial + Send + Drop;
 
-    ghost use Rattle.sync_io.specs.Faults.{Rose, one_more};
+    ghost use Rattle.sync_io.specs.Faults.{CountHasRisen, one_more};
     ghost use Rattle.sync_io.specs.Net.{
       Served,
       listens,
@@ -22,9 +22,10 @@ pub trait Net {
       lets_go,
     };
     ghost use Rattle.sync_io.specs.Links.{HasNoFaults, IsUnused};
+    ghost use Rattle.sync_io.specs.ToCome.{IsNext};
 
-    /// What it was asked and what came back to it, where it reports that.
-    ghost served: { Self → Option (Served Self.Link Self.Caller) };
+    /// What it was asked, what came of it and what is still to come, where it reports that.
+    ghost served: { Self → Option (Served Self.Link Self.Caller Self.Caller.Link) };
 
     /// How many of its calls have failed, and how many callers were retired with faults.
     ghost net_fault_count: { Self → ℕ };
@@ -33,19 +34,28 @@ pub trait Net {
     fn faults(&self) -> u64
         ensures { result ≡ net_fault_count self.now };
 
-    /// Opens a door at this address.
+    /// Opens a door at this address. It never fails where it reports what it was asked.
     fn listen(&mut self, address: &str) -> Result<Self::Door, NetFault>
         ensures asked { ¬ (IsErrOf result NetFault.NoMemory)
             → served self.new ≡ option_map (listens address.now) (served self.old) }
         ensures unasked { IsErrOf result NetFault.NoMemory → served self.new ≡ served self.old }
+        ensures opens { IsErrOf result NetFault.Failed → IsNone (served self.old) }
 
         ensures failed { IsErrOf result NetFault.Failed
-            → Rose (net_fault_count self.old) (net_fault_count self.new) }
+            → CountHasRisen (net_fault_count self.old) (net_fault_count self.new) }
+        ensures faultless { ¬ (IsErrOf result NetFault.Failed)
+            → net_fault_count self.new ≡ net_fault_count self.old }
         ensures later { net_fault_count self.old ≤ net_fault_count self.new };
 
-    /// Gives the next link that someone asked for at this door. It may wait for one.
+    /// Gives the next link that someone asked for at this door. It may wait for one. Where it reports
+    /// what is to come, it fails only where no link is left.
     fn accept(&mut self, door: &mut Self::Door) -> Result<Self::Link, NetFault>
         ensures served { served self.new ≡ option_map (accepts (is_ok result)) (served self.old) }
+
+        ensures next { IfOk result (λ link. IfSome (served self.old) (λ s.
+            IsNext link s.links_to_come)) }
+        ensures spent { IsErrOf result NetFault.Failed
+            → IfSome (served self.old) (λ s. s.links_to_come ≡ []) }
 
         ensures sound { IfOk result (λ link. HasNoFaults
             (Self.Link.read_fault_count link) (Self.Link.write_fault_count link)) }
@@ -53,7 +63,9 @@ pub trait Net {
             (Self.Link.bytes_read link) (Self.Link.bytes_held link))) }
 
         ensures failed { IsErrOf result NetFault.Failed
-            → Rose (net_fault_count self.old) (net_fault_count self.new) }
+            → CountHasRisen (net_fault_count self.old) (net_fault_count self.new) }
+        ensures faultless { ¬ (IsErrOf result NetFault.Failed)
+            → net_fault_count self.new ≡ net_fault_count self.old }
         ensures later { net_fault_count self.old ≤ net_fault_count self.new };
 
     /// Takes back an accepted link.
@@ -63,14 +75,22 @@ pub trait Net {
         ensures served { served self.new ≡ option_map (releases link) (served self.old) }
         ensures faults { net_fault_count self.new ≡ net_fault_count self.old };
 
-    /// Gives a caller.
+    /// Gives a caller. Where it reports what is to come, that is the next one, and it fails only where
+    /// none is left.
     fn caller(&mut self) -> Result<Self::Caller, NetFault>
         ensures served { served self.new ≡ option_map (calls (is_ok result)) (served self.old) }
+
+        ensures next { IfOk result (λ caller. IfSome (served self.old) (λ s.
+            IsNext (Self.Caller.dialled caller) s.callers_to_come)) }
+        ensures spent { IsErrOf result NetFault.Failed
+            → IfSome (served self.old) (λ s. s.callers_to_come ≡ []) }
 
         ensures sound { IfOk result (λ caller. Self.Caller.dial_fault_count caller ≡ 0) }
 
         ensures failed { IsErrOf result NetFault.Failed
-            → Rose (net_fault_count self.old) (net_fault_count self.new) }
+            → CountHasRisen (net_fault_count self.old) (net_fault_count self.new) }
+        ensures faultless { ¬ (IsErrOf result NetFault.Failed)
+            → net_fault_count self.new ≡ net_fault_count self.old }
         ensures later { net_fault_count self.old ≤ net_fault_count self.new };
 
     /// Takes back a caller. It counts a fault exactly where the caller has counted one.

@@ -1,5 +1,5 @@
 //! Files, by name.
-ghost use Rattle.std.specs.Prelude.{◌≡◌, ◌<◌, ◌≤◌, ℕ, Option, List, IfOk, IfSome, IsErrOf};
+ghost use Rattle.std.specs.Prelude.{◌≡◌, ◌<◌, ◌≤◌, ℕ, Option, List, IfOk, IfSome, IsErrOf, IsNone};
 
 use crate::Source;
 
@@ -16,7 +16,7 @@ pub enum ShelfFault {
 pub trait Shelf {
     type File: Source + Drop;
 
-    ghost use Rattle.sync_io.specs.Faults.{Rose, one_more};
+    ghost use Rattle.sync_io.specs.Faults.{CountHasRisen, one_more};
     ghost use Rattle.sync_io.specs.Shelf.{IsFile};
 
     /// The bytes under each name, where the shelf reports them. No call changes them.
@@ -29,15 +29,20 @@ pub trait Shelf {
     fn faults(&self) -> u64
         ensures { result ≡ shelf_fault_count self.now };
 
-    /// Gives the file of this name, from its first byte on.
+    /// Gives the file of this name, from its first byte on. Where the shelf reports its files, it fails
+    /// only where it has none of this name.
     fn fetch(&mut self, name: &str) -> Result<Self::File, ShelfFault>
         ensures file { IfOk result (λ file. IfSome (files self.old) (λ bytes_of. IsFile
             (bytes_of name.now) (Self.File.bytes_left file) (Self.File.waits file))) }
         ensures sound { IfOk result (λ file. Self.File.read_fault_count file ≡ 0) }
+        ensures absent { IsErrOf result ShelfFault.Failed
+            → IfSome (files self.old) (λ bytes_of. IsNone (bytes_of name.now)) }
         ensures files { files self.new ≡ files self.old }
 
         ensures failed { IsErrOf result ShelfFault.Failed
-            → Rose (shelf_fault_count self.old) (shelf_fault_count self.new) }
+            → CountHasRisen (shelf_fault_count self.old) (shelf_fault_count self.new) }
+        ensures faultless { ¬ (IsErrOf result ShelfFault.Failed)
+            → shelf_fault_count self.new ≡ shelf_fault_count self.old }
         ensures later { shelf_fault_count self.old ≤ shelf_fault_count self.new };
 
     /// Takes back a file. It counts a fault exactly where a read of the file failed.

@@ -1,5 +1,5 @@
 //! Bytes that go out.
-ghost use Rattle.std.specs.Prelude.{◌≡◌, ◌<◌, ◌≤◌, List, ℕ, Option, length};
+ghost use Rattle.std.specs.Prelude.{◌≡◌, ◌≢◌, ◌<◌, ◌≤◌, List, ℕ, Option, length};
 ghost use Rattle.std.specs.Bool.{OnTrue, OnFalse};
 
 /// What one write did.
@@ -13,7 +13,7 @@ pub enum Put {
 
 /// Where bytes go, in pieces.
 pub trait Sink {
-    ghost use Rattle.sync_io.specs.Faults.{Rose};
+    ghost use Rattle.sync_io.specs.Faults.{CountHasRisen};
     ghost use Rattle.sync_io.specs.Sink.{FitsPiece, AppendsPiece};
     ghost use Rattle.sync_io.specs.Sides.{SourceSide};
     ghost use Rattle.sync_io.specs.declared.sink.Put.TheVariants.{Failed};
@@ -41,7 +41,8 @@ pub trait Sink {
         ensures apart { source_side self.new ≡ source_side self.old }
 
         ensures failed { result ≡ Failed
-            → Rose (write_fault_count self.old) (write_fault_count self.new) }
+            → CountHasRisen (write_fault_count self.old) (write_fault_count self.new) }
+        ensures sound { result ≢ Failed → write_fault_count self.new ≡ write_fault_count self.old }
         ensures later { write_fault_count self.old ≤ write_fault_count self.new };
 
     /// Passes on what was written. It answers false where that failed.
@@ -50,11 +51,12 @@ pub trait Sink {
         ensures apart { source_side self.new ≡ source_side self.old }
 
         ensures failed { OnFalse result
-            (Rose (write_fault_count self.old) (write_fault_count self.new)) }
+            (CountHasRisen (write_fault_count self.old) (write_fault_count self.new)) }
+        ensures sound { OnTrue result (write_fault_count self.new ≡ write_fault_count self.old) }
         ensures later { write_fault_count self.old ≤ write_fault_count self.new };
 }
 
-ghost use Rattle.sync_io.specs.Faults.{Rose};
+ghost use Rattle.sync_io.specs.Faults.{CountHasRisen};
 ghost use Rattle.sync_io.specs.Sink.{AppendsPrefix};
 ghost use Rattle.std.specs.Io.KnownBytes.{Appends};
 
@@ -67,7 +69,8 @@ pub fn write_whole<K: Sink>(sink: &mut K, bytes: &[u8]) -> bool
     ensures apart { K.source_side sink.new ≡ K.source_side sink.old }
 
     ensures failed { OnFalse result
-        (Rose (K.write_fault_count sink.old) (K.write_fault_count sink.new)) }
+        (CountHasRisen (K.write_fault_count sink.old) (K.write_fault_count sink.new)) }
+    ensures sound { OnTrue result (K.write_fault_count sink.new ≡ K.write_fault_count sink.old) }
     ensures later { K.write_fault_count sink.old ≤ K.write_fault_count sink.new }
 {
     let mut rest = bytes;

@@ -1,5 +1,5 @@
 //! Bytes that come in.
-ghost use Rattle.std.specs.Prelude.{◌≡◌, ◌<◌, ◌≤◌, List, ℕ, Option, Bool, IsTrue, length};
+ghost use Rattle.std.specs.Prelude.{◌≡◌, ◌≢◌, ◌<◌, ◌≤◌, List, ℕ, Option, Bool, IsTrue, length};
 
 /// What one read gave.
 #[derive(Clone, Copy, Debug, PartialEq, Eq)]
@@ -16,7 +16,7 @@ pub enum Piece {
 
 /// Where bytes come from, in pieces.
 pub trait Source {
-    ghost use Rattle.sync_io.specs.Faults.{Rose};
+    ghost use Rattle.sync_io.specs.Faults.{CountHasRisen};
     ghost use Rattle.sync_io.specs.Source.{FitsBuffer, GivesNext, bytes_given};
     ghost use Rattle.sync_io.specs.Sides.{SinkSide};
     ghost use Rattle.sync_io.specs.declared.source.Piece.TheVariants.{Quiet, End, Failed};
@@ -56,6 +56,7 @@ pub trait Source {
         ensures waits { waits self.new ≡ waits self.old }
 
         ensures failed { result ≡ Failed
-            → Rose (read_fault_count self.old) (read_fault_count self.new) }
+            → CountHasRisen (read_fault_count self.old) (read_fault_count self.new) }
+        ensures sound { result ≢ Failed → read_fault_count self.new ≡ read_fault_count self.old }
         ensures later { read_fault_count self.old ≤ read_fault_count self.new };
 }

@@ -1,7 +1,7 @@
 //! Links over TCP, asked for by address.
-ghost use Rattle.std.specs.Prelude.{◌≡◌, ◌≤◌, None};
+ghost use Rattle.std.specs.Prelude.{◌≡◌, ◌≢◌, ◌≤◌, None};
 ghost use Rattle.sync_io.specs.declared.dial.NetFault.TheVariants.{Failed};
-ghost use Rattle.sync_io.specs.Faults.{Rose};
+ghost use Rattle.sync_io.specs.Faults.{CountHasRisen};
 
 use crate::faults::count_fault;
 use crate::{Dial, NetFault, Sink, Source, TcpLink};
@@ -11,7 +11,8 @@ use std::{io, net};
 
 /// What an error of the system is reported as. It counts a fault, but not where out of memory.
 pub(crate) fn net_fault(error: io::Error, faults: &mut u64) -> NetFault
-    ensures failed { result ≡ Failed → Rose faults.old faults.new }
+    ensures failed { result ≡ Failed → CountHasRisen faults.old faults.new }
+    ensures sound { result ≢ Failed → faults.new ≡ faults.old }
     ensures later { faults.old ≤ faults.new }
 {
     if error.kind() == ErrorKind::OutOfMemory {

@@ -9,7 +9,7 @@ use std::vec::IntoIter;
 
 /// What gives random words.
 pub trait Words {
-    ghost use Rattle.sync_io.specs.Faults.{Rose};
+    ghost use Rattle.sync_io.specs.Faults.{CountHasRisen};
 
     /// How many calls gave no word.
     ghost word_fault_count: { Self → ℕ };
@@ -21,7 +21,8 @@ pub trait Words {
     /// Gives the next word, or none where the call failed.
     fn next_word(&mut self) -> Option<u64>
         ensures failed { IsNone result
-            → Rose (word_fault_count self.old) (word_fault_count self.new) }
+            → CountHasRisen (word_fault_count self.old) (word_fault_count self.new) }
+        ensures sound { IsSome result → word_fault_count self.new ≡ word_fault_count self.old }
         ensures later { word_fault_count self.old ≤ word_fault_count self.new };
 }
 

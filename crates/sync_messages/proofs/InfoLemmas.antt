@@ -16,8 +16,8 @@ use Rattle.sync_messages.specs.declared.fault.SyncFault.TheVariants.{Ber}
 use Rattle.sync_messages.specs.declared.info.SyncInfo.{SyncInfo}
 use Rattle.sync_messages.specs.declared.info.SyncInfo.TheVariants.{NewCookie, RefreshDelete, RefreshPresent, IdSet}
 use Rattle.ldap_ber.specs.Gives.{Gives}
-use Rattle.sync_messages.specs.Faults.{Fails}
-use Rattle.sync_messages.specs.Parts.{CookieForm, FlagForm, UuidForm, octet_string_at, uuid_at, cookie_octets, uuid_octets, refresh_octets}
+use Rattle.sync_messages.specs.Faults.{SyncFails}
+use Rattle.sync_messages.specs.Parts.{CookieForm, FlagWithDefault, UuidForm, octet_string_at, uuid_at, cookie_octets, uuid_octets, refresh_octets}
 use Rattle.sync_messages.specs.Info.{RefreshForm, SetForm, InfoForm, refresh_at, set_at, deletes_with, presents_with, set_with, info_at, info_of, uuids_octets, info_octets, IsInRange}
 use Rattle.sync_messages.proofs.UuidLemmas.{octet_string_exact, uuid_exact, uuid_shortens, uuid_spelled}
 use Rattle.sync_messages.proofs.PartLemmas.{cookie_exact, flag_exact, cookie_spelled, flag_lacks, refresh_spelled, if_found, only_this}
@@ -78,11 +78,11 @@ info_read : (bytes : List ℕ) (info : SyncInfo) → InfoForm bytes info [] → 
 unfolding info_of
 info_read bytes info h = whole_only Ber InfoForm info_at info_exact bytes info h
 
-pub info_found : (result : Result SyncInfo SyncFault) (bytes : List ℕ) → Gives Fails (λ x. Ok x) result (info_of bytes) → IfOk result (λ info. InfoForm bytes info [])
+pub info_found : (result : Result SyncInfo SyncFault) (bytes : List ℕ) → Gives SyncFails (λ x. Ok x) result (info_of bytes) → IfOk result (λ info. InfoForm bytes info [])
 unfolding info_of
 info_found result bytes g = if_found InfoForm bytes result (info_of bytes) g (λ info h. whole_found Ber InfoForm info_at info_exact bytes info h)
 
-pub info_only : (result : Result SyncInfo SyncFault) (bytes : List ℕ) (info : SyncInfo) → Gives Fails (λ x. Ok x) result (info_of bytes) → InfoForm bytes info [] → Gives Fails (λ x. Ok x) result (Ok info)
+pub info_only : (result : Result SyncInfo SyncFault) (bytes : List ℕ) (info : SyncInfo) → Gives SyncFails (λ x. Ok x) result (info_of bytes) → InfoForm bytes info [] → Gives SyncFails (λ x. Ok x) result (Ok info)
 info_only result bytes info g h = only_this result (info_of bytes) info g (info_read bytes info h)
 
 -- ---- written
@@ -98,11 +98,11 @@ uuids_lack : (tag : ℕ) (ids rest : List ℕ) → 49 ≢ tag → Lacks tag (uui
 unfolding element
 uuids_lack tag ids rest ne e = ne cc
 
-set_body_spelled : Spelled (Both CookieForm (Both (FlagForm false) (ListOf 49 UuidForm))) set_body (λ parts. Unit {0} × (Unit {0} × AreInRange parts.1.1)) Anything
+set_body_spelled : Spelled (Both CookieForm (Both (FlagWithDefault false) (ListOf 49 UuidForm))) set_body (λ parts. Unit {0} × (Unit {0} × AreInRange parts.1.1)) Anything
 set_body_spelled =
-    both_spelled CookieForm (Both (FlagForm false) (ListOf 49 UuidForm)) cookie_octets (λ parts. flag_octets 1 false parts.0 ++ uuids_octets parts.1) (Always {X = Option (List ℕ)}) (λ parts. Unit {0} × AreInRange parts.1) (Lacks 4) Anything
+    both_spelled CookieForm (Both (FlagWithDefault false) (ListOf 49 UuidForm)) cookie_octets (λ parts. flag_octets 1 false parts.0 ++ uuids_octets parts.1) (Always {X = Option (List ℕ)}) (λ parts. Unit {0} × AreInRange parts.1) (Lacks 4) Anything
     cookie_spelled
-    (both_spelled (FlagForm false) (ListOf 49 UuidForm) (flag_octets 1 false) uuids_octets (Always {X = Bool}) AreInRange (Lacks 1) Anything
+    (both_spelled (FlagWithDefault false) (ListOf 49 UuidForm) (flag_octets 1 false) uuids_octets (Always {X = Bool}) AreInRange (Lacks 1) Anything
     (flag_spelled 1 (omega arith) false)
     (list_spelled 49 UuidForm uuid_octets (λ id. id < 2 ^ 128) (omega arith) uuid_spelled)
     (λ ids rest sound after. uuids_lack 1 ids rest (omega arith)))
@@ -111,7 +111,7 @@ set_body_spelled =
 refresh_whole : (tag : ℕ) → tag % 32 ≢ 31 → (parts : Option (List ℕ) × Bool) → IsSmall (element tag (refresh_octets true parts)) → RefreshForm tag (element tag (refresh_octets true parts)) parts []
 refresh_whole tag low parts small =
     whole_spelled (RefreshForm tag) (λ x. element tag (refresh_octets true x)) _ Anything
-    (sequence_spelled tag (Both CookieForm (FlagForm true)) (refresh_octets true) _ _ low (refresh_spelled true) (none_next 1, none_next 4))
+    (sequence_spelled tag (Both CookieForm (FlagWithDefault true)) (refresh_octets true) _ _ low (refresh_spelled true) (none_next 1, none_next 4))
     tt parts (tt, tt) small
 
 canonical : (info : SyncInfo) → IsInRange info → IsSmall (info_octets info) → InfoForm (info_octets info) info []
@@ -121,7 +121,7 @@ canonical (RefreshDelete c b) in_range small = refresh_whole 161 (omega arith) (
 canonical (RefreshPresent c b) in_range small = refresh_whole 162 (omega arith) (c, b) small
 canonical (IdSet c b ids) in_range small =
     whole_spelled SetForm (λ x. element 163 (set_body x)) _ Anything
-    (sequence_spelled 163 (Both CookieForm (Both (FlagForm false) (ListOf 49 UuidForm))) set_body _ _ (omega arith) set_body_spelled tt)
+    (sequence_spelled 163 (Both CookieForm (Both (FlagWithDefault false) (ListOf 49 UuidForm))) set_body _ _ (omega arith) set_body_spelled tt)
     tt (c, (b, ids)) (tt, (tt, in_range)) small
 
 pub info_spelled : {E : Type 0} (result : Result (List ℕ) E) (info : SyncInfo) → IfOk result (λ o. o ≡ info_octets info) → IfOk result IsSmall → IfOk result (λ o. IsInRange info) → IfOk result (λ o. InfoForm o info [])

@@ -9,8 +9,8 @@ use Rattle.ldap_ber.proofs.CanonicalLemmas.{Spelled, Always, Lacks, octets_spell
 use Rattle.sync_messages.specs.declared.fault.SyncFault.{SyncFault}
 use Rattle.sync_messages.specs.declared.fault.SyncFault.TheVariants.{Ber}
 use Rattle.ldap_ber.specs.Gives.{Gives}
-use Rattle.sync_messages.specs.Faults.{Fails}
-use Rattle.sync_messages.specs.Parts.{CookieForm, FlagForm, enumerated_at, cookie_at, flag_at, cookie_octets, refresh_octets}
+use Rattle.sync_messages.specs.Faults.{SyncFails}
+use Rattle.sync_messages.specs.Parts.{CookieForm, FlagWithDefault, enumerated_at, cookie_at, flag_at, cookie_octets, refresh_octets}
 use Rattle.sync_messages.proofs.UuidLemmas.{octet_string_exact}
 
 -- ---- read
@@ -21,8 +21,8 @@ enumerated_exact = reworded_exact Ber (Integer 10) (integer_at 10) (integer_exac
 pub cookie_exact : Exact CookieForm cookie_at
 cookie_exact = optional_exact 4 (OctetString 4) _ (octet_string_exact 4)
 
-pub flag_exact : (usual : Bool) → Exact (FlagForm usual) (flag_at usual)
-flag_exact usual = reworded_exact Ber (FlagForm usual) (default_at 1 usual (boolean_at 1)) (default_exact 1 usual (Boolean 1) (boolean_at 1) (boolean_exact 1))
+pub flag_exact : (usual : Bool) → Exact (FlagWithDefault usual) (flag_at usual)
+flag_exact usual = reworded_exact Ber (FlagWithDefault usual) (default_at 1 usual (boolean_at 1)) (default_exact 1 usual (Boolean 1) (boolean_at 1) (boolean_exact 1))
 
 -- ---- written
 
@@ -44,16 +44,16 @@ flag_lacks false true rest h e = cc
 abbrev pub LacksBoth : List ℕ → Type 0
 LacksBoth rest = Lacks 1 rest × Lacks 4 rest
 
-pub refresh_spelled : (usual : Bool) → Spelled (Both CookieForm (FlagForm usual)) (refresh_octets usual) (λ parts. Unit {0} × Unit {0}) LacksBoth
+pub refresh_spelled : (usual : Bool) → Spelled (Both CookieForm (FlagWithDefault usual)) (refresh_octets usual) (λ parts. Unit {0} × Unit {0}) LacksBoth
 refresh_spelled usual =
-    both_spelled CookieForm (FlagForm usual) cookie_octets (flag_octets 1 usual) (Always {X = Option (List ℕ)}) (Always {X = Bool}) (Lacks 4) LacksBoth
+    both_spelled CookieForm (FlagWithDefault usual) cookie_octets (flag_octets 1 usual) (Always {X = Option (List ℕ)}) (Always {X = Bool}) (Lacks 4) LacksBoth
     cookie_spelled (record { spells = λ value rest small sound after. (flag_spelled 1 (omega arith) usual).spells value rest small sound after.0 }) (λ value rest sound after. flag_lacks usual value rest after.1)
 
 -- ---- answers
 
-pub if_found : {X : Type 0} (R : Form X) (bytes : List ℕ) (result read : Result X SyncFault) → Gives Fails (λ x. Ok x) result read → ((x : X) → read ≡ Ok x → R bytes x []) → IfOk result (λ x. R bytes x [])
+pub if_found : {X : Type 0} (R : Form X) (bytes : List ℕ) (result read : Result X SyncFault) → Gives SyncFails (λ x. Ok x) result read → ((x : X) → read ≡ Ok x → R bytes x []) → IfOk result (λ x. R bytes x [])
 if_found R bytes (Ok x) read g h = h x g
 if_found R bytes (Err e) read g h = tt
 
-pub only_this : {X : Type 0} (result read : Result X SyncFault) (x : X) → Gives Fails (λ y. Ok y) result read → read ≡ Ok x → Gives Fails (λ y. Ok y) result (Ok x)
-only_this {X} result read x g h = subst (λ (r : Result X SyncFault). Gives Fails (λ y. Ok y) result r) h g
+pub only_this : {X : Type 0} (result read : Result X SyncFault) (x : X) → Gives SyncFails (λ y. Ok y) result read → read ≡ Ok x → Gives SyncFails (λ y. Ok y) result (Ok x)
+only_this {X} result read x g h = subst (λ (r : Result X SyncFault). Gives SyncFails (λ y. Ok y) result r) h g

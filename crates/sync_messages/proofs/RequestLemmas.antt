@@ -18,8 +18,8 @@ use Rattle.sync_messages.specs.declared.request.Mode.{Mode}
 use Rattle.sync_messages.specs.declared.request.Mode.TheVariants.{RefreshOnly, RefreshAndPersist}
 use Rattle.sync_messages.specs.declared.request.SyncRequest.{SyncRequest}
 use Rattle.ldap_ber.specs.Gives.{Gives}
-use Rattle.sync_messages.specs.Faults.{Fails}
-use Rattle.sync_messages.specs.Parts.{CookieForm, FlagForm, enumerated_at, cookie_at, flag_at, refresh_octets}
+use Rattle.sync_messages.specs.Faults.{SyncFails}
+use Rattle.sync_messages.specs.Parts.{CookieForm, FlagWithDefault, enumerated_at, cookie_at, flag_at, refresh_octets}
 use Rattle.sync_messages.specs.Request.{mode_number, mode_of, IsMode, ModeForm, mode_at, request_parts, request_with, RequestForm, request_at, request_of, request_octets}
 use Rattle.sync_messages.proofs.PartLemmas.{enumerated_exact, cookie_exact, flag_exact, LacksBoth, refresh_spelled, if_found, only_this}
 
@@ -56,32 +56,32 @@ mode_spelled = meaning_spelled IsMode (Integer 10) (λ number. element 10 (integ
 
 request_exact : Exact RequestForm request_at
 unfolding RequestForm
-request_exact = made_exact request_parts request_with (Sequence 48 (Both ModeForm (Both CookieForm (FlagForm false)))) (sequence_at Ber 48 (both_at mode_at (both_at cookie_at (flag_at false))))
+request_exact = made_exact request_parts request_with (Sequence 48 (Both ModeForm (Both CookieForm (FlagWithDefault false)))) (sequence_at Ber 48 (both_at mode_at (both_at cookie_at (flag_at false))))
     (λ x. refl) (λ y. refl) (sequence_exact Ber 48 _ _ (both_exact _ _ _ _ mode_exact (both_exact _ _ _ _ cookie_exact (flag_exact false))))
 
 request_read : (bytes : List ℕ) (request : SyncRequest) → RequestForm bytes request [] → request_of bytes ≡ Ok request
 unfolding request_of
 request_read bytes request h = whole_only Ber RequestForm request_at request_exact bytes request h
 
-pub request_found : (result : Result SyncRequest SyncFault) (bytes : List ℕ) → Gives Fails (λ x. Ok x) result (request_of bytes) → IfOk result (λ request. RequestForm bytes request [])
+pub request_found : (result : Result SyncRequest SyncFault) (bytes : List ℕ) → Gives SyncFails (λ x. Ok x) result (request_of bytes) → IfOk result (λ request. RequestForm bytes request [])
 unfolding request_of
 request_found result bytes g = if_found RequestForm bytes result (request_of bytes) g (λ request h. whole_found Ber RequestForm request_at request_exact bytes request h)
 
-pub request_only : (result : Result SyncRequest SyncFault) (bytes : List ℕ) (request : SyncRequest) → Gives Fails (λ x. Ok x) result (request_of bytes) → RequestForm bytes request [] → Gives Fails (λ x. Ok x) result (Ok request)
+pub request_only : (result : Result SyncRequest SyncFault) (bytes : List ℕ) (request : SyncRequest) → Gives SyncFails (λ x. Ok x) result (request_of bytes) → RequestForm bytes request [] → Gives SyncFails (λ x. Ok x) result (Ok request)
 request_only result bytes request g h = only_this result (request_of bytes) request g (request_read bytes request h)
 
 abbrev body : Mode × (Option (List ℕ) × Bool) → List ℕ
 body parts = mode_octets parts.0 ++ refresh_octets false parts.1
 
-body_spelled : Spelled (Both ModeForm (Both CookieForm (FlagForm false))) body (λ parts. Unit {0} × (Unit {0} × Unit {0})) LacksBoth
-body_spelled = both_spelled ModeForm (Both CookieForm (FlagForm false)) mode_octets (refresh_octets false) (Always {X = Mode}) (λ parts. Unit {0} × Unit {0}) Anything LacksBoth
+body_spelled : Spelled (Both ModeForm (Both CookieForm (FlagWithDefault false))) body (λ parts. Unit {0} × (Unit {0} × Unit {0})) LacksBoth
+body_spelled = both_spelled ModeForm (Both CookieForm (FlagWithDefault false)) mode_octets (refresh_octets false) (Always {X = Mode}) (λ parts. Unit {0} × Unit {0}) Anything LacksBoth
     mode_spelled (refresh_spelled false) (λ parts rest sound after. tt)
 
 canonical : (request : SyncRequest) → IsSmall (request_octets request) → RequestForm (request_octets request) request []
 unfolding RequestForm request_octets
 canonical request small =
-    whole_spelled (MadeOf request_parts (Sequence 48 (Both ModeForm (Both CookieForm (FlagForm false))))) (λ y. element 48 (body (request_parts y))) (λ y. Unit {0} × (Unit {0} × Unit {0})) Anything
-    (made_spelled request_parts _ _ _ Anything (sequence_spelled 48 (Both ModeForm (Both CookieForm (FlagForm false))) body _ _ (omega arith) body_spelled (none_next 1, none_next 4)))
+    whole_spelled (MadeOf request_parts (Sequence 48 (Both ModeForm (Both CookieForm (FlagWithDefault false))))) (λ y. element 48 (body (request_parts y))) (λ y. Unit {0} × (Unit {0} × Unit {0})) Anything
+    (made_spelled request_parts _ _ _ Anything (sequence_spelled 48 (Both ModeForm (Both CookieForm (FlagWithDefault false))) body _ _ (omega arith) body_spelled (none_next 1, none_next 4)))
     tt request (tt, (tt, tt)) small
 
 pub request_spelled : {E : Type 0} (result : Result (List ℕ) E) (request : SyncRequest) → IfOk result (λ o. o ≡ request_octets request) → IfOk result IsSmall → IfOk result (λ o. RequestForm o request [])

@@ -18,7 +18,7 @@ use Rattle.sync_messages.specs.declared.state.State.{State}
 use Rattle.sync_messages.specs.declared.state.State.TheVariants.{Present, Add, Modify, Delete}
 use Rattle.sync_messages.specs.declared.state.SyncState.{SyncState}
 use Rattle.ldap_ber.specs.Gives.{Gives}
-use Rattle.sync_messages.specs.Faults.{Fails}
+use Rattle.sync_messages.specs.Faults.{SyncFails}
 use Rattle.sync_messages.specs.Parts.{CookieForm, UuidForm, enumerated_at, cookie_at, uuid_at, cookie_octets, uuid_octets}
 use Rattle.sync_messages.specs.State.{kind_number, kind_of, IsKind, KindForm, kind_at, state_parts, state_with, StateForm, state_at, state_of, state_octets}
 use Rattle.sync_messages.proofs.UuidLemmas.{uuid_exact, uuid_spelled}
@@ -74,11 +74,11 @@ state_read : (bytes : List ℕ) (state : SyncState) → StateForm bytes state []
 unfolding state_of
 state_read bytes state h = whole_only Ber StateForm state_at state_exact bytes state h
 
-pub state_found : (result : Result SyncState SyncFault) (bytes : List ℕ) → Gives Fails (λ x. Ok x) result (state_of bytes) → IfOk result (λ state. StateForm bytes state [])
+pub state_found : (result : Result SyncState SyncFault) (bytes : List ℕ) → Gives SyncFails (λ x. Ok x) result (state_of bytes) → IfOk result (λ state. StateForm bytes state [])
 unfolding state_of
 state_found result bytes g = if_found StateForm bytes result (state_of bytes) g (λ state h. whole_found Ber StateForm state_at state_exact bytes state h)
 
-pub state_only : (result : Result SyncState SyncFault) (bytes : List ℕ) (state : SyncState) → Gives Fails (λ x. Ok x) result (state_of bytes) → StateForm bytes state [] → Gives Fails (λ x. Ok x) result (Ok state)
+pub state_only : (result : Result SyncState SyncFault) (bytes : List ℕ) (state : SyncState) → Gives SyncFails (λ x. Ok x) result (state_of bytes) → StateForm bytes state [] → Gives SyncFails (λ x. Ok x) result (Ok state)
 state_only result bytes state g h = only_this result (state_of bytes) state g (state_read bytes state h)
 
 abbrev body : State × (ℕ × Option (List ℕ)) → List ℕ

@@ -6,7 +6,7 @@ use Rattle.ldap_ber.specs.Canonical.{element}
 use Rattle.sync_messages.specs.declared.fault.SyncFault.{SyncFault}
 use Rattle.sync_messages.specs.declared.fault.SyncFault.TheVariants.{Ber}
 use Rattle.sync_messages.specs.declared.done.SyncDone.{SyncDone}
-use Rattle.sync_messages.specs.Parts.{CookieForm, FlagForm, cookie_at, flag_at, refresh_octets}
+use Rattle.sync_messages.specs.Parts.{CookieForm, FlagWithDefault, cookie_at, flag_at, refresh_octets}
 
 abbrev pub done_parts : SyncDone → Option (List ℕ) × Bool
 done_parts done = (done.cookie, done.refresh_deletes)
@@ -15,7 +15,7 @@ abbrev pub done_with : Option (List ℕ) × Bool → SyncDone
 done_with parts = record { cookie = parts.0; refresh_deletes = parts.1 }
 
 unfoldable pub DoneForm : Form SyncDone
-DoneForm = MadeOf done_parts (Sequence 48 (Both CookieForm (FlagForm false)))
+DoneForm = MadeOf done_parts (Sequence 48 (Both CookieForm (FlagWithDefault false)))
 
 abbrev pub done_at : Reading SyncFault SyncDone
 done_at = made_at done_with (sequence_at Ber 48 (both_at cookie_at (flag_at false)))

@@ -4,9 +4,9 @@ use Rattle.sync_messages.specs.declared.fault.SyncFault.{SyncFault}
 use Rattle.sync_messages.specs.declared.fault.SyncFault.TheVariants.{Ber, BadMode, BadUuidLength, BadState, NoMemory}
 
 -- the fault is that of the reading; out of memory may come in place of any answer
-abbrev pub Fails : {Y : Type 0} → SyncFault → Result Y SyncFault → Type 0
-Fails (Ber fault) read = read ≡ Err (Ber fault)
-Fails (BadMode number) read = read ≡ Err (BadMode number)
-Fails (BadUuidLength count) read = read ≡ Err (BadUuidLength count)
-Fails (BadState number) read = read ≡ Err (BadState number)
-Fails NoMemory read = Unit {0}
+abbrev pub SyncFails : {Y : Type 0} → SyncFault → Result Y SyncFault → Type 0
+SyncFails (Ber fault) read = read ≡ Err (Ber fault)
+SyncFails (BadMode number) read = read ≡ Err (BadMode number)
+SyncFails (BadUuidLength count) read = read ≡ Err (BadUuidLength count)
+SyncFails (BadState number) read = read ≡ Err (BadState number)
+SyncFails NoMemory read = Unit {0}

@@ -9,15 +9,15 @@ use Rattle.sync_messages.specs.declared.fault.SyncFault.{SyncFault}
 use Rattle.sync_messages.specs.declared.fault.SyncFault.TheVariants.{Ber}
 use Rattle.sync_messages.specs.declared.info.SyncInfo.{SyncInfo}
 use Rattle.sync_messages.specs.declared.info.SyncInfo.TheVariants.{NewCookie, RefreshDelete, RefreshPresent, IdSet}
-use Rattle.sync_messages.specs.Parts.{CookieForm, FlagForm, UuidForm, octet_string_at, cookie_at, flag_at, uuid_at, cookie_octets, uuid_octets, refresh_octets}
+use Rattle.sync_messages.specs.Parts.{CookieForm, FlagWithDefault, UuidForm, octet_string_at, cookie_at, flag_at, uuid_at, cookie_octets, uuid_octets, refresh_octets}
 
 -- refreshDelete and refreshPresent
 abbrev pub RefreshForm : ℕ → Form (Option (List ℕ) × Bool)
-RefreshForm tag = Sequence tag (Both CookieForm (FlagForm true))
+RefreshForm tag = Sequence tag (Both CookieForm (FlagWithDefault true))
 
 -- syncIdSet
 abbrev pub SetForm : Form (Option (List ℕ) × (Bool × List ℕ))
-SetForm = Sequence 163 (Both CookieForm (Both (FlagForm false) (ListOf 49 UuidForm)))
+SetForm = Sequence 163 (Both CookieForm (Both (FlagWithDefault false) (ListOf 49 UuidForm)))
 
 unfoldable pub InfoForm : Form SyncInfo
 InfoForm bytes (NewCookie cookie) rest = OctetString 128 bytes cookie rest

@@ -15,8 +15,8 @@ abbrev pub CookieForm : Form (Option (List ℕ))
 CookieForm = Optional 4 (OctetString 4)
 
 -- BOOLEAN DEFAULT FALSE or TRUE
-abbrev pub FlagForm : Bool → Form Bool
-FlagForm usual = Default 1 usual (Boolean 1)
+abbrev pub FlagWithDefault : Bool → Form Bool
+FlagWithDefault usual = Default 1 usual (Boolean 1)
 
 -- an identity is the number of sixteen octets
 abbrev pub IsUuid : List ℕ → ℕ → Type 0

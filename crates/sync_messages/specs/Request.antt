@@ -9,7 +9,7 @@ use Rattle.sync_messages.specs.declared.fault.SyncFault.TheVariants.{Ber, BadMod
 use Rattle.sync_messages.specs.declared.request.Mode.{Mode}
 use Rattle.sync_messages.specs.declared.request.Mode.TheVariants.{RefreshOnly, RefreshAndPersist}
 use Rattle.sync_messages.specs.declared.request.SyncRequest.{SyncRequest}
-use Rattle.sync_messages.specs.Parts.{CookieForm, FlagForm, enumerated_at, cookie_at, flag_at, refresh_octets}
+use Rattle.sync_messages.specs.Parts.{CookieForm, FlagWithDefault, enumerated_at, cookie_at, flag_at, refresh_octets}
 
 abbrev pub mode_number : Mode → ℤ
 mode_number RefreshOnly = pos 1
@@ -38,7 +38,8 @@ abbrev pub request_with : Mode × (Option (List ℕ) × Bool) → SyncRequest
 request_with parts = record { mode = parts.0; cookie = parts.1.0; reload_hint = parts.1.1 }
 
 unfoldable pub RequestForm : Form SyncRequest
-RequestForm = MadeOf request_parts (Sequence 48 (Both ModeForm (Both CookieForm (FlagForm false))))
+RequestForm = MadeOf request_parts
+    (Sequence 48 (Both ModeForm (Both CookieForm (FlagWithDefault false))))
 
 abbrev pub request_at : Reading SyncFault SyncRequest
 request_at =

@@ -10,7 +10,7 @@
 ghost use Rattle.std.specs.Prelude.{◌≡◌, [], Ok, IfOk};
 ghost use Rattle.ldap_ber.specs.Writer.{IsSmall};
 ghost use Rattle.ldap_ber.specs.Gives.{Gives};
-ghost use Rattle.sync_messages.specs.Faults.{Fails};
+ghost use Rattle.sync_messages.specs.Faults.{SyncFails};
 ghost use Rattle.sync_messages.specs.Done.{DoneForm, done_of, done_octets};
 
 use crate::fault::SyncFault;
@@ -32,10 +32,10 @@ impl SyncDone {
     /// it is the first fault from left to right, or `NoMemory`.
     #[tactic(auto, using(crate::proofs::DoneLemmas::done_found))]
     pub fn read(alloc: Global, value: &[u8]) -> Result<SyncDone, SyncFault>
-        ensures exact { Gives Fails (λ done. Ok done) result (done_of value.now) }
+        ensures exact { Gives SyncFails (λ done. Ok done) result (done_of value.now) }
         ensures found { IfOk result (λ done. DoneForm value.now done []) }
         ensures only { (done : SyncDone) → DoneForm value.now done []
-            → Gives Fails (λ read. Ok read) result (Ok done) }
+            → Gives SyncFails (λ read. Ok read) result (Ok done) }
     {
         done_of(alloc, value)
     }
@@ -66,7 +66,7 @@ impl SyncDone {
 
 #[tactic(auto, unfolding(crate::specs::Done::done_of))]
 fn done_of(alloc: Global, value: &[u8]) -> Result<SyncDone, SyncFault>
-    ensures { Gives Fails (λ done. Ok done) result (done_of value.now) }
+    ensures { Gives SyncFails (λ done. Ok done) result (done_of value.now) }
 {
     let mut outer = Reader::new(value);
     let whole = outer.expect(0x30)?;

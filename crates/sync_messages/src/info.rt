@@ -24,7 +24,7 @@ ghost use Rattle.std.specs.List.{flat_map, AllByRecursion};
 ghost use Rattle.ldap_ber.specs.Reading.{many_at};
 ghost use Rattle.ldap_ber.specs.Writer.{after_bytes, IsSmall};
 ghost use Rattle.ldap_ber.specs.Gives.{Gives};
-ghost use Rattle.sync_messages.specs.Faults.{Fails};
+ghost use Rattle.sync_messages.specs.Faults.{SyncFails};
 ghost use Rattle.sync_messages.specs.Parts.{uuid_at, uuid_octets};
 ghost use Rattle.sync_messages.specs.Info.{refresh_at, uuids_at, set_at, info_at, uuids_octets, InfoForm, info_of, info_octets, IsInRange};
 
@@ -52,10 +52,10 @@ impl SyncInfo {
     /// it is the first fault from left to right, or `NoMemory`.
     #[tactic(auto, using(crate::proofs::InfoLemmas::info_found))]
     pub fn read(alloc: Global, value: &[u8]) -> Result<SyncInfo, SyncFault>
-        ensures exact { Gives Fails (λ info. Ok info) result (info_of value.now) }
+        ensures exact { Gives SyncFails (λ info. Ok info) result (info_of value.now) }
         ensures found { IfOk result (λ info. InfoForm value.now info []) }
         ensures only { (info : SyncInfo) → InfoForm value.now info []
-            → Gives Fails (λ read. Ok read) result (Ok info) }
+            → Gives SyncFails (λ read. Ok read) result (Ok info) }
     {
         info_of(alloc, value)
     }
@@ -84,7 +84,7 @@ impl SyncInfo {
 
 #[tactic(auto, unfolding(crate::specs::Info::info_of))]
 fn info_of(alloc: Global, value: &[u8]) -> Result<SyncInfo, SyncFault>
-    ensures { Gives Fails (λ info. Ok info) result (info_of value.now) }
+    ensures { Gives SyncFails (λ info. Ok info) result (info_of value.now) }
 {
     let mut reader = Reader::new(value);
     let info = info_at(alloc, &mut reader)?;
@@ -94,7 +94,7 @@ fn info_of(alloc: Global, value: &[u8]) -> Result<SyncInfo, SyncFault>
 
 /// The value that comes next.
 fn info_at(alloc: Global, reader: &mut Reader) -> Result<SyncInfo, SyncFault>
-    ensures exact { Gives Fails (λ info. Ok (info, reader.new.left)) result
+    ensures exact { Gives SyncFails (λ info. Ok (info, reader.new.left)) result
         (info_at reader.old.stop reader.old.left) }
     ensures stop { reader.new.stop ≡ reader.old.stop }
 {
@@ -120,7 +120,7 @@ fn refresh_at(
     reader: &mut Reader,
     tag: u8,
 ) -> Result<(Option<Octets>, bool), SyncFault>
-    ensures exact { Gives Fails (λ refresh. Ok (refresh, reader.new.left)) result
+    ensures exact { Gives SyncFails (λ refresh. Ok (refresh, reader.new.left)) result
         (refresh_at tag reader.old.stop reader.old.left) }
     ensures stop { reader.new.stop ≡ reader.old.stop }
 {
@@ -134,7 +134,7 @@ fn refresh_at(
 
 /// The `syncIdSet` that comes next.
 fn set_at(alloc: Global, reader: &mut Reader) -> Result<(Option<Octets>, bool, IdList), SyncFault>
-    ensures exact { Gives Fails (λ set. Ok ((set.0, (set.1, set.2)), reader.new.left)) result
+    ensures exact { Gives SyncFails (λ set. Ok ((set.0, (set.1, set.2)), reader.new.left)) result
         (set_at reader.old.stop reader.old.left) }
     ensures stop { reader.new.stop ≡ reader.old.stop }
 {
@@ -149,7 +149,7 @@ fn set_at(alloc: Global, reader: &mut Reader) -> Result<(Option<Octets>, bool, I
 
 /// The set of identities that comes next.
 fn uuids_at(alloc: Global, reader: &mut Reader) -> Result<IdList, SyncFault>
-    ensures exact { Gives Fails (λ ids. Ok (ids, reader.new.left)) result
+    ensures exact { Gives SyncFails (λ ids. Ok (ids, reader.new.left)) result
         (uuids_at reader.old.stop reader.old.left) }
     ensures stop { reader.new.stop ≡ reader.old.stop }
 {
@@ -161,7 +161,8 @@ fn uuids_at(alloc: Global, reader: &mut Reader) -> Result<IdList, SyncFault>
 /// The identities that are left.
 #[tactic(auto, using(crate::proofs::UuidLemmas::uuids_go_on, crate::proofs::UuidLemmas::uuids_fail, crate::proofs::UuidLemmas::uuids_end))]
 fn uuids_in(alloc: Global, reader: &mut Reader) -> Result<IdList, SyncFault>
-    ensures { Gives Fails (λ ids. Ok ids) result (many_at uuid_at reader.old.stop reader.old.left) }
+    ensures { Gives SyncFails (λ ids. Ok ids) result
+        (many_at uuid_at reader.old.stop reader.old.left) }
 {
     let room = reader.count().unwrap_or(0);
     let mut ids = IdList::with_room(alloc, room)?;

@@ -9,7 +9,7 @@
 ghost use Rattle.std.specs.Prelude.{◌≡◌, ◌<◌, ◌^◌, length, Ok, OnOk};
 ghost use Rattle.ldap_ber.specs.Writer.{after_bytes};
 ghost use Rattle.ldap_ber.specs.Gives.{Gives};
-ghost use Rattle.sync_messages.specs.Faults.{Fails};
+ghost use Rattle.sync_messages.specs.Faults.{SyncFails};
 ghost use Rattle.sync_messages.specs.Parts.{cookie_at, uuid_at, cookie_octets, uuid_octets, refresh_octets};
 
 use crate::fault::SyncFault;
@@ -18,7 +18,7 @@ use std::alloc::Global;
 
 /// The cookie, where one comes next.
 pub(crate) fn cookie_of(alloc: Global, reader: &mut Reader) -> Result<Option<Octets>, SyncFault>
-    ensures exact { Gives Fails (λ cookie. Ok (cookie, reader.new.left)) result
+    ensures exact { Gives SyncFails (λ cookie. Ok (cookie, reader.new.left)) result
         (cookie_at reader.old.stop reader.old.left) }
     ensures stop { reader.new.stop ≡ reader.old.stop }
 {
@@ -31,7 +31,7 @@ pub(crate) fn cookie_of(alloc: Global, reader: &mut Reader) -> Result<Option<Oct
 
 /// The identity that comes next.
 pub(crate) fn uuid_of(reader: &mut Reader) -> Result<u128, SyncFault>
-    ensures exact { Gives Fails (λ uuid. Ok (uuid, reader.new.left)) result
+    ensures exact { Gives SyncFails (λ uuid. Ok (uuid, reader.new.left)) result
         (uuid_at reader.old.stop reader.old.left) }
     ensures stop { reader.new.stop ≡ reader.old.stop }
     ensures shorter { OnOk result (length reader.new.left < length reader.old.left) }

@@ -16,7 +16,7 @@
 ghost use Rattle.std.specs.Prelude.{◌≡◌, [], Ok, IfOk};
 ghost use Rattle.ldap_ber.specs.Writer.{IsSmall};
 ghost use Rattle.ldap_ber.specs.Gives.{Gives};
-ghost use Rattle.sync_messages.specs.Faults.{Fails};
+ghost use Rattle.sync_messages.specs.Faults.{SyncFails};
 ghost use Rattle.sync_messages.specs.Request.{mode_of, mode_number, mode_at, RequestForm, request_of, request_octets};
 
 use crate::fault::SyncFault;
@@ -46,10 +46,10 @@ impl SyncRequest {
     /// it is the first fault from left to right, or `NoMemory`.
     #[tactic(auto, using(crate::proofs::RequestLemmas::request_found))]
     pub fn read(alloc: Global, value: &[u8]) -> Result<SyncRequest, SyncFault>
-        ensures exact { Gives Fails (λ request. Ok request) result (request_of value.now) }
+        ensures exact { Gives SyncFails (λ request. Ok request) result (request_of value.now) }
         ensures found { IfOk result (λ request. RequestForm value.now request []) }
         ensures only { (request : SyncRequest) → RequestForm value.now request []
-            → Gives Fails (λ read. Ok read) result (Ok request) }
+            → Gives SyncFails (λ read. Ok read) result (Ok request) }
     {
         request_of(alloc, value)
     }
@@ -81,7 +81,7 @@ impl SyncRequest {
 
 #[tactic(auto, unfolding(crate::specs::Request::request_of))]
 fn request_of(alloc: Global, value: &[u8]) -> Result<SyncRequest, SyncFault>
-    ensures { Gives Fails (λ request. Ok request) result (request_of value.now) }
+    ensures { Gives SyncFails (λ request. Ok request) result (request_of value.now) }
 {
     let mut outer = Reader::new(value);
     let whole = outer.expect(0x30)?;
@@ -100,7 +100,7 @@ fn request_of(alloc: Global, value: &[u8]) -> Result<SyncRequest, SyncFault>
 
 /// The mode that comes next.
 fn mode_at(reader: &mut Reader) -> Result<Mode, SyncFault>
-    ensures exact { Gives Fails (λ mode. Ok (mode, reader.new.left)) result
+    ensures exact { Gives SyncFails (λ mode. Ok (mode, reader.new.left)) result
         (mode_at reader.old.stop reader.old.left) }
     ensures stop { reader.new.stop ≡ reader.old.stop }
 {
@@ -110,7 +110,7 @@ fn mode_at(reader: &mut Reader) -> Result<Mode, SyncFault>
 
 /// The mode of this number.
 fn mode_of(number: i64) -> Result<Mode, SyncFault>
-    ensures { Gives Fails (λ mode. Ok mode) result (mode_of number) }
+    ensures { Gives SyncFails (λ mode. Ok mode) result (mode_of number) }
 {
     match number {
         1 => Ok(Mode::RefreshOnly),

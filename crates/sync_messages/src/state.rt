@@ -16,7 +16,7 @@
 ghost use Rattle.std.specs.Prelude.{◌≡◌, ◌<◌, ◌^◌, [], Ok, IfOk, OnOk};
 ghost use Rattle.ldap_ber.specs.Writer.{after_bytes, IsSmall};
 ghost use Rattle.ldap_ber.specs.Gives.{Gives};
-ghost use Rattle.sync_messages.specs.Faults.{Fails};
+ghost use Rattle.sync_messages.specs.Faults.{SyncFails};
 ghost use Rattle.sync_messages.specs.State.{kind_of, kind_number, kind_at, StateForm, state_of, parts_octets, state_octets};
 
 use crate::fault::SyncFault;
@@ -48,10 +48,10 @@ impl SyncState {
     /// it is the first fault from left to right, or `NoMemory`.
     #[tactic(auto, using(crate::proofs::StateLemmas::state_found))]
     pub fn read(alloc: Global, value: &[u8]) -> Result<SyncState, SyncFault>
-        ensures exact { Gives Fails (λ state. Ok state) result (state_of value.now) }
+        ensures exact { Gives SyncFails (λ state. Ok state) result (state_of value.now) }
         ensures found { IfOk result (λ state. StateForm value.now state []) }
         ensures only { (state : SyncState) → StateForm value.now state []
-            → Gives Fails (λ read. Ok read) result (Ok state) }
+            → Gives SyncFails (λ read. Ok read) result (Ok state) }
     {
         state_of(alloc, value)
     }
@@ -92,7 +92,7 @@ fn put_parts(writer: &mut Writer, state: &SyncState) -> Result<(), NoMemory>
 
 #[tactic(auto, unfolding(crate::specs::State::state_of))]
 fn state_of(alloc: Global, value: &[u8]) -> Result<SyncState, SyncFault>
-    ensures { Gives Fails (λ state. Ok state) result (state_of value.now) }
+    ensures { Gives SyncFails (λ state. Ok state) result (state_of value.now) }
 {
     let mut outer = Reader::new(value);
     let whole = outer.expect(0x30)?;
@@ -111,7 +111,7 @@ fn state_of(alloc: Global, value: &[u8]) -> Result<SyncState, SyncFault>
 
 /// The state that comes next.
 fn kind_at(reader: &mut Reader) -> Result<State, SyncFault>
-    ensures exact { Gives Fails (λ state. Ok (state, reader.new.left)) result
+    ensures exact { Gives SyncFails (λ state. Ok (state, reader.new.left)) result
         (kind_at reader.old.stop reader.old.left) }
     ensures stop { reader.new.stop ≡ reader.old.stop }
 {
@@ -121,7 +121,7 @@ fn kind_at(reader: &mut Reader) -> Result<State, SyncFault>
 
 /// The state of this number.
 fn kind_of(number: i64) -> Result<State, SyncFault>
-    ensures { Gives Fails (λ state. Ok state) result (kind_of number) }
+    ensures { Gives SyncFails (λ state. Ok state) result (kind_of number) }
 {
     match number {
         0 => Ok(State::Present),

@@ -8,7 +8,7 @@ use Rattle.sync_model.specs.Copy.{Stage, Copy, Answer, staged, puts_of, effected
 use Rattle.sync_model.specs.Copy.Answer.{Staged, Stored}
 use Rattle.sync_model.specs.Law.{IsWithinLimits, settled}
 use Rattle.sync_model.specs.Message.{CookieText}
-use Rattle.sync_model.specs.Within.{is_crowded, puts_entry, against, limit_fault, refused_by, taken_within}
+use Rattle.sync_model.specs.Within.{exceeds_limits, puts_entry, against, limit_fault, refused_by, taken_within}
 use Rattle.sync_model.proofs.Gather.{Each, each-prefix}
 use Rattle.sync_model.proofs.Later.{IsStep, NotifiedOne, one_staged, one_stored, stepping, staged_all, each-touched, each-now, effected-touched}
 use Rattle.sync_model.proofs.Limits.{nothing_against, Fits, fits-staged, fits-none, puts_fit, no_room_needed, among_now}
@@ -60,7 +60,7 @@ module _ (old new : List Entry) (earlier : ascends old ≡ true) (later : ascend
   fits_prefix before after is =
       fits-staged_all before new [] (each-prefix (λ (t : EntryChange). t.after ≡ entry_at new t.uuid) before after (subst (Each (λ (t : EntryChange). t.after ≡ entry_at new t.uuid)) is (each-now old new))) (fits-none new)
 
-  room : (before after : List EntryChange) → At before after → is_crowded (puts_of (staged_all [] before)) ≡ false
+  room : (before after : List EntryChange) → At before after → exceeds_limits (puts_of (staged_all [] before)) ≡ false
   room before after is = puts_fit (staged_all [] before) new later within (fits_prefix before after is)
 
   pushed : (before after : List EntryChange) (entry_change : EntryChange) → At before (entry_change ∷ after) → At (before ++ entry_change ∷ []) after

@@ -15,7 +15,7 @@ use Rattle.entry_tree.proofs.Directory.{ascends_filter, total_parts}
 use Rattle.entry_tree.proofs.Identities.{above, none_at}
 use Rattle.sync_model.specs.Copy.{Stage, slot, is_put, staged, all_dropped, puts_of, Fault}
 use Rattle.sync_model.specs.Copy.Fault.{StageFull, DuplicateName}
-use Rattle.sync_model.specs.Within.{is_crowded, same_named, against}
+use Rattle.sync_model.specs.Within.{exceeds_limits, same_named, against}
 use Rattle.sync_model.specs.Law.{IsWithinLimits}
 use Rattle.entry_tree.proofs.Order.{entry_at-filter, same_entries}
 use Rattle.entry_tree.proofs.Changing.{own_uuid}
@@ -23,7 +23,7 @@ use Rattle.sync_model.proofs.Gather.{Each, each_weaker}
 
 -- ---- entries within the limits
 
-not_crowded : (entries : List Entry) → IsWithinLimits entries → is_crowded entries ≡ false
+not_crowded : (entries : List Entry) → IsWithinLimits entries → exceeds_limits entries ≡ false
 not_crowded entries within =
     ap (λ b. b || nat_lt most_weight (total_weight entries)) (le-ltb most_entries (length entries) within.few) ∙ le-ltb most_weight (total_weight entries) within.light
 
@@ -63,14 +63,14 @@ pub within_filter : (test : Entry → Bool) (entries : List Entry) → IsWithinL
 within_filter test entries within = record {
   few = omega (arith, length-filter_both test (λ e. not (test e)) (λ e. refl) entries, within.few);
   light = omega (arith, total_parts test entries, within.light);
-  apart = apart_filter test entries within.apart;
+  unique_names = apart_filter test entries within.unique_names;
 }
 
 -- entries within the limits are refused by none of them
 pub nothing_against : (entries : List Entry) → IsWithinLimits entries → against entries ≡ None
 nothing_against entries within =
     ap (λ b. cond b (Some StageFull) (option_map (λ (pair : ℕ × ℕ). DuplicateName pair.0 pair.1) (same_named entries))) (not_crowded entries within)
-    ∙ ap (option_map (λ (pair : ℕ × ℕ). DuplicateName pair.0 pair.1)) within.apart
+    ∙ ap (option_map (λ (pair : ℕ × ℕ). DuplicateName pair.0 pair.1)) within.unique_names
 
 -- ---- what is staged is among the entries to come
 
@@ -193,13 +193,13 @@ puts_are stage target ascending fits =
         sym (ap (option_filter test) there ∙ cond-true _ _ _ (ap (λ k. is_put (slot stage k)) (own_uuid target u entry there) ∙ ap is_put is))
 
 -- what a stage puts is within the limits where all of its target is
-pub puts_fit : (stage : Stage) (target : List Entry) → ascends target ≡ true → IsWithinLimits target → Fits target stage → is_crowded (puts_of stage) ≡ false
+pub puts_fit : (stage : Stage) (target : List Entry) → ascends target ≡ true → IsWithinLimits target → Fits target stage → exceeds_limits (puts_of stage) ≡ false
 puts_fit stage target ascending within fits =
-    ap is_crowded (puts_are stage target ascending fits)
+    ap exceeds_limits (puts_are stage target ascending fits)
     ∙ not_crowded (filter (λ entry. is_put (slot stage entry.uuid)) target) (within_filter (λ entry. is_put (slot stage entry.uuid)) target within)
 
 -- no room is needed where nothing crowds
-pub no_room_needed : (puts : Bool) (stage : Stage) (other : Option Fault) → is_crowded (puts_of stage) ≡ false → other ≡ None → cond (puts && is_crowded (puts_of stage)) (Some StageFull) other ≡ None
+pub no_room_needed : (puts : Bool) (stage : Stage) (other : Option Fault) → exceeds_limits (puts_of stage) ≡ false → other ≡ None → cond (puts && exceeds_limits (puts_of stage)) (Some StageFull) other ≡ None
 no_room_needed true stage other room none = cond-false _ _ _ room ∙ none
 no_room_needed false stage other room none = none
 

@@ -137,7 +137,7 @@ PrefixShows =
 pub record IsWithinLimits (entries : List Entry) : Type 0 where
   pub few : length entries ≤ most_entries
   pub light : total_weight entries ≤ most_weight
-  pub apart : same_named entries ≡ None
+  pub unique_names : same_named entries ≡ None
 
 -- what a directory that keeps within its limits sends in one piece meets no limit
 abbrev pub PrefixFits : Type 0

@@ -1,7 +1,7 @@
 -- What a copy makes of each message within the limits of a directory.
 use Rattle.std.specs.Prelude.{ℕ, Bool, true, false, cond, ◌&&◌, ◌||◌, nat_lt, List, [], ◌∷◌, length, Option, Some, None, option_map}
 use Rattle.entry_tree.specs.declared.entry.Entry.{Entry}
-pub use Rattle.entry_tree.specs.State.{is_crowded, same_named}
+pub use Rattle.entry_tree.specs.State.{exceeds_limits, same_named}
 use Rattle.sync_model.specs.Message.{SyncMessage}
 use Rattle.sync_model.specs.Message.SyncMessage.{AddOrModify, Delete, Present, IdSet, NewCookie, RefreshDelete, RefreshPresent, Done, Ignored}
 use Rattle.sync_model.specs.Copy.{SyncSession, Copy, Fault, Answer, puts_of, refused, taken}
@@ -26,18 +26,18 @@ staged_puts (Some session) = puts_of session.stage
 -- what rejects the entries that a stage left
 abbrev pub against : List Entry → Option Fault
 against entries =
-    cond (is_crowded entries) (Some StageFull)
+    cond (exceeds_limits entries) (Some StageFull)
     (option_map (λ (pair : ℕ × ℕ). DuplicateName pair.0 pair.1) (same_named entries))
 
 -- the puts of the stage are counted and weighed at each put, and the entries wherever
 -- the stage takes effect
 abbrev pub limit_fault : (puts : Bool) → Copy → Answer → Option Fault
 limit_fault puts after Staged =
-    cond (puts && is_crowded (staged_puts after.session)) (Some StageFull) None
+    cond (puts && exceeds_limits (staged_puts after.session)) (Some StageFull) None
 limit_fault puts after (Stored commit) =
-    cond (puts && is_crowded commit.puts) (Some StageFull) (against after.held)
+    cond (puts && exceeds_limits commit.puts) (Some StageFull) (against after.held)
 limit_fault puts after (Copied commit) =
-    cond (puts && is_crowded commit.puts) (Some StageFull) (against after.held)
+    cond (puts && exceeds_limits commit.puts) (Some StageFull) (against after.held)
 limit_fault puts after (Over code) = None
 limit_fault puts after (Refused fault) = None
 

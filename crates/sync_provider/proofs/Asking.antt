@@ -3,7 +3,7 @@ use Rattle.std.proofs.Common.{◌≡◌, ◌≢◌, ℕ, Bool, true, false, cond
 use Rattle.std.specs.Prelude.{Ok}
 use Rattle.ldap_constants.specs.declared.result_codes.TheConstants.{PROTOCOL_ERROR, ADMIN_LIMIT_EXCEEDED, NO_SUCH_OBJECT}
 use Rattle.dn_names.specs.Names.{is_at_or_below}
-use Rattle.sync_messages.specs.Faults.{Fails}
+use Rattle.sync_messages.specs.Faults.{SyncFails}
 use Rattle.sync_messages.specs.Request.{request_of}
 use Rattle.sync_messages.specs.declared.fault.SyncFault.{SyncFault}
 use Rattle.sync_messages.specs.declared.fault.SyncFault.TheVariants as faults
@@ -19,7 +19,7 @@ Searches = List (ℕ × SearchState)
 
 -- ---- the control's value
 
-pub value_refused : (d : DirectoryState) (es : Searches) (ask : SyncSearch) (fault : SyncFault) → fault ≢ faults.NoMemory → Fails fault (request_of ask.control)
+pub value_refused : (d : DirectoryState) (es : Searches) (ask : SyncSearch) (fault : SyncFault) → fault ≢ faults.NoMemory → SyncFails fault (request_of ask.control)
     → answer_to d es ask ≡ Refused PROTOCOL_ERROR
 value_refused d es ask (faults.Ber fault) other h = ap (answer_to_request d es ask) h
 value_refused d es ask (faults.BadMode number) other h = ap (answer_to_request d es ask) h

@@ -1,5 +1,6 @@
 -- A commit by what rejects it.
-use Rattle.std.proofs.Common.{◌≡◌, ℕ, List, Option, Some, None}
+use Rattle.std.proofs.Common.{◌≡◌, ℕ, List, Option, Some, None, refl}
+use Rattle.std.specs.Option.{option_or}
 use Rattle.entry_tree.specs.declared.entry.Entry.{Entry}
 use Rattle.entry_tree.specs.declared.op.Op.{Op}
 use Rattle.directory_writes.specs.Commits as directory
@@ -22,3 +23,8 @@ pub unopposed : (kind : Kind) (d : DirectoryState) (puts : List Entry) (drops : 
     → directory.commit_refusal d puts drops now ≡ None
 unopposed Root d puts drops now is = let never : ⊥ = cc in absurd never
 unopposed Replica d puts drops now is = option_map-none fault_of (directory.commit_refusal d puts drops now) is
+
+-- nothing in place of something missing changes nothing
+pub or_none : {X : Type 0} (found : Option X) → option_or found None ≡ found
+or_none None = refl
+or_none (Some x) = refl

@@ -9,23 +9,26 @@ use Rattle.entry_tree.specs.declared.op.Op.{Op}
 use Rattle.entry_tree.specs.declared.op.Write.{Write}
 use Rattle.entry_tree.specs.declared.touched.EntryChange.{EntryChange}
 use Rattle.entry_tree.specs.Touched.{touched}
-use Rattle.sync_model.specs.Message.{CookieText}
 use Rattle.directory_writes.specs.Directory.{DirectoryState, cookie_at, entries_of, entries_after, judged, with_write, code_of_judged, Refuses}
 use Rattle.directory_writes.proofs.Judged.{refused_with}
-use Rattle.sync_provider.specs.Machine.{ProviderState, each_informed, after_judged, judged_by, write_code as provider_code, wrote}
+use Rattle.sync_provider.specs.Machine.{ProviderState, each_search_notified, after_judged, judged_by, write_code as provider_code, wrote}
 use Rattle.sync_provider.specs.declared.provider.Kind.{Kind}
-use Rattle.sync_provider.specs.Staging.{HeldSearch, searches_of, messages_for, AreStaged, each_pushed}
+use Rattle.sync_provider.specs.Queueing.{search_notified}
+use Rattle.sync_provider.specs.Staging.{HeldSearch, searches_of, messages_for, staged_for, pushed_staged, each_staged, each_unstaged, each_pushed}
+use Rattle.sync_provider.proofs.GoingOn.{gone_on-itself, group_search_notified}
 use Rattle.sync_provider.proofs.Groups.{group_is}
-use Rattle.sync_provider.proofs.Held.{all_informed}
 
--- what was staged for a write is what the write reports
-pub delivered_searches : (d : DirectoryState) (old staged : List (ℕ × HeldSearch)) (limit : ℕ) (w : Write) (entry_changes : List EntryChange) (cookie : CookieText)
-    → searches_of staged ≡ searches_of old → AreStaged entry_changes cookie staged
-    → entry_changes ≡ touched (entries_of d) (entries_after d.history (d.writes ++ w ∷ [])) → cookie ≡ cookie_text (cookie_at d.sid d.history w.csn)
-    → each_pushed limit staged ≡ each_informed limit d w (searches_of old)
-delivered_searches d old staged limit w entry_changes cookie same are touches_are cookie_is =
-    all_informed staged limit d w entry_changes cookie (λ s. (λ i. messages_for s.spec (touches_are i) (cookie_is i)) ∙ group_is d s w) are
-    ∙ ap (each_informed limit d w) same
+-- what was staged for a write alone is what the write reports
+pub delivered_searches : (d : DirectoryState) (es : List (ℕ × HeldSearch)) (limit : ℕ) (w : Write) (entry_changes : List EntryChange)
+    → entry_changes ≡ touched (entries_of d) (entries_after d.history (d.writes ++ w ∷ []))
+    → each_pushed limit (each_staged entry_changes (cookie_text (cookie_at d.sid d.history w.csn)) (each_unstaged es)) ≡ each_search_notified limit d w (searches_of es)
+delivered_searches d [] limit w entry_changes is = refl
+delivered_searches d (e ∷ es) limit w entry_changes is =
+    let s = e.1.search in
+    let cookie = cookie_text (cookie_at d.sid d.history w.csn) in
+    let here : pushed_staged limit (staged_for s entry_changes cookie ∷ []) s ≡ search_notified limit d w s =
+    group_search_notified limit d w s s entry_changes cookie (ap (λ changes. messages_for s.spec changes cookie) is ∙ group_is d s w) (gone_on-itself s) in
+    λ i. (e.0, here i) ∷ delivered_searches d es limit w entry_changes is i
 
 -- what memory running out answers is no code of a write, so what has it leaves the provider
 pub unwritten_all : (p : ProviderState) (op : Op) (now : ℕ) → provider_code p op now ≡ OTHER → wrote p op now ≡ p
@@ -45,14 +48,14 @@ view_of kind d es limit = record { kind = kind; directory = d; searches = search
 
 -- the provider after a write that was previewed: what was staged is what the write reports
 pub notified_view : (kind : Kind) (d after : DirectoryState) (es staged pushed : List (ℕ × HeldSearch)) (limit : ℕ) (p : ProviderState) (w : Write) (entry_changes : List EntryChange) → view_of kind d es limit ≡ p
-    → searches_of staged ≡ searches_of es → AreStaged entry_changes (cookie_text (cookie_at d.sid d.history w.csn)) staged
+    → staged ≡ each_staged entry_changes (cookie_text (cookie_at d.sid d.history w.csn)) (each_unstaged es)
     → entry_changes ≡ touched (entries_of d) (entries_after d.history (d.writes ++ w ∷ [])) → after ≡ with_write d w → searches_of pushed ≡ each_pushed limit staged
     → view_of kind after pushed limit ≡ after_judged p (Ok w)
-notified_view kind d after es staged pushed limit p w entry_changes view same are touches is all =
+notified_view kind d after es staged pushed limit p w entry_changes view are touches is all =
     (λ i. record {
       kind = kind;
       directory = is i;
-      searches = (all ∙ delivered_searches d es staged limit w entry_changes (cookie_text (cookie_at d.sid d.history w.csn)) same are touches refl) i;
+      searches = (all ∙ ap (each_pushed limit) are ∙ delivered_searches d es limit w entry_changes touches) i;
       queue_limit = limit;
     })
     ∙ ap (λ q. after_judged q (Ok w)) view

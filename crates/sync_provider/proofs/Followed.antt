@@ -16,15 +16,15 @@ use Rattle.sync_provider.specs.Law.{BeginsWith, stream_of, Delivery, pending_of,
 use Rattle.sync_provider.specs.Committing.{commit_refusal}
 use Rattle.sync_provider.specs.Machine.{ProviderState, ProviderCall, after_judged, judged_by, after_commit as provider_after, accepted, called, run}
 use Rattle.sync_provider.specs.Machine.ProviderCall.{Writes, Commits, Accepts, HandsOut, Drops, SetsLogLimit, SetsQueueLimit}
-use Rattle.sync_provider.specs.Queueing.{informed}
+use Rattle.sync_provider.specs.Queueing.{search_notified}
 use Rattle.sync_provider.specs.Search.{SearchState, pending, is_end}
 use Rattle.sync_provider.specs.declared.searches.Accepted.TheVariants.{Opened}
 use Rattle.sync_provider.specs.declared.searches.SyncSearch.{SyncSearch}
 use Rattle.sync_provider.specs.declared.writing.CommitFault.{CommitFault}
-use Rattle.sync_provider.proofs.Growing.{run_begins, informed_at}
+use Rattle.sync_provider.proofs.Growing.{run_begins, search_notified_at}
 use Rattle.sync_provider.proofs.Kept.{answered_other, turn_other, waiting_turn, next_turn, asked_at}
-use Rattle.sync_provider.proofs.Overflows.{Matches, informed_match, waits_match, next_match, hand_out_over, stays_over, limited_match, asked_matches}
-use Rattle.sync_provider.proofs.Streams.{Stands, IsNotified, informed_stands, advanced_stands, ends_with_refresh, now_notified, asked_stands}
+use Rattle.sync_provider.proofs.Overflows.{Matches, search_notified_match, waits_match, next_match, hand_out_over, stays_over, limited_match, asked_matches}
+use Rattle.sync_provider.proofs.Streams.{Stands, IsNotified, search_notified_stands, advanced_stands, ends_with_refresh, now_notified, asked_stands}
 
 -- a search that was opened on one directory, on what became of that, after these messages were handed out and counted
 pub record IsFollowed (d0 : DirectoryState) (s0 : SearchState) (d : DirectoryState) (s : SearchState) (before : List SyncMessage) (t : Tally) : Type 0 where
@@ -55,8 +55,8 @@ judged_followed : (d0 : DirectoryState) (s0 : SearchState) (number : ℕ) (write
     → IsFollowed d0 s0 p.directory s before t → BeginsWith (run (after_judged p outcome) calls).directory writes
     → IsReported d0 s0 before writes (delivered number (after_judged p outcome) calls) (is_over_after number s0 (after_judged p outcome) (after_write p s0 outcome t) calls)
 judged_followed d0 s0 number writes calls p (Ok w) rest s before t found is =
-    rest (after_judged p (Ok w)) (informed p.queue_limit p.directory w s) before (after_write p s0 (Ok w) t) (informed_at p.queue_limit p.directory w p.searches number s found)
-    (record { stands = informed_stands d0 s0 p.queue_limit p.directory w s before is.stands; matches = informed_match s0 p.queue_limit p.directory w s t is.matches })
+    rest (after_judged p (Ok w)) (search_notified p.queue_limit p.directory w s) before (after_write p s0 (Ok w) t) (search_notified_at p.queue_limit p.directory w p.searches number s found)
+    (record { stands = search_notified_stands d0 s0 p.queue_limit p.directory w s before is.stands; matches = search_notified_match s0 p.queue_limit p.directory w s t is.matches })
 judged_followed d0 s0 number writes calls p (Err code) rest s before t found is = rest (after_judged p (Err code)) s before t found is
 
 commit_followed : (d0 : DirectoryState) (s0 : SearchState) (number : ℕ) (writes : List Write) (calls : List ProviderCall) (p : ProviderState) (op : Op) (now : ℕ) (refusal : Option CommitFault)

@@ -35,7 +35,7 @@ use Rattle.directory_writes.proofs.SortedIdentities.{sorted-filter, sorted-ident
 use Rattle.directory_writes.proofs.Writes.{state_now, csn_now, last_csn-push, ascends_now}
 use Rattle.sync_provider.specs.Queueing.{group_of}
 use Rattle.sync_provider.specs.Search.{SearchState}
-use Rattle.sync_provider.specs.Staging.{chosen, notified_of_change, notified_of_changes, with_cookie, last_with_cookie, messages_for}
+use Rattle.sync_provider.specs.Staging.{if_selected, notified_of_change, notified_of_changes, with_cookie, last_with_cookie, messages_for}
 
 -- ---- lists of identities in ascending order
 
@@ -65,8 +65,8 @@ split_one f false t ts = refl
 
 -- what is said of a change between two states is what is said of the change between what is selected from them
 one_said : (spec : Search) (u : ℕ) (was now : Option Entry)
-    → cond (not (is_one_found was now)) (notified None u (chosen spec was) (chosen spec now)) []
-    ≡ cond (not (is_one_found (chosen spec was) (chosen spec now))) (notified None u (chosen spec was) (chosen spec now)) []
+    → cond (not (is_one_found was now)) (notified None u (if_selected spec was) (if_selected spec now)) []
+    ≡ cond (not (is_one_found (if_selected spec was) (if_selected spec now))) (notified None u (if_selected spec was) (if_selected spec now)) []
 one_said spec u None None = refl
 one_said spec u (Some a) None = step (is_selected spec a) where
   step : (b : Bool) → notified None u (cond b (Some a) None) None
@@ -88,13 +88,13 @@ one_said spec u (Some a) (Some b) = by (is_one_entry a b) refl where
   differ false true off = refl
   differ false false off = refl
 
-  alike : a ≡ b → is_one_found (chosen spec (Some a)) (chosen spec (Some b)) ≡ true
-  alike same = ap (λ c. is_one_found (chosen spec (Some a)) (chosen spec (Some c))) (sym same) ∙ one_found-same (chosen spec (Some a))
+  alike : a ≡ b → is_one_found (if_selected spec (Some a)) (if_selected spec (Some b)) ≡ true
+  alike same = ap (λ c. is_one_found (if_selected spec (Some a)) (if_selected spec (Some c))) (sym same) ∙ one_found-same (if_selected spec (Some a))
 
   by : (c : Bool) → is_one_entry a b ≡ c
-      → cond (not c) (notified None u (chosen spec (Some a)) (chosen spec (Some b))) []
-      ≡ cond (not (is_one_found (chosen spec (Some a)) (chosen spec (Some b)))) (notified None u (chosen spec (Some a)) (chosen spec (Some b))) []
-  by true here = sym (ap (λ c. cond (not c) (notified None u (chosen spec (Some a)) (chosen spec (Some b))) []) (alike (one_entry-true a b here)))
+      → cond (not c) (notified None u (if_selected spec (Some a)) (if_selected spec (Some b))) []
+      ≡ cond (not (is_one_found (if_selected spec (Some a)) (if_selected spec (Some b)))) (notified None u (if_selected spec (Some a)) (if_selected spec (Some b))) []
+  by true here = sym (ap (λ c. cond (not c) (notified None u (if_selected spec (Some a)) (if_selected spec (Some b))) []) (alike (one_entry-true a b here)))
   by false off = differ (is_selected spec a) (is_selected spec b) off
 
 -- ---- all identities
@@ -103,9 +103,9 @@ one_said spec u (Some a) (Some b) = by (is_one_entry a b) refl where
 abbrev plain : EntryChange → List SyncMessage
 plain entry_change = notified None entry_change.uuid entry_change.before entry_change.after
 
-chosen-filter : (spec : Search) (found : Option Entry) → option_filter (is_selected spec) found ≡ chosen spec found
-chosen-filter spec None = refl
-chosen-filter spec (Some e) = refl
+if_selected-filter : (spec : Search) (found : Option Entry) → option_filter (is_selected spec) found ≡ if_selected spec found
+if_selected-filter spec None = refl
+if_selected-filter spec (Some e) = refl
 
 module _ (spec : Search) (old new : List Entry) (asc_old : ascends old ≡ true) (asc_new : ascends new ≡ true) where
   abbrev kept_old : List Entry
@@ -114,18 +114,18 @@ module _ (spec : Search) (old new : List Entry) (asc_old : ascends old ≡ true)
   abbrev kept_new : List Entry
   kept_new = select spec new
 
-  chosen_old : (u : ℕ) → chosen spec (entry_at old u) ≡ entry_at kept_old u
-  chosen_old u = sym (entry_at-filter (is_selected spec) old u asc_old ∙ chosen-filter spec (entry_at old u))
+  selected_old : (u : ℕ) → if_selected spec (entry_at old u) ≡ entry_at kept_old u
+  selected_old u = sym (entry_at-filter (is_selected spec) old u asc_old ∙ if_selected-filter spec (entry_at old u))
 
-  chosen_new : (u : ℕ) → chosen spec (entry_at new u) ≡ entry_at kept_new u
-  chosen_new u = sym (entry_at-filter (is_selected spec) new u asc_new ∙ chosen-filter spec (entry_at new u))
+  selected_new : (u : ℕ) → if_selected spec (entry_at new u) ≡ entry_at kept_new u
+  selected_new u = sym (entry_at-filter (is_selected spec) new u asc_new ∙ if_selected-filter spec (entry_at new u))
 
   said_alike : (us : List ℕ) → flat_map (notified_of_change spec) (filter is_change (map (change_at old new) us)) ≡ flat_map plain (filter is_change (map (change_at kept_old kept_new) us))
   said_alike [] = refl
   said_alike (u ∷ us) =
       split_one (notified_of_change spec) (is_change (change_at old new u)) (change_at old new u) (filter is_change (map (change_at old new) us))
       ∙ ap (λ ms. ms ++ flat_map (notified_of_change spec) (filter is_change (map (change_at old new) us))) (one_said spec u (entry_at old u) (entry_at new u))
-      ∙ (λ i. cond (not (is_one_found (chosen_old u i) (chosen_new u i))) (notified None u (chosen_old u i) (chosen_new u i)) [] ++ said_alike us i)
+      ∙ (λ i. cond (not (is_one_found (selected_old u i) (selected_new u i))) (notified None u (selected_old u i) (selected_new u i)) [] ++ said_alike us i)
       ∙ sym (split_one plain (is_change (change_at kept_old kept_new u)) (change_at kept_old kept_new u) (filter is_change (map (change_at kept_old kept_new) us)))
 
   -- the identities of the states, and those of what is selected from them
@@ -136,7 +136,7 @@ module _ (spec : Search) (old new : List Entry) (asc_old : ascends old ≡ true)
   kept_uuids = joined (identities kept_old) (identities kept_new)
 
   -- what differs has an entry before or after
-  differs_there : (was now : Option Entry) → ((is_some was || is_some now) && not (is_one_found (chosen spec was) (chosen spec now))) ≡ not (is_one_found (chosen spec was) (chosen spec now))
+  differs_there : (was now : Option Entry) → ((is_some was || is_some now) && not (is_one_found (if_selected spec was) (if_selected spec now))) ≡ not (is_one_found (if_selected spec was) (if_selected spec now))
   differs_there None None = refl
   differs_there None (Some b) = refl
   differs_there (Some a) None = refl
@@ -150,9 +150,9 @@ module _ (spec : Search) (old new : List Entry) (asc_old : ascends old ≡ true)
   among_all : (u : ℕ) → among u (filter (differs kept_old kept_new) all_uuids) ≡ differs kept_old kept_new u
   among_all u =
       among-filter (differs kept_old kept_new) all_uuids u
-      ∙ (λ i. among-two old new u i && not (is_one_found (sym (chosen_old u) i) (sym (chosen_new u) i)))
+      ∙ (λ i. among-two old new u i && not (is_one_found (sym (selected_old u) i) (sym (selected_new u) i)))
       ∙ differs_there (entry_at old u) (entry_at new u)
-      ∙ (λ i. not (is_one_found (chosen_old u i) (chosen_new u i)))
+      ∙ (λ i. not (is_one_found (selected_old u i) (selected_new u i)))
 
   among_kept : (u : ℕ) → among u (filter (differs kept_old kept_new) kept_uuids) ≡ differs kept_old kept_new u
   among_kept u =

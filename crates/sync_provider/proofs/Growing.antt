@@ -18,12 +18,12 @@ use Rattle.directory_writes.specs.Directory.{DirectoryState, judged, with_write,
 use Rattle.sync_provider.specs.HandingOut.{search_at}
 use Rattle.sync_provider.specs.Law.{BeginsWith, session_at, refresh_of, later_of}
 use Rattle.sync_provider.specs.Committing.{commit_refusal}
-use Rattle.sync_provider.specs.Machine.{ProviderState, ProviderCall, each_informed, judged_by, called, run}
+use Rattle.sync_provider.specs.Machine.{ProviderState, ProviderCall, each_search_notified, judged_by, called, run}
 use Rattle.sync_provider.specs.Machine.ProviderCall.{Writes, Commits, Accepts, HandsOut, Drops, SetsLogLimit, SetsQueueLimit}
-use Rattle.sync_provider.specs.Queueing.{group_of, informed}
+use Rattle.sync_provider.specs.Queueing.{group_of, search_notified}
 use Rattle.sync_provider.specs.Search.{SearchState, session_of, whole_walk, refresh_from, is_end}
 use Rattle.sync_provider.proofs.Commits.{commit_case}
-use Rattle.sync_provider.proofs.Informed.{IsSame}
+use Rattle.sync_provider.proofs.SearchNotified.{IsSame}
 use Rattle.sync_provider.proofs.Refreshes.{decided_all, refresh_from-is, group-longer}
 
 -- ---- histories that begin with a directory's writes
@@ -118,10 +118,10 @@ later_like s0 s d count writes same i =
 -- ---- a search among the open ones after a write
 
 -- under its number an open search is after a write what the write makes of it
-pub informed_at : (limit : ℕ) (d : DirectoryState) (w : Write) (es : List (ℕ × SearchState)) (number : ℕ) (s : SearchState) → search_at es number ≡ Some s
-    → search_at (each_informed limit d w es) number ≡ Some (informed limit d w s)
-informed_at limit d w es number s found =
-    lookup-map_values (informed limit d w) (is_at (nat_cmp number)) es ∙ ap (option_map (informed limit d w)) found
+pub search_notified_at : (limit : ℕ) (d : DirectoryState) (w : Write) (es : List (ℕ × SearchState)) (number : ℕ) (s : SearchState) → search_at es number ≡ Some s
+    → search_at (each_search_notified limit d w es) number ≡ Some (search_notified limit d w s)
+search_notified_at limit d w es number s found =
+    lookup-map_values (search_notified limit d w) (is_at (nat_cmp number)) es ∙ ap (option_map (search_notified limit d w)) found
 
 -- ---- a search that goes on is sent no SearchResultDone
 

@@ -7,17 +7,11 @@ use Rattle.std.specs.declared.cmp.Ordering.{Ordering}
 use Rattle.std.specs.declared.cmp.Ordering.TheVariants.{Less, Equal, Greater}
 use Rattle.std.proofs.lemmas.List.{length-map}
 use Rattle.std.proofs.lemmas.Map.Made.{lookup-map_values}
-use Rattle.entry_tree.specs.declared.op.Write.{Write}
-use Rattle.entry_tree.specs.declared.touched.EntryChange.{EntryChange}
-use Rattle.sync_model.specs.Message.{CookieText, SyncMessage}
-use Rattle.directory_writes.specs.Directory.{DirectoryState}
 use Rattle.directory_writes.proofs.Keyed.{kept_at, closed_at, put_on}
 use Rattle.sync_provider.specs.HandingOut.{search_at, turn_of_pending, turn_of_found, turn_at}
-use Rattle.sync_provider.specs.Machine.{each_informed}
 use Rattle.sync_provider.specs.Placing.{put_back, ComesBack, shown}
-use Rattle.sync_provider.specs.Queueing.{is_queueing, group_of, pushed, informed}
-use Rattle.sync_provider.specs.Search.{SearchState, pending}
-use Rattle.sync_provider.specs.Staging.{HeldSearch, searches_of, messages_for, staged_for, AreStaged, pushed_staged, each_pushed}
+use Rattle.sync_provider.specs.Search.{pending}
+use Rattle.sync_provider.specs.Staging.{HeldSearch, searches_of, each_unstaged}
 
 abbrev Held : Type 0
 Held = List (ℕ × HeldSearch)
@@ -84,22 +78,9 @@ search_back es k back =
     ∙ sym (held_put_back (closed_at es k) k (kept_at es k))
     ∙ ap searches_of back
 
--- ---- tests of all
+-- ---- what is staged
 
--- what was staged for a write is what the write is reported by
-pub pushed_informed : (limit : ℕ) (d : DirectoryState) (w : Write) (s : SearchState) (entry_changes : List EntryChange) (cookie : CookieText) → messages_for s.spec entry_changes cookie ≡ group_of d s w
-    → pushed_staged limit (Some (staged_for s entry_changes cookie)) s ≡ informed limit d w s
-pushed_informed limit d w s entry_changes cookie is = by (is_queueing s) where
-  by : (b : Bool) → pushed limit (cond b (messages_for s.spec entry_changes cookie) []) s ≡ cond b (pushed limit (group_of d s w) s) s
-  by true = ap (λ ms. pushed limit ms s) is
-  by false = refl
-
-pub all_informed : (es : Held) (limit : ℕ) (d : DirectoryState) (w : Write) (entry_changes : List EntryChange) (cookie : CookieText)
-    → ((s : SearchState) → messages_for s.spec entry_changes cookie ≡ group_of d s w) → AreStaged entry_changes cookie es
-    → each_pushed limit es ≡ each_informed limit d w (searches_of es)
-all_informed [] limit d w entry_changes cookie is each = refl
-all_informed (e ∷ es) limit d w entry_changes cookie is each =
-    let here : pushed_staged limit e.1.staged e.1.search ≡ informed limit d w e.1.search =
-    ap (λ staged. pushed_staged limit staged e.1.search) each.0 ∙ pushed_informed limit d w e.1.search entry_changes cookie (is e.1.search) in
-    let rest : each_pushed limit es ≡ each_informed limit d w (searches_of es) = all_informed es limit d w entry_changes cookie is each.1 in
-    λ i. (e.0, here i) ∷ rest i
+-- the searches are as before where nothing is staged any more
+pub unstaged_seen : (es : Held) → searches_of (each_unstaged es) ≡ searches_of es
+unstaged_seen [] = refl
+unstaged_seen (e ∷ es) = ap (λ xs. (e.0, e.1.search) ∷ xs) (unstaged_seen es)

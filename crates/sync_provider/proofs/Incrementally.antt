@@ -22,7 +22,7 @@ use Rattle.sync_model.specs.Stream.{Start, among, walk}
 use Rattle.sync_model.specs.Stream.Start.{DeletePhase, PresentPhase}
 use Rattle.sync_model.proofs.Histories.{ascends-state_of}
 use Rattle.sync_model.proofs.Incremental.{refresh_sent}
-use Rattle.directory_writes.specs.Starting.{is_ours, prefix_of, asked_prefix, start_at}
+use Rattle.directory_writes.specs.Starting.{is_ours, prefix_of, prefix_of_cookie, start_at}
 use Rattle.sync_provider.specs.Accepting.{start_of_read, start_of_ask, persists_of_ask, answer_to}
 use Rattle.directory_writes.specs.Directory.{DirectoryState, csns}
 use Rattle.sync_provider.specs.Law.{refresh_of, later_of, Delivery, delivered, all_delivered, Delivers, asked, SendsWhatWasTouched}
@@ -49,7 +49,7 @@ prefix_low d (Some cookie) number is = step (is_ours d cookie) is where
   step true same = let here : upto (csns d.writes) cookie.csn ≡ number = cc in omega (arith, here, upto_low d.writes cookie.csn)
   step false same = let never : ⊥ = cc in absurd never
 
-pub asked_low : (d : DirectoryState) (text : Option (List ℕ)) → IsLow d (asked_prefix d text)
+pub asked_low : (d : DirectoryState) (text : Option (List ℕ)) → IsLow d (prefix_of_cookie d text)
 asked_low d None number is = let never : ⊥ = cc in absurd never
 asked_low d (Some text) number is = prefix_low d (cookie_of_text text) number is
 
@@ -65,7 +65,7 @@ ask_low : (d : DirectoryState) (ask : SyncSearch) → IsLow d (number_of (start_
 ask_low d ask = by (request_of ask.control) where
   by : (read : Result SyncRequest SyncFault) → IsLow d (number_of (start_of_read d read))
   by (Err fault) number is = let never : ⊥ = cc in absurd never
-  by (Ok request) number is = asked_low d request.cookie number (sym (start_number d (asked_prefix d request.cookie)) ∙ is)
+  by (Ok request) number is = asked_low d request.cookie number (sym (start_number d (prefix_of_cookie d request.cookie)) ∙ is)
 
 -- ---- its refresh
 

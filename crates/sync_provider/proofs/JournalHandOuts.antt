@@ -5,7 +5,7 @@ use Rattle.std.specs.BTreeMap.{is_at}
 use Rattle.std.specs.Ordering.{nat_cmp}
 use Rattle.std.proofs.lemmas.Bool.{false≢true, true≢false}
 use Rattle.std.proofs.lemmas.Map.{length-set_value}
-use Rattle.ldap_messages.specs.Whole.{Whole}
+use Rattle.ldap_messages.specs.Whole.{MessageValue}
 use Rattle.sync_model.specs.Message.{SyncMessage}
 use Rattle.sync_model.specs.Message.SyncMessage.{AddOrModify, Delete, Present, IdSet, NewCookie, RefreshDelete, RefreshPresent, Done, Ignored}
 use Rattle.sync_model.proofs.Refresh.{none_from_false}
@@ -54,7 +54,7 @@ record HandsFirst (ms : List SyncMessage) : Type 0 where
   is : ms ≡ first ∷ rest
   goes : is_end first ≡ false
 
-hands_first : (id : ℕ) (ms : List SyncMessage) (whole : Whole) → Hands whole ≡ turn_of_pending id ms → HandsFirst ms
+hands_first : (id : ℕ) (ms : List SyncMessage) (whole : MessageValue) → Hands whole ≡ turn_of_pending id ms → HandsFirst ms
 hands_first id [] whole turn = absurd (never turn)
   where
     never : Hands whole ≡ Waits → ⊥
@@ -175,7 +175,7 @@ module _ (old : JournalledProvider) (p : ProviderState) (j : JournalState) (seen
       same = leaves.state ∙ ap (λ es. record p { searches = es }) (quiet_searches p.searches number (turn_of result) quiet)
 
   -- a message after which the search goes on
-  module _ (whole : Whole) (is : turn_of result ≡ Some (Hands whole)) (after : JournalState) (noted : IsCounted j number after) where
+  module _ (whole : MessageValue) (is : turn_of result ≡ Some (Hands whole)) (after : JournalState) (noted : IsCounted j number after) where
     message_by : (found : Option SearchState) → search_at p.searches number ≡ found → Hands whole ≡ turn_of_found found → new ≡ record p { searches = handed_on p.searches number found }
         → IsPort (with_journal new after) (after_turn_in (port_state was) number (option_map (followed_as number (handed_at j.handed number)) found) (Some (Hands whole)))
     message_by None found turn left = absurd (never turn)
@@ -201,7 +201,7 @@ module _ (old : JournalledProvider) (p : ProviderState) (j : JournalState) (seen
         (goes.port ∙ ap (after_turn_in (port_state was) number (followed_in was number)) (sym is))
 
   -- the end
-  module _ (code : ℤ) (whole : Whole) (is : turn_of result ≡ Some (Closes code whole)) (gone : is_closing (turn_of result) ≡ true → search_at new.searches number ≡ None)
+  module _ (code : ℤ) (whole : MessageValue) (is : turn_of result ≡ Some (Closes code whole)) (gone : is_closing (turn_of result) ≡ true → search_at new.searches number ≡ None)
       (count h : ℕ) (over : Option ℕ) (same : h ≡ handed_at j.handed number) (overflow : over ≡ cond (over_of (search_at p.searches number)) (Some h) None)
       (counted : count ≡ length new.directory.writes) (after : JournalState) (noted : IsEnded j count (record { number = number; handed = h + 1; over = over }) after) where
     end_by : (found : Option SearchState) → search_at p.searches number ≡ found → Closes code whole ≡ turn_of_found found → over ≡ cond (over_of found) (Some h) None

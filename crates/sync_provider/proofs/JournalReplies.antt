@@ -24,7 +24,7 @@ use Rattle.sync_provider.specs.Law.{asked}
 use Rattle.sync_provider.specs.Machine.{ProviderState, after_judged, after_commit, judged_by, log_limited}
 use Rattle.sync_provider.specs.Opened.{SearchOpening, opening_of_ask, opening_of_search}
 use Rattle.sync_provider.specs.Ports.{PortState, wrote_in, committed_by, opened_in, WriteReplies, CommitReplies, AcceptReplies}
-use Rattle.sync_provider.specs.Queueing.{informed}
+use Rattle.sync_provider.specs.Queueing.{search_notified}
 use Rattle.sync_provider.specs.Search.{SearchState}
 use Rattle.sync_provider.specs.declared.journal_note.SearchChange.TheVariants.{Opened}
 use Rattle.sync_provider.specs.declared.searches.Accepted.TheVariants as accepted
@@ -50,7 +50,7 @@ module _ (p : ProviderState) (j : JournalState) (has : HasJournal p j) where
   judged_kept (Ok w) = record {
     journalled = (write_goes v has.journalled w).journalled;
     room =
-        let many : length (after_judged p (Ok w)).searches ≡ length p.searches = length-map p.searches (λ search. (search.0, informed p.queue_limit p.directory w search.1)) in
+        let many : length (after_judged p (Ok w)).searches ≡ length p.searches = length-map p.searches (λ search. (search.0, search_notified p.queue_limit p.directory w search.1)) in
         omega (arith, many, has.room);
   }
   judged_kept (Err code) = has

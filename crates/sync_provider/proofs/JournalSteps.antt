@@ -15,10 +15,10 @@ use Rattle.sync_provider.specs.Accepting.{answer_to}
 use Rattle.sync_provider.specs.HandingOut.{search_at, without_first, closed}
 use Rattle.sync_provider.specs.Journal.{handed_at, JournalledProvider, followed_as, followed_in, journal_in, port_state, IsJournalled}
 use Rattle.sync_provider.specs.Law.{HasHandedOut, asked, is_too_much}
-use Rattle.sync_provider.specs.Machine.{each_informed, after_judged}
+use Rattle.sync_provider.specs.Machine.{each_search_notified, after_judged}
 use Rattle.sync_provider.specs.Opened.{SearchOpening, opening_of_ask, opening_of_search, bare_search}
 use Rattle.sync_provider.specs.Ports.{FollowedSearch, PortState, is_open, followed_after, noted, opened_in, handed_in, ended_in}
-use Rattle.sync_provider.specs.Queueing.{informed}
+use Rattle.sync_provider.specs.Queueing.{search_notified}
 use Rattle.sync_provider.specs.Search.{SearchState, pending, advanced, is_end}
 use Rattle.sync_provider.specs.declared.journal_note.ClosedSearch.{ClosedSearch}
 use Rattle.sync_provider.specs.declared.journal_note.JournalNote.TheVariants as notes
@@ -26,10 +26,10 @@ use Rattle.sync_provider.specs.declared.journal_note.SearchChange.TheVariants.{O
 use Rattle.sync_provider.specs.declared.journal_note.SearchEvent.{SearchEvent}
 use Rattle.sync_provider.specs.declared.searches.Accepted.TheVariants as accepted
 use Rattle.sync_provider.specs.declared.searches.SyncSearch.{SyncSearch}
-use Rattle.sync_provider.proofs.Informed.{IsSame, pending_open}
+use Rattle.sync_provider.proofs.SearchNotified.{IsSame, pending_open}
 use Rattle.sync_provider.proofs.Journals.{in_order_more, in_order_snoc, noted_write, noted_event, open_more, some_map}
 use Rattle.sync_provider.proofs.Kept.{opened_free}
-use Rattle.sync_provider.proofs.Overflows.{Matches, informed_match, asked_matches}
+use Rattle.sync_provider.proofs.Overflows.{Matches, search_notified_match, asked_matches}
 use Rattle.sync_provider.proofs.Places.{IsNext, next_place}
 use Rattle.sync_provider.proofs.Streams.{not_over, advanced_same}
 
@@ -69,34 +69,34 @@ module _ (v : JournalledProvider) (is : IsJournalled v) (w : Write) where
   over_then n s = s.over || (s.persists && is_too_much limit d (bare n s) w (handed_at v.handed n))
 
   matched : (n : ℕ) (s : SearchState) → search_at v.state.searches n ≡ Some s
-      → Matches (bare n s) (with_write d w) (informed limit d w s) (record { handed = handed_at v.handed n; over = over_then n s })
+      → Matches (bare n s) (with_write d w) (search_notified limit d w s) (record { handed = handed_at v.handed n; over = over_then n s })
   matched n s found =
-      informed_match (bare n s) limit d w s (record { handed = handed_at v.handed n; over = s.over })
+      search_notified_match (bare n s) limit d w s (record { handed = handed_at v.handed n; over = s.over })
       (record { same = record { id = refl; spec = refl; start = refl; accepted = refl; persists = refl }; over = refl; counted = is.counted n s found })
 
-  seen : (n : ℕ) → search_at (each_informed limit d w v.state.searches) n ≡ option_map (informed limit d w) (search_at v.state.searches n)
-  seen n = lookup-map_values (informed limit d w) (is_at (nat_cmp n)) v.state.searches
+  seen : (n : ℕ) → search_at (each_search_notified limit d w v.state.searches) n ≡ option_map (search_notified limit d w) (search_at v.state.searches n)
+  seen n = lookup-map_values (search_notified limit d w) (is_at (nat_cmp n)) v.state.searches
 
   followed_write : (n : ℕ) → followed_in after_write n ≡ option_map (followed_after limit d w) (followed_in v n)
   followed_write n = ap (option_map (followed_as n (handed_at v.handed n))) (seen n) ∙ by (search_at v.state.searches n) refl
     where
       by : (found : Option SearchState) → search_at v.state.searches n ≡ found
-          → option_map (followed_as n (handed_at v.handed n)) (option_map (informed limit d w) found)
+          → option_map (followed_as n (handed_at v.handed n)) (option_map (search_notified limit d w) found)
           ≡ option_map (followed_after limit d w) (option_map (followed_as n (handed_at v.handed n)) found)
       by None none = refl
       by (Some s) found =
-          let opened : opening_of_search n (informed limit d w s) ≡ opening_of_search n s = same_opening n (bare n s) (informed limit d w s) (matched n s found).same in
-          let over : over_then n s ≡ (informed limit d w s).over = (matched n s found).over in
+          let opened : opening_of_search n (search_notified limit d w s) ≡ opening_of_search n s = same_opening n (bare n s) (search_notified limit d w s) (matched n s found).same in
+          let over : over_then n s ≡ (search_notified limit d w s).over = (matched n s found).over in
           λ i. Some (record { opened = opened i; handed = handed_at v.handed n; over = sym over i })
 
-  counted_write : (n : ℕ) (s : SearchState) → search_at (each_informed limit d w v.state.searches) n ≡ Some s → s.over ≡ false → HasHandedOut (with_write d w) s (handed_at v.handed n)
+  counted_write : (n : ℕ) (s : SearchState) → search_at (each_search_notified limit d w v.state.searches) n ≡ Some s → s.over ≡ false → HasHandedOut (with_write d w) s (handed_at v.handed n)
   counted_write n s there = by (search_at v.state.searches n) refl (sym (seen n) ∙ there)
     where
-      by : (found : Option SearchState) → search_at v.state.searches n ≡ found → option_map (informed limit d w) found ≡ Some s
+      by : (found : Option SearchState) → search_at v.state.searches n ≡ found → option_map (search_notified limit d w) found ≡ Some s
           → s.over ≡ false → HasHandedOut (with_write d w) s (handed_at v.handed n)
       by None none is_there = absurd (none-some s is_there)
       by (Some was) found is_there =
-          subst (λ x. x.over ≡ false → HasHandedOut (with_write d w) x (handed_at v.handed n)) (same_Some (informed limit d w was) s is_there) (matched n was found).counted
+          subst (λ x. x.over ≡ false → HasHandedOut (with_write d w) x (handed_at v.handed n)) (same_Some (search_notified limit d w was) s is_there) (matched n was found).counted
 
   pub write_goes : IsPort after_write (noted (port_state v) (notes.Wrote w) 0)
   write_goes = record {
@@ -104,7 +104,7 @@ module _ (v : JournalledProvider) (is : IsJournalled v) (w : Write) where
       ordered = in_order_more 0 (length d.writes) (length (d.writes ++ w ∷ [])) v.events (omega (arith, length-append d.writes (w ∷ []))) is.ordered;
       counted = counted_write;
       only = λ n.
-          ap is_some (seen n) ∙ some_map (informed limit d w) (search_at v.state.searches n) ∙ is.only n
+          ap is_some (seen n) ∙ some_map (search_notified limit d w) (search_at v.state.searches n) ∙ is.only n
           ∙ sym (ap (λ j. is_open j n) (noted_write v is w) ∙ open_more (journal_in v) (notes.Wrote w) n);
     };
     port = λ i. record {

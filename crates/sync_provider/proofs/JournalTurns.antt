@@ -10,7 +10,7 @@ use Rattle.sync_provider.specs.Law.{HasHandedOut, refresh_of, later_of}
 use Rattle.sync_provider.specs.Opened.{SearchOpening, opening_of_search}
 use Rattle.sync_provider.specs.Ports.{stream_in, pending_in, turn_in}
 use Rattle.sync_provider.specs.Search.{SearchState, busy_end, pending}
-use Rattle.sync_provider.proofs.Informed.{pending_open, pending_over}
+use Rattle.sync_provider.proofs.SearchNotified.{pending_open, pending_over}
 use Rattle.sync_provider.proofs.Overflows.{begins_with_own}
 
 -- what is left of a search after n messages, where no write was too much

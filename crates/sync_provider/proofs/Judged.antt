@@ -3,7 +3,7 @@ use Rattle.std.proofs.Common.{◌≡◌, ℕ, true, false, List, [], ◌∷◌, 
 use Rattle.std.specs.Prelude.{not}
 use Rattle.std.specs.List.{list_all}
 use Rattle.std.proofs.lemmas.Bool.{and_parts, not-true}
-use Rattle.entry_tree.specs.Fitting.{is_light}
+use Rattle.entry_tree.specs.Fitting.{is_within_entry_limit}
 use Rattle.entry_tree.specs.Sound.{is_commit, is_sound_op, is_sound_put}
 use Rattle.entry_tree.specs.declared.entry.Entry.{Entry}
 use Rattle.entry_tree.specs.declared.op.Op.{Op}
@@ -31,7 +31,7 @@ asked_rises : (kind : Kind) (d : DirectoryState) (op : Op) (now : ℕ) → HasRi
 asked_rises Root d op now rise = judged_rises d op now (judged d op now) refl rise
 asked_rises Replica d op now rise = rise
 
-commit_accepted : (p : ProviderState) (puts : List Entry) (drops : List ℕ) (now : ℕ) → list_all is_sound_put puts ≡ true → list_all is_light puts ≡ true → HasAccepted p.directory
+commit_accepted : (p : ProviderState) (puts : List Entry) (drops : List ℕ) (now : ℕ) → list_all is_sound_put puts ≡ true → list_all is_within_entry_limit puts ≡ true → HasAccepted p.directory
     → HasAccepted (committed p puts drops now).directory
 commit_accepted p puts drops now sound light each = by (commit_refusal p.kind p.directory puts drops now) refl
   where
@@ -48,7 +48,7 @@ called_accepted p (Writes op now) sound each =
     let parts = and_parts (is_sound_op op) (not (is_commit op)) sound in
     asked_accepted p.kind p.directory op now parts.0 (not-true (is_commit op) parts.1) each
 called_accepted p (Commits puts drops now) sound each =
-    let parts = and_parts (list_all is_sound_put puts) (list_all is_light puts) sound in
+    let parts = and_parts (list_all is_sound_put puts) (list_all is_within_entry_limit puts) sound in
     commit_accepted p puts drops now parts.0 parts.1 each
 called_accepted p (Accepts ask) sound each = each
 called_accepted p (HandsOut number) sound each = each

@@ -1,13 +1,13 @@
 -- Lemmas of the crate.
 pub mod AddedWrites
 pub mod Advanced
-pub mod Alone
 pub mod Asking
 pub mod Ascending
 pub mod AtPlace
 pub mod ClosedAgain
 pub mod Coming
 pub mod Commits
+pub mod CommittedEach
 pub mod Comparisons
 pub mod Copying
 pub mod CountedCalls
@@ -15,12 +15,12 @@ pub mod Deciding
 pub mod Filling
 pub mod Followed
 pub mod FreeNumbers
+pub mod GoingOn
 pub mod Groups
 pub mod Growing
-pub mod Growths
 pub mod Held
 pub mod Incrementally
-pub mod Informed
+pub mod SearchNotified
 pub mod JournalHandOuts
 pub mod JournalReplies
 pub mod JournalSteps
@@ -37,6 +37,7 @@ pub mod Overflows
 pub mod Past
 pub mod Places
 pub mod PlainSearches
+pub mod ReadyCommits
 pub mod RefreshTaken
 pub mod Refreshes
 pub mod Refusals

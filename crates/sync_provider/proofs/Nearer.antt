@@ -1,6 +1,6 @@
 -- What a search has pending once its first message is handed out.
 use Rattle.std.proofs.Common.{◌≡◌, ℕ, suc, Bool, true, false, Option, Some, None, List, [], ◌∷◌, ◌++◌, drop, length, refl, ap, sym, ◌∙◌}
-use Rattle.ldap_messages.specs.Whole.{Whole}
+use Rattle.ldap_messages.specs.Whole.{MessageValue}
 use Rattle.sync_model.specs.Message.{SyncMessage}
 use Rattle.directory_writes.proofs.Keyed.{put_on-same}
 use Rattle.sync_provider.specs.HandingOut.{turn_of_message, turn_of_pending, turn_of_found, turn_of_place, search_at, turn_at, turn_at_place, without_first, handed_on, after_turn}
@@ -19,7 +19,7 @@ abbrev remade : SearchState → Bool → List SyncMessage → List SyncMessage �
 remade s over rest due = record s { over = over; rest = rest; due = due }
 
 -- once the first message is handed out, those after it stand one place nearer
-one_past : (s : SearchState) (whole : Whole) (place : ℕ) → turn_of_pending s.id (pending s) ≡ Hands whole
+one_past : (s : SearchState) (whole : MessageValue) (place : ℕ) → turn_of_pending s.id (pending s) ≡ Hands whole
     → turn_of_pending (without_first s).id (drop place (pending (without_first s))) ≡ turn_of_pending s.id (drop (suc place) (pending s))
 one_past s whole place hands = by s.over s.rest s.due hands
   where
@@ -31,7 +31,7 @@ one_past s whole place hands = by s.over s.rest s.due hands
     by false (message ∷ rest) due hands = refl
 
 -- so it is of each search of a table
-pub nearer : (es : List (ℕ × SearchState)) (number place : ℕ) (whole : Whole) → turn_at es number ≡ Hands whole → turn_at_place (after_turn es number (turn_at es number)) number place ≡ turn_at_place es number (suc place)
+pub nearer : (es : List (ℕ × SearchState)) (number place : ℕ) (whole : MessageValue) → turn_at es number ≡ Hands whole → turn_at_place (after_turn es number (turn_at es number)) number place ≡ turn_at_place es number (suc place)
 nearer es number place whole hands = by (search_at es number) refl
   where
     by : (found : Option SearchState) → search_at es number ≡ found → turn_at_place (after_turn es number (turn_at es number)) number place ≡ turn_at_place es number (suc place)
@@ -47,7 +47,7 @@ abbrev no_messages : List SyncMessage
 no_messages = []
 
 -- a search that goes on after its first message has one less pending
-pub one_less : (s : SearchState) (first : SyncMessage) (rest : List SyncMessage) (whole : Whole) → pending s ≡ first ∷ rest → turn_of_message s.id first ≡ Hands whole
+pub one_less : (s : SearchState) (first : SyncMessage) (rest : List SyncMessage) (whole : MessageValue) → pending s ≡ first ∷ rest → turn_of_message s.id first ≡ Hands whole
     → length (pending (without_first s)) ≡ length rest
 one_less s first rest whole waits hands = by s.over s.rest s.due waits
   where

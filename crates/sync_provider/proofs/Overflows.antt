@@ -20,13 +20,13 @@ use Rattle.sync_provider.specs.Committing.{commit_refusal}
 use Rattle.sync_provider.specs.Machine.{ProviderState, ProviderCall, judged_by, called}
 use Rattle.sync_provider.specs.declared.writing.CommitFault.{CommitFault}
 use Rattle.sync_provider.specs.Machine.ProviderCall.{Writes, Commits, Accepts, HandsOut, Drops, SetsLogLimit, SetsQueueLimit}
-use Rattle.sync_provider.specs.Queueing.{is_full, group_of, overflowed, pushed, informed}
+use Rattle.sync_provider.specs.Queueing.{is_full, group_of, overflowed, pushed, search_notified}
 use Rattle.sync_provider.specs.Search.{SearchState, session_of, busy_end, pending, is_end}
 use Rattle.sync_provider.specs.declared.searches.SyncSearch.{SyncSearch}
 use Rattle.sync_provider.proofs.Advanced.{advanced_is}
 use Rattle.sync_provider.proofs.Growing.{begins_before, refresh_like, later_like, later_grows}
-use Rattle.sync_provider.proofs.Informed.{pending_open, pending_over, IsSame, same_search, same_then, informed_same, informed_queued}
-use Rattle.sync_provider.proofs.Places.{informed_placed, IsNext, next_place, opening_place, limited_placed, some_left}
+use Rattle.sync_provider.proofs.SearchNotified.{pending_open, pending_over, IsSame, same_search, same_then, search_notified_same, search_notified_queued}
+use Rattle.sync_provider.proofs.Places.{search_notified_placed, IsNext, next_place, opening_place, limited_placed, some_left}
 use Rattle.sync_provider.proofs.Streams.{not_over, advanced_same}
 
 -- ---- a search and its count
@@ -100,7 +100,7 @@ module _ (s0 : SearchState) (limit : ℕ) (d : DirectoryState) (w : Write) (s : 
       by true = refl
       by false = off
 
-  over_is : over_now ≡ (informed limit d w s).over
+  over_is : over_now ≡ (search_notified limit d w s).over
   over_is = by s.persists s.over refl refl
     where
       by : (p o : Bool) → s.persists ≡ p → s.over ≡ o → over_now ≡ (cond (p && not o) (pushed limit (group_of d s w) s) s).over
@@ -108,13 +108,13 @@ module _ (s0 : SearchState) (limit : ℕ) (d : DirectoryState) (w : Write) (s : 
       by true true goes on = ap (λ b. b || (s0.persists && is_too_much limit d s0 w t.handed)) (matches.over ∙ on) ∙ sym on
       by true false goes off = over_by goes off ∙ sym (pushed_over off (group_of d s w))
 
-  pub informed_match : Matches s0 after (informed limit d w s) (record t { over = over_now })
-  informed_match = record {
-    same = same_then s0 s (informed limit d w s) matches.same (informed_same limit d w s);
+  pub search_notified_match : Matches s0 after (search_notified limit d w s) (record t { over = over_now })
+  search_notified_match = record {
+    same = same_then s0 s (search_notified limit d w s) matches.same (search_notified_same limit d w s);
     over = over_is;
     counted = λ still.
-        let was : HasHandedOut d s t.handed = matches.counted (informed_queued limit d w s still).off in
-        record { now = informed_placed limit d w s still was.now; counted = was.counted };
+        let was : HasHandedOut d s t.handed = matches.counted (search_notified_queued limit d w s still).off in
+        record { now = search_notified_placed limit d w s still was.now; counted = was.counted };
   }
 
 -- ---- a hand-out

@@ -13,16 +13,16 @@ use Rattle.sync_provider.specs.HandingOut.{HandOut, turn_at, search_at, without_
 use Rattle.sync_provider.specs.HandingOut.HandOut.{Hands, Closes, Waits, Unknown}
 use Rattle.sync_provider.specs.Law.{IsAtItsPlace, IsPlaced, KeepsItsPlace, EachSearch}
 use Rattle.sync_provider.specs.Committing.{commit_refusal}
-use Rattle.sync_provider.specs.Machine.{ProviderState, ProviderCall, each_informed, searches_after, judged_by, called, run}
+use Rattle.sync_provider.specs.Machine.{ProviderState, ProviderCall, each_search_notified, searches_after, judged_by, called, run}
 use Rattle.sync_provider.specs.Machine.ProviderCall.{Writes, Commits, Accepts, HandsOut, Drops, SetsLogLimit, SetsQueueLimit}
-use Rattle.sync_provider.specs.Queueing.{group_of, informed}
+use Rattle.sync_provider.specs.Queueing.{group_of, search_notified}
 use Rattle.sync_provider.specs.Search.{SearchState, opening, advanced}
 use Rattle.sync_provider.specs.declared.searches.Accepted.{Accepted}
 use Rattle.sync_provider.specs.declared.searches.Accepted.TheVariants.{Opened, Refused, NoMemory}
 use Rattle.sync_provider.specs.declared.searches.SyncSearch.{SyncSearch}
 use Rattle.sync_provider.proofs.Commits.{commit_case}
 use Rattle.sync_provider.proofs.Growing.{begins_before, refresh_like, later_like, later_none, later_grows}
-use Rattle.sync_provider.proofs.Informed.{IsSame, IsQueued, informed_same, informed_queued}
+use Rattle.sync_provider.proofs.SearchNotified.{IsSame, IsQueued, search_notified_same, search_notified_queued}
 use Rattle.sync_provider.proofs.Looking.{each-opened, each-closed, each-put_on, each-at, each-weaker}
 use Rattle.sync_provider.proofs.Refreshes.{refresh-longer}
 
@@ -32,43 +32,43 @@ Searches = List (ℕ × SearchState)
 -- ---- a write
 
 module _ (limit : ℕ) (d : DirectoryState) (w : Write) (s : SearchState) (handed handed_later : List SyncMessage) (place : IsAtItsPlace d s handed handed_later)
-    (still : (informed limit d w s).over ≡ false) where
-  same : IsSame s (informed limit d w s)
-  same = informed_same limit d w s
+    (still : (search_notified limit d w s).over ≡ false) where
+  same : IsSame s (search_notified limit d w s)
+  same = search_notified_same limit d w s
 
-  queued : IsQueued s (informed limit d w s) (cond s.persists (group_of d s w) [])
-  queued = informed_queued limit d w s still
+  queued : IsQueued s (search_notified limit d w s) (cond s.persists (group_of d s w) [])
+  queued = search_notified_queued limit d w s still
 
-  pub informed_place : IsAtItsPlace (with_write d w) (informed limit d w s) handed handed_later
-  informed_place = record {
+  pub search_notified_place : IsAtItsPlace (with_write d w) (search_notified limit d w s) handed handed_later
+  search_notified_place = record {
     within = subst (λ n. n ≤ length (d.writes ++ w ∷ [])) (sym same.accepted) (omega (arith, place.within, length-append d.writes (w ∷ [])));
     rest = λ writes begins.
         ap (λ ms. handed ++ ms) queued.rest
         ∙ place.rest writes (begins_before d w writes begins)
-        ∙ refresh_like s (informed limit d w s) d writes same;
+        ∙ refresh_like s (search_notified limit d w s) d writes same;
     due = λ writes begins.
         ap (λ ms. handed_later ++ ms) queued.due
         ∙ sym (append_assoc handed_later s.due (cond s.persists (group_of d s w) []))
         ∙ ap (λ ms. ms ++ cond s.persists (group_of d s w) []) (place.due writes (begins_before d w writes begins))
         ∙ sym (later_grows d s w writes place.within begins)
-        ∙ later_like s (informed limit d w s) d (length (d.writes ++ w ∷ [])) writes same;
+        ∙ later_like s (search_notified limit d w s) d (length (d.writes ++ w ∷ [])) writes same;
     ordered = subst (λ ms. (ms ≡ []) ⊎ (handed_later ≡ [])) (sym queued.rest) place.ordered;
   }
 
 -- nothing is handed out by a write
-abbrev pub informed_placed : (limit : ℕ) (d : DirectoryState) (w : Write) (s : SearchState) → (informed limit d w s).over ≡ false → IsPlaced d s → IsPlaced (with_write d w) (informed limit d w s)
-informed_placed limit d w s still placed = record {
+abbrev pub search_notified_placed : (limit : ℕ) (d : DirectoryState) (w : Write) (s : SearchState) → (search_notified limit d w s).over ≡ false → IsPlaced d s → IsPlaced (with_write d w) (search_notified limit d w s)
+search_notified_placed limit d w s still placed = record {
   handed = placed.handed;
   handed_later = placed.handed_later;
-  place = informed_place limit d w s placed.handed placed.handed_later placed.place still;
+  place = search_notified_place limit d w s placed.handed placed.handed_later placed.place still;
 }
 
-informed_keeps : (limit : ℕ) (d : DirectoryState) (w : Write) (s : SearchState) → KeepsItsPlace d s → KeepsItsPlace (with_write d w) (informed limit d w s)
-informed_keeps limit d w s keeps = λ still. informed_placed limit d w s still (keeps (informed_queued limit d w s still).off)
+search_notified_keeps : (limit : ℕ) (d : DirectoryState) (w : Write) (s : SearchState) → KeepsItsPlace d s → KeepsItsPlace (with_write d w) (search_notified limit d w s)
+search_notified_keeps limit d w s keeps = λ still. search_notified_placed limit d w s still (keeps (search_notified_queued limit d w s still).off)
 
-each_place : (es : Searches) (limit : ℕ) (d : DirectoryState) (w : Write) → EachSearch (KeepsItsPlace d) es → EachSearch (KeepsItsPlace (with_write d w)) (each_informed limit d w es)
+each_place : (es : Searches) (limit : ℕ) (d : DirectoryState) (w : Write) → EachSearch (KeepsItsPlace d) es → EachSearch (KeepsItsPlace (with_write d w)) (each_search_notified limit d w es)
 each_place [] limit d w each = tt
-each_place (e ∷ es) limit d w each = (informed_keeps limit d w e.1 each.0, each_place es limit d w each.1)
+each_place (e ∷ es) limit d w each = (search_notified_keeps limit d w e.1 each.0, each_place es limit d w each.1)
 
 judged_places : (p : ProviderState) (outcome : Result Write ℕ) → EachSearch (KeepsItsPlace p.directory) p.searches
     → EachSearch (KeepsItsPlace (with_judged p.directory outcome)) (searches_after p outcome)

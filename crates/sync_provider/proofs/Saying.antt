@@ -9,35 +9,35 @@ use Rattle.sync_model.specs.Message.{CookieText, SyncMessage}
 use Rattle.sync_model.specs.Stream.{notified}
 use Rattle.sync_provider.specs.Queueing.{message_weight}
 use Rattle.sync_provider.specs.Search.{is_end}
-use Rattle.sync_provider.specs.Staging.{message_of_change, messages_of_change, change_to, change_from, chosen, with_cookie, last_with_cookie, counted_weight}
+use Rattle.sync_provider.specs.Staging.{message_of_change, messages_of_change, change_to, change_from, if_selected, with_cookie, last_with_cookie, counted_weight}
 use Rattle.sync_provider.specs.declared.content_change.ContentChange.{ContentChange}
 use Rattle.sync_provider.specs.declared.content_change.ContentChange.TheVariants.{Added, Modified, Deleted}
 
 -- ---- one touch
 
 -- an entry that is selected now
-pub said_still : (search : Search) (uuid : ℕ) (was : Option Entry) (entry : Entry) (was_in : Bool) → is_some (chosen search was) ≡ was_in → is_some (chosen search (Some entry)) ≡ true
-    → messages_of_change (Some (change_to was_in entry)) ≡ notified None uuid (chosen search was) (chosen search (Some entry))
+pub said_still : (search : Search) (uuid : ℕ) (was : Option Entry) (entry : Entry) (was_in : Bool) → is_some (if_selected search was) ≡ was_in → is_some (if_selected search (Some entry)) ≡ true
+    → messages_of_change (Some (change_to was_in entry)) ≡ notified None uuid (if_selected search was) (if_selected search (Some entry))
 said_still search uuid was entry was_in before now = by (is_selected search entry) refl
   where
     found : (o : Option Entry) → is_some o ≡ was_in → messages_of_change (Some (change_to was_in entry)) ≡ notified None uuid o (Some entry)
     found None is = ap (λ b. messages_of_change (Some (change_to b entry))) (sym is)
     found (Some e) is = ap (λ b. messages_of_change (Some (change_to b entry))) (sym is)
 
-    by : (b : Bool) → is_selected search entry ≡ b → messages_of_change (Some (change_to was_in entry)) ≡ notified None uuid (chosen search was) (chosen search (Some entry))
-    by true on = found (chosen search was) before ∙ ap (λ c. notified None uuid (chosen search was) (cond c (Some entry) None)) (sym on)
+    by : (b : Bool) → is_selected search entry ≡ b → messages_of_change (Some (change_to was_in entry)) ≡ notified None uuid (if_selected search was) (if_selected search (Some entry))
+    by true on = found (if_selected search was) before ∙ ap (λ c. notified None uuid (if_selected search was) (cond c (Some entry) None)) (sym on)
     by false off = absurd (false≢true (sym (ap (λ c. is_some (cond c (Some entry) None)) off) ∙ now))
 
 -- none is selected now
-pub said_left : (search : Search) (uuid : ℕ) (was now : Option Entry) (was_in : Bool) → is_some (chosen search was) ≡ was_in → is_some (chosen search now) ≡ false
-    → messages_of_change (change_from was_in uuid was) ≡ notified None uuid (chosen search was) (chosen search now)
-said_left search uuid was now was_in before after = by was before ∙ none (chosen search now) after
+pub said_left : (search : Search) (uuid : ℕ) (was now : Option Entry) (was_in : Bool) → is_some (if_selected search was) ≡ was_in → is_some (if_selected search now) ≡ false
+    → messages_of_change (change_from was_in uuid was) ≡ notified None uuid (if_selected search was) (if_selected search now)
+said_left search uuid was now was_in before after = by was before ∙ none (if_selected search now) after
   where
-    none : (o : Option Entry) → is_some o ≡ false → notified None uuid (chosen search was) None ≡ notified None uuid (chosen search was) o
+    none : (o : Option Entry) → is_some o ≡ false → notified None uuid (if_selected search was) None ≡ notified None uuid (if_selected search was) o
     none None is = refl
     none (Some e) is = absurd (true≢false is)
 
-    by : (found : Option Entry) → is_some (chosen search found) ≡ was_in → messages_of_change (change_from was_in uuid found) ≡ notified None uuid (chosen search found) None
+    by : (found : Option Entry) → is_some (if_selected search found) ≡ was_in → messages_of_change (change_from was_in uuid found) ≡ notified None uuid (if_selected search found) None
     by None is = refl
     by (Some e) is = step (is_selected search e) is
       where

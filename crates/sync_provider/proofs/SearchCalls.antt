@@ -19,7 +19,7 @@ use Rattle.sync_provider.specs.Law.{asked}
 use Rattle.sync_provider.specs.Machine.{ProviderState, ProviderCall, searches_after, after_judged, judged_by, after_commit, called}
 use Rattle.sync_provider.specs.Machine.ProviderCall.{Writes, Commits, Accepts, HandsOut, Drops, SetsLogLimit, SetsQueueLimit}
 use Rattle.sync_provider.specs.Placing.{Ascends}
-use Rattle.sync_provider.specs.Queueing.{informed}
+use Rattle.sync_provider.specs.Queueing.{search_notified}
 use Rattle.sync_provider.specs.Returning.{number_of_answer, number_of_call}
 use Rattle.sync_provider.specs.Search.{SearchState, pending}
 use Rattle.sync_provider.specs.declared.searches.Accepted.{Accepted}
@@ -150,26 +150,26 @@ call_own p q call number one other alike at_one at_other same =
 
 -- ---- a call of no search
 
-abbrev informed_by : ProviderState → Result Write ℕ → Option SearchState → Option SearchState
-informed_by p (Ok write) found = option_map (informed p.queue_limit p.directory write) found
-informed_by p (Err code) found = found
+abbrev search_notified_by : ProviderState → Result Write ℕ → Option SearchState → Option SearchState
+search_notified_by p (Ok write) found = option_map (search_notified p.queue_limit p.directory write) found
+search_notified_by p (Err code) found = found
 
-abbrev informed_by_commit : ProviderState → Op → ℕ → Option CommitFault → Option SearchState → Option SearchState
-informed_by_commit p op now None found = informed_by p (judged p.directory op now) found
-informed_by_commit p op now (Some fault) found = found
+abbrev search_notified_by_commit : ProviderState → Op → ℕ → Option CommitFault → Option SearchState → Option SearchState
+search_notified_by_commit p op now None found = search_notified_by p (judged p.directory op now) found
+search_notified_by_commit p op now (Some fault) found = found
 
 -- each search after it, by the rest of the provider and the search before
 abbrev all_after : ProviderState → ProviderCall → Option SearchState → Option SearchState
-all_after p (Writes op now) found = informed_by p (judged_by p.kind p.directory op now) found
-all_after p (Commits puts drops now) found = informed_by_commit p (Commit puts drops) now (commit_refusal p.kind p.directory puts drops now) found
+all_after p (Writes op now) found = search_notified_by p (judged_by p.kind p.directory op now) found
+all_after p (Commits puts drops now) found = search_notified_by_commit p (Commit puts drops) now (commit_refusal p.kind p.directory puts drops now) found
 all_after p (Accepts ask) found = found
 all_after p (HandsOut number) found = found
 all_after p (Drops number) found = found
 all_after p (SetsLogLimit limit) found = found
 all_after p (SetsQueueLimit limit) found = found
 
-judged_at : (p : ProviderState) (outcome : Result Write ℕ) (n : ℕ) → search_at (searches_after p outcome) n ≡ informed_by (without_searches p) outcome (search_at p.searches n)
-judged_at p (Ok write) n = lookup-map_values (informed p.queue_limit p.directory write) (is_at (nat_cmp n)) p.searches
+judged_at : (p : ProviderState) (outcome : Result Write ℕ) (n : ℕ) → search_at (searches_after p outcome) n ≡ search_notified_by (without_searches p) outcome (search_at p.searches n)
+judged_at p (Ok write) n = lookup-map_values (search_notified p.queue_limit p.directory write) (is_at (nat_cmp n)) p.searches
 judged_at p (Err code) n = refl
 
 all_is : (p : ProviderState) (call : ProviderCall) (n : ℕ) → number_of_call p call ≡ None → search_at (called p call).searches n ≡ all_after (without_searches p) call (search_at p.searches n)
@@ -177,7 +177,7 @@ all_is p (Writes op now) n is = judged_at p (judged_by p.kind p.directory op now
 all_is p (Commits puts drops now) n is = by (commit_refusal p.kind p.directory puts drops now)
   where
     by : (refusal : Option CommitFault)
-        → search_at (after_commit p (Commit puts drops) now refusal).searches n ≡ informed_by_commit (without_searches p) (Commit puts drops) now refusal (search_at p.searches n)
+        → search_at (after_commit p (Commit puts drops) now refusal).searches n ≡ search_notified_by_commit (without_searches p) (Commit puts drops) now refusal (search_at p.searches n)
     by None = judged_at p (judged p.directory (Commit puts drops) now) n
     by (Some fault) = refl
 all_is p (Accepts ask) n is = by (answer_to p.directory p.searches ask) is
@@ -200,7 +200,7 @@ call_all p q call n alike one other same =
 -- ---- the order of the searches
 
 judged_ascends : (p : ProviderState) (outcome : Result Write ℕ) → Ascends 0 p.searches → Ascends 0 (after_judged p outcome).searches
-judged_ascends p (Ok write) ascends = ascends-mapped (informed p.queue_limit p.directory write) p.searches 0 ascends
+judged_ascends p (Ok write) ascends = ascends-mapped (search_notified p.queue_limit p.directory write) p.searches 0 ascends
 judged_ascends p (Err code) ascends = ascends
 
 -- the numbers of the searches ascend after each call

@@ -11,12 +11,12 @@ use Rattle.directory_writes.specs.Directory.{DirectoryState, with_write}
 use Rattle.sync_provider.specs.HandingOut.{search_at, without_first}
 use Rattle.sync_provider.specs.Law.{BeginsWith, session_at, refresh_of, stream_of, Delivery, over_of, delivered_now, all_delivered, Delivers, asked}
 use Rattle.sync_provider.specs.Machine.{ProviderState}
-use Rattle.sync_provider.specs.Queueing.{group_of, informed}
+use Rattle.sync_provider.specs.Queueing.{group_of, search_notified}
 use Rattle.sync_provider.specs.Search.{SearchState, session_of, whole_walk, busy_end, pending, advanced, is_end}
 use Rattle.sync_provider.specs.declared.searches.SyncSearch.{SyncSearch}
 use Rattle.sync_provider.proofs.Advanced.{IsAdvanced, advanced_is}
 use Rattle.sync_provider.proofs.Growing.{begins_before, later_none, stream_more, group_in, GoesOn, stream_goes}
-use Rattle.sync_provider.proofs.Informed.{pending_over, IsSame, same_search, same_then, informed_same, informed_delivers}
+use Rattle.sync_provider.proofs.SearchNotified.{pending_over, IsSame, same_search, same_then, search_notified_same, search_notified_delivers}
 use Rattle.sync_provider.proofs.Refreshes.{refresh-longer}
 
 -- ---- what became of a search
@@ -52,15 +52,15 @@ module _ (d0 : DirectoryState) (s0 : SearchState) (limit : ℕ) (d : DirectorySt
       operation : SyncOperation
       operation = session_at d0 s0 writes
 
-  pub informed_stands : Stands d0 s0 (with_write d w) (informed limit d w s) before
-  informed_stands = record {
+  pub search_notified_stands : Stands d0 s0 (with_write d w) (search_notified limit d w s) before
+  search_notified_stands = record {
     sid = stands.sid;
     history = stands.history;
-    same = same_then s0 s (informed limit d w s) stands.same (informed_same limit d w s);
+    same = same_then s0 s (search_notified limit d w s) stands.same (search_notified_same limit d w s);
     within = omega (arith, length-append d.writes (w ∷ []), stands.within);
     shows = λ writes begins.
-        subst (Delivers (informed limit d w s).over (before ++ pending (informed limit d w s))) (sym (stream_grows writes begins))
-        (informed_delivers limit d w s before (stream_of d0 s0 now writes) (stands.shows writes (begins_before d w writes begins)));
+        subst (Delivers (search_notified limit d w s).over (before ++ pending (search_notified limit d w s))) (sym (stream_grows writes begins))
+        (search_notified_delivers limit d w s before (stream_of d0 s0 now writes) (stands.shows writes (begins_before d w writes begins)));
   }
 
 -- ---- a hand-out

@@ -1,15 +1,13 @@
 -- Open searches in the places of their numbers.
 use Rattle.std.proofs.Common.{◌≡◌, ◌<◌, ◌≤◌, ◌+◌, ◌-◌, ◌⊎◌, ℕ, zero, suc, Bool, true, false, cond, List, [], ◌∷◌, ◌++◌, length, map, take, drop, set, get_or, Option, Some, None, refl, ap, sym, subst, ◌∙◌, inl, inr, arith}
-use Rattle.std.specs.Prelude.{⊤}
+use Rattle.std.specs.Prelude.{option_map}
 use Rattle.std.specs.BTreeMap.{insert_entry, is_at}
 use Rattle.std.specs.Ordering.{nat_cmp, match_ordering}
 use Rattle.std.proofs.lemmas.Bool.{cases_order}
-use Rattle.std.proofs.lemmas.List.{take_more}
+use Rattle.std.proofs.lemmas.List.{map-id}
 use Rattle.directory_writes.proofs.Keyed.{kept_at, closed_at, put_on, less_cmp, same_cmp, more_cmp, is_at-same, is_at-other}
-use Rattle.entry_tree.specs.declared.touched.EntryChange.{EntryChange}
-use Rattle.sync_model.specs.Message.{CookieText}
-use Rattle.sync_provider.specs.Placing.{Ascends, HasNoPlace, IsSearchNumber, placed_from, put_back, ComesBack, shown, pushed_at, IsStagedAt, AreStagedAt}
-use Rattle.sync_provider.specs.Staging.{HeldSearch, searches_of, AreStaged, pushed_staged, each_pushed}
+use Rattle.sync_provider.specs.Placing.{Ascends, HasNoPlace, IsSearchNumber, placed_from, put_back, ComesBack, shown, pushed_at}
+use Rattle.sync_provider.specs.Staging.{HeldSearch, searches_of, pushed_staged, each_pushed}
 
 abbrev Order : ℕ → ℕ → Type 0
 Order a b = (a ≡ b) ⊎ ((a < b) ⊎ (b < a))
@@ -242,19 +240,23 @@ map_long f (x ∷ xs) = ap suc (map_long f xs)
 pub same_long : (one other : Places) → map shown one ≡ map shown other → length one ≡ length other
 same_long one other same = sym (map_long shown one) ∙ ap length same ∙ map_long shown other
 
+pub made_long : (make : Option HeldSearch → Option HeldSearch) (one other : Places) → one ≡ map make other → length one ≡ length other
+made_long make one other same = ap length same ∙ map_long make other
+
 pub pushed_long : (limit : ℕ) (one other : Places) → map shown one ≡ map (pushed_at limit) other → length one ≡ length other
 pushed_long limit one other same = sym (map_long shown one) ∙ ap length same ∙ map_long (pushed_at limit) other
 
 pub each_seen_pushed : (limit : ℕ) (new old : Places) → map shown new ≡ map (pushed_at limit) old → searches_of (placed_from 1 new) ≡ each_pushed limit (placed_from 1 old)
 each_seen_pushed limit new old same = seen_from new 1 ∙ ap (placed_from 1) same ∙ sym (pushed_from limit old 1)
 
-each_staged_from : (entry_changes : List EntryChange) (cookie : CookieText) (places : Places) (first : ℕ) → AreStagedAt entry_changes cookie places → AreStaged entry_changes cookie (placed_from first places)
-each_staged_from entry_changes cookie [] first each = tt
-each_staged_from entry_changes cookie (None ∷ places) first each = each_staged_from entry_changes cookie places (suc first) each.1
-each_staged_from entry_changes cookie (Some held ∷ places) first each = (each.0, each_staged_from entry_changes cookie places (suc first) each.1)
+-- what is made of each search is made of each place
+placed_map_from : (f : HeldSearch → HeldSearch) (places : Places) (first : ℕ) → placed_from first (map (option_map f) places) ≡ map (λ kept. (kept.0, f kept.1)) (placed_from first places)
+placed_map_from f [] first = refl
+placed_map_from f (None ∷ places) first = placed_map_from f places (suc first)
+placed_map_from f (Some held ∷ places) first = ap (λ es. (first, f held) ∷ es) (placed_map_from f places (suc first))
 
-pub each_staged : (entry_changes : List EntryChange) (cookie : CookieText) (places : Places) → AreStagedAt entry_changes cookie places → AreStaged entry_changes cookie (placed_from 1 places)
-each_staged entry_changes cookie places each = each_staged_from entry_changes cookie places 1 each
+pub placed_map : (f : HeldSearch → HeldSearch) (places : Places) → placed_from 1 (map (option_map f) places) ≡ map (λ kept. (kept.0, f kept.1)) (placed_from 1 places)
+placed_map f places = placed_map_from f places 1
 
 -- ---- one place after another
 
@@ -270,41 +272,18 @@ set_shown [] i was now is same = refl
 set_shown (place ∷ places) zero was now is same = ap (λ s. s ∷ map shown places) (same ∙ ap shown is)
 set_shown (place ∷ places) (suc i) was now is same = ap (λ ss. shown place ∷ ss) (set_shown places i was now is same)
 
-staged_next : (entry_changes : List EntryChange) (cookie : CookieText) (places : Places) (i : ℕ) (now : Option HeldSearch) → i < length places → AreStagedAt entry_changes cookie (take i places) → IsStagedAt entry_changes cookie now
-    → AreStagedAt entry_changes cookie (take (suc i) (set places i now))
-staged_next entry_changes cookie [] i now low each one = absurd (omega arith)
-staged_next entry_changes cookie (place ∷ places) zero now low each one = (one, tt)
-staged_next entry_changes cookie (place ∷ places) (suc i) now low each one = (each.0, staged_next entry_changes cookie places i now (omega arith) each.1 one)
-
-pub staged_on : (entry_changes : List EntryChange) (cookie : CookieText) (places : Places) (i : ℕ) (now : Option HeldSearch) → i < length places → AreStagedAt entry_changes cookie (take i places) → IsStagedAt entry_changes cookie now
-    → AreStagedAt entry_changes cookie (take (i + 1) (set places i now))
-staged_on entry_changes cookie places i now low each one =
-    let more : suc i ≡ i + 1 = omega arith in
-    subst (λ n. AreStagedAt entry_changes cookie (take n (set places i now))) more (staged_next entry_changes cookie places i now low each one)
-
-map_push : (places : Places) (place : Option HeldSearch) → map shown (places ++ place ∷ []) ≡ map shown places ++ shown place ∷ []
-map_push [] place = refl
-map_push (other ∷ places) place = ap (λ ss. shown other ∷ ss) (map_push places place)
-
--- one place more is copied
-pub copied_on : (places copies : Places) (i : ℕ) (place copy : Option HeldSearch) → map shown copies ≡ map shown (take i places) → i < length places → place ≡ get_or places i place → shown copy ≡ shown place
-    → map shown (copies ++ copy ∷ []) ≡ map shown (take (i + 1) places)
-copied_on places copies i place copy so low is same =
-    let last : take (i + 1) places ≡ take i places ++ place ∷ [] = take_more places i place low ∙ ap (λ x. take i places ++ x ∷ []) (sym is) in
-    map_push copies copy ∙ (λ k. so k ++ same k ∷ []) ∙ sym (map_push (take i places) place) ∙ sym (ap (map shown) last)
-
--- after n of the places what was staged is pushed in these, and the others are as before
-pub record ArePushed (limit n : ℕ) (old new : Places) : Type 0 where
-  pub done : map shown (take n new) ≡ map (pushed_at limit) (take n old)
+-- after n of the places these are changed so, as far as it is seen, and the others are as before
+pub record AreMade {S : Type 0} (see make : Option HeldSearch → S) (n : ℕ) (old new : Places) : Type 0 where
+  pub done : map see (take n new) ≡ map make (take n old)
   pub rest : drop n new ≡ drop n old
   pub long : length new ≡ length old
 
-pub none_pushed : (limit : ℕ) (places : Places) → ArePushed limit 0 places places
-none_pushed limit places = record { done = refl; rest = refl; long = refl }
+pub none_made : {S : Type 0} (see make : Option HeldSearch → S) (places : Places) → AreMade see make 0 places places
+none_made see make places = record { done = refl; rest = refl; long = refl }
 
-pub all_pushed_places : (limit n : ℕ) (old new : Places) → ArePushed limit n old new → length old ≤ n → map shown new ≡ map (pushed_at limit) old
-all_pushed_places limit n old new are all =
-    ap (map shown) (sym (take_all new n (omega (arith, are.long)))) ∙ are.done ∙ ap (map (pushed_at limit)) (take_all old n all)
+pub all_made : {S : Type 0} (see make : Option HeldSearch → S) (n : ℕ) (old new : Places) → AreMade see make n old new → length old ≤ n → map see new ≡ map make old
+all_made see make n old new are all =
+    ap (map see) (sym (take_all new n (omega (arith, are.long, all)))) ∙ are.done ∙ ap (map make) (take_all old n all)
   where
     take_all : (xs : Places) (k : ℕ) → length xs ≤ k → take k xs ≡ xs
     take_all [] zero low = refl
@@ -312,27 +291,33 @@ all_pushed_places limit n old new are all =
     take_all (x ∷ xs) zero low = absurd (omega arith)
     take_all (x ∷ xs) (suc k) low = ap (λ l. x ∷ l) (take_all xs k (omega arith))
 
-push_next : (limit i : ℕ) (old new : Places) (was now : Option HeldSearch) → i < length old → ArePushed limit i old new → was ≡ get_or new i was → shown now ≡ pushed_at limit was → ArePushed limit (suc i) old (set new i now)
-push_next limit i [] new was now low are is same = absurd (omega arith)
-push_next limit i (x ∷ old) [] was now low are is same = absurd (omega (arith, are.long))
-push_next limit zero (x ∷ old) (y ∷ new) was now low are is same =
+-- all of them as they are
+pub all_whole : (make : Option HeldSearch → Option HeldSearch) (n : ℕ) (old new : Places) → AreMade (λ place. place) make n old new → length old ≤ n → new ≡ map make old
+all_whole make n old new are all = sym (map-id new) ∙ all_made (λ place. place) make n old new are all
+
+make_next : {S : Type 0} (see make : Option HeldSearch → S) (i : ℕ) (old new : Places) (was now : Option HeldSearch) → i < length old → AreMade see make i old new → was ≡ get_or new i was → see now ≡ make was
+    → AreMade see make (suc i) old (set new i now)
+make_next see make i [] new was now low are is same = absurd (omega arith)
+make_next see make i (x ∷ old) [] was now low are is same = absurd (omega (arith, are.long))
+make_next see make zero (x ∷ old) (y ∷ new) was now low are is same =
     let first : y ≡ x = ap (λ xs. get_or xs 0 x) are.rest in
     record {
-      done = ap (λ s. s ∷ []) (same ∙ ap (pushed_at limit) (is ∙ first));
+      done = ap (λ s. s ∷ []) (same ∙ ap make (is ∙ first));
       rest = ap (drop 1) are.rest;
       long = are.long;
     }
-push_next limit (suc i) (x ∷ old) (y ∷ new) was now low are is same =
-    let inner : ArePushed limit i old new = record { done = ap (drop 1) are.done; rest = are.rest; long = omega (arith, are.long) } in
-    let next = push_next limit i old new was now (omega arith) inner is same in
-    let head : shown y ≡ pushed_at limit x = ap (λ ss. get_or ss 0 (shown y)) are.done in
+make_next see make (suc i) (x ∷ old) (y ∷ new) was now low are is same =
+    let inner : AreMade see make i old new = record { done = ap (drop 1) are.done; rest = are.rest; long = omega (arith, are.long) } in
+    let next = make_next see make i old new was now (omega arith) inner is same in
+    let head : see y ≡ make x = ap (λ ss. get_or ss 0 (see y)) are.done in
     record {
       done = λ k. head k ∷ next.done k;
       rest = next.rest;
       long = ap suc next.long;
     }
 
-pub pushed_on : (limit i : ℕ) (old new : Places) (was now : Option HeldSearch) → i < length old → ArePushed limit i old new → was ≡ get_or new i was → shown now ≡ pushed_at limit was → ArePushed limit (i + 1) old (set new i now)
-pushed_on limit i old new was now low are is same =
+pub made_on : {S : Type 0} (see make : Option HeldSearch → S) (i : ℕ) (old new : Places) (was now : Option HeldSearch) → i < length old → AreMade see make i old new → was ≡ get_or new i was → see now ≡ make was
+    → AreMade see make (i + 1) old (set new i now)
+made_on see make i old new was now low are is same =
     let more : suc i ≡ i + 1 = omega arith in
-    subst (λ n. ArePushed limit n old (set new i now)) more (push_next limit i old new was now low are is same)
+    subst (λ n. AreMade see make n old (set new i now)) more (make_next see make i old new was now low are is same)

@@ -13,7 +13,7 @@ use Rattle.sync_model.specs.Stream.{Start}
 use Rattle.sync_model.specs.Stream.Start.{InitialContent}
 use Rattle.sync_wire.specs.Requesting.{persists}
 use Rattle.directory_writes.specs.Directory.{DirectoryState}
-use Rattle.directory_writes.specs.Starting.{asked_prefix, start_at}
+use Rattle.directory_writes.specs.Starting.{prefix_of_cookie, start_at}
 use Rattle.sync_provider.specs.HandingOut.{search_at}
 use Rattle.sync_provider.specs.Search.{SearchState, opening}
 use Rattle.sync_provider.specs.declared.searches.Accepted.{Accepted}
@@ -37,7 +37,7 @@ free_number searches = find (is_free searches) (numbers_from 1 64)
 -- ---- where it begins
 
 abbrev pub start_of_request : DirectoryState → SyncRequest → Start
-start_of_request d request = start_at d (asked_prefix d request.cookie)
+start_of_request d request = start_at d (prefix_of_cookie d request.cookie)
 
 -- a control outside its grammar asks for nothing
 abbrev pub start_of_read : DirectoryState → Result SyncRequest SyncFault → Start
@@ -72,7 +72,7 @@ code_by servable request =
     else None
 
 abbrev pub request_code : DirectoryState → SyncRequest → Option ℕ
-request_code d request = code_by (is_some (asked_prefix d request.cookie)) request
+request_code d request = code_by (is_some (prefix_of_cookie d request.cookie)) request
 
 abbrev pub refused_or_opened : DirectoryState → ℕ → Option ℕ → Accepted
 refused_or_opened d number None = Opened number (length d.writes)

@@ -3,7 +3,7 @@ use Rattle.std.specs.Prelude.{ℕ, Bool, true, false, ℤ, pos, List, [], ◌∷
 use Rattle.std.specs.Ordering.{nat_cmp}
 use Rattle.std.specs.Map.{lookup, remove_entry, set_value}
 use Rattle.std.specs.BTreeMap.{is_at}
-use Rattle.ldap_messages.specs.Whole.{Whole, whole_of}
+use Rattle.ldap_messages.specs.Whole.{MessageValue, message_value}
 use Rattle.sync_model.specs.Message.{SyncMessage}
 use Rattle.sync_model.specs.Message.SyncMessage.{AddOrModify, Delete, Present, IdSet, NewCookie, RefreshDelete, RefreshPresent, Done, Ignored}
 use Rattle.sync_wire.specs.Sending.{sent}
@@ -14,9 +14,9 @@ use Rattle.sync_provider.specs.declared.handed.Handed.TheVariants as handed
 -- what a hand-out answers
 pub data HandOut : Type 0 where
   -- the next message, after which the search goes on
-  Hands : (message : Whole) → HandOut
+  Hands : (message : MessageValue) → HandOut
   -- the end of the search, with its result code
-  Closes : (code : ℤ) (message : Whole) → HandOut
+  Closes : (code : ℤ) (message : MessageValue) → HandOut
   -- nothing is pending
   Waits : HandOut
   -- no such search is open
@@ -66,8 +66,8 @@ has_message Unknown = false
 
 -- what a call answered; out of memory is no turn
 abbrev pub turn_of : Handed → Option HandOut
-turn_of (handed.Message message) = Some (Hands (whole_of message))
-turn_of (handed.Ended code message) = Some (Closes (pos code) (whole_of message))
+turn_of (handed.Message message) = Some (Hands (message_value message))
+turn_of (handed.Ended code message) = Some (Closes (pos code) (message_value message))
 turn_of handed.Nothing = Some Waits
 turn_of handed.NoSuchSearch = Some Unknown
 turn_of handed.NoMemory = None

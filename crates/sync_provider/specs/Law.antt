@@ -7,7 +7,7 @@ use Rattle.dn_names.specs.Names.{TypeAndValue}
 use Rattle.entry_tree.specs.declared.op.Op.{Op}
 use Rattle.entry_tree.specs.declared.op.Op.TheVariants.{Commit}
 use Rattle.entry_tree.specs.declared.op.Write.{Write}
-use Rattle.entry_tree.specs.Fitting.{is_light}
+use Rattle.entry_tree.specs.Fitting.{is_within_entry_limit}
 use Rattle.entry_tree.specs.History.{state_of, touched_over}
 use Rattle.entry_tree.specs.Selection.{search_of}
 use Rattle.entry_tree.specs.Sound.{is_commit, is_sound_op, is_sound_put}
@@ -35,7 +35,8 @@ use Rattle.sync_provider.specs.declared.writing.CommitFault.{CommitFault}
 -- a write that a client may ask for, a commit of entries that a directory may have, or another call
 abbrev pub is_sound_call : ProviderCall → Bool
 is_sound_call (Writes op now) = is_sound_op op && not (is_commit op)
-is_sound_call (Commits puts drops now) = list_all is_sound_put puts && list_all is_light puts
+is_sound_call (Commits puts drops now) = list_all is_sound_put puts
+    && list_all is_within_entry_limit puts
 is_sound_call (Accepts ask) = true
 is_sound_call (HandsOut number) = true
 is_sound_call (Drops number) = true

@@ -4,7 +4,6 @@ pub mod Answering
 pub mod Committing
 pub mod Comparing
 pub mod Gathering
-pub mod Growing
 pub mod HandingOut
 pub mod Journal
 pub mod Law
@@ -13,6 +12,7 @@ pub mod Opened
 pub mod Ports
 pub mod Placing
 pub mod Queueing
+pub mod ReadyCommits
 pub mod Refreshing
 pub mod Returning
 pub mod Search

@@ -14,7 +14,7 @@ use Rattle.directory_writes.specs.Directory.{DirectoryState, fresh_directory, ju
 use Rattle.sync_provider.specs.Committing.{commit_refusal}
 use Rattle.sync_provider.specs.HandingOut as handing
 use Rattle.sync_provider.specs.HandingOut.{turn_at, closed}
-use Rattle.sync_provider.specs.Queueing.{informed}
+use Rattle.sync_provider.specs.Queueing.{search_notified}
 use Rattle.sync_provider.specs.Search.{SearchState}
 use Rattle.sync_provider.specs.declared.committing.StagedCommit.{StagedCommit}
 use Rattle.sync_provider.specs.declared.provider.Kind.{Kind}
@@ -46,14 +46,14 @@ fresh suffix sid history kind =
 -- ---- writes
 
 -- each open search after a write of the directory
-abbrev pub each_informed :
+abbrev pub each_search_notified :
     ℕ → DirectoryState → Write → List (ℕ × SearchState) → List (ℕ × SearchState)
-each_informed limit d write searches =
-    map (λ search. (search.0, informed limit d write search.1)) searches
+each_search_notified limit d write searches =
+    map (λ search. (search.0, search_notified limit d write search.1)) searches
 
 -- the open searches after an operation that was judged so
 abbrev pub searches_after : ProviderState → Result Write ℕ → List (ℕ × SearchState)
-searches_after p (Ok write) = each_informed p.queue_limit p.directory write p.searches
+searches_after p (Ok write) = each_search_notified p.queue_limit p.directory write p.searches
 searches_after p (Err code) = p.searches
 
 -- the provider after an operation that was judged so: an accepted write is reported in the same

@@ -6,7 +6,7 @@ use Rattle.std.specs.Ordering.{nat_cmp}
 use Rattle.entry_tree.specs.declared.touched.EntryChange.{EntryChange}
 use Rattle.sync_model.specs.Message.{CookieText}
 use Rattle.sync_provider.specs.Search.{SearchState}
-use Rattle.sync_provider.specs.Staging.{HeldSearch, staged_for, pushed_staged}
+use Rattle.sync_provider.specs.Staging.{HeldSearch, pushed_staged, with_group, without_groups}
 
 -- a number that has a place
 pub record IsSearchNumber (number : ℕ) : Type 0 where
@@ -42,17 +42,13 @@ ComesBack es k =
 abbrev pub shown : Option HeldSearch → Option SearchState
 shown place = option_map (λ held. held.search) place
 
--- the messages of the write are made for the search of a place, where there is one
-abbrev pub IsStagedAt : List EntryChange → CookieText → Option HeldSearch → Type 0
-IsStagedAt entry_changes cookie None = ⊤
-IsStagedAt entry_changes cookie (Some held) =
-    held.staged ≡ Some (staged_for held.search entry_changes cookie)
+-- the search of a place with the messages of one more write, and with nothing staged
+abbrev pub staged_at : List EntryChange → CookieText → Option HeldSearch → Option HeldSearch
+staged_at entry_changes cookie place = option_map (with_group entry_changes cookie) place
 
-abbrev pub AreStagedAt : List EntryChange → CookieText → List (Option HeldSearch) → Type 0
-AreStagedAt entry_changes cookie [] = ⊤
-AreStagedAt entry_changes cookie (place ∷ places) =
-    IsStagedAt entry_changes cookie place × AreStagedAt entry_changes cookie places
+abbrev pub unstaged_at : Option HeldSearch → Option HeldSearch
+unstaged_at place = option_map without_groups place
 
--- the search of a place after what was staged is put after what is due
+-- the search of a place after all that was staged is put after what is due
 abbrev pub pushed_at : ℕ → Option HeldSearch → Option SearchState
 pushed_at limit place = option_map (λ held. pushed_staged limit held.staged held.search) place

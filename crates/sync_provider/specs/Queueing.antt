@@ -63,5 +63,5 @@ abbrev pub is_queueing : SearchState → Bool
 is_queueing s = s.persists && not s.over
 
 -- the search after a write of the directory
-abbrev pub informed : ℕ → DirectoryState → Write → SearchState → SearchState
-informed limit d write s = cond (is_queueing s) (pushed limit (group_of d s write) s) s
+abbrev pub search_notified : ℕ → DirectoryState → Write → SearchState → SearchState
+search_notified limit d write s = cond (is_queueing s) (pushed limit (group_of d s write) s) s

@@ -1,5 +1,5 @@
 -- How a write is reported to the open searches before it is accepted (RFC 4533, section 3.4).
-use Rattle.std.specs.Prelude.{ℕ, ◌≡◌, ◌<◌, ◌≤◌, ⊤, ◌-◌, ◌^◌, Bool, true, false, min, cond, List, [], ◌∷◌, length, map, flat_map, Option, Some, None, IfSome}
+use Rattle.std.specs.Prelude.{ℕ, ◌≡◌, ◌<◌, ◌≤◌, ◌-◌, ◌^◌, Bool, true, false, min, cond, List, [], ◌∷◌, ◌++◌, length, map, flat_map, sum_by, Option, Some, None, IfSome}
 use Rattle.csn_cookie.specs.declared.cookie.Cookie as cookies
 use Rattle.dn_names.specs.Writing.{name_text}
 use Rattle.entry_tree.specs.declared.entry.Entry.{Entry}
@@ -35,15 +35,15 @@ change_from was_in uuid None = None
 change_from was_in uuid (Some was) = cond was_in (Some (Deleted uuid was.dn)) None
 
 -- an entry, where there is one and it is selected
-abbrev pub chosen : Search → Option Entry → Option Entry
-chosen search None = None
-chosen search (Some entry) = cond (is_selected search entry) (Some entry) None
+abbrev pub if_selected : Search → Option Entry → Option Entry
+if_selected search None = None
+if_selected search (Some entry) = cond (is_selected search entry) (Some entry) None
 
 -- what a touch says to a search, without a cookie
 abbrev pub notified_of_change : Search → EntryChange → List SyncMessage
 notified_of_change search entry_change =
-    notified None entry_change.uuid (chosen search entry_change.before)
-    (chosen search entry_change.after)
+    notified None entry_change.uuid (if_selected search entry_change.before)
+    (if_selected search entry_change.after)
 
 abbrev pub notified_of_changes : Search → List EntryChange → List SyncMessage
 notified_of_changes search entry_changes = flat_map (notified_of_change search) entry_changes
@@ -82,15 +82,16 @@ pub record HasCookieText (cookie : Option cookies.Cookie) : Type 0 where
 
 -- ---- a search as it is kept
 
--- room for what is staged
-abbrev pub HasRoom : ℕ → Option (List SyncMessage) → Type 0
-HasRoom spare staged = IfSome staged (λ messages. length messages ≤ spare)
+-- these are as many messages, and there is room for all of them
+pub record HasRoom (spare count : ℕ) (groups : List (List SyncMessage)) : Type 0 where
+  pub counted : count ≡ sum_by length groups
+  pub room : count ≤ spare
 
--- a search, and beside it the messages of a write that is not accepted yet, where they are made.
--- They are not pending
+-- a search, and beside it the messages of writes that are not accepted yet, where they are made: a
+-- group for each write, in their order. They are not pending
 pub record HeldSearch : Type 0 where
   pub search : SearchState
-  pub staged : Option (List SyncMessage)
+  pub staged : List (List SyncMessage)
 
 abbrev pub searches_of : List (ℕ × HeldSearch) → List (ℕ × SearchState)
 searches_of held = map (λ kept. (kept.0, kept.1.search)) held
@@ -99,19 +100,41 @@ abbrev pub staged_for : SearchState → List EntryChange → CookieText → List
 staged_for s entry_changes cookie =
     cond (is_queueing s) (messages_for s.spec entry_changes cookie) []
 
--- the messages of the write are made for each
-abbrev pub AreStaged : List EntryChange → CookieText → List (ℕ × HeldSearch) → Type 0
-AreStaged entry_changes cookie [] = ⊤
-AreStaged entry_changes cookie (kept ∷ held) =
-    (kept.1.staged ≡ Some (staged_for kept.1.search entry_changes cookie))
-    × AreStaged entry_changes cookie held
+-- with the messages of one more write with these touches and this cookie
+abbrev pub with_group : List EntryChange → CookieText → HeldSearch → HeldSearch
+with_group entry_changes cookie held =
+    record held { staged = held.staged ++ staged_for held.search entry_changes cookie ∷ [] }
 
--- what was staged is put after what is due
-abbrev pub pushed_staged : ℕ → Option (List SyncMessage) → SearchState → SearchState
-pushed_staged limit None s = s
-pushed_staged limit (Some messages) s = pushed limit messages s
+-- with nothing staged
+abbrev pub without_groups : HeldSearch → HeldSearch
+without_groups held = record held { staged = [] }
 
--- each search after that
+-- the same of each
+abbrev pub each_staged :
+    List EntryChange → CookieText → List (ℕ × HeldSearch) → List (ℕ × HeldSearch)
+each_staged entry_changes cookie held =
+    map (λ kept. (kept.0, with_group entry_changes cookie kept.1)) held
+
+abbrev pub each_unstaged : List (ℕ × HeldSearch) → List (ℕ × HeldSearch)
+each_unstaged held = map (λ kept. (kept.0, without_groups kept.1)) held
+
+-- the messages of a write are put after what is due, unless a write was too much
+abbrev pub pushed_group : ℕ → List SyncMessage → SearchState → SearchState
+pushed_group limit messages s = cond s.over s (pushed limit messages s)
+
+-- what was staged is put there, group by group
+abbrev pub pushed_staged : ℕ → List (List SyncMessage) → SearchState → SearchState
+pushed_staged limit [] s = s
+pushed_staged limit (messages ∷ groups) s =
+    pushed_staged limit groups (pushed_group limit messages s)
+
+-- the first group is put there
+abbrev pub first_pushed : ℕ → SearchState → List (List SyncMessage) → HeldSearch
+first_pushed limit s [] = record { search = s; staged = [] }
+first_pushed limit s (messages ∷ groups) =
+    record { search = pushed_group limit messages s; staged = groups }
+
+-- each search after all that was staged
 abbrev pub each_pushed : ℕ → List (ℕ × HeldSearch) → List (ℕ × SearchState)
 each_pushed limit held =
     map (λ kept. (kept.0, pushed_staged limit kept.1.staged kept.1.search)) held

@@ -37,6 +37,7 @@ mod persist_message;
 mod port;
 mod ports;
 mod provider;
+mod ready_commit;
 mod refresh_item;
 mod refreshing;
 mod returning;

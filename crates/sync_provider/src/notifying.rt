@@ -64,8 +64,8 @@ fn change_of(
         spec.messages_of_change change
         ≡ spec.notified_of_change (search_of search.now) entry_change.entry.now) }
 {
-    let was_in = chooses(alloc, search, &entry_change.before)?;
-    let is_in = chooses(alloc, search, &entry_change.after)?;
+    let was_in = selects_found(alloc, search, &entry_change.before)?;
+    let is_in = selects_found(alloc, search, &entry_change.after)?;
     match &entry_change.after {
         Some(entry) if is_in => Ok(Some(still_there(entry, was_in)?)),
         _ => left_of(entry_change, was_in),
@@ -97,9 +97,9 @@ fn left_of(entry_change: &EntryChange, was_in: bool) -> Result<Option<ContentCha
 }
 
 /// Whether there is an entry, and the search selects it.
-fn chooses(alloc: Global, search: &Spec, found: &Option<Entry>) -> Result<bool, NoMemory>
-    ensures { IfOk result (λ chooses.
-        chooses ≡ is_some (spec.chosen (search_of search.now) found.now)) }
+fn selects_found(alloc: Global, search: &Spec, found: &Option<Entry>) -> Result<bool, NoMemory>
+    ensures { IfOk result (λ selects_found.
+        selects_found ≡ is_some (spec.if_selected (search_of search.now) found.now)) }
 {
     match found {
         None => Ok(false),

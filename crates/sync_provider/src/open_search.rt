@@ -1,6 +1,6 @@
 //! A search that is open.
 
-ghost use Rattle.std.specs.Prelude.{◌≡◌, ◌<◌, [], false, true, drop, Some, None, IfOk, IfSome, OnOk};
+ghost use Rattle.std.specs.Prelude.{◌≡◌, ◌<◌, [], false, true, drop, Some, IfOk, IfSome, OnOk};
 ghost use Rattle.csn_cookie.specs.Cookie.{cookie_text};
 ghost use Rattle.directory_writes.specs.Starting.{start_of};
 ghost use Rattle.entry_tree.specs.Selection.{search_of};
@@ -10,7 +10,7 @@ ghost use Rattle.sync_provider.specs.HandingOut.{after_own_turn, without_first};
 ghost use Rattle.sync_provider.specs.Opened.{opening_of_search};
 ghost use Rattle.sync_provider.specs.Queueing.{is_queueing};
 ghost use Rattle.sync_provider.specs.Search.{pending, messages_of};
-ghost use Rattle.sync_provider.specs.Staging.{staged_for, pushed_staged};
+ghost use Rattle.sync_provider.specs.Staging.{first_pushed, pushed_staged, staged_for, with_group, without_groups};
 
 use crate::handed::Handed;
 use crate::notifying::messages_for;
@@ -25,6 +25,7 @@ use ldap_ber::{NoMemory, discard};
 use ldap_constants::{BUSY, SUCCESS};
 use persist_queues::SearchQueue;
 use std::alloc::{AllocError, Global};
+use std::collections::VecDeque;
 use std::marker::Model;
 use std::sync::Arc;
 use sync_wire::done_message;
@@ -46,15 +47,17 @@ pub struct OpenSearch {
     /// None after the end of the refresh.
     rest: Option<PendingRefresh>,
     queue: SearchQueue<PersistMessage>,
-    /// The messages of a write that is not accepted yet, where they are made. The queue has room
-    /// for them.
-    staged: Option<Vec<PersistMessage>>,
+    /// The messages of writes that are not accepted yet, where they are made, a group for each
+    /// write. The queue has room for all of them.
+    staged: VecDeque<Vec<PersistMessage>>,
+    /// How many messages are staged.
+    staged_count: usize,
     /// Whether a write did not fit. Then nothing is kept, and only the end is sent.
     over: bool,
 }
 
 impl Model for OpenSearch {
-    ghost use Rattle.std.specs.Prelude.{option_map};
+    ghost use Rattle.std.specs.Prelude.{map};
     ghost use Rattle.std.specs.Coded.{codes};
     ghost use Rattle.directory_writes.specs.Starting.{start_of};
     ghost use Rattle.entry_tree.specs.FilterCode.{tree_code};
@@ -78,17 +81,17 @@ impl Model for OpenSearch {
         due = s.queue.items;
         over = s.over;
       };
-      staged = option_map (λ messages. messages.items) s.staged;
+      staged = map (λ messages. messages.items) s.staged.items;
     } };
 
-    ghost invariant = { λ s.
-        HasRoom s.queue.spare (option_map (λ messages. messages.items) s.staged) };
+    ghost invariant = { λ s. HasRoom s.queue.spare s.staged_count
+        (map (λ messages. messages.items) s.staged.items) };
 }
 
 /// What a search asks for: the message ID that numbers its messages, its specification, where it
 /// begins, and whether it goes on after its refresh.
 #[derive(Drop)]
-pub(crate) struct Asked {
+pub(crate) struct SearchOpening {
     pub(crate) id: u32,
     pub(crate) spec: Spec,
     pub(crate) start: Start,
@@ -98,9 +101,10 @@ pub(crate) struct Asked {
 impl OpenSearch {
     /// A search that is accepted after n writes, with these parts before the end of its
     /// refresh, which has this cookie.
+    #[tactic(auto, using(crate::proofs::Filling::none_staged, crate::proofs::Filling::room_none))]
     pub(crate) fn new(
         alloc: Global,
-        asked: Asked,
+        asked: SearchOpening,
         accepted: u64,
         parts: Vec<RefreshItem>,
         cookie: Cookie,
@@ -118,7 +122,7 @@ impl OpenSearch {
           due = [];
           over = false;
         }) }
-        ensures staged { IfOk result (λ opened. opened.staged ≡ None) }
+        ensures staged { IfOk result (λ opened. opened.staged ≡ []) }
     {
         let spec = shared(alloc, asked.spec)?;
         let rest = PendingRefresh::new(alloc, parts, cookie)?;
@@ -131,12 +135,14 @@ impl OpenSearch {
             persists: asked.persists,
             rest: Some(rest),
             queue: SearchQueue::new(alloc, 0),
-            staged: None,
+            staged: VecDeque::new(alloc),
+            staged_count: 0,
             over: false,
         })
     }
 
     /// A search that goes on as this one does.
+    #[tactic(auto, using(crate::proofs::Filling::room_none))]
     pub(crate) fn copy(&self) -> Result<OpenSearch, NoMemory>
         ensures search { IfOk result (λ copy. copy.search ≡ self.now.search) }
     {
@@ -152,7 +158,8 @@ impl OpenSearch {
             persists: self.persists,
             rest,
             queue,
-            staged: None,
+            staged: VecDeque::new(self.alloc),
+            staged_count: 0,
             over: self.over,
         })
     }
@@ -363,20 +370,31 @@ impl OpenSearch {
         rest.advance();
     }
 
-    /// Makes the messages that a write sends, and the room for them in the queue. They are not
-    /// pending before the write is accepted.
+    /// Drops what is staged.
+    #[tactic(auto, using(crate::proofs::Filling::none_staged, crate::proofs::Filling::room_none))]
+    pub(crate) fn unstage(&mut self)
+        ensures { self.new ≡ without_groups self.old }
+    {
+        self.staged.clear();
+        self.staged_count = 0;
+    }
+
+    /// Makes the messages that a write sends, after those that are staged, and the room for all of
+    /// them in the queue. They are not pending before the write is accepted.
+    #[tactic(auto, using(crate::proofs::Filling::room_added, crate::proofs::Filling::room_more, crate::proofs::Filling::groups_added))]
     pub(crate) fn stage(&mut self, touched: &[EntryChange], cookie: Cookie) -> Result<(), NoMemory>
         requires rid { cookie.rid < 1000 }
         requires sid { cookie.sid < 4096 }
         ensures search { self.new.search ≡ self.old.search }
         ensures staged { OnOk result
-            (self.new.staged
-            ≡ Some (staged_for self.old.search touched.now (cookie_text cookie))) }
+            (self.new ≡ with_group touched.now (cookie_text cookie) self.old) }
     {
-        discard(self.staged.take());
         let messages = self.messages_of(touched, cookie)?;
-        self.queue.reserve(messages.len())?;
-        discard(self.staged.replace(messages));
+        let all = self.staged_count.checked_add(messages.len());
+        let count = all.ok_or(AllocError)?;
+        self.queue.reserve(count)?;
+        self.staged.push_back(messages)?;
+        self.staged_count = count;
         Ok(())
     }
 
@@ -398,16 +416,28 @@ impl OpenSearch {
         }
     }
 
-    /// Puts what was staged after what is due, of which there may be so much, or else ends the
-    /// search. It takes no memory.
-    #[tactic(auto, using(crate::proofs::Filling::pushed_none, crate::proofs::Filling::pushed_over, crate::proofs::Filling::pushed_in))]
+    /// Puts what was staged after what is due, group by group, of which there may be so much, or
+    /// else ends the search. It takes no memory.
     pub(crate) fn push_staged(&mut self, limit: u64)
-        ensures search { self.new.search ≡ pushed_staged limit self.old.staged self.old.search }
+        ensures { self.new.search ≡ pushed_staged limit self.old.staged self.old.search }
     {
-        let Some(messages) = self.staged.take() else {
+        let count = self.staged.len();
+        for _group in 0..count {
+            self.push_next(limit);
+        }
+    }
+
+    /// The same for the first group alone. Where a write was too much before, it is dropped.
+    #[tactic(auto, using(crate::proofs::Filling::first_none, crate::proofs::Filling::first_some, crate::proofs::Filling::group_dropped, crate::proofs::Filling::group_pushed, crate::proofs::Filling::pushed_over, crate::proofs::Filling::pushed_in, crate::proofs::Filling::group_counted, crate::proofs::Filling::group_fits, crate::proofs::Filling::room_left))]
+    fn push_next(&mut self, limit: u64)
+        ensures { self.new ≡ first_pushed limit self.old.search self.old.staged }
+    {
+        let Some(messages) = self.staged.pop_front() else {
             return;
         };
-        if messages.is_empty() {
+        self.staged_count -= messages.len();
+        if self.over || messages.is_empty() {
+            discard(messages);
             return;
         }
         self.queue.set_limit(limit);

@@ -2,7 +2,7 @@
 
 ghost use Rattle.std.specs.Prelude.{◌≡◌, ◌≢◌, ◌<◌, [], false, drop, IfOk, ◌≤◌, length};
 ghost use Rattle.csn_cookie.specs.Cookie.{cookie_text};
-ghost use Rattle.ldap_messages.specs.Whole.{whole_of};
+ghost use Rattle.ldap_messages.specs.Whole.{message_value};
 ghost use Rattle.sync_model.specs.Law.{is_nil};
 ghost use Rattle.sync_wire.specs.Sending.{sent};
 ghost use Rattle.sync_provider.specs.Search.{message_of, first_of};
@@ -107,7 +107,8 @@ impl PendingRefresh {
         deletes: bool,
     ) -> Result<Message, NoMemory>
         ensures { IfOk result (λ message.
-            whole_of message ≡ sent id (first_of persists deletes self.now.parts self.now.cookie)) }
+            message_value message ≡ sent id
+            (first_of persists deletes self.now.parts self.now.cookie)) }
     {
         self.message_at(0, id, persists, deletes)
     }
@@ -123,7 +124,7 @@ impl PendingRefresh {
     ) -> Result<Message, NoMemory>
         requires { place ≤ length self.now.parts }
         ensures { IfOk result (λ message.
-            whole_of message
+            message_value message
             ≡ sent id (first_of persists deletes (drop place self.now.parts) self.now.cookie)) }
     {
         let alloc = *self.parts.allocator();
@@ -141,7 +142,8 @@ fn part_message(
     deletes: bool,
     part: &RefreshItem,
 ) -> Result<Message, NoMemory>
-    ensures { IfOk result (λ message. whole_of message ≡ sent id (message_of deletes part.now)) }
+    ensures { IfOk result
+        (λ message. message_value message ≡ sent id (message_of deletes part.now)) }
 {
     match part {
         RefreshItem::Whole(entry) => entry_message(alloc, id, true, entry, None),

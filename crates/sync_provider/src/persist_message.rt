@@ -4,7 +4,7 @@
 ghost use Rattle.std.specs.Prelude.{◌≡◌, ◌<◌, false, Some, None, IfOk};
 ghost use Rattle.csn_cookie.specs.Cookie.{cookie_text};
 ghost use Rattle.directory_writes.specs.Weights as spec;
-ghost use Rattle.ldap_messages.specs.Whole.{whole_of};
+ghost use Rattle.ldap_messages.specs.Whole.{message_value};
 ghost use Rattle.sync_wire.specs.Sending.{sent};
 ghost use Rattle.sync_provider.specs.Search.{is_end};
 ghost use Rattle.sync_provider.specs.Staging.{message_of_change, with_cookie, counted_weight};
@@ -103,7 +103,7 @@ impl PersistMessage {
     /// The message of LDAP that it is sent as. The search goes on after it.
     #[tactic(auto, using(crate::proofs::Saying::change_goes))]
     pub(crate) fn message(&self, id: u32) -> Result<Message, NoMemory>
-        ensures sent { IfOk result (λ message. whole_of message ≡ sent id self.now) }
+        ensures sent { IfOk result (λ message. message_value message ≡ sent id self.now) }
         ensures goes { is_end self.now ≡ false }
     {
         match &self.change {

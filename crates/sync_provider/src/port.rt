@@ -2,7 +2,7 @@
 
 ghost use Rattle.std.specs.Prelude.{◌≡◌, true, false};
 ghost use Rattle.std.specs.List.{list_all};
-ghost use Rattle.entry_tree.specs.Fitting.{is_light};
+ghost use Rattle.entry_tree.specs.Fitting.{is_within_entry_limit};
 ghost use Rattle.entry_tree.specs.Sound.{is_commit, is_sound_op, is_sound_put};
 ghost use Rattle.sync_provider.specs.Ports.{PortState, IsReplied, WriteReplies, CommitReplies, SearchReplies, CompareReplies, AcceptReplies, HandOutReplies, DropReplies, WritesReplies};
 
@@ -41,7 +41,7 @@ pub trait Port: Drop {
     /// `now`. The answer is the number of accepted writes after it.
     fn commit(&mut self, puts: EntryList, drops: IdList, now: u64) -> Result<u64, CommitFault>
         requires sound { list_all is_sound_put puts ≡ true }
-        requires light { list_all is_light puts ≡ true }
+        requires light { list_all is_within_entry_limit puts ≡ true }
         ensures home { home self.new ≡ home self.old }
         ensures replies { IsReplied (state self.old)
             (λ p. CommitReplies p puts drops now result (state self.new)) };

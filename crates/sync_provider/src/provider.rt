@@ -4,7 +4,7 @@ ghost use Rattle.std.specs.Prelude.{◌≡◌, ◌≢◌, ◌≤◌, ◌-◌, �
 ghost use Rattle.std.specs.List.{list_all};
 ghost use Rattle.csn_cookie.specs.Csn as csn_specs;
 ghost use Rattle.directory_writes.specs.Directory as directory;
-ghost use Rattle.entry_tree.specs.Fitting.{is_light};
+ghost use Rattle.entry_tree.specs.Fitting.{is_within_entry_limit};
 ghost use Rattle.entry_tree.specs.Selection.{search_of};
 ghost use Rattle.entry_tree.specs.Sound.{is_commit, is_sound_op, is_sound_put};
 ghost use Rattle.ldap_constants.specs.declared.result_codes.TheConstants as codes;
@@ -109,7 +109,7 @@ impl Provider {
     /// `NoMemory`.
     pub fn commit(&mut self, puts: EntryList, drops: IdList, now: u64) -> Result<u64, CommitFault>
         requires sound { list_all is_sound_put puts ≡ true }
-        requires light { list_all is_light puts ≡ true }
+        requires light { list_all is_within_entry_limit puts ≡ true }
         ensures leaves { CommitLeaves self.old.state puts drops now result self.new.state }
         ensures journal { CommitReplies
             (port_state self.old) puts drops now result (port_state self.new) }

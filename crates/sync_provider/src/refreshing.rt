@@ -30,14 +30,14 @@ pub(crate) fn refresh(
     spec: &Spec,
     start: Start,
 ) -> Result<Vec<RefreshItem>, NoMemory>
-    requires { CanBegin directory.now (start_of start) }
+    requires { CanBegin directory.now.state (start_of start) }
     ensures { IfOk result (λ parts. (persists : Bool)
         → messages_of persists (is_delete_phase (start_of start)) parts.items
-        (cookie_of directory.now)
+        (cookie_of directory.now.state)
         ≡ refresh_from
-        (session_of persists directory.now.sid directory.now.history (search_of spec.now)
-        directory.now.writes)
-        (start_of start) (length directory.now.writes)) }
+        (session_of persists directory.now.state.sid directory.now.state.history
+        (search_of spec.now) directory.now.state.writes)
+        (start_of start) (length directory.now.state.writes)) }
 {
     let uuids = walk(alloc, directory, start)?;
     let items = items(alloc, directory, spec, uuids.as_slice())?;
@@ -48,9 +48,9 @@ pub(crate) fn refresh(
 /// The identities that it goes through: those that were touched since, where these are known,
 /// else all, in ascending order.
 fn walk(alloc: Global, directory: &Directory, start: Start) -> Result<Vec<u128>, NoMemory>
-    requires { CanBegin directory.now (start_of start) }
+    requires { CanBegin directory.now.state (start_of start) }
     ensures exact { IfOk result (λ uuids.
-        uuids.items ≡ refreshing.walked directory.now (start_of start)) }
+        uuids.items ≡ refreshing.walked directory.now.state (start_of start)) }
     ensures ascends { IfOk result (λ uuids. IsStrictlySortedBy nat_cmp uuids.items) }
 {
     match start {
@@ -61,7 +61,8 @@ fn walk(alloc: Global, directory: &Directory, start: Start) -> Result<Vec<u128>,
 
 /// The identities of all entries, in ascending order.
 fn identities(alloc: Global, directory: &Directory) -> Result<Vec<u128>, NoMemory>
-    ensures exact { IfOk result (λ uuids. uuids.items ≡ refreshing.all_identities directory.now) }
+    ensures exact { IfOk result (λ uuids.
+        uuids.items ≡ refreshing.all_identities directory.now.state) }
     ensures ascends { IfOk result (λ uuids. IsStrictlySortedBy nat_cmp uuids.items) }
 {
     let entries = directory.tree().entries()?;
@@ -80,7 +81,7 @@ fn items(
     uuids: &[u128],
 ) -> Result<Vec<Item>, NoMemory>
     ensures { IfOk result (λ items.
-        items.items ≡ map (refreshing.item_at directory.now (search_of spec.now)) uuids.now) }
+        items.items ≡ map (refreshing.item_at directory.now.state (search_of spec.now)) uuids.now) }
 {
     let mut items = Vec::new(alloc);
     for uuid in uuids {
@@ -93,7 +94,7 @@ fn items(
 /// stands for that of its last touch.
 fn item(alloc: Global, directory: &Directory, spec: &Spec, uuid: u128) -> Result<Item, NoMemory>
     ensures { IfOk result (λ item.
-        item ≡ refreshing.item_at directory.now (search_of spec.now) uuid) }
+        item ≡ refreshing.item_at directory.now.state (search_of spec.now) uuid) }
 {
     match directory.tree().get(uuid) {
         None => Ok(Item {
@@ -103,7 +104,7 @@ fn item(alloc: Global, directory: &Directory, spec: &Spec, uuid: u128) -> Result
         }),
         Some(entry) => Ok(Item {
             uuid,
-            touched: directory.number_of(uuid),
+            touched: directory.last_touch_of(uuid),
             selected: selects(alloc, spec, entry)?,
         }),
     }
@@ -116,7 +117,7 @@ fn gather(
     decisions: &[Decision],
 ) -> Result<Vec<RefreshItem>, NoMemory>
     ensures { IfOk result (λ parts.
-        AreOf (refreshing.said_all (entries_of directory.now) decisions.now) parts.items) }
+        AreOf (refreshing.said_all (entries_of directory.now.state) decisions.now) parts.items) }
 {
     let mut gathering = Gathering::new(alloc);
     for decision in decisions {
@@ -133,7 +134,7 @@ fn gather_one(
     decision: Decision,
 ) -> Result<(), NoMemory>
     ensures { OnOk result
-        (Gathers (refreshing.said (entries_of directory.now) decision)
+        (Gathers (refreshing.said (entries_of directory.now.state) decision)
         gathering.old gathering.new) }
 {
     match decision {

@@ -5,8 +5,8 @@ ghost use Rattle.std.specs.BTreeMap.{insert_entry, is_at};
 ghost use Rattle.std.specs.Map.{lookup, remove_entry, set_value};
 ghost use Rattle.std.specs.Ordering.{nat_cmp};
 ghost use Rattle.csn_cookie.specs.Cookie.{cookie_text};
-ghost use Rattle.sync_provider.specs.Placing.{ComesBack, HasNoPlace, IsSearchNumber, AreStagedAt, IsStagedAt, put_back, shown, pushed_at};
-ghost use Rattle.sync_provider.specs.Staging.{HeldSearch, searches_of, each_pushed, AreStaged};
+ghost use Rattle.sync_provider.specs.Placing.{ComesBack, HasNoPlace, IsSearchNumber, put_back, pushed_at, shown, staged_at, unstaged_at};
+ghost use Rattle.sync_provider.specs.Staging.{HeldSearch, searches_of, each_pushed, each_staged, each_unstaged};
 
 use crate::NoMemory;
 use crate::open_search::OpenSearch;
@@ -142,17 +142,18 @@ impl SearchTable {
         self.put(number, search);
     }
 
-    /// The same searches once more, with nothing staged.
-    #[tactic(auto, using(crate::proofs::Tables::same_seen, crate::proofs::Tables::same_long))]
-    pub(crate) fn copy(&self) -> Result<SearchTable, NoMemory>
-        ensures { IfOk result (λ copy. searches_of copy ≡ searches_of self.now) }
+    /// Drops what is staged for each search.
+    #[tactic(auto, using(crate::proofs::Tables::made_long))]
+    pub(crate) fn unstage_each(&mut self)
+        ensures searches { searches_of self.new ≡ searches_of self.old }
+        ensures unstaged { self.new ≡ each_unstaged self.old }
     {
-        let places = copy_of_places(*self.places.allocator(), &self.places)?;
-        Ok(SearchTable { places })
+        unstage_places(&mut self.places);
     }
 
-    /// Makes the messages of a write with these touches and this cookie for each search.
-    #[tactic(auto, using(crate::proofs::Tables::same_seen, crate::proofs::Tables::same_long, crate::proofs::Tables::each_staged))]
+    /// Makes the messages of a write with these touches and this cookie for each search, after
+    /// those that are staged.
+    #[tactic(auto, using(crate::proofs::Tables::same_seen, crate::proofs::Tables::same_long))]
     pub(crate) fn stage_each(
         &mut self,
         touched: &[EntryChange],
@@ -161,7 +162,8 @@ impl SearchTable {
         requires rid { cookie.rid < 1000 }
         requires sid { cookie.sid < 4096 }
         ensures searches { searches_of self.new ≡ searches_of self.old }
-        ensures staged { OnOk result (AreStaged touched.now (cookie_text cookie) self.new) }
+        ensures staged { OnOk result
+            (self.new ≡ each_staged touched.now (cookie_text cookie) self.old) }
     {
         stage_places(&mut self.places, touched, &cookie)
     }
@@ -189,23 +191,18 @@ fn place_of(number: u64) -> Option<usize>
     Some(number as usize - 1)
 }
 
-/// The same places once more, with nothing staged.
-#[tactic(auto, using(crate::proofs::Tables::copied_on))]
-fn copy_of_places(
-    alloc: Global,
-    places: &[Option<OpenSearch>],
-) -> Result<Vec<Option<OpenSearch>>, NoMemory>
-    ensures { IfOk result (λ copies. map shown copies.items ≡ map shown places.now) }
+/// Drops what is staged for the search of each place.
+#[tactic(auto, using(crate::proofs::Tables::none_made, crate::proofs::Tables::all_whole))]
+fn unstage_places(places: &mut Vec<Option<OpenSearch>>)
+    ensures { places.new.items ≡ map unstaged_at places.old.items }
 {
-    let mut copies = Vec::with_capacity(alloc, places.len())?;
-    for place in places {
-        copies.push(copy_of_place(place)?)?;
+    for place in 0..places.len() {
+        unstage_at(&mut places[place]);
     }
-    Ok(copies)
 }
 
 /// Makes the messages of a write for the search of each place.
-#[tactic(auto, using(crate::proofs::Tables::set_shown, crate::proofs::Tables::staged_on))]
+#[tactic(auto, using(crate::proofs::Tables::set_shown, crate::proofs::Tables::none_made, crate::proofs::Tables::all_whole))]
 fn stage_places(
     places: &mut Vec<Option<OpenSearch>>,
     touched: &[EntryChange],
@@ -214,8 +211,8 @@ fn stage_places(
     requires rid { cookie.now.rid < 1000 }
     requires sid { cookie.now.sid < 4096 }
     ensures searches { map shown places.new.items ≡ map shown places.old.items }
-    ensures staged { OnOk result
-        (AreStagedAt touched.now (cookie_text cookie.now) places.new.items) }
+    ensures staged { OnOk result (places.new.items
+        ≡ map (staged_at touched.now (cookie_text cookie.now)) places.old.items) }
 {
     for place in 0..places.len() {
         stage_at(&mut places[place], touched, cookie)?;
@@ -224,7 +221,7 @@ fn stage_places(
 }
 
 /// Puts what was made into the queue of the search of each place.
-#[tactic(auto, using(crate::proofs::Tables::none_pushed, crate::proofs::Tables::all_pushed_places))]
+#[tactic(auto, using(crate::proofs::Tables::none_made, crate::proofs::Tables::all_made))]
 fn push_places(places: &mut Vec<Option<OpenSearch>>, limit: u64)
     ensures { map shown places.new.items ≡ map (pushed_at limit) places.old.items }
 {
@@ -243,6 +240,16 @@ fn copy_of_place(place: &Option<OpenSearch>) -> Result<Option<OpenSearch>, NoMem
     }
 }
 
+/// Drops what is staged for the search of a place.
+fn unstage_at(place: &mut Option<OpenSearch>)
+    ensures { place.new ≡ unstaged_at place.old }
+{
+    let Some(search) = place else {
+        return;
+    };
+    search.unstage();
+}
+
 /// Makes the messages of a write for the search of a place.
 fn stage_at(
     place: &mut Option<OpenSearch>,
@@ -252,7 +259,8 @@ fn stage_at(
     requires rid { cookie.now.rid < 1000 }
     requires sid { cookie.now.sid < 4096 }
     ensures search { shown place.new ≡ shown place.old }
-    ensures staged { OnOk result (IsStagedAt touched.now (cookie_text cookie.now) place.new) }
+    ensures staged { OnOk result
+        (place.new ≡ staged_at touched.now (cookie_text cookie.now) place.old) }
 {
     let Some(search) = place else {
         return Ok(());

@@ -14,7 +14,7 @@ ghost use Rattle.sync_provider.specs.Placing.{IsSearchNumber};
 ghost use Rattle.sync_provider.specs.Search.{opening};
 ghost use Rattle.sync_provider.specs.declared.searches.Accepted.TheVariants.{Opened, Refused};
 
-use crate::open_search::{Asked, OpenSearch};
+use crate::open_search::{OpenSearch, SearchOpening};
 use crate::refreshing::refresh;
 use crate::search_table::MOST_SEARCHES;
 use crate::sync_directory::SyncDirectory;
@@ -91,7 +91,7 @@ impl SyncDirectory {
     {
         match self.admitted(request, &ask) {
             Ok(admitted) => {
-                let asked = Asked {
+                let asked = SearchOpening {
                     id: ask.id,
                     spec: ask.spec,
                     start: admitted.start,
@@ -131,7 +131,7 @@ impl SyncDirectory {
         let Some(number) = self.free_number() else {
             return Err(ADMIN_LIMIT_EXCEEDED);
         };
-        let prefix = self.directory.asked_prefix(&request.cookie);
+        let prefix = self.directory.prefix_of_cookie(&request.cookie);
         if let Some(code) = code_of(request, prefix.is_some()) {
             return Err(code);
         }
@@ -141,7 +141,7 @@ impl SyncDirectory {
 
     /// Opens a search with this number, and answers how many writes the directory has.
     #[tactic(auto, using(crate::proofs::Held::held_opened))]
-    fn open(&mut self, number: u64, asked: Asked) -> Result<u64, NoMemory>
+    fn open(&mut self, number: u64, asked: SearchOpening) -> Result<u64, NoMemory>
         requires served { CanBegin self.old.directory (start_of asked.start) }
         requires number { IsSearchNumber number }
         ensures writes { IfOk result (λ writes. writes ≡ length self.old.directory.writes) }

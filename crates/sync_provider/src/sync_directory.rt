@@ -45,7 +45,7 @@ impl Model for SyncDirectory {
 
     ghost view = { λ p. record {
       kind = p.kind;
-      directory = p.directory;
+      directory = p.directory.state;
       searches = searches_of p.searches;
       queue_limit = p.queue_limit;
     } };

@@ -5,7 +5,7 @@ ghost use Rattle.std.specs.Prelude.{◌≡◌, ◌+◌, true, false, length, Non
 ghost use Rattle.std.specs.List.{list_all};
 ghost use Rattle.directory_writes.specs.Commits as commits;
 ghost use Rattle.directory_writes.specs.Directory as directory;
-ghost use Rattle.entry_tree.specs.Fitting.{fits, is_light};
+ghost use Rattle.entry_tree.specs.Fitting.{fits, is_within_entry_limit};
 ghost use Rattle.entry_tree.specs.Sound.{is_commit, is_sound_op, is_sound_put};
 ghost use Rattle.sync_provider.specs.Answering.{WriteLeaves, CommitLeaves};
 ghost use Rattle.sync_provider.specs.Committing.{fault_of};
@@ -13,9 +13,9 @@ ghost use Rattle.sync_provider.specs.Machine as machine;
 
 use crate::NoMemory;
 use crate::provider::Kind;
-use crate::staging::stage_write;
+use crate::staging::{make_ready, put_in_place};
 use crate::sync_directory::SyncDirectory;
-use directory_writes::{DirectoryFault, Preview};
+use directory_writes::{DirectoryCommitFault, Preview};
 use entry_tree::{EntryList, Op, OpFault};
 use ldap_ber::discard;
 use ldap_constants::{OTHER, SUCCESS, UNWILLING_TO_PERFORM};
@@ -44,14 +44,16 @@ pub enum CommitFault {
     NotAReplica,
 }
 
-impl From<DirectoryFault> for CommitFault {
+impl From<DirectoryCommitFault> for CommitFault {
     ghost from_gives = { λ cause fault. fault ≡ fault_of cause };
 
-    fn from(cause: DirectoryFault) -> CommitFault {
+    fn from(cause: DirectoryCommitFault) -> CommitFault {
         match cause {
-            DirectoryFault::DuplicateName(one, other) => CommitFault::DuplicateName(one, other),
-            DirectoryFault::LimitReached(limit) => CommitFault::LimitReached(limit),
-            DirectoryFault::NoMemory => CommitFault::NoMemory,
+            DirectoryCommitFault::DuplicateName(one, other) => {
+                CommitFault::DuplicateName(one, other)
+            }
+            DirectoryCommitFault::LimitReached(limit) => CommitFault::LimitReached(limit),
+            DirectoryCommitFault::NoMemory => CommitFault::NoMemory,
         }
     }
 }
@@ -103,7 +105,7 @@ impl SyncDirectory {
     /// `NoMemory`.
     pub fn commit(&mut self, puts: EntryList, drops: IdList, now: u64) -> Result<u64, CommitFault>
         requires sound { list_all is_sound_put puts ≡ true }
-        requires light { list_all is_light puts ≡ true }
+        requires light { list_all is_within_entry_limit puts ≡ true }
         ensures leaves { CommitLeaves self.old puts drops now result self.new }
     {
         match self.kind {
@@ -119,9 +121,9 @@ impl SyncDirectory {
         puts: EntryList,
         drops: IdList,
         now: u64,
-    ) -> Result<u64, DirectoryFault>
+    ) -> Result<u64, DirectoryCommitFault>
         requires sound { list_all is_sound_put puts ≡ true }
-        requires light { list_all is_light puts ≡ true }
+        requires light { list_all is_within_entry_limit puts ≡ true }
         ensures accepted { OnOk result
             (commits.commit_refusal self.old.directory puts drops now ≡ None) }
         ensures refused { IfErr result
@@ -135,7 +137,7 @@ impl SyncDirectory {
         let preview = self
             .directory
             .preview_commit(puts.list(), drops.list(), now)?;
-        self.put_and_notify(Op::Commit(puts, drops), &preview)?;
+        self.put_and_notify(Op::Commit(puts, drops), preview)?;
         Ok(self.writes())
     }
 
@@ -152,7 +154,7 @@ impl SyncDirectory {
     {
         match self.directory.preview(&op, now) {
             Ok(preview) => {
-                self.put_and_notify(op, &preview)?;
+                self.put_and_notify(op, preview)?;
                 Ok(SUCCESS)
             }
             Err(fault) => {
@@ -162,18 +164,18 @@ impl SyncDirectory {
         }
     }
 
-    /// Makes a write that was previewed, and reports it. What it reports is made first, and only
-    /// moved into the queues after it.
-    fn put_and_notify(&mut self, op: Op, preview: &Preview) -> Result<(), NoMemory>
-        requires { directory.IsPlanned self.old.directory op preview.now }
+    /// Makes a write that was previewed, and reports it. All that takes memory is made first, and
+    /// nothing after that can fail.
+    fn put_and_notify(&mut self, op: Op, preview: Preview) -> Result<(), NoMemory>
+        requires { directory.IsPreview self.old.directory op preview }
         ensures ok { OnOk result (self.new
-            ≡ machine.after_judged self.old (Ok (record { csn = preview.now.csn; op = op }))) }
+            ≡ machine.after_judged self.old (Ok (record { csn = preview.csn; op = op }))) }
         ensures err { OnErr result (self.new ≡ self.old) }
     {
-        match stage_write(&mut self.searches, &self.directory, preview) {
-            Ok(()) => {
-                self.directory.put(op, preview)?;
-                self.searches.push_each(self.queue_limit);
+        let limit = self.queue_limit;
+        match make_ready(&mut self.directory, &mut self.searches, &op, preview) {
+            Ok(ready) => {
+                put_in_place(&mut self.directory, &mut self.searches, limit, op, ready);
                 Ok(())
             }
             Err(full) => {

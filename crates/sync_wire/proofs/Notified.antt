@@ -10,7 +10,7 @@ use Rattle.ldap_messages.specs.declared.protocol.Protocol.{Protocol}
 use Rattle.ldap_messages.specs.declared.protocol.Protocol.TheVariants as op
 use Rattle.ldap_messages.specs.Operation.{Operation, operation_of}
 use Rattle.ldap_messages.specs.Operation as operation
-use Rattle.ldap_messages.specs.Whole.{Whole}
+use Rattle.ldap_messages.specs.Whole.{MessageValue}
 use Rattle.sync_messages.specs.declared.info.SyncInfo.{SyncInfo}
 use Rattle.sync_messages.specs.declared.info.SyncInfo.TheVariants as info
 use Rattle.sync_messages.specs.declared.state.State.{State}
@@ -139,4 +139,4 @@ each_decoded persisting Ignored can = refl
 -- a message that is sent for a message of a search means that message again
 pub sent_round_trip : SentIsDecoded
 sent_round_trip persisting id event message can same =
-    says_so persisting message.controls message.op ∙ ap (λ (whole : Whole). decoded_from persisting whole.1) same ∙ each_decoded persisting event can
+    says_so persisting message.controls message.op ∙ ap (λ (whole : MessageValue). decoded_from persisting whole.1) same ∙ each_decoded persisting event can

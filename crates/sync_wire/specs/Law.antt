@@ -1,7 +1,7 @@
 -- What is sent is decoded.
 use Rattle.std.specs.Prelude.{◌≡◌, ◌<◌, ◌^◌, ⊤, ℕ, Bool, false, Option, Some, None, Ok, length, All}
 use Rattle.ldap_messages.specs.declared.message.Message.{Message}
-use Rattle.ldap_messages.specs.Whole.{whole_of}
+use Rattle.ldap_messages.specs.Whole.{message_value}
 use Rattle.sync_model.specs.Message.{CookieText, SyncMessage}
 use Rattle.sync_model.specs.Message.SyncMessage.{AddOrModify, Delete, Present, IdSet, NewCookie, RefreshDelete, RefreshPresent, Done, Ignored}
 use Rattle.sync_wire.specs.CanBeSent.{CanBeSent}
@@ -43,4 +43,4 @@ abbrev pub SentIsDecoded : Type 0
 SentIsDecoded =
     (persisting : Bool) (id : ℕ) (event : SyncMessage) (message : Message)
     → CanBeDecoded persisting event
-    → whole_of message ≡ sent id event → said persisting message ≡ Ok event
+    → message_value message ≡ sent id event → said persisting message ≡ Ok event

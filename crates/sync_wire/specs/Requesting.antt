@@ -7,7 +7,7 @@ use Rattle.entry_tree.specs.declared.spec.Scope.TheVariants.{Base, One, Sub}
 use Rattle.entry_tree.specs.Selection.{Search}
 use Rattle.ldap_parts.specs.declared.control.Control.{Control}
 use Rattle.ldap_messages.specs.Operation.{search}
-use Rattle.ldap_messages.specs.Whole.{Whole}
+use Rattle.ldap_messages.specs.Whole.{MessageValue}
 use Rattle.sync_messages.specs.declared.request.Mode.{Mode}
 use Rattle.sync_messages.specs.declared.request.Mode.TheVariants.{RefreshOnly, RefreshAndPersist}
 use Rattle.sync_messages.specs.Request.{request_octets}
@@ -30,7 +30,7 @@ sync_control mode reload cookie = record {
 }
 
 -- all user and all operational attributes, without limits and without following aliases
-abbrev pub search_request : Search → ℕ → Mode → Bool → Option CookieText → Whole
+abbrev pub search_request : Search → ℕ → Mode → Bool → Option CookieText → MessageValue
 search_request spec id mode reload cookie = (
   id,
   (

@@ -21,7 +21,7 @@ use Rattle.ldap_parts.specs.declared.control.Control.{Control}
 use Rattle.ldap_messages.specs.declared.outcome.LdapResult.{LdapResult}
 use Rattle.ldap_messages.specs.Operation as operation
 use Rattle.ldap_messages.specs.Operation.{Operation}
-use Rattle.ldap_messages.specs.Whole.{Whole}
+use Rattle.ldap_messages.specs.Whole.{MessageValue}
 use Rattle.sync_model.specs.Message.{CookieText, SyncMessage}
 use Rattle.sync_model.specs.Message.SyncMessage.{AddOrModify, Delete, Present, IdSet, NewCookie, RefreshDelete, RefreshPresent, Done, Ignored}
 
@@ -114,5 +114,5 @@ parts_of (Done code control) = (operation.search_done (result_of code), done_con
 parts_of Ignored = (operation.intermediate (None, None), [])
 
 -- the message with this identifier
-abbrev pub sent : ℕ → SyncMessage → Whole
+abbrev pub sent : ℕ → SyncMessage → MessageValue
 sent id message = (id, parts_of message)

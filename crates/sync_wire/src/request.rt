@@ -3,7 +3,7 @@
 ghost use Rattle.std.specs.Prelude.{◌≡◌, [], ◌∷◌, codes, Ok, IfOk};
 ghost use Rattle.entry_tree.specs.Selection.{search_of};
 ghost use Rattle.ldap_messages.specs.Search.{scope_number};
-ghost use Rattle.ldap_messages.specs.Whole.{whole_of};
+ghost use Rattle.ldap_messages.specs.Whole.{message_value};
 ghost use Rattle.sync_messages.specs.Request.{request_of, request_octets};
 ghost use Rattle.sync_wire.specs.Requesting as spec;
 
@@ -23,7 +23,7 @@ pub fn search_request(
     wanted: &Spec,
     sync: &SyncRequest,
 ) -> Result<Message, NoMemory>
-    ensures message { IfOk result (λ message. whole_of message
+    ensures message { IfOk result (λ message. message_value message
         ≡ spec.search_request (search_of wanted.now) id sync.now.mode
         sync.now.reload_hint sync.now.cookie) }
     // The value of its control is read again as what is asked.

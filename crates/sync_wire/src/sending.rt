@@ -3,7 +3,7 @@ ghost use Rattle.std.specs.Prelude.{◌≡◌, ◌<◌, ◌∷◌, ◌++◌, [],
 ghost use Rattle.csn_cookie.specs.Cookie.{cookie_text};
 ghost use Rattle.dn_names.specs.Writing.{name_text};
 ghost use Rattle.ldap_messages.specs.Operation as operation;
-ghost use Rattle.ldap_messages.specs.Whole.{whole_of};
+ghost use Rattle.ldap_messages.specs.Whole.{message_value};
 ghost use Rattle.sync_model.specs.Message.{phase_end};
 ghost use Rattle.sync_model.specs.Message.SyncMessage.{AddOrModify, Delete, IdSet, Done};
 ghost use Rattle.sync_model.specs.Stream.{end_of};
@@ -27,7 +27,7 @@ const OPERATIONAL_ATTRIBUTES: usize = 2;
 /// `NoMemory` where memory runs out.
 #[tactic(auto, using(crate::proofs::Operations::done_operation))]
 pub fn done_message(alloc: Global, id: u32, code: u32) -> Result<Message, NoMemory>
-    ensures { IfOk result (λ message. whole_of message ≡ sent id (Done (pos code) None)) }
+    ensures { IfOk result (λ message. message_value message ≡ sent id (Done (pos code) None)) }
 {
     let result = result_of(alloc, code)?;
     Ok(Message {
@@ -51,7 +51,7 @@ pub fn end_message(
     requires rid { cookie.now.rid < 1000 }
     requires sid { cookie.now.sid < 4096 }
     ensures { IfOk result (λ message.
-        whole_of message ≡ sent id (end_of persists deletes (cookie_text cookie.now))) }
+        message_value message ≡ sent id (end_of persists deletes (cookie_text cookie.now))) }
 {
     let text = Octets::from_slice(alloc, &cookie.write())?;
     if persists {
@@ -69,7 +69,7 @@ fn phase_end_message(
     cookie: Octets,
 ) -> Result<Message, NoMemory>
     ensures { IfOk result (λ message.
-        whole_of message ≡ sent id (phase_end deletes true (Some cookie))) }
+        message_value message ≡ sent id (phase_end deletes true (Some cookie))) }
 {
     let value = if deletes {
         SyncInfo::RefreshDelete(Some(cookie), true).write(alloc)?
@@ -88,7 +88,7 @@ fn refresh_end_message(
     cookie: Octets,
 ) -> Result<Message, NoMemory>
     ensures { IfOk result (λ message.
-        whole_of message ≡ sent id (Done (pos SUCCESS) (Some (deletes, Some cookie)))) }
+        message_value message ≡ sent id (Done (pos SUCCESS) (Some (deletes, Some cookie)))) }
 {
     let done = SyncDone {
         cookie: Some(cookie),
@@ -116,7 +116,8 @@ pub fn entry_message(
     requires rid { IfSome cookie (λ c. c.rid < 1000) }
     requires sid { IfSome cookie (λ c. c.sid < 4096) }
     ensures { IfOk result (λ message.
-        whole_of message ≡ sent id (AddOrModify adds entry.now (option_map cookie_text cookie))) }
+        message_value message ≡ sent id
+        (AddOrModify adds entry.now (option_map cookie_text cookie))) }
 {
     let state = if adds { State::Add } else { State::Modify };
     let controls = state_control(alloc, state, entry.uuid, cookie)?;
@@ -142,7 +143,7 @@ pub fn delete_message(
     requires rid { IfSome cookie (λ c. c.rid < 1000) }
     requires sid { IfSome cookie (λ c. c.sid < 4096) }
     ensures { IfOk result (λ message.
-        whole_of message
+        message_value message
         ≡ sent id (Delete uuid (name_text name.now) (option_map cookie_text cookie))) }
 {
     let controls = state_control(alloc, State::Delete, uuid, cookie)?;
@@ -163,7 +164,8 @@ pub fn id_set_message(
     deletes: bool,
     uuids: &[u128],
 ) -> Result<Message, NoMemory>
-    ensures { IfOk result (λ message. whole_of message ≡ sent id (IdSet deletes uuids.now None)) }
+    ensures { IfOk result
+        (λ message. message_value message ≡ sent id (IdSet deletes uuids.now None)) }
 {
     let names = SyncInfo::IdSet(None, deletes, list_of(alloc, uuids)?);
     info_message(alloc, id, names.write(alloc)?)
@@ -173,7 +175,7 @@ pub fn id_set_message(
 #[tactic(auto, using(crate::proofs::Operations::info_operation))]
 fn info_message(alloc: Global, id: u32, value: Octets) -> Result<Message, NoMemory>
     ensures { IfOk result (λ message.
-        whole_of message ≡ (id, (operation.intermediate (Some info_name, Some value), []))) }
+        message_value message ≡ (id, (operation.intermediate (Some info_name, Some value), []))) }
 {
     Ok(Message {
         id,

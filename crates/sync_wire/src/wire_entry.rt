@@ -64,7 +64,7 @@ fn name_of(alloc: Global, text: &Octets) -> Result<Dn, DecodeFault>
 fn attributes_of(alloc: Global, raws: &[RawAttribute]) -> Result<Attrs, NoMemory>
     ensures { IfOk result (λ attrs. attrs ≡ spec.attributes_of raws.now) }
 {
-    let mut items = Vec::new(alloc);
+    let mut items = Vec::with_capacity(alloc, raws.len())?;
     for raw in raws {
         if let Some(attribute) = kept(alloc, raw)? {
             add_values(&mut items, attribute.kind, attribute.values)?;

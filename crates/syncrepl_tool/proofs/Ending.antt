@@ -6,7 +6,7 @@ use Rattle.std.proofs.lemmas.List.{take-append-le}
 use Rattle.std.proofs.KnownBytes.{Appends-kept}
 use Rattle.std.specs.Io.KnownBytes.{Keeps, IsAtEnd}
 use Rattle.std.specs.Prelude.{IfSome, nat_lt}
-use Rattle.sync_io.specs.Faults.{Rose}
+use Rattle.sync_io.specs.Faults.{CountHasRisen}
 use Rattle.cascade_script.specs.declared.fault.Cause.{Cause}
 use Rattle.cascade_script.specs.declared.fault.Cause.TheVariants.{BadCommand, UnknownNode, NameTaken, BadRecord, LimitReached, OutsideSuffix, LaterCookie, Circle, NoMemory}
 use Rattle.cascade_script.specs.Lines.{kept_bytes, most_bytes, most_lines, text_lines, up_to_last, has_more, limit_passed}
@@ -146,7 +146,7 @@ module _ {old new : Option (List ℕ)} {text : List ℕ} (prefix : IsPrefixOf ol
   no_read_fault (inr (inl (inr eight, refused))) four = omega (arith, eight)
   no_read_fault (inr (inr fault)) four = omega (arith, fault.0)
 
-  pub write_fault_of : Ended' text a b end before now unsaid said f t code → code ≡ 5 → Rose before now × Says write_fault_text unsaid said f t
+  pub write_fault_of : Ended' text a b end before now unsaid said f t code → code ≡ 5 → CountHasRisen before now × Says write_fault_text unsaid said f t
   write_fault_of (inl done) five = absurd (omega (arith, done.0))
   write_fault_of (inr (inl (inl three, refused))) five = absurd (omega (arith, three))
   write_fault_of (inr (inl (inr eight, refused))) five = absurd (omega (arith, eight))
@@ -172,7 +172,7 @@ module _ {old new : Option (List ℕ)} {text : List ℕ} (prefix : IsPrefixOf ol
   no_script_of (inr (inr fault)) (inl three) = absurd (omega (arith, fault.0, three))
   no_script_of (inr (inr fault)) (inr eight) = absurd (omega (arith, fault.0, eight))
 
-  pub decides_of : Ended' text a b end before now unsaid said f t code → (Rose before now → ⊥) → IfSome old (Decides code)
+  pub decides_of : Ended' text a b end before now unsaid said f t code → (CountHasRisen before now → ⊥) → IfSome old (Decides code)
   decides_of (inl done) no_fault =
       if_some_map old (λ all. WritesWhole (reader_of all) a b end) _ (λ all w. record { script = λ is. done.0; other = λ no. absurd (no (script_of all w)) })
       (at_prefix old new text prefix (λ script. WritesWhole script a b end) done.1)

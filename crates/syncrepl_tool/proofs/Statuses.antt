@@ -3,7 +3,7 @@ use Rattle.std.proofs.Common.{◌≡◌, ℕ, List, inl, inr, refl, arith}
 use Rattle.cascade_script.specs.Reader.{reader_of}
 use Rattle.cascade_world.specs.World.{WorldState, no_nodes}
 use Rattle.std.specs.Prelude.{◌⊎◌}
-use Rattle.sync_io.specs.Faults.{Rose}
+use Rattle.sync_io.specs.Faults.{CountHasRisen}
 use Rattle.syncrepl_tool.proofs.Ending.{done_of, end_of, quiet_of, refused_of, no_script_of, no_read_fault, write_fault_of}
 use Rattle.syncrepl_tool.specs.Cascade.{IsPrefixOf, IsRefusedStatus, MayEndWith, RunEnds, Streams}
 use Rattle.syncrepl_tool.specs.Texts.{Says, read_fault_text}
@@ -32,7 +32,7 @@ of_usage before after end status two = record {
 }
 
 -- a read that failed
-pub of_read_fault : (before after : Streams) (end : WorldState) (status : Status) → status.code ≡ 4 → Rose before.read_faults after.read_faults
+pub of_read_fault : (before after : Streams) (end : WorldState) (status : Status) → status.code ≡ 4 → CountHasRisen before.read_faults after.read_faults
     → Says read_fault_text before.said after.said before.said_faults after.said_faults → after.report ≡ before.report → end ≡ no_nodes → MayEndWith before after end status
 of_read_fault before after end status four rose says report world = record {
   done = λ is. absurd (omega (arith, four, is));

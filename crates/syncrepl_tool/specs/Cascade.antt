@@ -4,7 +4,7 @@ use Rattle.std.specs.declared.string.String.{String}
 use Rattle.std.specs.declared.alloc.Global.{Global}
 use Rattle.std.specs.String.{string_bytes}
 use Rattle.std.specs.Io.KnownBytes.{Appends, Keeps, IsAtEnd}
-use Rattle.sync_io.specs.Faults.{Rose}
+use Rattle.sync_io.specs.Faults.{CountHasRisen}
 use Rattle.sync_io.specs.Sink.{AppendsPrefix}
 use Rattle.cascade_script.specs.declared.fault.Cause.{Cause}
 use Rattle.cascade_script.specs.declared.fault.Cause.TheVariants.{LimitReached}
@@ -88,7 +88,7 @@ abbrev pub Ends :
 Ends script old new end before now Done = WritesWhole script old new end
 Ends script old new end before now (Refused fault) =
     WritesUpTo script old new end fault.line fault.cause
-Ends script old new end before now WriteFault = Rose before now
+Ends script old new end before now WriteFault = CountHasRisen before now
 
 -- the status of a refusal: 8 where a limit is passed, else 3
 abbrev pub status_of : Cause → ℕ
@@ -117,7 +117,8 @@ RunEnds script old new end before now unsaid said faults_before faults_now code 
     ((code ≡ 0) × WritesWhole script old new end × Keeps unsaid said)
     ⊎ (IsRefusedStatus code
     × IsRefused code script old new end unsaid said faults_before faults_now)
-    ⊎ ((code ≡ 5) × Rose before now × Says write_fault_text unsaid said faults_before faults_now)
+    ⊎ ((code ≡ 5) × CountHasRisen before now
+    × Says write_fault_text unsaid said faults_before faults_now)
 
 -- the text is the prefix of the bytes that were left, and all of them where it is not too long
 pub record IsPrefixOf (old new : Option (List ℕ)) (text : List ℕ) : Type 0 where
@@ -128,7 +129,7 @@ pub record IsPrefixOf (old new : Option (List ℕ)) (text : List ℕ) : Type 0 w
 
 abbrev pub IsInput : Option (List ℕ) → Option (List ℕ) → ℕ → ℕ → Input → Type 0
 IsInput old new before now (Text text) = IsPrefixOf old new text
-IsInput old new before now Failed = Rose before now
+IsInput old new before now Failed = CountHasRisen before now
 
 -- a fact that a status of this code brings
 abbrev pub OnCode : ℕ → Type 0 → Status → Type 0
@@ -200,12 +201,12 @@ pub record MayEndWith (before after : Streams) (end : WorldState) (status : Stat
       before.said_faults after.said_faults)) status
   pub no_script :
       IsRefusedStatus status.code → IfSome before.left (λ text. IsScript text → ⊥)
-  pub read_fault : OnCode 4 (Rose before.read_faults after.read_faults) status
+  pub read_fault : OnCode 4 (CountHasRisen before.read_faults after.read_faults) status
   pub read_fault_reported :
       OnCode 4
       (Says read_fault_text before.said after.said before.said_faults after.said_faults) status
   pub unread : OnCode 4 ((after.report ≡ before.report) × (end ≡ no_nodes)) status
-  pub write_fault : OnCode 5 (Rose before.report_faults after.report_faults) status
+  pub write_fault : OnCode 5 (CountHasRisen before.report_faults after.report_faults) status
   pub write_fault_reported :
       OnCode 5
       (Says write_fault_text before.said after.said before.said_faults after.said_faults) status

@@ -4,7 +4,7 @@ use Rattle.std.specs.Fmt.{decimal}
 use Rattle.std.specs.Io.KnownBytes.{Appends}
 use Rattle.cascade_script.specs.declared.fault.Cause.{Cause}
 use Rattle.cascade_script.specs.declared.fault.Cause.TheVariants.{BadCommand, UnknownNode, NameTaken, BadRecord, LimitReached, OutsideSuffix, LaterCookie, Circle, NoMemory}
-use Rattle.sync_io.specs.Faults.{Rose}
+use Rattle.sync_io.specs.Faults.{CountHasRisen}
 use Rattle.sync_io.specs.Sink.{AppendsPrefix}
 
 unfoldable pub usage_text : List ℕ
@@ -49,4 +49,4 @@ refusal_text line cause =
 -- the text was written, or a prefix of it where a write failed
 pub record Says (text : List ℕ) (old new : Option (List ℕ)) (before now : ℕ) : Type 0 where
   pub prefix : AppendsPrefix old new text
-  pub whole : (Rose before now → ⊥) → Appends old new text
+  pub whole : (CountHasRisen before now → ⊥) → Appends old new text

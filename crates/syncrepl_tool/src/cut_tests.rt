@@ -56,10 +56,15 @@ pub(crate) fn last_lines(alloc: Global, world: &mut World, text: &[u8]) -> Resul
 }
 
 fn large_world(alloc: Global) -> Result<World, Fail> {
-    let mut world = World::new(alloc)?;
     let script = large_script(alloc)?;
-    last_lines(alloc, &mut world, script.as_slice())?;
-    Ok(world)
+    let mut world = World::new(alloc)?;
+    match last_lines(alloc, &mut world, script.as_slice()) {
+        Ok(_) => Ok(world),
+        Err(fault) => {
+            discard(world);
+            Err(fault)
+        }
+    }
 }
 
 /// Whether the refresh of 300 entries, cut after n messages, changes nothing of a settling. Both

@@ -1,5 +1,5 @@
 ghost use Rattle.std.specs.Prelude.{◌≡◌, ◌↔◌, ◌≢◌, ◌≤◌, false, IfOk, IfSome, IsOk, IsTrue, OnErr, ℕ, []};
-ghost use Rattle.sync_io.specs.Faults.{Rose};
+ghost use Rattle.sync_io.specs.Faults.{CountHasRisen};
 ghost use Rattle.cascade_script.specs.Reader.{reader_of};
 ghost use Rattle.cascade_world.specs.World.{no_nodes};
 ghost use Rattle.std.specs.String.{string_bytes};
@@ -71,8 +71,8 @@ pub fn run<R: Threads + Wait + Sync, I: Source, O: Sink, E: Sink>(
     ensures codes { IfOk result (λ status. IsStatus status.code) }
     // Where nothing failed, a script without a refusal is done, and every other text is refused.
     ensures complete { IfOk result (λ status. IsCascade words.now
-        → (Rose (I.read_fault_count input.old) (I.read_fault_count input.new) → ⊥)
-        → (Rose (O.write_fault_count output.old) (O.write_fault_count output.new) → ⊥)
+        → (CountHasRisen (I.read_fault_count input.old) (I.read_fault_count input.new) → ⊥)
+        → (CountHasRisen (O.write_fault_count output.old) (O.write_fault_count output.new) → ⊥)
         → IfSome (I.bytes_left input.old) (Decides status.code)) }
 {
     if is_cascade(words) {
@@ -141,8 +141,8 @@ pub fn run_cascade<I: Source, O: Sink, E: Sink>(
     ensures codes { IfOk result (λ status. IsCascadeStatus status.code) }
     // Where nothing failed, a script without a refusal is done, and every other text is refused.
     ensures complete { IfOk result (λ status.
-        (Rose (I.read_fault_count input.old) (I.read_fault_count input.new) → ⊥)
-        → (Rose (O.write_fault_count output.old) (O.write_fault_count output.new) → ⊥)
+        (CountHasRisen (I.read_fault_count input.old) (I.read_fault_count input.new) → ⊥)
+        → (CountHasRisen (O.write_fault_count output.old) (O.write_fault_count output.new) → ⊥)
         → IfSome (I.bytes_left input.old) (Decides status.code)) }
 {
     match read_text(alloc, input)? {

@@ -5,7 +5,7 @@ ghost use Rattle.std.specs.Prelude.{◌≡◌, false};
 
 use crate::run::{run, run_cascade};
 use cascade_world::World;
-use ldap_ber::{NoMemory, Octets};
+use ldap_ber::{NoMemory, Octets, discard};
 use std::alloc::Global;
 use std::fmt::Debug;
 use std::process::Abort;
@@ -34,10 +34,7 @@ fn ran<R: Threads + Wait + Sync, I: Source, O: Sink>(
 ) -> Result<(u8, MemorySink), Fail>
     requires { I.waits input.old ≡ false }
 {
-    let mut given = Vec::new(alloc);
-    for word in words {
-        given.push(String::from_str(alloc, word)?)?;
-    }
+    let given = given(alloc, words)?;
     let mut world = World::new(alloc)?;
     let mut errors = MemorySink::new(alloc);
     let status = run(
@@ -48,8 +45,17 @@ fn ran<R: Threads + Wait + Sync, I: Source, O: Sink>(
         input,
         output,
         &mut errors,
-    )?;
-    Ok((status.code, errors))
+    );
+    discard(world);
+    Ok((status?.code, errors))
+}
+
+fn given(alloc: Global, words: &[&str]) -> Result<Vec<String>, NoMemory> {
+    let mut given = Vec::new(alloc);
+    for word in words {
+        given.push(String::from_str(alloc, word)?)?;
+    }
+    Ok(given)
 }
 
 /// Asserts that what was found is what is wanted, or reports both.
@@ -103,10 +109,11 @@ fn run_cascade_does_a_script(rt: HostRuntime) -> Result<(), Fail> {
     let mut output = MemorySink::new(rt.alloc());
     let mut errors = MemorySink::new(rt.alloc());
     let mut world = World::new(rt.alloc())?;
-    let status = run_cascade(rt.alloc(), &mut world, &mut input, &mut output, &mut errors)?;
+    let status = run_cascade(rt.alloc(), &mut world, &mut input, &mut output, &mut errors);
+    discard(world);
     assert_same(&rt, "errors", &errors.bytes(), &b"".as_slice());
     assert_same(&rt, "output", &output.bytes(), &SETTLED);
-    assert_same(&rt, "status", &status.code, &0);
+    assert_same(&rt, "status", &status?.code, &0);
     Ok(())
 }
 

@@ -2,6 +2,7 @@ ghost use Rattle.std.specs.Prelude.{◌≡◌, ◌≤◌};
 
 use crate::journalled::Journalled;
 use crate::table::CellTable;
+use crate::waiting::WaitingRoom;
 use std::alloc::AllocError;
 
 pub type NoMemory = AllocError;
@@ -11,6 +12,7 @@ pub type NoMemory = AllocError;
 pub struct TurnCell<D: Journalled> {
     pub(crate) table: CellTable<D>,
     pub(crate) seats: u32,
+    pub(crate) room: WaitingRoom,
     ghost sized: { (table.shared.table_id.words ≡ 3) × (table.shared.table_id.slots ≡ 1) },
     ghost opened: { (table.shared.key.seats ≡ seats) × (1 ≤ seats) },
 }

@@ -29,7 +29,11 @@ impl<D: Journalled> TurnCell<D> {
             let missing = self.seats - count as u32;
             return Err((CloseFault::PassesOut(missing), self, passes));
         }
-        let TurnCell { table, seats: _ } = self;
+        let TurnCell {
+            table,
+            seats: _,
+            room: _room,
+        } = self;
         let mut others = passes;
         let Some(pass) = others.pop() else {
             unreachable!()

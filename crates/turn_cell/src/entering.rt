@@ -10,11 +10,12 @@ use crate::moves::{Draw, Serve};
 use crate::pass::Pass;
 use crate::table::{CellSeat, CellWords, DRAWN, SERVED, VALUE};
 use crate::turn::{Turn, TurnAt};
+use crate::waiting::WaitingRoom;
+use std::hint;
 use std::snapshot::Snapshot;
 use std::sync::Wait;
-use std::{hint, thread};
 
-/// How often a waiting pass looks for its turn before it gives its processor up.
+/// How often a pass whose turn is next looks for it before it sleeps.
 const SPINS: u32 = 128;
 
 impl<D: Journalled> TurnCell<D> {
@@ -34,7 +35,7 @@ impl<D: Journalled> TurnCell<D> {
         let (mut seat, number) = pass.into_parts();
         let words = &self.table.shared;
         let ticket = words.fetch_add::<Draw>(&mut seat, DRAWN, 1);
-        let value = await_turn(rt, words, &mut seat, ticket);
+        let value = await_turn(rt, words, &self.room, &mut seat, ticket);
         let found = Snapshot::of(&value);
         let before = value.count();
         TurnAt {
@@ -52,6 +53,7 @@ impl<D: Journalled> TurnCell<D> {
 fn await_turn<D: Journalled, R: Wait>(
     rt: &R,
     words: &CellWords<D>,
+    room: &WaitingRoom,
     seat: &mut CellSeat<D>,
     ticket: u64,
 ) -> D
@@ -67,7 +69,7 @@ fn await_turn<D: Journalled, R: Wait>(
         if let Some(value) = try_take(words, seat, ticket) {
             return value;
         }
-        spins = wait_a_little(spins);
+        spins = wait_a_little(rt, words, room, ticket, spins);
     }
     unreachable!()
 }
@@ -92,16 +94,28 @@ fn try_take<D: Journalled>(words: &CellWords<D>, seat: &mut CellSeat<D>, ticket:
     Some(value)
 }
 
-/// Waits for a moment: on this processor, or, after SPINS moments of that, by giving it up.
+/// Waits for a moment: by looking again where the ticket is the next one, or asleep, where it is
+/// not, or after SPINS looks.
 ///
-/// What is given and what is answered count the moments since it was given up last.
-fn wait_a_little(spins: u32) -> u32
+/// What is given and what is answered count the looks since it slept last.
+fn wait_a_little<D: Journalled, R: Wait>(
+    rt: &R,
+    words: &CellWords<D>,
+    room: &WaitingRoom,
+    ticket: u64,
+    spins: u32,
+) -> u32
+    requires { words.now.table_id.words ≡ 3 }
     ensures { result ≤ SPINS }
 {
-    if spins < SPINS {
+    let before = ticket.wrapping_sub(words.peek(SERVED));
+    if spins < SPINS && before <= 1 {
         hint::spin_loop();
         return spins + 1;
     }
-    thread::yield_now();
+    room.lie_down(ticket);
+    if words.peek(SERVED) != ticket {
+        room.sleep(rt, ticket);
+    }
     0
 }

@@ -41,7 +41,15 @@ impl<'a, D: Journalled> TurnAt<D, &'a TurnCell<D>> {
         let seen = value.count();
         let added = seen - before;
         end_turn(&cell.table.shared, &mut seat, value, added);
+        cell.wake_next();
         (Pass { seat, number, seen }, added)
+    }
+}
+
+impl<D: Journalled> TurnCell<D> {
+    /// Wakes the pass whose ticket is served now, where it sleeps.
+    fn wake_next(&self) {
+        self.room.wake(self.table.shared.peek(SERVED));
     }
 }
 

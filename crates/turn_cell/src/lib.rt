@@ -22,6 +22,7 @@ mod moves;
 mod pass;
 mod table;
 mod turn;
+mod waiting;
 
 pub use cell::{CloseFault, NoMemory, TurnCell};
 pub use crossing::{cells_are_shared, passes_are_sent};

@@ -8,6 +8,7 @@ use crate::journalled::Journalled;
 use crate::moves::Deal;
 use crate::pass::Pass;
 use crate::table::{CellSeat, CellTable, CellWords, Opening};
+use crate::waiting::WaitingRoom;
 use atomic_table::{Refused, Table};
 use std::alloc::{AllocError, Global};
 use std::snapshot::Snapshot;
@@ -32,13 +33,16 @@ impl<D: Journalled> TurnCell<D> {
         let Ok(mut passes) = Vec::with_capacity(alloc, seats as usize) else {
             return Err((AllocError, value));
         };
+        let Ok(room) = WaitingRoom::new(alloc, seats) else {
+            return Err((AllocError, value));
+        };
         let seen = value.count();
         let (table, mut dealer) = match table_of(alloc, value, seats) {
             Ok(made) => made,
             Err(value) => return Err((AllocError, value)),
         };
         deal(&table.shared, &mut dealer, &mut passes, seats, seen);
-        Ok((TurnCell { table, seats }, passes))
+        Ok((TurnCell { table, seats, room }, passes))
     }
 }
 

@@ -6,7 +6,7 @@ use Rattle.std.proofs.lemmas.Result.{IfOk-weaker}
 use Rattle.entry_writes.specs.declared.entry.Entry.{Entry}
 use Rattle.entry_writes.specs.Codes.{length_code}
 use Rattle.entry_writes.specs.Effects.{moved}
-use Rattle.entry_writes.specs.Fault.{HasCode}
+use Rattle.entry_writes.specs.Fault.{HasOpCode}
 use Rattle.entry_writes.specs.Touched.{is_change}
 use Rattle.entry_writes.proofs.Identities.{stepped}
 use Rattle.entry_tree.proofs.Narrow.{long_within, moved_within}
@@ -39,4 +39,4 @@ returns-clause-refused c =
     let es = c.args.tree.now in
     let read : map (λ (e : Bor Entry). e.now) c.deref.result.now ≡ filter (is_below top.dn) es = ap (map (λ (e : Bor Entry). e.now)) c.deref.ensures.value ∙ c.in_ok-entries.ensures in
     let same = ap (λ xs. length_code xs top name) read ∙ long_within top name es in
-    subst (λ code. IfErr c.moved_entries.result (HasCode code)) same c.moved_entries.ensures.refused
+    subst (λ code. IfErr c.moved_entries.result (HasOpCode code)) same c.moved_entries.ensures.refused

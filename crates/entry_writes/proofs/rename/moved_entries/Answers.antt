@@ -11,7 +11,7 @@ use Rattle.dn_names.specs.Sound.{most_rdns}
 use Rattle.entry_writes.specs.declared.entry.Entry.{Entry}
 use Rattle.entry_writes.specs.Codes.{has_too_long, length_code}
 use Rattle.entry_writes.specs.Effects.{moved}
-use Rattle.entry_writes.specs.Fault.{HasCode}
+use Rattle.entry_writes.specs.Fault.{HasOpCode}
 use Rattle.entry_writes.specs.Touched.{is_change}
 use Rattle.entry_writes.proofs.Firsts.{HasCode-same}
 use Rattle.entry_writes.proofs.Identities.{change_to, stepped, stepped_more}
@@ -42,7 +42,7 @@ returns-in_err-now-clause-refused c =
     let entries : List Entry = map (λ (e : Bor Entry). e.now) c.args.entries.now in
     let i = c.loop-entry.entry-index in
     let here = next c.args.entries.now i c.entry-item.result c.loop-entry-test.true c.entry-item.is in
-    let shown : HasCode (length_code entries top name) c.in_err-now.field-0.0 =
+    let shown : HasOpCode (length_code entries top name) c.in_err-now.field-0.0 =
     HasCode-same (cond (is_long c.entry-item.result.now) (Some ADMIN_LIMIT_EXCEEDED) None) (length_code entries top name) c.in_err-now.field-0.0
     (λ n some. rejects_all is_long entries i c.entry-item.result.now ADMIN_LIMIT_EXCEEDED n here.0 here.1 some) c.in_err-now.ensures.refused
     in

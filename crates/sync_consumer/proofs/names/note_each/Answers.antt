@@ -23,7 +23,7 @@ loop-left-preserved c =
     record {
       within = omega (arith, within);
       noted = notes_from c.args.changes.now k c.loop-left.left change (omega arith) (omega (arith, within)) c.index-changes-left.is c.requires
-          c.args.held.now c.args.names.now c.loop-left.names c.note_for.new.names c.loop-left.are_apart c.in_ok-is_free.is_free c.loop-left.invariant.noted c.in_ok-is_free.ensures.noted;
+          c.args.held.now c.args.names.now c.loop-left.names c.note_for.new.names c.loop-left.has_unique_names c.in_ok-is_free.is_free c.loop-left.invariant.noted c.in_ok-is_free.ensures.noted;
       pathed = pathed_from c.args.changes.now k c.loop-left.left change (omega arith) (omega (arith, within)) c.index-changes-left.is
           c.loop-left.invariant.pathed c.in_ok-is_free.ensures.pathed;
     }
@@ -31,4 +31,4 @@ loop-left-preserved c =
 pub returns-clause-noted : goal.returns-clause-noted
 returns-clause-noted c =
     let none : c.loop-left.left ≡ 0 = omega arith in
-    subst (λ n. NotesAll c.args.held.now c.args.names.now c.loop-left.names (changes_in (drop n c.args.changes.now)) c.loop-left.are_apart) none c.loop-left.invariant.noted
+    subst (λ n. NotesAll c.args.held.now c.args.names.now c.loop-left.names (changes_in (drop n c.args.changes.now)) c.loop-left.has_unique_names) none c.loop-left.invariant.noted

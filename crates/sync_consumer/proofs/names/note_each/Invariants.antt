@@ -7,7 +7,7 @@ use Rattle.sync_consumer.proofs.names.note_each.Given as goal
 abbrev pub invariant-loop-left : goal.invariant-loop-left
 invariant-loop-left l = record {
   within : l.left ≤ length l.changes;
-  noted : NotesAll l.held l.fn.names l.names (changes_in (drop l.left l.changes)) l.are_apart;
+  noted : NotesAll l.held l.fn.names l.names (changes_in (drop l.left l.changes)) l.has_unique_names;
   pathed : (uuid : ℕ) → IsPathed (entry_staged (changes_in (drop l.left l.changes)) uuid);
 }
 

@@ -1,4 +1,4 @@
-use Rattle.std.proofs.Common.{◌≡◌, ◌≤◌, length}
+use Rattle.std.proofs.Common.{◌≡◌, length}
 use Rattle.sync_io.proofs.Appending.{AppendedUpTo}
 use Rattle.sync_io.proofs.sink.write_whole.Given as goal
 
@@ -9,7 +9,7 @@ invariant-loop-rest g l =
     record {
       written : AppendedUpTo l.rest (held l.fn.sink) (held l.sink) l.bytes;
       apart : g.K.Sink.source_side l.sink ≡ g.K.Sink.source_side l.fn.sink;
-      later : faults l.fn.sink ≤ faults l.sink;
+      sound : faults l.sink ≡ faults l.fn.sink;
     }
 
 abbrev pub decreases-loop-rest : goal.decreases-loop-rest

@@ -6,4 +6,4 @@ use Rattle.sync_provider.proofs.refreshing.gather.Given as goal
 
 -- the decisions so far are gathered
 abbrev pub invariant-loop-decision : goal.invariant-loop-decision
-invariant-loop-decision l = IsGathered (said_all (entries_of l.directory) (take l.decision-index l.decisions)) l.gathering
+invariant-loop-decision l = IsGathered (said_all (entries_of l.directory.state) (take l.decision-index l.decisions)) l.gathering

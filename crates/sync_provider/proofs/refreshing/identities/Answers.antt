@@ -12,6 +12,6 @@ pub returns-clause-ascends : goal.returns-clause-ascends
 returns-clause-ascends c =
     let lent = λ (entries : List (Bor Entry)). identities (map (λ (e : Bor Entry). e.now) entries) in
     let whole = take_all c.loop-entry.entry-index c.deref-entry-items.result.now c.loop-entry-test.false in
-    let exact : c.loop-entry.uuids.items ≡ all_identities c.args.directory.now =
+    let exact : c.loop-entry.uuids.items ≡ all_identities c.args.directory.now.state =
     c.loop-entry.invariant ∙ ap lent (whole ∙ c.deref-entry-items.ensures.value) ∙ ap identities (c.in_ok-entries.ensures ∙ c.tree.ensures) in
-    subst (IsStrictlySortedBy nat_cmp) (sym exact) (all_sorted c.args.directory.now)
+    subst (IsStrictlySortedBy nat_cmp) (sym exact) (all_sorted c.args.directory.now.state)

@@ -5,4 +5,4 @@ use Rattle.sync_provider.proofs.refreshing.items.Given as goal
 
 -- what is known of the identities so far
 abbrev pub invariant-loop-uuid : goal.invariant-loop-uuid
-invariant-loop-uuid l = l.items.items ≡ map (item_at l.directory (search_of l.spec)) (take l.uuid-index l.uuids)
+invariant-loop-uuid l = l.items.items ≡ map (item_at l.directory.state (search_of l.spec)) (take l.uuid-index l.uuids)

@@ -12,7 +12,7 @@ use Rattle.sync_provider.proofs.refreshing.refresh.Goals as goal
 
 pub returns : goal.returns
 returns c =
-    let d : DirectoryState = c.args.directory.now in
+    let d : DirectoryState = c.args.directory.now.state in
     let wanted : Search = search_of c.args.spec.now in
     let start : Start = start_of c.args.start in
     let decided : c.as_slice-3.result.now ≡ planned start (map (item_at d wanted) (walked d start)) = search rules in

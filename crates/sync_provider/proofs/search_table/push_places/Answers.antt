@@ -1,8 +1,9 @@
 use Rattle.std.proofs.Common.{arith}
-use Rattle.sync_provider.proofs.Tables.{pushed_on}
+use Rattle.sync_provider.specs.Placing.{pushed_at, shown}
+use Rattle.sync_provider.proofs.Tables.{made_on}
 use Rattle.sync_provider.proofs.search_table.push_places.Goals as goal
 
 pub loop-place-preserved : goal.loop-place-preserved
 loop-place-preserved c =
-    pushed_on c.args.limit c.loop-place.place c.args.places.now.items c.loop-place.places.items c.index_mut.result.now c.push_at.new.place
+    made_on shown (pushed_at c.args.limit) c.loop-place.place c.args.places.now.items c.loop-place.places.items c.index_mut.result.now c.push_at.new.place
     (omega (arith, c.loop-place-test.true, c.len-place-end.ensures)) c.loop-place.invariant c.index_mut.ensures.value c.push_at.ensures

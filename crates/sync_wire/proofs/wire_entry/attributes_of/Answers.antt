@@ -11,11 +11,11 @@ loop-raw-preserved c =
     let raws = c.args.raws.now in
     let raw = c.raw-item.result in
     let items = c.loop-raw.items.items in
-    elim c.match-branch-2.branch [
+    elim c.match-branch-3.branch [
       | in-Some+in_ok-add_values w ↦
           let a = w.in-Some.attribute in
           let some : kept raw ≡ Some a = sym c.in_ok-attribute.ensures ∙ w.in-Some.is in
-          let grown : c.match-branch-2.items.items ≡ with_values items a.kind a.values =
+          let grown : c.match-branch-3.items.items ≡ with_values items a.kind a.values =
           ap (λ v. v.items) w.items-is ∙ w.in_ok-add_values.ensures.ok in
           record {
             joined = grown ∙ ap (λ xs. with_values xs a.kind a.values) c.loop-raw.invariant.joined
@@ -24,7 +24,7 @@ loop-raw-preserved c =
           }
       | in_default w ↦
           let none : kept raw ≡ None = sym c.in_ok-attribute.ensures ∙ w.in_default.is in
-          let same : c.match-branch-2.items.items ≡ items = ap (λ v. v.items) w.items-is in
+          let same : c.match-branch-3.items.items ≡ items = ap (λ v. v.items) w.items-is in
           record {
             joined = same ∙ c.loop-raw.invariant.joined ∙ sym (attributes_of-same raws _ raw c.loop-raw-test.true c.raw-item.is none);
             list = rw same c.loop-raw.invariant.list;

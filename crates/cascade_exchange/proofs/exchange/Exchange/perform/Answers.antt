@@ -11,11 +11,11 @@ returns-in-Open-clause-does c = rw c.in-Open.is c.open_search.ensures.does
 pub returns-in-Settle-clause-does : goal.returns-in-Settle-clause-does
 returns-in-Settle-clause-does c = rw c.in-Settle.is c.settle.ensures.does
 
-pub returns-in-Lose-clause-does : goal.returns-in-Lose-clause-does
-returns-in-Lose-clause-does c = rw c.in-Lose.is (lost_does c.args.out.now.lineage c.args.provider.now c.args.consumer_node.now c.lose.new.consumer_node _ c.lose.ensures)
+pub returns-in-LoseCookie-clause-does : goal.returns-in-LoseCookie-clause-does
+returns-in-LoseCookie-clause-does c = rw c.in-LoseCookie.is (lost_does c.args.out.now.lineage c.args.provider.now c.args.consumer_node.now c.lose_cookie.new.consumer_node _ c.lose_cookie.ensures)
 
-pub returns-in-Give-clause-does : goal.returns-in-Give-clause-does
-returns-in-Give-clause-does c = rw c.in-Give.is (given_does c.args.out.now.lineage c.args.provider.now c.args.consumer_node.now c.give.new.consumer_node c.in-Give.text _ c.give.result c.give.ensures.gives)
+pub returns-in-SetCookie-clause-does : goal.returns-in-SetCookie-clause-does
+returns-in-SetCookie-clause-does c = rw c.in-SetCookie.is (given_does c.args.out.now.lineage c.args.provider.now c.args.consumer_node.now c.set_cookie.new.consumer_node c.in-SetCookie.text _ c.set_cookie.result c.set_cookie.ensures.gives)
 
 -- ---- exchanges in steps
 
@@ -62,17 +62,17 @@ returns-in-Send-clause-consumer_node_err c = λ at_once. c.send.ensures.consumer
 pub returns-in-Cut-clause-untouched : goal.returns-in-Cut-clause-untouched
 returns-in-Cut-clause-untouched c = λ stepwise. in_steps c.args.self stepwise (ap is_stepwise c.in-Cut.is)
 
-pub returns-in-Lose-clause-untouched : goal.returns-in-Lose-clause-untouched
-returns-in-Lose-clause-untouched c = λ stepwise. in_steps c.args.self stepwise (ap is_stepwise c.in-Lose.is)
+pub returns-in-LoseCookie-clause-untouched : goal.returns-in-LoseCookie-clause-untouched
+returns-in-LoseCookie-clause-untouched c = λ stepwise. in_steps c.args.self stepwise (ap is_stepwise c.in-LoseCookie.is)
 
-pub returns-in-Give-clause-untouched : goal.returns-in-Give-clause-untouched
-returns-in-Give-clause-untouched c = λ stepwise. in_steps c.args.self stepwise (ap is_stepwise c.in-Give.is)
+pub returns-in-SetCookie-clause-untouched : goal.returns-in-SetCookie-clause-untouched
+returns-in-SetCookie-clause-untouched c = λ stepwise. in_steps c.args.self stepwise (ap is_stepwise c.in-SetCookie.is)
 
-pub returns-in-Idle-clause-untouched : goal.returns-in-Idle-clause-untouched
-returns-in-Idle-clause-untouched c = λ stepwise. in_steps c.args.self stepwise (ap is_stepwise c.in-Idle.is)
+pub returns-in-CutIfBusy-clause-untouched : goal.returns-in-CutIfBusy-clause-untouched
+returns-in-CutIfBusy-clause-untouched c = λ stepwise. in_steps c.args.self stepwise (ap is_stepwise c.in-CutIfBusy.is)
 
-pub returns-in-Want-clause-untouched : goal.returns-in-Want-clause-untouched
-returns-in-Want-clause-untouched c = λ stepwise. in_steps c.args.self stepwise (ap is_stepwise c.in-Want.is)
+pub returns-in-Respec-clause-untouched : goal.returns-in-Respec-clause-untouched
+returns-in-Respec-clause-untouched c = λ stepwise. in_steps c.args.self stepwise (ap is_stepwise c.in-Respec.is)
 
 pub returns-in-Cut-clause-provider_err : goal.returns-in-Cut-clause-provider_err
 returns-in-Cut-clause-provider_err c = λ at_once. c.cut.ensures.provider_err
@@ -80,20 +80,20 @@ returns-in-Cut-clause-provider_err c = λ at_once. c.cut.ensures.provider_err
 pub returns-in-Cut-clause-consumer_node_err : goal.returns-in-Cut-clause-consumer_node_err
 returns-in-Cut-clause-consumer_node_err c = λ at_once. c.cut.ensures.consumer_node_err
 
-pub returns-in-Idle-clause-provider_err : goal.returns-in-Idle-clause-provider_err
-returns-in-Idle-clause-provider_err c = λ at_once. c.cut_if_busy.ensures.provider_err
+pub returns-in-CutIfBusy-clause-provider_err : goal.returns-in-CutIfBusy-clause-provider_err
+returns-in-CutIfBusy-clause-provider_err c = λ at_once. c.cut_if_busy.ensures.provider_err
 
-pub returns-in-Idle-clause-consumer_node_err : goal.returns-in-Idle-clause-consumer_node_err
-returns-in-Idle-clause-consumer_node_err c = λ at_once. c.cut_if_busy.ensures.consumer_node_err
+pub returns-in-CutIfBusy-clause-consumer_node_err : goal.returns-in-CutIfBusy-clause-consumer_node_err
+returns-in-CutIfBusy-clause-consumer_node_err c = λ at_once. c.cut_if_busy.ensures.consumer_node_err
 
-pub returns-in-Want-clause-provider_err : goal.returns-in-Want-clause-provider_err
-returns-in-Want-clause-provider_err c = λ at_once. c.want.ensures.provider_err
+pub returns-in-Respec-clause-provider_err : goal.returns-in-Respec-clause-provider_err
+returns-in-Respec-clause-provider_err c = λ at_once. c.respec.ensures.provider_err
 
-pub returns-in-Want-clause-consumer_node_err : goal.returns-in-Want-clause-consumer_node_err
-returns-in-Want-clause-consumer_node_err c = λ at_once. c.want.ensures.consumer_node_err
+pub returns-in-Respec-clause-consumer_node_err : goal.returns-in-Respec-clause-consumer_node_err
+returns-in-Respec-clause-consumer_node_err c = λ at_once. c.respec.ensures.consumer_node_err
 
-pub returns-in-Give-clause-provider_err : goal.returns-in-Give-clause-provider_err
-returns-in-Give-clause-provider_err c = λ at_once. on_err_weaker c.give.result (λ same. refl) c.give.ensures.err
+pub returns-in-SetCookie-clause-provider_err : goal.returns-in-SetCookie-clause-provider_err
+returns-in-SetCookie-clause-provider_err c = λ at_once. on_err_weaker c.set_cookie.result (λ same. refl) c.set_cookie.ensures.err
 
-pub returns-in-Give-clause-consumer_node_err : goal.returns-in-Give-clause-consumer_node_err
-returns-in-Give-clause-consumer_node_err c = λ at_once. c.give.ensures.err
+pub returns-in-SetCookie-clause-consumer_node_err : goal.returns-in-SetCookie-clause-consumer_node_err
+returns-in-SetCookie-clause-consumer_node_err c = λ at_once. c.set_cookie.ensures.err

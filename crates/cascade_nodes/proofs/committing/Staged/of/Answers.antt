@@ -2,7 +2,7 @@
 use Rattle.std.proofs.Common.{◌≡◌, ◌∷◌, [], ◌++◌, ◌∙◌, ap, sym, subst, true, rules}
 use Rattle.std.proofs.lemmas.List.{map-append}
 use Rattle.std.specs.List.{list_all}
-use Rattle.entry_tree.specs.Fitting.{is_light}
+use Rattle.entry_tree.specs.Fitting.{is_within_entry_limit}
 use Rattle.entry_tree.specs.Selection.{Search, search_of}
 use Rattle.entry_tree.specs.Sound.{is_sound_put}
 use Rattle.sync_consumer.specs.Taking.{AreFit}
@@ -29,6 +29,6 @@ loop-stage-preserved c =
           subst (λ cs. list_all (λ (commit : StagedCommit). list_all is_sound_put commit.puts) cs ≡ true) (sym commits)
           (list_all-push (λ (commit : StagedCommit). list_all is_sound_put commit.puts) before.commits.items (commit_of stage) is.sound fit.sound);
       light =
-          subst (λ cs. list_all (λ (commit : StagedCommit). list_all is_light commit.puts) cs ≡ true) (sym commits)
-          (list_all-push (λ (commit : StagedCommit). list_all is_light commit.puts) before.commits.items (commit_of stage) is.light fit.light);
+          subst (λ cs. list_all (λ (commit : StagedCommit). list_all is_within_entry_limit commit.puts) cs ≡ true) (sym commits)
+          (list_all-push (λ (commit : StagedCommit). list_all is_within_entry_limit commit.puts) before.commits.items (commit_of stage) is.light fit.light);
     }

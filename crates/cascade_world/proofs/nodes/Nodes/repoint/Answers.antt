@@ -1,7 +1,7 @@
 use Rattle.std.proofs.Common.{ap, sym, subst, ◌∙◌, ◌<◌, length, arith}
 use Rattle.std.proofs.lemmas.Result.{err_from_is_err_and}
 use Rattle.sync_consumer.specs.Taking.{ConsumerState}
-use Rattle.cascade_exchange.specs.declared.exchange.Exchange.TheVariants.{Idle}
+use Rattle.cascade_exchange.specs.declared.exchange.Exchange.TheVariants.{CutIfBusy}
 use Rattle.cascade_world.specs.World.{WorldState, is_offered}
 use Rattle.cascade_world.proofs.Pointing.{stand_seen, repoint_unknown, repoint_nowhere, repoint_circle, repoint_outside, repoint_refused, still_within, repointed}
 use Rattle.cascade_world.proofs.nodes.Nodes.repoint.Goals as goal
@@ -37,7 +37,7 @@ returns-in_err-lines-clause-steps c =
 
 pub index_mut-requires : goal.index_mut-requires
 index_mut-requires c =
-    let low = still_within c.args.self.now c.exchange.new.self c.args.name c.in-Some.consumer_node Idle c.in_ok-lines.lines (sym c.in-Some.ensures) c.in_ok-lines.ensures.steps in
+    let low = still_within c.args.self.now c.exchange.new.self c.args.name c.in-Some.consumer_node CutIfBusy c.in_ok-lines.lines (sym c.in-Some.ensures) c.in_ok-lines.ensures.steps in
     let low' : c.in-Some.consumer_node < length c.self-2.inside.consumer_nodes.items = subst (λ (s : WorldState). c.in-Some.consumer_node < length s.consumer_nodes) (sym c.self-2.view_is) low in
     omega (arith, c.self-2.inside.consumer_nodes.ok.0)
 

@@ -3,7 +3,7 @@ use Rattle.std.proofs.Common.{rules, tests, ◌≡◌, ap, sym, subst, ◌∙◌
 use Rattle.std.proofs.lemmas.List.Sorted.{IsPartitionPoint-from_clause}
 use Rattle.csn_cookie.specs.Csn.{start, is_upto, upto}
 use Rattle.entry_tree.specs.declared.op.Write.{Write}
-use Rattle.directory_writes.specs.Directory.{csns, CsnsRise}
+use Rattle.directory_writes.specs.Directory.{DirectoryWithRoom, csns, CsnsRise}
 use Rattle.directory_writes.proofs.Csns.{upto_parted, upto_at}
 use Rattle.directory_writes.proofs.directory.Directory.upto.Goals as goal
 
@@ -18,4 +18,4 @@ returns c =
     (λ a r q k. search (rules, tests)) in
     upto_at csn kept c.partition_point.result c.partition_point.ensures.bound point
     ∙ ap (λ writes. upto (csns writes) csn) same
-    ∙ ap (λ d. upto (csns d.writes) csn) c.self.view_is
+    ∙ ap (λ (v : DirectoryWithRoom). upto (csns v.state.writes) csn) c.self.view_is

@@ -14,11 +14,11 @@ returns-clause-ok c =
     let read = ap (map (λ (e : Bor Entry). e.now)) c.deref.ensures.value ∙ c.in_ok-entries.ensures in
     let after : map (λ (e : Bor Entry). e.now) c.deref-2.result.now ≡ committed c.args.self.now c.args.puts.now c.args.drops.now =
     ap (map (λ (e : Bor Entry). e.now)) c.deref-2.ensures.value ∙ c.in_ok-after.ensures ∙ ap (λ xs. committed xs c.args.puts.now c.args.drops.now) read in
-    rw after at c.check_held.ensures.ok
+    rw after at c.check_content.ensures.ok
 
 pub returns-clause-refused : goal.returns-clause-refused
 returns-clause-refused c =
     let read = ap (map (λ (e : Bor Entry). e.now)) c.deref.ensures.value ∙ c.in_ok-entries.ensures in
     let after : map (λ (e : Bor Entry). e.now) c.deref-2.result.now ≡ committed c.args.self.now c.args.puts.now c.args.drops.now =
     ap (map (λ (e : Bor Entry). e.now)) c.deref-2.ensures.value ∙ c.in_ok-after.ensures ∙ ap (λ xs. committed xs c.args.puts.now c.args.drops.now) read in
-    rw after at c.check_held.ensures.refused
+    rw after at c.check_content.ensures.refused

@@ -5,7 +5,7 @@ use Rattle.std.proofs.lemmas.Result.{err_from_is_err_and}
 use Rattle.schema_rules.specs.Attributes.{weight_of}
 use Rattle.entry_writes.specs.declared.entry.Entry.{Entry}
 use Rattle.entry_writes.specs.Codes.{modify_code}
-use Rattle.entry_writes.specs.Fault.{HasCode}
+use Rattle.entry_writes.specs.Fault.{HasOpCode}
 use Rattle.entry_writes.specs.State.{is_named, entry_named, total_weight}
 use Rattle.entry_writes.specs.Touched.{IsPlan}
 use Rattle.entry_tree.proofs.Modifying.{placed, code_placed, effect_placed, touched_placed}
@@ -33,7 +33,7 @@ returns-in_err-entry-clause-refused c =
     let there = placed es name e c.self.invariant.directory.ascends found in
     let rest : c.weight_without-others.result + weight_of e.attrs ≡ total_weight es = c.weight_without-others.ensures ∙ c.self.invariant.directory.weighed in
     let code = code_placed es name there.0 e c.weight_without-others.result c.args.edits.now there.1 rest in
-    let shown : HasCode (modify_code es (entry_named es name) c.args.edits.now) c.in_err-entry.field-0.0 = rw code c.in_err-entry.ensures.refused in
+    let shown : HasOpCode (modify_code es (entry_named es name) c.args.edits.now) c.in_err-entry.field-0.0 = rw code c.in_err-entry.ensures.refused in
     let p = err_from_is_err_and c.from_residual.result c.from_residual.ensures.1 in
     rw (p.1, p.2, view) shown
 

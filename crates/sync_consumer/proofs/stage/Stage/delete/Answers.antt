@@ -2,7 +2,7 @@
 use Rattle.std.proofs.Common.{◌≡◌, ◌∙◌, true, false, None, ap, sym, refl, arith}
 use Rattle.std.specs.Map.{keys_of}
 use Rattle.sync_model.specs.Copy.{Stage, puts_of, staged}
-use Rattle.sync_model.specs.Within.{is_crowded}
+use Rattle.sync_model.specs.Within.{exceeds_limits}
 use Rattle.sync_consumer.specs.declared.stage.StagedChange.TheVariants.{Delete}
 use Rattle.sync_consumer.specs.Staging.{changes_kept, rises}
 use Rattle.sync_consumer.proofs.Rooms.{staged_count, staged_weight, dropped_within}
@@ -14,7 +14,7 @@ invariant_of-self-2 c =
     let u = c.args.uuid in
     let now : Stage = c.args.self.now in
     let up : rises (keys_of now) ≡ true = ap (λ (s : Stage). rises (keys_of s)) (sym c.self.view_is) ∙ c.self.invariant.ordered in
-    let within : is_crowded (puts_of now) ≡ false = ap (λ (s : Stage). is_crowded (puts_of s)) (sym c.self.view_is) ∙ c.self.invariant.within in
+    let within : exceeds_limits (puts_of now) ≡ false = ap (λ (s : Stage). exceeds_limits (puts_of s)) (sym c.self.view_is) ∙ c.self.invariant.within in
     let count = staged_count now u None up in
     let weight = staged_weight now u None up in
     let few = c.load_without-load.ensures.count in

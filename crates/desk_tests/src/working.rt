@@ -1,0 +1,272 @@
+//! Threads at work at desks of their own.
+ghost use Rattle.std.specs.Prelude.{◌≡◌, OnSome};
+ghost use Rattle.std.specs.Thread.{IsSync};
+ghost use Rattle.turn_cell.specs.Journals.{Every};
+ghost use Rattle.turn_cell.specs.Passes.{cell_id};
+ghost use Rattle.shared_directory.specs.Passes.{IsPassOf};
+ghost use Rattle.desk_tests.specs.Groups.{ArePassesOf, AreGivenBack};
+
+use crate::asking::{add, count, follow, next};
+use crate::passing::{Pair, put_back};
+use entry_tree::Scope;
+use shared_directory::{DirectoryPass, SharedDirectory};
+use std::alloc::Global;
+use std::sync::Wait;
+use std::thread::{Threads, join};
+use sync_provider::{Accepted, Port};
+
+/// A write that was tried, and its reply.
+#[derive(Clone, Copy)]
+pub(crate) struct Tried {
+    pub(crate) thread: u32,
+    pub(crate) unit: u32,
+    pub(crate) code: u32,
+    pub(crate) number: u64,
+}
+
+/// The name of a unit: of this thread, or of all threads where that is 0.
+pub(crate) fn unit_name(alloc: Global, thread: u32, unit: u32) -> Option<String> {
+    format!(in alloc; "u{thread}-{unit}").ok()
+}
+
+/// Tries to add a unit, and notes the reply.
+pub(crate) fn try_unit<P: Port>(
+    alloc: Global,
+    port: &mut P,
+    thread: u32,
+    unit: u32,
+    log: &mut Vec<Tried>,
+) -> Option<()>
+    ensures { P.home port.new ≡ P.home port.old }
+{
+    let name = unit_name(alloc, thread, unit)?;
+    let reply = add(alloc, port, &name)?;
+    let tried = Tried {
+        thread,
+        unit,
+        code: reply.code,
+        number: reply.number,
+    };
+    log.push(tried).ok()
+}
+
+/// The call of a round. Each second round is a write: of a unit of this thread, or of one that all
+/// threads want. The others search the base, count the writes, and take a message of the search,
+/// where this thread has one.
+fn call<P: Port>(
+    alloc: Global,
+    port: &mut P,
+    thread: u32,
+    round: u32,
+    search: u64,
+    log: &mut Vec<Tried>,
+) -> Option<()>
+    ensures { P.home port.new ≡ P.home port.old }
+{
+    match round % 8 {
+        0 | 4 => try_unit(alloc, port, thread, round, log),
+        2 | 6 => try_unit(alloc, port, 0, round, log),
+        1 | 5 => {
+            let found = count(alloc, port, Scope::Base)?;
+            (found == 1).then_some(())
+        }
+        3 => {
+            let writes = port.writes();
+            (writes > 0).then_some(())
+        }
+        _ => {
+            let letter = next(port, search)?;
+            (letter == awaited(search)).then_some(())
+        }
+    }
+}
+
+/// What each call on a search gives: there is always a message of a search that was opened, since
+/// two writes of its own thread come for each that is taken.
+fn awaited(search: u64) -> char {
+    if search == 0 { '?' } else { 'm' }
+}
+
+/// The number of the search by which each fourth thread follows the directory, or 0, which names
+/// none.
+fn search_of<P: Port>(alloc: Global, port: &mut P, thread: u32) -> Option<u64>
+    ensures { P.home port.new ≡ P.home port.old }
+{
+    if thread % 4 != 0 {
+        return Some(0);
+    }
+    match follow(alloc, port)? {
+        Accepted::Opened(number, _) => Some(number),
+        Accepted::Refused(_) | Accepted::NoMemory => None,
+    }
+}
+
+/// Two thousand calls.
+fn work<P: Port>(alloc: Global, port: &mut P, thread: u32) -> Option<Vec<Tried>>
+    ensures { P.home port.new ≡ P.home port.old }
+{
+    let mut log = Vec::new(alloc);
+    let search = search_of(alloc, port, thread)?;
+    for round in 0..2_000u32 {
+        call(alloc, port, thread, round, search, &mut log)?;
+    }
+    if rises(log.as_slice()) {
+        Some(log)
+    } else {
+        None
+    }
+}
+
+/// Whether each reply comes after those before it: a write that was accepted has a greater number,
+/// and one that was refused counts no fewer writes.
+pub(crate) fn rises(log: &[Tried]) -> bool {
+    let mut last = 0;
+    for tried in log {
+        if tried.number < last || (tried.code == 0 && tried.number == last) {
+            return false;
+        }
+        last = tried.number;
+    }
+    true
+}
+
+/// How many of these writes were accepted.
+pub(crate) fn accepted(log: &[Tried]) -> u64 {
+    log.iter().filter(|tried| tried.code == 0).count() as u64
+}
+
+/// A pass that a thread gives back, and what it tried, unless it gave up.
+pub(crate) type Worked = (DirectoryPass, Option<Vec<Tried>>);
+
+pub(crate) type Four = ((Worked, Worked), (Worked, Worked));
+
+fn work_as<R: Wait>(
+    rt: &R,
+    alloc: Global,
+    directory: &SharedDirectory,
+    pass: DirectoryPass,
+    thread: u32,
+) -> Worked
+    requires { IsPassOf (cell_id directory.now.cell) pass }
+    ensures { IsPassOf (cell_id directory.now.cell) result.0 }
+{
+    let mut desk = directory.desk(rt, pass);
+    let log = work(alloc, &mut desk, thread);
+    (desk.leave(), log)
+}
+
+fn work_in_two<R: Threads + Wait + Sync>(
+    rt: &R,
+    alloc: Global,
+    directory: &SharedDirectory,
+    passes: Pair,
+    thread: u32,
+) -> (Worked, Worked)
+    requires { IsPassOf (cell_id directory.now.cell) passes.0
+        × IsPassOf (cell_id directory.now.cell) passes.1 }
+    ensures { IsPassOf (cell_id directory.now.cell) result.0.0
+        × IsPassOf (cell_id directory.now.cell) result.1.0 }
+{
+    let (first, second) = passes;
+    join(
+        rt,
+        || -> Worked
+            requires { IsSync R.row × IsPassOf (cell_id directory.now.cell) first }
+            ensures { IsPassOf (cell_id directory.entry.now.cell) result.0 }
+        { work_as(rt, alloc, directory, first, thread) },
+        || -> Worked
+            requires { IsSync R.row × IsPassOf (cell_id directory.now.cell) second }
+            ensures { IsPassOf (cell_id directory.entry.now.cell) result.0 }
+        { work_as(rt, alloc, directory, second, thread.wrapping_add(1)) },
+    )
+}
+
+fn work_in_four<R: Threads + Wait + Sync>(
+    rt: &R,
+    alloc: Global,
+    directory: &SharedDirectory,
+    passes: (Pair, Pair),
+    thread: u32,
+) -> Four
+    requires { ArePassesOf (cell_id directory.now.cell) passes }
+    ensures { AreGivenBack (cell_id directory.now.cell) result }
+{
+    let (lower, upper) = passes;
+    join(
+        rt,
+        || -> (Worked, Worked)
+            requires { IsSync R.row × IsPassOf (cell_id directory.now.cell) lower.0
+                × IsPassOf (cell_id directory.now.cell) lower.1 }
+            ensures { IsPassOf (cell_id directory.entry.now.cell) result.0.0
+                × IsPassOf (cell_id directory.entry.now.cell) result.1.0 }
+        { work_in_two(rt, alloc, directory, lower, thread) },
+        || -> (Worked, Worked)
+            requires { IsSync R.row × IsPassOf (cell_id directory.now.cell) upper.0
+                × IsPassOf (cell_id directory.now.cell) upper.1 }
+            ensures { IsPassOf (cell_id directory.entry.now.cell) result.0.0
+                × IsPassOf (cell_id directory.entry.now.cell) result.1.0 }
+        { work_in_two(rt, alloc, directory, upper, thread.wrapping_add(2)) },
+    )
+}
+
+/// Eight threads each call 2,000 times. Gives the passes, and all that they tried.
+pub(crate) fn work_in_eight<R: Threads + Wait + Sync>(
+    rt: &R,
+    alloc: Global,
+    directory: &SharedDirectory,
+    lower: (Pair, Pair),
+    upper: (Pair, Pair),
+) -> (Four, Four)
+    requires lower { ArePassesOf (cell_id directory.now.cell) lower }
+    requires upper { ArePassesOf (cell_id directory.now.cell) upper }
+    ensures lower { AreGivenBack (cell_id directory.now.cell) result.0 }
+    ensures upper { AreGivenBack (cell_id directory.now.cell) result.1 }
+{
+    join(
+        rt,
+        || -> Four
+            requires { IsSync R.row × ArePassesOf (cell_id directory.now.cell) lower }
+            ensures { AreGivenBack (cell_id directory.entry.now.cell) result }
+        { work_in_four(rt, alloc, directory, lower, 1) },
+        || -> Four
+            requires { IsSync R.row × ArePassesOf (cell_id directory.now.cell) upper }
+            ensures { AreGivenBack (cell_id directory.entry.now.cell) result }
+        { work_in_four(rt, alloc, directory, upper, 5) },
+    )
+}
+
+/// Puts the pass of a thread back, and what it tried at the end of a list.
+pub(crate) fn hand_in(
+    directory: &SharedDirectory,
+    passes: &mut Vec<DirectoryPass>,
+    worked: Worked,
+    log: &mut Vec<Tried>,
+) -> Option<()>
+    requires passes { Every (λ pass. IsPassOf (cell_id directory.now.cell) pass) passes.old.items }
+    requires worked { IsPassOf (cell_id directory.now.cell) worked.0 }
+    ensures { OnSome result
+        (Every (λ pass. IsPassOf (cell_id directory.now.cell) pass) passes.new.items) }
+{
+    let (pass, tried) = worked;
+    put_back(directory, passes, pass)?;
+    log.extend_from_slice(tried?.as_slice()).ok()
+}
+
+/// The same of four threads.
+pub(crate) fn hand_in_four(
+    directory: &SharedDirectory,
+    passes: &mut Vec<DirectoryPass>,
+    four: Four,
+    log: &mut Vec<Tried>,
+) -> Option<()>
+    requires passes { Every (λ pass. IsPassOf (cell_id directory.now.cell) pass) passes.old.items }
+    requires four { AreGivenBack (cell_id directory.now.cell) four }
+    ensures { OnSome result
+        (Every (λ pass. IsPassOf (cell_id directory.now.cell) pass) passes.new.items) }
+{
+    let ((first, second), (third, fourth)) = four;
+    hand_in(directory, passes, first, log)?;
+    hand_in(directory, passes, second, log)?;
+    hand_in(directory, passes, third, log)?;
+    hand_in(directory, passes, fourth, log)
+}

@@ -1,0 +1,131 @@
+//! What a directory keeps beside its writes.
+
+ghost use Rattle.std.specs.Prelude.{◌≡◌, ◌<◌, IfOk};
+ghost use Rattle.entry_tree.specs.Sound.{is_commit};
+ghost use Rattle.directory_writes.specs.Directory.{IsNext};
+ghost use Rattle.directory_writes.specs.Standing.{fresh_standing, standing_after};
+ghost use Rattle.directory_writes.specs.Touches.{number_at};
+
+use crate::NoMemory;
+use crate::preview::Preview;
+use crate::ready::Ready;
+use crate::touches::{Numbers, renewed};
+use csn_cookie::{Csn, CsnMaker};
+use entry_tree::{Op, Tree};
+use shared_map::SharedMap;
+use std::alloc::Global;
+use std::marker::Model;
+
+/// What a directory keeps beside its writes, and by which the next one is judged: how many there
+/// are and what they weigh, the last CSN, the entries, and for each entry the number of the write
+/// that touched it last. That after a write shares with that before it what did not change.
+#[derive(Drop)]
+pub struct Standing {
+    pub(crate) count: u64,
+    pub(crate) weight: u64,
+    pub(crate) csn_maker: CsnMaker,
+    pub(crate) tree: Tree,
+    /// True only where no two entries have one name: a commit leaves none, and without writes there
+    /// are no entries.
+    pub(crate) has_unique_names: bool,
+    numbers: Numbers,
+}
+
+impl Model for Standing {
+    ghost use Rattle.directory_writes.specs.Directory.{StandsWithinLimits};
+    ghost use Rattle.directory_writes.specs.Standing.{StandingState};
+
+    ghost Value = { StandingState };
+
+    ghost view = { λ s. record {
+      count = s.count;
+      weight = s.weight;
+      last = s.csn_maker;
+      entries = s.tree;
+      numbers = s.numbers;
+    } };
+
+    ghost invariant = { λ s. StandsWithinLimits s.count s.weight s.tree s.has_unique_names };
+}
+
+impl Standing {
+    /// That of a directory without writes. Its number, which its CSNs carry, is below 4096.
+    pub(crate) fn new(alloc: Global, sid: u16) -> Standing
+        requires { sid < 4096 }
+        ensures { result ≡ fresh_standing sid }
+    {
+        let csn_maker = CsnMaker::new(sid);
+        let tree = Tree::new(alloc);
+        let numbers = SharedMap::new(alloc);
+        Standing {
+            count: 0,
+            weight: 0,
+            csn_maker,
+            tree,
+            has_unique_names: true,
+            numbers,
+        }
+    }
+
+    /// The last CSN.
+    pub(crate) fn last(&self) -> Csn
+        ensures { result ≡ self.now.last }
+    {
+        self.csn_maker.last()
+    }
+
+    /// Lends the entries.
+    pub(crate) fn tree(&self) -> &Tree
+        ensures { result.now ≡ self.now.entries }
+    {
+        &self.tree
+    }
+
+    /// The number of the write that touched the entry of this identity last.
+    pub(crate) fn last_touch_of(&self, uuid: u128) -> Option<u64>
+        ensures { result ≡ number_at self.now.numbers uuid }
+    {
+        self.numbers.get(&uuid).copied()
+    }
+
+    /// A write that was previewed on this, with what is kept after it, which is made beside this.
+    /// It is `NoMemory` where memory runs out.
+    pub fn ready(&self, op: &Op, preview: Preview) -> Result<Ready, NoMemory>
+        requires { IsNext self.now op.now preview }
+        ensures preview { IfOk result (λ ready. ready.preview ≡ preview) }
+        ensures after { IfOk result (λ ready. ready.after ≡ standing_after self.now preview) }
+    {
+        let after = self.after(op, &preview)?;
+        Ok(Ready { preview, after })
+    }
+
+    /// What is kept after one more write, which was previewed so.
+    fn after(&self, op: &Op, preview: &Preview) -> Result<Standing, NoMemory>
+        requires { IsNext self.now op.now preview.now }
+        ensures { IfOk result (λ after. after ≡ standing_after self.now preview.now) }
+    {
+        let number = self.count + 1;
+        let has_unique_names = is_commit(op);
+        let csn_maker = preview.csn_maker.copy();
+        let numbers = renewed(&self.numbers, number, preview.touched.list())?;
+        let tree = self.tree.with_changes(&preview.touched)?;
+        Ok(Standing {
+            count: number,
+            weight: preview.weight,
+            csn_maker,
+            tree,
+            has_unique_names,
+            numbers,
+        })
+    }
+}
+
+/// Whether it is a commit.
+fn is_commit(op: &Op) -> bool
+    ensures { result ≡ is_commit op.now }
+{
+    match op {
+        Op::Add(_, _) | Op::Delete(_) | Op::Modify(_, _) | Op::Rename(_, _, _, _) => false,
+        Op::Commit(_, _) => true,
+    }
+}

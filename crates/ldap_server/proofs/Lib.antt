@@ -1,0 +1,20 @@
+-- Lemmas of the crate.
+pub mod Amid
+pub mod Asking
+pub mod AtEnd
+pub mod Binds
+pub mod Endings
+pub mod Events
+pub mod Exchanging
+pub mod FirstAnswers
+pub mod Going
+pub mod Handing
+pub mod Linking
+pub mod Performing
+pub mod Requested
+pub mod Rounds
+pub mod SamePorts
+pub mod Searched
+pub mod Selections
+pub mod Spelled
+pub mod Steps

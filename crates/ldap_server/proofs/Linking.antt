@@ -1,0 +1,182 @@
+-- The loop of a session over a link.
+use Rattle.std.proofs.Common.{◌≡◌, ℕ, ◌+◌, ◌-◌, ◌≤◌, List, [], ◌∷◌, ◌++◌, Option, Some, None, Bool, refl, sym, ap, subst, ◌∙◌, append_assoc, arith}
+use Rattle.std.specs.List.{flat_map}
+use Rattle.std.specs.Io.KnownBytes.{Appends, Consumes, IsAtEnd}
+use Rattle.std.proofs.KnownBytes.{Appends-kept, Appends-nil, Appends-trans, Consumes-kept, Consumes-nil, Consumes-trans}
+use Rattle.std.proofs.lemmas.List.{append-nil}
+use Rattle.sync_io.specs.Faults.{CountHasRisen}
+use Rattle.sync_io.specs.Sides.{SinkSide, SourceSide}
+use Rattle.sync_io.specs.Sink.{AppendsPrefix}
+use Rattle.ldap_session.specs.declared.ended.Ended.{Ended}
+use Rattle.ldap_session.specs.declared.ended.Ended.TheVariants.{EndOfInput, ReadFault, WriteFault}
+use Rattle.ldap_session.specs.declared.event.Event.{Event}
+use Rattle.ldap_server.specs.Session.{Connected, Runs}
+use Rattle.ldap_server.specs.Serving.{LinkBytes, Serves, Takes, brought_by}
+use Rattle.ldap_server.specs.declared.connection.Out.{Out}
+use Rattle.ldap_server.proofs.AtEnd.{ends_at_end}
+use Rattle.ldap_server.proofs.Amid.{Amid, running_all, running_none, running_one}
+
+-- ---- the sides of a link
+
+abbrev held_in : Option SinkSide → Option (List ℕ)
+held_in None = None
+held_in (Some s) = s.held
+
+abbrev write_faults_in : Option SinkSide → ℕ
+write_faults_in None = 0
+write_faults_in (Some s) = s.faults
+
+-- a read that leaves the side where bytes go out leaves what was written and the faults of writes
+pub sink_same : {L : Type 0} (side : L → Option SinkSide) (held : L → Option (List ℕ)) (faults : L → ℕ) (old new : L)
+    → ((l : L) → side l ≡ Some (record { held = held l; faults = faults l })) → side new ≡ side old
+    → (held new ≡ held old) × (faults new ≡ faults old)
+sink_same side held faults old new reports same =
+    let both : Some (record { held = held new; faults = faults new }) ≡ Some (record { held = held old; faults = faults old }) = sym (reports new) ∙ same ∙ reports old in
+    (ap held_in both, ap write_faults_in both)
+
+-- what a write leaves of the side where bytes come in
+pub record SourceSame {L : Type 0} (left read : L → Option (List ℕ)) (waits : L → Bool) (faults : L → ℕ) (old new : L) : Type 0 where
+  pub left_is : left new ≡ left old
+  pub read_is : read new ≡ read old
+  pub waits_is : waits new ≡ waits old
+  pub faults_is : faults new ≡ faults old
+
+abbrev left_in : Option SourceSide → Option (List ℕ)
+left_in None = None
+left_in (Some s) = s.left
+
+abbrev read_in : Option SourceSide → Option (List ℕ)
+read_in None = None
+read_in (Some s) = s.read
+
+abbrev waits_in : Bool → Option SourceSide → Bool
+waits_in other None = other
+waits_in other (Some s) = s.waits
+
+abbrev read_faults_in : Option SourceSide → ℕ
+read_faults_in None = 0
+read_faults_in (Some s) = s.faults
+
+pub source_same : {L : Type 0} (side : L → Option SourceSide) (left read : L → Option (List ℕ)) (waits : L → Bool) (faults : L → ℕ) (old new : L)
+    → ((l : L) → side l ≡ Some (record { left = left l; read = read l; waits = waits l; faults = faults l })) → side new ≡ side old
+    → SourceSame left read waits faults old new
+source_same side left read waits faults old new reports same =
+    let now : SourceSide = record { left = left new; read = read new; waits = waits new; faults = faults new } in
+    let before : SourceSide = record { left = left old; read = read old; waits = waits old; faults = faults old } in
+    let both : Some now ≡ Some before = sym (reports new) ∙ same ∙ reports old in
+    record {
+      left_is = ap left_in both;
+      read_is = ap read_in both;
+      waits_is = ap (waits_in (waits old)) both;
+      faults_is = ap read_faults_in both;
+    }
+
+-- ---- the loop
+
+-- some events have come, whatever comes later
+pub record Linked (old : Connected) (before : LinkBytes) (now : Connected) (after : LinkBytes) : Type 0 where
+  pub events : List Event
+  pub sent : List ℕ
+  pub all : (later : List Event) → Amid old (events ++ later) later sent now
+  pub taken : Consumes before.left after.left (flat_map brought_by events)
+  pub read : Appends before.read after.read (flat_map brought_by events)
+  pub written : Appends before.held after.held sent
+  -- the last of them ended the session only where the input had ended
+  pub at_end : old.ended ≡ None → now.ended ≡ Some EndOfInput → IsAtEnd after.left
+
+none_is : (o : Option Ended) (e : Ended) → o ≡ None → o ≡ Some e → ⊥
+none_is o e none some = let wrong : None ≡ Some e = sym none ∙ some in cc
+
+pub linked_none : (old : Connected) (before : LinkBytes) → Linked old before old before
+linked_none old before = record {
+  events = [];
+  sent = [];
+  all = λ later. running_none old later;
+  taken = Consumes-nil before.left;
+  read = Appends-nil before.read;
+  written = Appends-nil before.held;
+  at_end = λ live end. absurd (none_is old.ended EndOfInput live end);
+}
+
+brought-push : (events : List Event) (event : Event) → flat_map brought_by (events ++ event ∷ []) ≡ flat_map brought_by events ++ brought_by event
+brought-push [] event = append-nil (brought_by event)
+brought-push (first ∷ events) event =
+    ap (λ xs. brought_by first ++ xs) (brought-push events event) ∙ sym (append_assoc (brought_by first) (flat_map brought_by events) (brought_by event))
+
+-- one event more
+pub linked_one : (old mid new : Connected) (before between after : LinkBytes) (out : Out)
+    → Linked old before mid between → (old.ended ≡ None → mid.ended ≡ None)
+    → Takes mid between.left between.read after.left after.read (Some out) new → Appends between.held after.held out.bytes
+    → Linked old before new after
+linked_one old mid new before between after out l live t w = record {
+  events = l.events ++ t.0 ∷ [];
+  sent = l.sent ++ out.bytes;
+  all = λ later.
+      subst (λ events. Amid old events later (l.sent ++ out.bytes) new) (sym (append_assoc l.events (t.0 ∷ []) later))
+      (running_one old mid new (l.events ++ t.0 ∷ later) later t.0 l.sent out.bytes out.ended (l.all (t.0 ∷ later)) t.1);
+  taken = subst (λ bytes. Consumes before.left after.left bytes) (sym (brought-push l.events t.0)) (Consumes-trans before.left between.left after.left (flat_map brought_by l.events) (brought_by t.0) l.taken t.2);
+  read = subst (λ bytes. Appends before.read after.read bytes) (sym (brought-push l.events t.0)) (Appends-trans before.read between.read after.read (flat_map brought_by l.events) (brought_by t.0) l.read t.3);
+  written = Appends-trans before.held between.held after.held l.sent out.bytes l.written w;
+  at_end = λ began end. ends_at_end mid new t.0 out.bytes out.ended after.left (live began) t.1 t.4 end;
+}
+
+runs_now : (old now : Connected) (events : List Event) (sent : List ℕ) → Amid old (events ++ []) [] sent now → Runs old events sent now
+runs_now old now events sent r =
+    running_all old now events sent (subst (λ all. Amid old all [] sent now) (append-nil events) r)
+
+-- the session is over
+pub serves_ended : (old now : Connected) (before after : LinkBytes) (ended : Ended)
+    → Linked old before now after → now.ended ≡ Some ended → Serves old before ended now after
+serves_ended old now before after ended l is = record {
+  events = l.events;
+  sent = l.sent;
+  runs = runs_now old now l.events l.sent (l.all []);
+  taken = l.taken;
+  read = l.read;
+  prefix = (l.sent, [], sym (append-nil l.sent), l.written);
+  whole = λ _. l.written;
+  end = λ _ _. is;
+  at_end = λ live end. l.at_end live (is ∙ ap Some end);
+}
+
+-- a read failed
+pub serves_unread : (old mid now : Connected) (before between after : LinkBytes)
+    → Linked old before mid between → Takes mid between.left between.read after.left after.read None now
+    → after.held ≡ between.held → Serves old before ReadFault now after
+serves_unread old mid now before between after l t held = record {
+  events = l.events;
+  sent = l.sent;
+  runs = subst (λ n. Runs old l.events l.sent n) (sym t.0) (runs_now old mid l.events l.sent (l.all []));
+  taken = Consumes-kept before.left between.left after.left (flat_map brought_by l.events) l.taken t.1;
+  read = Appends-kept before.read between.read after.read (flat_map brought_by l.events) l.read t.2;
+  prefix = (l.sent, [], sym (append-nil l.sent), written);
+  whole = λ _. written;
+  end = λ unread _. absurd (unread refl);
+  at_end = λ _ end. absurd (let wrong : ReadFault ≡ EndOfInput = end in cc);
+}
+  where
+    written : Appends before.held after.held l.sent
+    written = subst (λ h. Appends before.held h l.sent) (sym held) l.written
+
+-- a write failed
+pub serves_unwritten : (old mid new : Connected) (before between after : LinkBytes) (out : Out)
+    → Linked old before mid between
+    → Takes mid between.left between.read after.left after.read (Some out) new → AppendsPrefix between.held after.held out.bytes
+    → Serves old before WriteFault new after
+serves_unwritten old mid new before between after out l t w = record {
+  events = l.events ++ t.0 ∷ [];
+  sent = l.sent ++ out.bytes;
+  runs = running_all old new (l.events ++ t.0 ∷ []) (l.sent ++ out.bytes)
+      (running_one old mid new (l.events ++ t.0 ∷ []) [] t.0 l.sent out.bytes out.ended (l.all (t.0 ∷ [])) t.1);
+  taken = subst (λ bytes. Consumes before.left after.left bytes) (sym (brought-push l.events t.0)) (Consumes-trans before.left between.left after.left (flat_map brought_by l.events) (brought_by t.0) l.taken t.2);
+  read = subst (λ bytes. Appends before.read after.read bytes) (sym (brought-push l.events t.0)) (Appends-trans before.read between.read after.read (flat_map brought_by l.events) (brought_by t.0) l.read t.3);
+  prefix = (l.sent ++ w.0, w.1, ap (λ xs. l.sent ++ xs) w.2 ∙ sym (append_assoc l.sent w.0 w.1), Appends-trans before.held between.held after.held l.sent w.0 l.written w.3);
+  whole = λ fine. absurd (fine refl);
+  end = λ _ unwritten. absurd (unwritten refl);
+  at_end = λ _ end. absurd (let wrong : WriteFault ≡ EndOfInput = end in cc);
+}
+
+-- ---- counts of faults
+
+pub rose_later : (first before now : ℕ) → first ≤ before → CountHasRisen before now → CountHasRisen first now
+rose_later first before now later rose = omega (arith, later, rose)

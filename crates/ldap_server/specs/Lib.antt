@@ -1,0 +1,11 @@
+pub mod Encoding
+pub mod Exchanges
+pub mod Following
+pub mod HandOuts
+pub mod Points
+pub mod Seen
+pub mod Selecting
+pub mod Serving
+pub mod Session
+pub mod Standing
+pub mod Table

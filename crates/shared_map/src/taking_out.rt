@@ -1,0 +1,130 @@
+//! How a pair is taken out where its way down stands, as far as no other map shares the nodes.
+ghost use Rattle.std.specs.Prelude.{◌≡◌, IfNone, IfOk, IfSome, OnErr, OnOk};
+ghost use Rattle.std.specs.BTreeMap.{is_at};
+ghost use Rattle.std.specs.List.Sorted.{IsStrictlySortedBy};
+ghost use Rattle.std.specs.Map.{keys_of, remove_entry};
+ghost use Rattle.shared_map.specs.Nodes.{pairs, pairs_beside, pairs_of};
+
+use crate::in_place::in_balance;
+use crate::nodes::{Node, Nodes};
+use crate::queries::Query;
+use crate::taking::{joined, without};
+use std::alloc::{AllocError, Global};
+use std::cmp::Ordering;
+use std::mem;
+use std::sync::Arc;
+
+/// The nodes without the pair of the key. Where memory runs out they are as before. Down to the
+/// given number of levels nodes are changed where they stand; below that, and where another map
+/// shares them, they are made anew.
+#[cycle(taking)]
+pub(crate) fn take_from<K: Ord + Drop, V: Drop, Q: Query<K>>(
+    alloc: Global,
+    levels: u8,
+    nodes: Nodes<K, V>,
+    key: Q,
+) -> (Nodes<K, V>, Result<(), AllocError>)
+    ensures ok { IsStrictlySortedBy K.cmp (keys_of (pairs nodes)) → OnOk result.1
+        (pairs result.0 ≡ remove_entry (is_at (Q.compare key)) (pairs nodes)) }
+    ensures err { OnErr result.1 (pairs result.0 ≡ pairs nodes) }
+{
+    if levels == 0 {
+        return take_anew(alloc, nodes, key);
+    }
+    match nodes {
+        Nodes::Nothing => (Nodes::Nothing, Ok(())),
+        Nodes::Fork(shared) => take_from_node(alloc, levels - 1, shared, key),
+    }
+}
+
+/// The same for a node and those below it.
+#[cycle(taking)]
+fn take_from_node<K: Ord + Drop, V: Drop, Q: Query<K>>(
+    alloc: Global,
+    levels: u8,
+    mut shared: Arc<Node<K, V>>,
+    key: Q,
+) -> (Nodes<K, V>, Result<(), AllocError>)
+    ensures ok { IsStrictlySortedBy K.cmp (keys_of (pairs_of shared.value)) → OnOk result.1
+        (pairs result.0 ≡ remove_entry (is_at (Q.compare key)) (pairs_of shared.value)) }
+    ensures err { OnErr result.1 (pairs result.0 ≡ pairs_of shared.value) }
+{
+    let Some(node) = Arc::get_mut(&mut shared) else {
+        return take_anew(alloc, Nodes::Fork(shared), key);
+    };
+    match take_below(alloc, levels, node, key) {
+        Some(answer) => (in_balance(alloc, shared), answer),
+        None => without_own(alloc, shared),
+    }
+}
+
+/// Takes the pair out of those below a node that no other map shares. None where it is the node's
+/// own, which stays.
+#[cycle(taking)]
+fn take_below<K: Ord + Drop, V: Drop, Q: Query<K>>(
+    alloc: Global,
+    levels: u8,
+    node: &mut Node<K, V>,
+    key: Q,
+) -> Option<Result<(), AllocError>>
+    ensures ok { IsStrictlySortedBy K.cmp (keys_of (pairs_of node.old)) → IfSome result (λ answer.
+        OnOk answer
+        (pairs_of node.new ≡ remove_entry (is_at (Q.compare key)) (pairs_of node.old))) }
+    ensures err { IfSome result (λ answer. OnErr answer (pairs_of node.new ≡ pairs_of node.old)) }
+    ensures own { IsStrictlySortedBy K.cmp (keys_of (pairs_of node.old)) → IfNone result
+        (pairs_beside node.new ≡ remove_entry (is_at (Q.compare key)) (pairs_of node.old)) }
+    ensures same { IfNone result (pairs_of node.new ≡ pairs_of node.old) }
+{
+    match key.compare(&node.pair.key) {
+        Ordering::Less => {
+            let lower = mem::replace(&mut node.lower, Nodes::Nothing);
+            let (lower, answer) = take_from(alloc, levels, lower, key);
+            node.set_lower(lower);
+            Some(answer)
+        }
+        Ordering::Equal => None,
+        Ordering::Greater => {
+            let higher = mem::replace(&mut node.higher, Nodes::Nothing);
+            let (higher, answer) = take_from(alloc, levels, higher, key);
+            node.set_higher(higher);
+            Some(answer)
+        }
+    }
+}
+
+/// The nodes below a node, without its own pair.
+fn without_own<K: Drop, V: Drop>(
+    alloc: Global,
+    shared: Arc<Node<K, V>>,
+) -> (Nodes<K, V>, Result<(), AllocError>)
+    ensures ok { OnOk result.1 (pairs result.0 ≡ pairs_beside shared.value) }
+    ensures err { OnErr result.1 (pairs result.0 ≡ pairs_of shared.value) }
+{
+    match both_sides(alloc, &shared) {
+        Ok(nodes) => (nodes, Ok(())),
+        Err(error) => (Nodes::Fork(shared), Err(error)),
+    }
+}
+
+/// The lower and the higher pairs of a node.
+fn both_sides<K: Drop, V: Drop>(alloc: Global, node: &Node<K, V>) -> Result<Nodes<K, V>, AllocError>
+    ensures { IfOk result (λ nodes. pairs nodes ≡ pairs_beside node.now) }
+{
+    joined(alloc, &node.lower, &node.higher)
+}
+
+/// The nodes without the pair of the key, of which those on the way to it are made anew.
+fn take_anew<K: Ord + Drop, V: Drop, Q: Query<K>>(
+    alloc: Global,
+    nodes: Nodes<K, V>,
+    key: Q,
+) -> (Nodes<K, V>, Result<(), AllocError>)
+    ensures ok { IsStrictlySortedBy K.cmp (keys_of (pairs nodes)) → OnOk result.1
+        (pairs result.0 ≡ remove_entry (is_at (Q.compare key)) (pairs nodes)) }
+    ensures err { OnErr result.1 (pairs result.0 ≡ pairs nodes) }
+{
+    match without(alloc, &nodes, key) {
+        Ok(after) => (after, Ok(())),
+        Err(error) => (nodes, Err(error)),
+    }
+}

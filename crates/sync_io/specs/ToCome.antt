@@ -1,0 +1,6 @@
+-- What is still to come, in order.
+use Rattle.std.specs.Prelude.{◌≡◌, List, [], ◌∷◌, take}
+
+-- this is the first of what is to come
+abbrev pub IsNext : {T : Type 0} → T → List T → Type 0
+IsNext item to_come = take 1 to_come ≡ item ∷ []
