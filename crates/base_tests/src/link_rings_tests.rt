@@ -1,7 +1,7 @@
 //! A ring between two ends.
 use crate::rows::check_rows;
 use bytes::Bytes;
-use link_rings::{Full, ring};
+use link_rings::{EventCount, Full, ring};
 use std::alloc::{AllocError, Global};
 use std::test::Fail;
 
@@ -14,6 +14,30 @@ ring => Ok(()) Ok(()) Err(Full(b\"c\")) Some(b\"a\") Some(b\"b\") None Ok(()) 1 
 #[test]
 fn gives_what_was_offered(rt: HostRuntime) -> Result<(), Fail> {
     check_rows(&rt, rt.alloc(), ROWS)
+}
+
+/// A ring of one slot has room until an item is offered, and again once it is taken.
+#[test]
+fn a_ring_has_room_where_a_slot_is_free(rt: HostRuntime) -> Result<(), Fail> {
+    let (mut producer, mut consumer) = ring(rt.alloc(), 1)?;
+    let before = producer.has_room();
+    let offered = producer.offer(item(b"a"));
+    let full = !producer.has_room();
+    let taken = consumer.take();
+    let after = producer.has_room();
+    assert!(rt; before && offered.is_ok() && full && taken.is_some() && after);
+    Ok(())
+}
+
+/// Who waits for more events than there were goes on where one has come since then.
+#[test]
+fn a_wait_ends_where_an_event_has_come(rt: HostRuntime) -> Result<(), Fail> {
+    let events = EventCount::new();
+    let before = events.read();
+    events.advance();
+    events.wait_after(&rt, before);
+    assert!(rt; before == 0 && events.read() == 1);
+    Ok(())
 }
 
 fn item(text: &'static [u8]) -> Bytes {

@@ -21,7 +21,7 @@ use Rattle.sync_model.specs.Copy.Fault.{OutOfPlace}
 use Rattle.sync_model.specs.Keeping.{Keeps}
 use Rattle.sync_model.specs.Within.{limit_fault, refused_by, taken_within}
 use Rattle.sync_model.proofs.Keeping.{taking_keeps}
-use Rattle.sync_model.proofs.Bare.{Agrees}
+use Rattle.sync_model.proofs.WithoutCookie.{Agrees}
 use Rattle.sync_wire.specs.Requesting.{persists}
 use Rattle.sync_wire.specs.declared.fault.DecodeFault.{DecodeFault}
 use Rattle.sync_consumer.specs.Committing.{stage_in, IsReadyOn}
@@ -34,12 +34,12 @@ use Rattle.sync_provider.specs.declared.searches.Accepted.TheVariants as accepte
 use Rattle.cascade_nodes.specs.Commits.{with_stages, AreHeldAfter}
 use Rattle.cascade_exchange.specs.declared.exchange.Exchange.{Exchange}
 use Rattle.cascade_exchange.specs.declared.exchange.Exchange.TheVariants as goes
-use Rattle.cascade_exchange.specs.Exchange.{Agreement, ExchangeOutcome, part_of, fits, name_of, copy_of, handed, linked, sends, given_up, with_received, storing, stored_reported, taken_as, takes, idle, asking, refused_copy, opened_by, opens, holding, given, wanted, respecs}
+use Rattle.cascade_exchange.specs.Exchange.{Agreement, ExchangeOutcome, part_of, fits, name_of, copy_of, handed, linked, sends, given_up, with_received, storing, stored_reported, taken_as, takes, idle, asking, refused_copy, opened_by, opens, holding, with_spec, respecs}
 use Rattle.cascade_exchange.specs.Reception.{Came, operation_said, whole_said, came_of, refused_for, received_as, received_by, received_of, received_next, decoded, received, ends_without_cookie, says_end_without_cookie}
 use Rattle.cascade_exchange.specs.Reception.{Came as came}
 use Rattle.cascade_report.specs.ReportLines.{StoredStage, ReportLine, stage_of, stages_in, stages_of}
 use Rattle.cascade_report.specs.ReportLines.{ReportLine as reported}
-use Rattle.cascade_exchange.proofs.EachPart.{LeavesIn, AnyMode, SmallSteps, then_leaves, sent_leaves, takes_leave, cut_leaves, idle_leaves, opens_leave, settles_leave, given_leaves}
+use Rattle.cascade_exchange.proofs.EachPart.{LeavesIn, AnyMode, SmallSteps, then_leaves, sent_leaves, takes_leave, cut_leaves, idle_leaves, opens_leave, settles_leave, sets_cookie_leaves}
 use Rattle.cascade_exchange.proofs.EndsWithoutCookie.{ending_answer, whole_same_end}
 
 -- a copy that holds what it may, with a stage that is ready to take effect
@@ -255,12 +255,12 @@ steps_carry = record {
 holding_carried : (p : Agreement) (cookie : Option (List ℕ)) → CarriedIn p (holding p cookie)
 holding_carried p cookie = quiet p _ (reported.Holds (name_of p) cookie) refl (λ tidy. record { tidy = tidy; held = refl })
 
-wanted_carried : (search : Search) (p : Agreement) → CarriedIn p (wanted search p)
-wanted_carried search p = quiet p _ (reported.Holds (name_of p) None) refl (λ tidy. record { tidy = idle_kept p.consumer_node.consumer.copy.held (stage_in p.consumer_node.consumer.copy.session) tidy; held = refl })
+with_spec_carried : (search : Search) (p : Agreement) → CarriedIn p (with_spec search p)
+with_spec_carried search p = quiet p _ (reported.Holds (name_of p) None) refl (λ tidy. record { tidy = idle_kept p.consumer_node.consumer.copy.held (stage_in p.consumer_node.consumer.copy.session) tidy; held = refl })
 
 -- so does another wish
 pub respecs_carried : (search : Search) (p : Agreement) → CarriedIn p (respecs search p)
-respecs_carried search p = then_leaves IsCarried AnyMode steps_carry p (idle p) (wanted search) (idle_leaves IsCarried AnyMode steps_carry p) (wanted_carried search)
+respecs_carried search p = then_leaves IsCarried AnyMode steps_carry p (idle p) (with_spec search) (idle_leaves IsCarried AnyMode steps_carry p) (with_spec_carried search)
 
 -- ---- all parts
 
@@ -272,6 +272,6 @@ part_carried (goes.Take count) p = takes_leave IsCarried AnyMode steps_carry cou
 part_carried goes.Cut p = cut_leaves IsCarried AnyMode steps_carry p
 part_carried goes.Settle p = settles_leave IsCarried AnyMode steps_carry tt p
 part_carried goes.LoseCookie p = holding_carried p None
-part_carried (goes.SetCookie text) p = given_leaves IsCarried AnyMode steps_carry text p (holding_carried p (Some text))
+part_carried (goes.SetCookie text) p = sets_cookie_leaves IsCarried AnyMode steps_carry text p (holding_carried p (Some text))
 part_carried goes.CutIfBusy p = idle_leaves IsCarried AnyMode steps_carry p
 part_carried (goes.Respec spec) p = respecs_carried (search_of spec) p

@@ -30,7 +30,7 @@ unfolding operation_of
 op_said persisting controls (op.BindRequest version name authentication) = refl
 op_said persisting controls (op.BindResponse result sasl) = refl
 op_said persisting controls op.UnbindRequest = refl
-op_said persisting controls (op.SearchRequest base scope deref size_limit time_limit types_only filter attributes) = refl
+op_said persisting controls (op.SearchRequest asked) = refl
 op_said persisting controls (op.SearchResultEntry name attributes) = refl
 op_said persisting controls (op.SearchResultDone result) = refl
 op_said persisting controls (op.Write (Add name attributes)) = refl

@@ -10,7 +10,7 @@ use Rattle.sync_provider.specs.HandingOut.HandOut.{Hands, Closes, Waits, Unknown
 use Rattle.sync_provider.specs.declared.searches.Accepted.{Accepted}
 use Rattle.cascade_script.specs.declared.fault.Cause.TheVariants.{LaterCookie}
 use Rattle.cascade_exchange.specs.Cookies.{is_later}
-use Rattle.cascade_exchange.specs.Exchange.{Agreement, ExchangeOutcome, after_lines, and_then, name_of, copy_of, Sending, turn_of, handed, linked, fits, sends, sending_by, sending, sent_before, sent, given_up, taken_as, taken_from, taking, taken_before, taken_some, takes, is_busy, cut, idle, opened_by, answer_of, opened_idle, opens, is_required, asked_again, opens_anew, left_to_send, ran_before, ran_some, runs, drains, settled_reported, follows_on, refreshes, catches_up, settles, holding, given}
+use Rattle.cascade_exchange.specs.Exchange.{Agreement, ExchangeOutcome, after_lines, and_then, name_of, copy_of, Sending, turn_of, handed, linked, fits, sends, sending_by, sending, sent_before, sent, given_up, taken_as, taken_from, taking, taken_before, taken_some, takes, is_busy, cut, idle, opened_by, answer_of, opened_idle, opens, is_required, asked_again, opens_anew, left_to_send, ran_before, ran_some, runs, drains, settled_reported, follows_on, refreshes, catches_up, settles, holding, sets_cookie}
 use Rattle.cascade_exchange.specs.Exchange.Sending.{Sends, Rests, Overflows}
 use Rattle.cascade_exchange.specs.Reception.{Came, received}
 use Rattle.cascade_exchange.specs.Reception.{Came as came}
@@ -189,5 +189,5 @@ module _ (Leaves : Agreement → Agreement → List ReportLine → Type 0) (Asks
   -- ---- cookies
 
   -- a cookie that is given
-  pub given_leaves : (text : List ℕ) (pair : Agreement) → LeavesIn Leaves pair (holding pair (Some text)) → LeavesIn Leaves pair (given text pair)
-  given_leaves text pair holds = if_leaves pair (is_later (copy_of pair.consumer_node).cookie text) (Err (LaterCookie (copy_of pair.consumer_node).cookie text)) (holding pair (Some text)) tt holds
+  pub sets_cookie_leaves : (text : List ℕ) (pair : Agreement) → LeavesIn Leaves pair (holding pair (Some text)) → LeavesIn Leaves pair (sets_cookie text pair)
+  sets_cookie_leaves text pair holds = if_leaves pair (is_later (copy_of pair.consumer_node).cookie text) (Err (LaterCookie (copy_of pair.consumer_node).cookie text)) (holding pair (Some text)) tt holds

@@ -18,7 +18,7 @@ use Rattle.sync_model.specs.Message.SyncMessage.{AddOrModify, Delete, Present, I
 use Rattle.sync_model.specs.Copy.{Copy, SyncSession, staged, all_dropped, refused, with_cookie, refreshed, over, taken_names, ends_phase, taken_done, taken_in, taken_by, taken}
 use Rattle.sync_model.specs.Copy.Fault.{OutOfPlace}
 use Rattle.sync_model.specs.Within.{puts_entry, limit_fault, taken_within}
-use Rattle.sync_model.proofs.Bare.{Agrees, either_agrees, with_cookie_agrees, names_agree, refreshed_agrees, info_agrees, limits_agree}
+use Rattle.sync_model.proofs.WithoutCookie.{Agrees, either_agrees, with_cookie_agrees, names_agree, refreshed_agrees, info_agrees, limits_agree}
 use Rattle.sync_wire.specs.Decoding as wire
 use Rattle.sync_wire.specs.Refusals.{and_then, on_ok, DecodeFails}
 use Rattle.sync_wire.specs.Values.{sync_state}

@@ -12,12 +12,12 @@ use Rattle.sync_model.specs.Copy.{Copy, SyncSession}
 use Rattle.sync_provider.specs.Machine.{ProviderState}
 use Rattle.sync_provider.specs.declared.searches.Accepted.{Accepted}
 use Rattle.sync_provider.specs.declared.searches.Accepted.TheVariants as accepted
-use Rattle.cascade_exchange.specs.Exchange.{Agreement, ExchangeOutcome, part_of, name_of, copy_of, handed, linked, sends, sent, given_up, taken_as, taking, takes, is_busy, cut, idle, opened_by, opens, settles, holding, lost, given, wanted, respecs}
+use Rattle.cascade_exchange.specs.Exchange.{Agreement, ExchangeOutcome, part_of, name_of, copy_of, handed, linked, sends, sent, given_up, taken_as, taking, takes, is_busy, cut, idle, opened_by, opens, settles, holding, loses_cookie, sets_cookie, with_spec, respecs}
 use Rattle.cascade_exchange.specs.Reception.{Came, received}
 use Rattle.cascade_exchange.specs.Reception.{Came as came}
 use Rattle.cascade_report.specs.ReportLines.{ReportLine}
 use Rattle.cascade_report.specs.ReportLines.{ReportLine as reported}
-use Rattle.cascade_exchange.proofs.EachPart.{LeavesIn, LeavesTaking, AnyMode, SmallSteps, sent_leaves, taking_leaves, takes_leave, cut_leaves, idle_leaves, opens_leave, settles_leave, given_leaves}
+use Rattle.cascade_exchange.proofs.EachPart.{LeavesIn, LeavesTaking, AnyMode, SmallSteps, sent_leaves, taking_leaves, takes_leave, cut_leaves, idle_leaves, opens_leave, settles_leave, sets_cookie_leaves}
 use Rattle.cascade_exchange.specs.Trace.{seen_of, took, dropped, after_own, name_in}
 use Rattle.cascade_exchange.proofs.Others.{directory_stays, kind_stays}
 
@@ -188,12 +188,12 @@ holding_keeps : (pair : Agreement) (cookie : Option (List ℕ)) → KeepsIn pair
 holding_keeps pair cookie = record { name = refl; source = refl; spec = refl; reload = refl; directory = refl; kind = refl; lineage = refl; own = (refl, tt); traced = refl }
 
 -- a cookie that is lost keeps what each part keeps
-pub lost_keeps : (pair : Agreement) → KeepsIn pair (lost pair)
-lost_keeps pair = holding_keeps pair None
+pub loses_cookie_keeps : (pair : Agreement) → KeepsIn pair (loses_cookie pair)
+loses_cookie_keeps pair = holding_keeps pair None
 
 -- a cookie that is given keeps what each part keeps
-pub given_keeps : (text : List ℕ) (pair : Agreement) → KeepsIn pair (given text pair)
-given_keeps text pair = given_leaves (Alters as_before) AnyMode steps_keep text pair (holding_keeps pair (Some text))
+pub sets_cookie_keeps : (text : List ℕ) (pair : Agreement) → KeepsIn pair (sets_cookie text pair)
+sets_cookie_keeps text pair = sets_cookie_leaves (Alters as_before) AnyMode steps_keep text pair (holding_keeps pair (Some text))
 
 -- ---- other wishes
 
@@ -202,8 +202,8 @@ no_session true session rest free = let never : true ≡ false = free in cc
 no_session false None rest free = refl
 no_session false (Some session) rest free = let never : true ≡ false = free in cc
 
-wanted_alters : (search : Search) (pair : Agreement) → (copy_of pair.consumer_node).session ≡ None → AltersIn (λ s. search) pair (wanted search pair)
-wanted_alters search pair idle' =
+with_spec_alters : (search : Search) (pair : Agreement) → (copy_of pair.consumer_node).session ≡ None → AltersIn (λ s. search) pair (with_spec search pair)
+with_spec_alters search pair idle' =
     let copy = copy_of pair.consumer_node in
     record {
       name = refl;
@@ -221,10 +221,10 @@ wanted_alters search pair idle' =
 pub respecs_alters : (search : Search) (pair : Agreement) → AltersIn (λ s. search) pair (respecs search pair)
 respecs_alters search pair =
     elim (cases_Bool (is_busy pair.consumer_node)) [
-      | inl busy ↦ rw busy (keeps_both (cuts_keep pair) (wanted_alters search (given_up pair (copy_of pair.consumer_node)) refl))
+      | inl busy ↦ rw busy (keeps_both (cuts_keep pair) (with_spec_alters search (given_up pair (copy_of pair.consumer_node)) refl))
       | inr free ↦
           rw free (
-          wanted_alters search pair
+          with_spec_alters search pair
           (no_session (is_some pair.consumer_node.search) (copy_of pair.consumer_node).session _ free)
           )
     ]
@@ -243,7 +243,7 @@ part_alters (goes.Send count) pair = sent_keeps count pair
 part_alters (goes.Take count) pair = takes_keeps count pair
 part_alters goes.Cut pair = cut_keeps pair
 part_alters goes.Settle pair = settles_keeps pair
-part_alters goes.LoseCookie pair = lost_keeps pair
-part_alters (goes.SetCookie text) pair = given_keeps text pair
+part_alters goes.LoseCookie pair = loses_cookie_keeps pair
+part_alters (goes.SetCookie text) pair = sets_cookie_keeps text pair
 part_alters goes.CutIfBusy pair = idle_keeps pair
 part_alters (goes.Respec spec) pair = respecs_alters (search_of spec) pair

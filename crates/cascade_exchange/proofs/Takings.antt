@@ -1,6 +1,6 @@
 -- Messages that are taken up to a fault, for which a search is to be given up yet.
 use Rattle.std.proofs.Common.{◌≡◌, ◌<◌, ◌≤◌, ◌-◌, ℕ, zero, suc, Bool, true, false, Option, Some, None, List, [], ◌∷◌, ◌++◌, refl, ap, sym, subst, ◌∙◌, arith}
-use Rattle.std.specs.Prelude.{Ok, Err, Result}
+use Rattle.std.specs.Prelude.{Ok, Err}
 use Rattle.ldap_messages.specs.Whole.{MessageValue}
 use Rattle.sync_provider.specs.Machine.{ProviderState}
 use Rattle.cascade_nodes.specs.declared.node.ConsumerNode.{ConsumerNode}

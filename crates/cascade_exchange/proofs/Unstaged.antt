@@ -1,16 +1,16 @@
 -- Exchanges that are done in one step, in which no stage takes effect.
-use Rattle.std.proofs.Common.{◌≡◌, ℕ, zero, suc, true, false, List, [], ◌∷◌, ◌++◌, refl, ap, subst, ◌∙◌, inl, inr}
+use Rattle.std.proofs.Common.{◌≡◌, ℕ, zero, suc, false, List, [], ◌∷◌, ◌++◌, refl, ap, subst, ◌∙◌, inl, inr}
 use Rattle.std.proofs.lemmas.Bool.{cases_Bool}
 use Rattle.std.specs.Prelude.{⊤, Ok, Err}
 use Rattle.entry_tree.specs.Selection.{Search, search_of}
 use Rattle.cascade_exchange.specs.Cookies.{is_later}
-use Rattle.cascade_exchange.specs.Exchange.{Agreement, ExchangeOutcome, after_lines, name_of, copy_of, Sending, sending, sent_before, sent, is_busy, cut, idle, given, respecs, part_of, is_stepwise}
+use Rattle.cascade_exchange.specs.Exchange.{Agreement, ExchangeOutcome, after_lines, name_of, copy_of, Sending, sending, sent_before, sent, is_busy, cut, idle, sets_cookie, respecs, part_of, is_stepwise}
 use Rattle.cascade_exchange.specs.Exchange.Sending.{Sends, Rests, Overflows}
 use Rattle.cascade_exchange.specs.Parts.{Does}
 use Rattle.cascade_exchange.specs.declared.exchange.Exchange.{Exchange}
 use Rattle.cascade_exchange.specs.declared.exchange.Exchange.TheVariants as goes
 use Rattle.cascade_report.specs.Report.{Report}
-use Rattle.cascade_report.specs.ReportLines.{ReportLine, stages_of}
+use Rattle.cascade_report.specs.ReportLines.{stages_of}
 use Rattle.cascade_report.specs.ReportLines.ReportLine.{Sent}
 
 -- no stage is reported
@@ -32,8 +32,8 @@ idle_unstaged pair =
       | inr free ↦ rw free refl
     ]
 
-given_unstaged : (text : List ℕ) (pair : Agreement) → HasNoStage (given text pair)
-given_unstaged text pair =
+sets_cookie_unstaged : (text : List ℕ) (pair : Agreement) → HasNoStage (sets_cookie text pair)
+sets_cookie_unstaged text pair =
     elim (cases_Bool (is_later (copy_of pair.consumer_node).cookie text)) [
       | inl later ↦ rw later tt
       | inr fine ↦ rw fine refl
@@ -66,7 +66,7 @@ part_unstaged (goes.Take count) pair at_once = let never : ⊥ = cc in absurd ne
 part_unstaged goes.Cut pair at_once = cut_unstaged pair
 part_unstaged goes.Settle pair at_once = let never : ⊥ = cc in absurd never
 part_unstaged goes.LoseCookie pair at_once = refl
-part_unstaged (goes.SetCookie text) pair at_once = given_unstaged text pair
+part_unstaged (goes.SetCookie text) pair at_once = sets_cookie_unstaged text pair
 part_unstaged goes.CutIfBusy pair at_once = idle_unstaged pair
 part_unstaged (goes.Respec spec) pair at_once = respecs_unstaged (search_of spec) pair
 

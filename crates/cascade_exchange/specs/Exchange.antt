@@ -372,12 +372,12 @@ holding pair cookie =
       reported.Holds (name_of pair) cookie ∷ [],
     )
 
-abbrev pub lost : Agreement → ExchangeOutcome
-lost pair = holding pair None
+abbrev pub loses_cookie : Agreement → ExchangeOutcome
+loses_cookie pair = holding pair None
 
 -- a text for a cookie, unless it is later than what is held
-abbrev pub given : List ℕ → Agreement → ExchangeOutcome
-given text pair =
+abbrev pub sets_cookie : List ℕ → Agreement → ExchangeOutcome
+sets_cookie text pair =
     if is_later (copy_of pair.consumer_node).cookie text
     then Err (LaterCookie (copy_of pair.consumer_node).cookie text)
     else holding pair (Some text)
@@ -385,8 +385,8 @@ given text pair =
 -- ---- other wishes
 
 -- the consumer wants this from now on; it keeps its entries, and loses its cookie
-abbrev pub wanted : Search → Agreement → ExchangeOutcome
-wanted search pair =
+abbrev pub with_spec : Search → Agreement → ExchangeOutcome
+with_spec search pair =
     Ok (
       record pair {
         consumer_node =
@@ -397,7 +397,7 @@ wanted search pair =
 
 -- a busy consumer is cut first
 abbrev pub respecs : Search → Agreement → ExchangeOutcome
-respecs search pair = and_then (idle pair) (wanted search)
+respecs search pair = and_then (idle pair) (with_spec search)
 
 -- ---- what goes on
 
@@ -407,8 +407,8 @@ part_of (goes.Send count) = sent count
 part_of (goes.Take count) = takes count
 part_of goes.Cut = cut
 part_of goes.Settle = settles
-part_of goes.LoseCookie = lost
-part_of (goes.SetCookie text) = given text
+part_of goes.LoseCookie = loses_cookie
+part_of (goes.SetCookie text) = sets_cookie text
 part_of goes.CutIfBusy = idle
 part_of (goes.Respec spec) = respecs (search_of spec)
 

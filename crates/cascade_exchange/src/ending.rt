@@ -13,7 +13,7 @@ use std::alloc::{AllocError, Global};
 use sync_messages::SyncDone;
 use sync_wire::{DecodeFault, SyncEvent, decode};
 
-/// Whether a message ends a refresh and gives no cookie.
+/// Whether a message ends a refresh and gives no cookie. It is `NoMemory` where memory runs out.
 #[tactic(auto, using(crate::proofs::EndsWithoutCookie::entry_no_end))]
 pub fn ends_without_cookie(alloc: Global, message: &Message) -> Result<bool, NoMemory>
     ensures { IfOk result

@@ -22,7 +22,8 @@ use sync_consumer::Taken;
 use sync_messages::Mode;
 use sync_provider::{Accepted, done_message};
 
-/// Opens a search that ends with its refresh, or goes on after it; a busy consumer is cut first.
+/// Opens a search that ends with its refresh, or goes on after it; a busy consumer is cut first. It
+/// is `LimitReached` where the link would hold more than 67,108,864 bytes, or `NoMemory`.
 #[tactic(auto, using(crate::proofs::Doing::refused_first))]
 pub fn open_search(
     alloc: Global,
@@ -41,7 +42,8 @@ pub fn open_search(
 }
 
 /// Opens a search that ends with its refresh, and asks for it a second time where the cookie does
-/// not serve.
+/// not serve. It is `LimitReached` where the link would hold more than 67,108,864 bytes, or
+/// `NoMemory`.
 #[tactic(auto, using(crate::proofs::Doing::refused_first))]
 pub fn open_anew(
     alloc: Global,

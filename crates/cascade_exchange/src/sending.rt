@@ -169,7 +169,8 @@ fn pass(provider: &mut ScriptProvider, consumer_node: &mut ConsumerNode, linked:
     }
 }
 
-/// Hands out one message into the link. False where nothing is pending.
+/// Hands out one message into the link. False where nothing is pending. It is `LimitReached` where
+/// the link would hold more than 67,108,864 bytes, or `NoMemory`.
 pub fn send_one(
     alloc: Global,
     provider: &mut ScriptProvider,

@@ -16,7 +16,8 @@ use std::alloc::Global;
 
 /// Brings the consumer up to its provider: it takes what its link holds, and what the search that
 /// is open has pending. A consumer whose persistent search has done its refresh is up then; another
-/// one gets there by a new search.
+/// one gets there by a new search. It is `LimitReached` where the link would hold more than
+/// 67,108,864 bytes, or `NoMemory`.
 #[tactic(auto, using(crate::proofs::Settled::settled, crate::proofs::Settled::drain_refused, crate::proofs::Settled::run_refused, crate::proofs::Settled::catching_refused))]
 pub fn settle(
     alloc: Global,

@@ -22,7 +22,7 @@ use Rattle.cascade_script.specs.Orders.{Order as asks}
 use Rattle.cascade_world.specs.ReportLines.{ReportLine, stages_of}
 use Rattle.cascade_world.specs.World.{WorldState, StepOutcome, provider_node_named, with_pair, commits_in, commits_of, with_lines, with_outcome, lineage_of, exchange}
 use Rattle.cascade_laws.proofs.Exchanged.{IsDone, done_kept, pair_feeds, pair_commits, pair_changed, pair_becomes, pair_followed}
-use Rattle.cascade_exchange.proofs.Exchanging.{Alters, AltersIn, as_before, sent_keeps, takes_keeps, cut_keeps, idle_keeps, opens_keeps, settles_keeps, lost_keeps, given_keeps}
+use Rattle.cascade_exchange.proofs.Exchanging.{Alters, AltersIn, as_before, sent_keeps, takes_keeps, cut_keeps, idle_keeps, opens_keeps, settles_keeps, loses_cookie_keeps, sets_cookie_keeps}
 use Rattle.cascade_exchange.proofs.Silence.{sent_silent, takes_silent, cut_silent, idle_silent, opens_silent, settles_silent}
 use Rattle.cascade_laws.proofs.Feeding.{Frame, frame_of, IsKept, PartsAreKept, WantsTheSame, CommitsAreKept}
 use Rattle.cascade_world.proofs.Finding.{IsChanged, provider_nodes_by, consumer_nodes_by}
@@ -186,8 +186,8 @@ exchange_keeps (goes.Send count) pair same = sent_keeps count pair
 exchange_keeps (goes.Take count) pair same = takes_keeps count pair
 exchange_keeps goes.Cut pair same = cut_keeps pair
 exchange_keeps goes.Settle pair same = settles_keeps pair
-exchange_keeps goes.LoseCookie pair same = lost_keeps pair
-exchange_keeps (goes.SetCookie text) pair same = given_keeps text pair
+exchange_keeps goes.LoseCookie pair same = loses_cookie_keeps pair
+exchange_keeps (goes.SetCookie text) pair same = sets_cookie_keeps text pair
 exchange_keeps goes.CutIfBusy pair same = idle_keeps pair
 exchange_keeps (goes.Respec spec) pair same = absurd same
 

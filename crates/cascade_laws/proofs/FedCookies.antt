@@ -12,7 +12,7 @@ use Rattle.cascade_nodes.specs.declared.node.ConsumerNode.{ConsumerNode}
 use Rattle.cascade_nodes.proofs.Fed.{IsAtRest}
 use Rattle.cascade_exchange.proofs.Owns.{owns-still}
 use Rattle.cascade_world.specs.Cookies.{held_cookie, is_later}
-use Rattle.cascade_world.specs.Exchange.{Agreement, ExchangeOutcome, copy_of, with_text, holding, lost, given}
+use Rattle.cascade_world.specs.Exchange.{Agreement, ExchangeOutcome, copy_of, with_text, holding, loses_cookie, sets_cookie}
 use Rattle.cascade_laws.specs.Headline.{Opening, Known, known_after, session_over}
 use Rattle.cascade_world.specs.ReportLines.{ReportLine as reported}
 use Rattle.cascade_laws.proofs.Composing.{IsKeptIn, Keeps}
@@ -67,11 +67,11 @@ holding_kept number suffix pair known cookie source fed promised elsewhere = rec
   elsewhere = subst (KeepsPromises number pair.consumer_node.consumer.spec known) (sym (own_cookie pair.consumer_node.name known cookie)) elsewhere;
 }
 
-pub lost_keeps : (number : ℕ) (suffix : Name) → Keeps number suffix lost
-lost_keeps number suffix pair known source fed room = holding_kept number suffix pair known None source fed tt (λ other writes least most far promised. tt)
+pub loses_cookie_keeps : (number : ℕ) (suffix : Name) → Keeps number suffix loses_cookie
+loses_cookie_keeps number suffix pair known source fed room = holding_kept number suffix pair known None source fed tt (λ other writes least most far promised. tt)
 
-pub given_keeps : (text : List ℕ) (number : ℕ) (suffix : Name) → Keeps number suffix (given text)
-given_keeps text number suffix pair known source fed room = by (is_later (copy_of pair.consumer_node).cookie text) refl
+pub sets_cookie_keeps : (text : List ℕ) (number : ℕ) (suffix : Name) → Keeps number suffix (sets_cookie text)
+sets_cookie_keeps text number suffix pair known source fed room = by (is_later (copy_of pair.consumer_node).cookie text) refl
   where
     refused : ExchangeOutcome
     refused = Err (LaterCookie (copy_of pair.consumer_node).cookie text)

@@ -31,7 +31,7 @@ use Rattle.sync_model.specs.Stream.{SyncOperation, content_after}
 use Rattle.sync_model.specs.Within.{limit_fault, refused_by, taken_within}
 use Rattle.sync_model.proofs.Histories.{ascends-state_of}
 use Rattle.sync_model.proofs.Groups.{heads, tails}
-use Rattle.sync_model.proofs.Bare.{Agrees}
+use Rattle.sync_model.proofs.WithoutCookie.{Agrees}
 use Rattle.sync_wire.specs.CanBeSent.{CanBeSent}
 use Rattle.sync_wire.proofs.OfSearch.{IsOfSearch}
 use Rattle.sync_provider.specs.Law.{Delivers}

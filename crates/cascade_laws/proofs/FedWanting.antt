@@ -9,7 +9,7 @@ use Rattle.cascade_nodes.specs.declared.node.ConsumerNode.{ConsumerNode}
 use Rattle.cascade_nodes.proofs.Fed.{IsAtRest}
 use Rattle.cascade_exchange.proofs.Owns.{owns-still}
 use Rattle.cascade_exchange.proofs.Others.{directory_stays}
-use Rattle.cascade_world.specs.Exchange.{Agreement, ExchangeOutcome, copy_of, name_of, given_up, is_busy, wanted, and_then}
+use Rattle.cascade_world.specs.Exchange.{Agreement, ExchangeOutcome, copy_of, name_of, given_up, is_busy, with_spec, and_then}
 use Rattle.cascade_laws.specs.Headline.{Known}
 use Rattle.cascade_world.specs.ReportLines.{ReportLine}
 use Rattle.cascade_world.specs.ReportLines.{ReportLine as reported}
@@ -99,7 +99,7 @@ respecs_are_kept number suffix search before after lines known below source fed 
     Good : ExchangeOutcome → Type 0
     Good outcome = RespeccedIn number suffix search before known outcome
 
-    by_cut : RespeccedIn number suffix search before known (and_then (CutOff before) (wanted search))
+    by_cut : RespeccedIn number suffix search before known (and_then (CutOff before) (with_spec search))
     by_cut =
         let cut = cut_kept number suffix before known source fed in
         let offered = ap (λ (d : DirectoryState). is_at_or_below search.base d.suffix) (directory_stays before.provider before.consumer_node.search) ∙ below in
@@ -107,8 +107,8 @@ respecs_are_kept number suffix search before after lines known below source fed 
         (respecced-then number suffix search before given (wanting_then given search) (reported.Cut (name_of before) ∷ []) (reported.Holds (name_of before) None ∷ []) known cut refl
         (rest_respecced number suffix search given known offered cut.source cut.fed (emptied_rests before.consumer_node)))
 
-    by : (busy : Bool) → is_busy before.consumer_node ≡ busy → Good (and_then (cond busy (cond (is_busy before.consumer_node) (CutOff before) (Nothing before)) (Ok (before, []))) (wanted search))
-    by true busy = subst (λ b. Good (and_then (cond b (CutOff before) (Nothing before)) (wanted search))) (sym busy) by_cut
+    by : (busy : Bool) → is_busy before.consumer_node ≡ busy → Good (and_then (cond busy (cond (is_busy before.consumer_node) (CutOff before) (Nothing before)) (Ok (before, []))) (with_spec search))
+    by true busy = subst (λ b. Good (and_then (cond b (CutOff before) (Nothing before)) (with_spec search))) (sym busy) by_cut
     by false rests =
         done_respecced number suffix search before (wanting_then before search) (reported.Holds (name_of before) None ∷ []) known
         (rest_respecced number suffix search before known below source fed (idle_rests before.consumer_node rests))

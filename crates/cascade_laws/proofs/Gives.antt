@@ -18,7 +18,7 @@ use Rattle.sync_provider.specs.HandingOut.HandOut.{Hands, Closes, Waits, Unknown
 use Rattle.sync_provider.specs.declared.searches.Accepted.{Accepted}
 use Rattle.sync_provider.specs.declared.searches.Accepted.TheVariants as accepted
 use Rattle.cascade_world.specs.Cookies.{is_later}
-use Rattle.cascade_world.specs.Exchange.{Agreement, ExchangeOutcome, fits, after_lines, and_then, name_of, copy_of, Sending, turn_of, sends, sending_by, sending, sent_before, sent, taken_as, taken_from, taking, taken_before, taken_some, takes, is_busy, cut, idle, request_from, answer_of, is_required, opened_by, opened_idle, opens, asked_again, opens_anew, left_to_send, ran_before, ran_some, runs, drains, follows_on, refreshes, catches_up, settled_reported, settles, lost, given, wanted, respecs}
+use Rattle.cascade_world.specs.Exchange.{Agreement, ExchangeOutcome, fits, after_lines, and_then, name_of, copy_of, Sending, turn_of, sends, sending_by, sending, sent_before, sent, taken_as, taken_from, taking, taken_before, taken_some, takes, is_busy, cut, idle, request_from, answer_of, is_required, opened_by, opened_idle, opens, asked_again, opens_anew, left_to_send, ran_before, ran_some, runs, drains, follows_on, refreshes, catches_up, settled_reported, settles, loses_cookie, sets_cookie, with_spec, respecs}
 use Rattle.cascade_world.specs.Exchange.Sending.{Sends, Rests, Overflows}
 use Rattle.cascade_world.specs.Reception.{Came, received}
 use Rattle.cascade_world.specs.Reception.{Came as came}
@@ -413,11 +413,11 @@ settles_gives name pair same =
 abbrev pub IsHolding : Option (List ℕ) → List ℕ → List ReportLine → Type 0
 IsHolding cookie name lines = lines ≡ reported.Holds name cookie ∷ []
 
-pub lost_gives : GivesAll (IsHolding None) lost
-lost_gives name pair same = (same, ap (λ n. reported.Holds n None ∷ []) same)
+pub loses_cookie_gives : GivesAll (IsHolding None) loses_cookie
+loses_cookie_gives name pair same = (same, ap (λ n. reported.Holds n None ∷ []) same)
 
-pub given_gives : (text : List ℕ) → GivesAll (IsHolding (Some text)) (given text)
-given_gives text name pair same =
+pub sets_cookie_gives : (text : List ℕ) → GivesAll (IsHolding (Some text)) (sets_cookie text)
+sets_cookie_gives text name pair same =
     elim (cases_Bool (is_later (copy_of pair.consumer_node).cookie text)) [
       | inl later ↦ rw later tt
       | inr good ↦ rw good (same, ap (λ n. reported.Holds n (Some text) ∷ []) same)
@@ -428,5 +428,5 @@ IsRespeccing name lines = (cut' : List ReportLine) × IsAtMost (reported.Cut nam
 
 pub respecs_gives : (search : Search) → GivesAll IsRespeccing (respecs search)
 respecs_gives search name pair same =
-    gives_then name (IsAtMost (reported.Cut name)) (λ lines. lines ≡ reported.Holds name None ∷ []) (IsRespeccing name) (idle pair) (wanted search) (λ lines more drops is. (lines, drops, ap (λ ls. lines ++ ls) is)) (idle_gives name pair same)
+    gives_then name (IsAtMost (reported.Cut name)) (λ lines. lines ≡ reported.Holds name None ∷ []) (IsRespeccing name) (idle pair) (with_spec search) (λ lines more drops is. (lines, drops, ap (λ ls. lines ++ ls) is)) (idle_gives name pair same)
     (λ after here. (here, ap (λ n. reported.Holds n None ∷ []) here))

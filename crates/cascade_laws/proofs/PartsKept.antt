@@ -11,7 +11,7 @@ use Rattle.cascade_laws.proofs.CatchingUp.{drains_drained, settles_from}
 use Rattle.cascade_laws.proofs.Composing.{IsKeptIn, Keeps, known_by_lines, kept-then, kept-part, keeps-then, kept-still}
 use Rattle.cascade_laws.proofs.Feeding.{IsSource, IsFed, IsKept, WantsTheSame, PartsAreKept}
 use Rattle.cascade_laws.proofs.FedCutting.{nothing_kept, cut_keeps, idle_keeps}
-use Rattle.cascade_laws.proofs.FedCookies.{lost_keeps, given_keeps}
+use Rattle.cascade_laws.proofs.FedCookies.{loses_cookie_keeps, sets_cookie_keeps}
 use Rattle.cascade_laws.proofs.FedOpening.{opens_keeps}
 use Rattle.cascade_laws.proofs.FedSending.{SendingKept, sending_kept}
 use Rattle.cascade_laws.proofs.FedTaking.{TakingKept, taking_kept}
@@ -100,8 +100,8 @@ part_keeps (goes.Send count) same number suffix = sent_keeps count number suffix
 part_keeps (goes.Take count) same number suffix = takes_keeps count number suffix
 part_keeps goes.Cut same number suffix = cut_keeps number suffix
 part_keeps goes.Settle same number suffix = settles_keeps number suffix
-part_keeps goes.LoseCookie same number suffix = lost_keeps number suffix
-part_keeps (goes.SetCookie text) same number suffix = given_keeps text number suffix
+part_keeps goes.LoseCookie same number suffix = loses_cookie_keeps number suffix
+part_keeps (goes.SetCookie text) same number suffix = sets_cookie_keeps text number suffix
 part_keeps goes.CutIfBusy same number suffix = idle_keeps number suffix
 part_keeps (goes.Respec spec) same number suffix = absurd same
 

@@ -8,7 +8,7 @@ use Rattle.cascade_script.specs.declared.fault.Cause.{Cause}
 use Rattle.cascade_script.specs.Orders.{Order}
 use Rattle.cascade_script.specs.Orders.{Order as asks}
 use Rattle.cascade_script.specs.Reader.{ScriptReader}
-use Rattle.cascade_world.specs.Exchange.{Agreement, ExchangeOutcome, agreement_of, sent, takes, cut, idle, opens, settles, lost, given, respecs}
+use Rattle.cascade_world.specs.Exchange.{Agreement, ExchangeOutcome, agreement_of, sent, takes, cut, idle, opens, settles, loses_cookie, sets_cookie, respecs}
 use Rattle.cascade_world.specs.ReportLines.{ReportLine, stages_of}
 use Rattle.cascade_world.specs.ReportLines.{ReportLine as reported}
 use Rattle.cascade_world.specs.World.{WorldState, StepOutcome, no_nodes, provider_node_named, consumer_node_named, declare_root, new_consumer_node, with_consumer, with_replica, declare_consumer, declare_replica, write_to, limited, limit_log, limit_queue, with_pair, commits_of, with_lines, with_outcome, lineage_of, exchange, pointed_after, repoint, respec, shown_of, show_of, step}
@@ -17,7 +17,7 @@ use Rattle.cascade_laws.specs.Headline.{EachReportsRight, LinesAreRight}
 use Rattle.cascade_laws.specs.Reports.{IsSending, IsTaking, IsAtMost, AreUpTo, IsOpening, IsReportOf, AreReportsOf}
 use Rattle.cascade_laws.specs.Run.{Runs}
 use Rattle.cascade_laws.proofs.Answered.{settling_right}
-use Rattle.cascade_laws.proofs.Gives.{PartGives, GivesAll, HasSettled, IsCutting, IsHolding, IsRespeccing, sent_gives, takes_gives, cut_gives, idle_gives, opens_gives, settles_gives, lost_gives, given_gives, respecs_gives}
+use Rattle.cascade_laws.proofs.Gives.{PartGives, GivesAll, HasSettled, IsCutting, IsHolding, IsRespeccing, sent_gives, takes_gives, cut_gives, idle_gives, opens_gives, settles_gives, loses_cookie_gives, sets_cookie_gives, respecs_gives}
 use Rattle.cascade_laws.proofs.HeadlineHolds.{runs_lines_right}
 
 -- a step that is done reports such lines
@@ -95,8 +95,8 @@ order_reports state (asks.Send name count) = exchanged_reports (λ n. AreUpTo co
 order_reports state (asks.Take name count) = exchanged_reports (λ n. AreUpTo count n (IsTaking n)) (asks.Take name count) state name (takes count) (λ lines h. h) (takes_gives count)
 order_reports state (asks.Cut name) = exchanged_reports IsCutting (asks.Cut name) state name cut (λ lines h. h) cut_gives
 order_reports state (asks.Settle name) = settled_reports name (exchange state name settles) (exchange_reports HasSettled state name settles settles_gives)
-order_reports state (asks.Lose name) = exchanged_reports (IsHolding None) (asks.Lose name) state name lost (λ lines h. h) lost_gives
-order_reports state (asks.Cookie name text) = exchanged_reports (IsHolding (Some text)) (asks.Cookie name text) state name (given text) (λ lines h. h) (given_gives text)
+order_reports state (asks.Lose name) = exchanged_reports (IsHolding None) (asks.Lose name) state name loses_cookie (λ lines h. h) loses_cookie_gives
+order_reports state (asks.Cookie name text) = exchanged_reports (IsHolding (Some text)) (asks.Cookie name text) state name (sets_cookie text) (λ lines h. h) (sets_cookie_gives text)
 order_reports state (asks.Repoint name source) =
     anyhow (IsAtMost (reported.Cut name)) (asks.Repoint name source) (repoint state name source) (λ lines h. h)
     (lookup.repointed (λ n. Reports (IsAtMost (reported.Cut n))) (λ n cause. tt) state name source (λ f s e there free inside.

@@ -7,7 +7,6 @@ use Rattle.sync_model.proofs.Groups.{each_one}
 use Rattle.sync_model.proofs.LaterWrites.{IsAfter, place_after, IsOfWrite, of_write}
 use Rattle.directory_writes.proofs.TouchedBy.{NamesChange, group_names}
 use Rattle.sync_provider.specs.Search.{whole_walk, refresh_from}
-use Rattle.sync_provider.proofs.Turns.{end_hands}
 use Rattle.cascade_laws.specs.Headline.{ReportsChange}
 use Rattle.dn_names.proofs.KeyTexts.{not_empty}
 

@@ -1,7 +1,7 @@
 -- The commits of an event: all of them or none, where nothing but a limit rejects one of them.
 use Rattle.std.proofs.Common.{◌≡◌, ℕ, Bool, true, false, cond, Option, Some, None, List, [], ◌∷◌, ◌++◌, length, take, refl, ap, sym, subst, ◌∙◌}
 use Rattle.std.specs.Option.{option_or}
-use Rattle.std.specs.Prelude.{⊤, ◌&&◌, ◌+◌, nat_le, nat_lt, is_none, Result, Ok, Err, fold, map, option_map}
+use Rattle.std.specs.Prelude.{⊤, ◌+◌, nat_le, nat_lt, is_none, Ok, Err, fold, map, option_map}
 use Rattle.std.proofs.Math.Seq.{take-append_seam}
 use Rattle.csn_cookie.specs.CsnMaker.{greatest_count}
 use Rattle.directory_writes.specs.Commits as directory
@@ -23,7 +23,6 @@ use Rattle.sync_provider.specs.Committing as committing
 use Rattle.sync_provider.specs.Machine as machine
 use Rattle.sync_provider.specs.Machine.{ProviderState, after_commit, committed_each, refusal_of_each}
 use Rattle.sync_provider.specs.declared.committing.StagedCommit.{StagedCommit}
-use Rattle.sync_provider.specs.declared.provider.Kind.{Kind}
 use Rattle.sync_provider.specs.declared.provider.Kind.TheVariants.{Replica}
 use Rattle.sync_provider.specs.declared.writing.CommitFault.{CommitFault}
 use Rattle.sync_provider.specs.declared.writing.CommitFault.TheVariants as fault

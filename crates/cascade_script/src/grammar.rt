@@ -31,7 +31,8 @@ pub enum Heading {
     Writes(Octets),
 }
 
-/// What a line says.
+/// What a line says. A line outside the grammar is `BadCommand`, and out of memory it is
+/// `NoMemory`.
 #[tactic(auto, unfolding(crate::specs::Grammar::saying))]
 pub fn heading_of(alloc: Global, text: &[u8], line: u64) -> Result<Heading, ScriptFault>
     ensures { Gives (ScriptFails line) (λ saying. Some (saying_of saying)) result

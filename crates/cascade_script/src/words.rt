@@ -16,7 +16,7 @@ use ldap_filter::{Filter, FilterFault};
 use ldif_text::cut_at;
 use std::alloc::{AllocError, Global};
 
-/// The two sides of the first mark; a line without one is faulty.
+/// The two sides of the first mark. A line without one is `BadCommand`.
 pub fn until_mark(bytes: &[u8], mark: u8, line: u64) -> Result<(&[u8], &[u8]), ScriptFault>
     ensures { Gives (ScriptFails line) (λ x. Some (x.0.now, x.1.now)) result
         (spec.until mark bytes.now) }
@@ -34,7 +34,7 @@ fn without_prefix<'a>(bytes: &'a [u8], prefix: &[u8]) -> Option<&'a [u8]>
     bytes.strip_prefix(prefix)
 }
 
-/// What follows the prefix.
+/// What follows the prefix. A line without it is `BadCommand`.
 pub fn after_prefix<'a>(bytes: &'a [u8], prefix: &[u8], line: u64) -> Result<&'a [u8], ScriptFault>
     ensures { Gives (ScriptFails line) (λ x. Some x.now) result
         (spec.stripped prefix.now bytes.now) }
@@ -42,7 +42,7 @@ pub fn after_prefix<'a>(bytes: &'a [u8], prefix: &[u8], line: u64) -> Result<&'a
     without_prefix(bytes, prefix).ok_or(ScriptFault::bad_command(line))
 }
 
-/// Goes on where the test holds.
+/// Goes on where the test holds. Else the line is `BadCommand`.
 pub fn only_if(test: bool, line: u64) -> Result<(), ScriptFault>
     ensures { Gives (ScriptFails line) (λ x. Some x) result (spec.guarded test) }
 {
@@ -53,7 +53,7 @@ pub fn only_if(test: bool, line: u64) -> Result<(), ScriptFault>
     }
 }
 
-/// Goes on where the line ends.
+/// Goes on where the line ends. Else it is `BadCommand`.
 #[tactic(auto, unfolding(crate::specs::Words::at_end))]
 pub fn at_end(rest: &[u8], line: u64) -> Result<(), ScriptFault>
     ensures { Gives (ScriptFails line) (λ x. Some x) result (spec.at_end rest.now) }
@@ -74,7 +74,7 @@ pub fn spells_node_name(bytes: &[u8]) -> bool
     !bytes.is_empty() && bytes.len() <= 32 && all_letters_or_digits(bytes)
 }
 
-/// The name of a node.
+/// The name of a node. Any other text is `BadCommand`, and out of memory it is `NoMemory`.
 #[tactic(auto, unfolding(crate::specs::Words::node_name))]
 pub fn node_name(alloc: Global, bytes: &[u8], line: u64) -> Result<Octets, ScriptFault>
     ensures { Gives (ScriptFails line) (λ x. Some x) result (spec.node_name bytes.now) }
@@ -83,7 +83,8 @@ pub fn node_name(alloc: Global, bytes: &[u8], line: u64) -> Result<Octets, Scrip
     Ok(Octets::from_slice(alloc, bytes)?)
 }
 
-/// The name of a node, and what stands after the space after it.
+/// The name of a node, and what stands after the space after it. Any other text is `BadCommand`,
+/// and out of memory it is `NoMemory`.
 #[tactic(auto, unfolding(crate::specs::Words::named))]
 pub fn named(alloc: Global, text: &[u8], line: u64) -> Result<(Octets, &[u8]), ScriptFault>
     ensures { Gives (ScriptFails line) (λ x. Some (x.0, x.1.now)) result (spec.named text.now) }
@@ -108,7 +109,8 @@ fn spells_number(text: &[u8]) -> bool
     (text.len() == 1 || text[0] != b'0') && all_digits(text)
 }
 
-/// A number up to the most.
+/// A decimal number up to the most, without a needless leading zero. Any other text is
+/// `BadCommand`.
 #[tactic(auto, unfolding(crate::specs::Words::number))]
 pub fn number(text: &[u8], most: u64, line: u64) -> Result<u64, ScriptFault>
     requires { most ≤ spec.greatest_number }
@@ -136,7 +138,7 @@ fn value_up_to(digits: &[u8], most: u64) -> Option<u64>
     Some(value)
 }
 
-/// What stands between quotation marks, and after them.
+/// What stands between quotation marks, and after them. A text that lacks one is `BadCommand`.
 #[tactic(auto, unfolding(crate::specs::Words::quoted))]
 pub fn quoted(text: &[u8], line: u64) -> Result<(&[u8], &[u8]), ScriptFault>
     ensures { Gives (ScriptFails line) (λ x. Some (x.0.now, x.1.now)) result
@@ -146,7 +148,8 @@ pub fn quoted(text: &[u8], line: u64) -> Result<(&[u8], &[u8]), ScriptFault>
     until_mark(rest, b'"', line)
 }
 
-/// The name of an entry.
+/// The name of an entry (RFC 4514, section 2). Any other text is `BadCommand`, and out of memory it
+/// is `NoMemory`.
 #[tactic(auto, unfolding(crate::specs::Words::name_in))]
 pub fn name_in(alloc: Global, text: &[u8], line: u64) -> Result<Dn, ScriptFault>
     ensures { Gives (ScriptFails line) (λ x. Some x) result (spec.name_in text.now) }
@@ -186,7 +189,9 @@ fn scope_in(word: &[u8], line: u64) -> Result<Scope, ScriptFault>
     Err(ScriptFault::bad_command(line))
 }
 
-/// `SCOPE "BASE" "FILTER"`, and what stands after it.
+/// `SCOPE "BASE" "FILTER"`, and what stands after it: the base as a name (RFC 4514, section 2), the
+/// filter as a text (RFC 4515, section 3). Any other text is `BadCommand`, and out of memory it is
+/// `NoMemory`.
 #[tactic(auto, unfolding(crate::specs::Words::search_in))]
 pub fn search_in(alloc: Global, text: &[u8], line: u64) -> Result<(Spec, &[u8]), ScriptFault>
     ensures { Gives (ScriptFails line) (λ x. Some (search_of x.0, x.1.now)) result

@@ -3,7 +3,7 @@ use Rattle.std.proofs.Common.{◌≡◌, ◌⊎◌, ◌+◌, ℕ, Bool, false, O
 use Rattle.std.proofs.lemmas.Bool.{cases_Bool, true≢false}
 use Rattle.std.specs.Prelude.{Result, Ok, Err, OnErr, find}
 use Rattle.std.specs.Str.{bytes_eq}
-use Rattle.directory_writes.specs.Directory.{entries_of, judged, with_judged}
+use Rattle.directory_writes.specs.Directory.{entries_of, with_judged}
 use Rattle.dn_names.specs.Names.{TypeAndValue}
 use Rattle.entry_tree.specs.History.{state_from}
 use Rattle.entry_tree.specs.Reading.{read_change}
@@ -17,12 +17,11 @@ use Rattle.sync_provider.specs.Machine.{ProviderState, fresh, judged_by, log_lim
 use Rattle.sync_provider.specs.declared.provider.Kind.{Kind}
 use Rattle.sync_provider.specs.declared.provider.Kind.TheVariants.{Root, Replica}
 use Rattle.cascade_script.specs.declared.fault.Cause.{Cause}
-use Rattle.cascade_script.specs.declared.fault.Cause.TheVariants.{BadCommand, UnknownNode, BadRecord, LaterCookie, NoMemory}
 use Rattle.cascade_script.specs.Orders.{Order}
 use Rattle.cascade_script.specs.Orders.{Order as asks}
 use Rattle.cascade_nodes.specs.declared.node.ProviderNode.{ProviderNode}
 use Rattle.cascade_nodes.specs.declared.node.ConsumerNode.{ConsumerNode}
-use Rattle.cascade_nodes.specs.Commits.{commits_all, with_stages, AreHeldAfter, CanCommit}
+use Rattle.cascade_nodes.specs.Commits.{commits_all, with_stages, AreHeldAfter}
 use Rattle.cascade_nodes.proofs.Commits.{HasCommitted, has_committed}
 use Rattle.cascade_exchange.specs.Exchange.{Agreement, ExchangeOutcome, agreement_of, part_of, idle, respecs}
 use Rattle.cascade_exchange.specs.declared.exchange.Exchange.{Exchange}

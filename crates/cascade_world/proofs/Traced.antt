@@ -18,10 +18,10 @@ use Rattle.cascade_script.specs.Orders.{Order as asks}
 use Rattle.cascade_script.specs.declared.fault.Cause.{Cause}
 use Rattle.cascade_nodes.specs.declared.node.ConsumerNode.{ConsumerNode}
 use Rattle.cascade_nodes.specs.declared.node.ProviderNode.{ProviderNode}
-use Rattle.cascade_exchange.proofs.Exchanging.{EachOwn, Alters, AltersIn, as_before, sent_keeps, takes_keeps, cut_keeps, idle_keeps, opens_keeps, settles_keeps, lost_keeps, given_keeps, respecs_alters}
+use Rattle.cascade_exchange.proofs.Exchanging.{EachOwn, Alters, AltersIn, as_before, sent_keeps, takes_keeps, cut_keeps, idle_keeps, opens_keeps, settles_keeps, loses_cookie_keeps, sets_cookie_keeps, respecs_alters}
 use Rattle.cascade_nodes.specs.Commits.{commits_all}
 use Rattle.cascade_world.specs.Directory.{change_code, wrote_change}
-use Rattle.cascade_exchange.specs.Exchange.{Agreement, ExchangeOutcome, agreement_of, sent, takes, cut, idle, opens, settles, lost, given, respecs}
+use Rattle.cascade_exchange.specs.Exchange.{Agreement, ExchangeOutcome, agreement_of, sent, takes, cut, idle, opens, settles, loses_cookie, sets_cookie, respecs}
 use Rattle.cascade_report.specs.ReportLines.{StoredStage, ReportLine, stages_of}
 use Rattle.cascade_report.specs.ReportLines.ReportLine.{Wrote, Clocked, Shown}
 use Rattle.cascade_exchange.specs.Trace.{Seen, seen_of, unseen, after_own, after_line, name_in, traced, AreTraced}
@@ -376,8 +376,8 @@ step_reported_after lines state (asks.Send name count) is = exchange_after as_be
 step_reported_after lines state (asks.Take name count) is = exchange_after as_before lines state name (takes count) (takes_keeps count) is
 step_reported_after lines state (asks.Cut name) is = exchange_after as_before lines state name cut cut_keeps is
 step_reported_after lines state (asks.Settle name) is = exchange_after as_before lines state name settles settles_keeps is
-step_reported_after lines state (asks.Lose name) is = exchange_after as_before lines state name lost lost_keeps is
-step_reported_after lines state (asks.Cookie name text) is = exchange_after as_before lines state name (given text) (given_keeps text) is
+step_reported_after lines state (asks.Lose name) is = exchange_after as_before lines state name loses_cookie loses_cookie_keeps is
+step_reported_after lines state (asks.Cookie name text) is = exchange_after as_before lines state name (sets_cookie text) (sets_cookie_keeps text) is
 step_reported_after lines state (asks.Repoint name source) is =
     lookup.repointed (λ n. ReportedAfter lines) (λ n cause. tt) state name source (λ f s e there free inside. pointed_reported lines f.name source (exchange state f.name idle) (exchange_after as_before lines state f.name idle idle_keeps is))
 step_reported_after lines state (asks.Respec name search) is =

@@ -18,7 +18,7 @@ use Rattle.cascade_nodes.specs.declared.node.ConsumerNode.{ConsumerNode}
 use Rattle.cascade_exchange.specs.Cookies.{most_nodes}
 use Rattle.cascade_nodes.specs.Commits.{commits_all}
 use Rattle.cascade_world.specs.Directory.{change_code, wrote_change}
-use Rattle.cascade_exchange.specs.Exchange.{Agreement, ExchangeOutcome, sent, takes, cut, idle, opens, settles, lost, given, respecs}
+use Rattle.cascade_exchange.specs.Exchange.{Agreement, ExchangeOutcome, sent, takes, cut, idle, opens, settles, loses_cookie, sets_cookie, respecs}
 use Rattle.cascade_script.specs.Fault.{RefusedAt}
 use Rattle.cascade_nodes.specs.Nodes.{is_fed_within, top_within}
 pub use Rattle.cascade_nodes.specs.Nodes.{is_provider_node, is_consumer_node, is_offered, new_consumer_node}
@@ -322,8 +322,8 @@ step state (asks.Send name count) = exchange state name (sent count)
 step state (asks.Take name count) = exchange state name (takes count)
 step state (asks.Cut name) = exchange state name cut
 step state (asks.Settle name) = exchange state name settles
-step state (asks.Lose name) = exchange state name lost
-step state (asks.Cookie name text) = exchange state name (given text)
+step state (asks.Lose name) = exchange state name loses_cookie
+step state (asks.Cookie name text) = exchange state name (sets_cookie text)
 step state (asks.Repoint name source) = repoint state name source
 step state (asks.Respec name search) = respec state name search
 step state (asks.Log name limit) = limit_log state name limit

@@ -1,2 +1,3 @@
 pub mod Dealing
-pub mod Sent
+pub mod Given
+pub mod Noted

@@ -2,8 +2,6 @@
 #![tactic(auto)]
 
 #[cfg(test)]
-mod adding;
-#[cfg(test)]
 mod asking;
 #[cfg(test)]
 mod passing;
@@ -11,5 +9,8 @@ mod passing;
 mod replaying;
 #[cfg(test)]
 mod shared_directory_tests;
+mod tasks;
 #[cfg(test)]
 mod working;
+
+pub use tasks::{Task, Tried, Work};

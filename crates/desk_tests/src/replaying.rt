@@ -1,6 +1,7 @@
 //! What threads tried, tried again by one thread in the order of the journal.
 use crate::asking::add;
-use crate::working::{Tried, accepted, unit_name};
+use crate::tasks::Tried;
+use crate::working::{accepted, unit_name};
 use std::alloc::Global;
 use sync_provider::Port;
 

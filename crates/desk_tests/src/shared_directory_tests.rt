@@ -1,10 +1,10 @@
 //! Desks of a shared directory: what they reply, what they have seen, and what stays.
 
-use crate::adding::add_in_two;
 use crate::asking::{add, count, follow, next};
 use crate::passing::{last_two, put_back, share};
 use crate::replaying::replays;
-use crate::working::{Tried, accepted, hand_in, hand_in_four, rises, work_in_eight};
+use crate::tasks::{Task, Tried, Work};
+use crate::working::{accepted, hand_in, hand_in_four, rises, work_in_eight, work_in_two};
 use dn_names::Dn;
 use entry_tree::{EntryList, Scope};
 use ldap_ber::discard;
@@ -136,7 +136,8 @@ fn two_threads_add_fifty_units_each(rt: HostRuntime) -> Result<(), Fail> {
     let provider = with_room(alloc).ok_or("no provider")?;
     let (directory, mut passes) = share(alloc, provider, 2).ok_or("no directory")?;
     let pair = last_two(&directory, &mut passes);
-    let (first, second) = add_in_two(&rt, alloc, &directory, pair, 1);
+    let units = Task::new(Work::Units, 1);
+    let (first, second) = work_in_two(&rt, alloc, &directory, pair, units);
     let (mut ones, mut twos) = (Vec::new(alloc), Vec::new(alloc));
     let Some(()) = hand_in(&directory, &mut passes, first, &mut ones) else {
         panic!(rt; "a thread gave up")

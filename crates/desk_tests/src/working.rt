@@ -8,21 +8,13 @@ ghost use Rattle.desk_tests.specs.Groups.{ArePassesOf, AreGivenBack};
 
 use crate::asking::{add, count, follow, next};
 use crate::passing::{Pair, put_back};
+use crate::tasks::{Task, Tried, Work};
 use entry_tree::Scope;
 use shared_directory::{DirectoryPass, SharedDirectory};
 use std::alloc::Global;
 use std::sync::Wait;
 use std::thread::{Threads, join};
 use sync_provider::{Accepted, Port};
-
-/// A write that was tried, and its reply.
-#[derive(Clone, Copy)]
-pub(crate) struct Tried {
-    pub(crate) thread: u32,
-    pub(crate) unit: u32,
-    pub(crate) code: u32,
-    pub(crate) number: u64,
-}
 
 /// The name of a unit: of this thread, or of all threads where that is 0.
 pub(crate) fn unit_name(alloc: Global, thread: u32, unit: u32) -> Option<String> {
@@ -101,8 +93,19 @@ fn search_of<P: Port>(alloc: Global, port: &mut P, thread: u32) -> Option<u64>
     }
 }
 
-/// Two thousand calls.
-fn work<P: Port>(alloc: Global, port: &mut P, thread: u32) -> Option<Vec<Tried>>
+/// Tries to add fifty units.
+fn add_units<P: Port>(alloc: Global, port: &mut P, thread: u32) -> Option<Vec<Tried>>
+    ensures { P.home port.new ≡ P.home port.old }
+{
+    let mut log = Vec::new(alloc);
+    for unit in 0..50u32 {
+        try_unit(alloc, port, thread, unit, &mut log)?;
+    }
+    Some(log)
+}
+
+/// Calls two thousand times.
+fn make_calls<P: Port>(alloc: Global, port: &mut P, thread: u32) -> Option<Vec<Tried>>
     ensures { P.home port.new ≡ P.home port.old }
 {
     let mut log = Vec::new(alloc);
@@ -114,6 +117,15 @@ fn work<P: Port>(alloc: Global, port: &mut P, thread: u32) -> Option<Vec<Tried>>
         Some(log)
     } else {
         None
+    }
+}
+
+fn perform<P: Port>(alloc: Global, port: &mut P, task: Task) -> Option<Vec<Tried>>
+    ensures { P.home port.new ≡ P.home port.old }
+{
+    match task.work {
+        Work::Units => add_units(alloc, port, task.thread),
+        Work::Calls => make_calls(alloc, port, task.thread),
     }
 }
 
@@ -145,22 +157,23 @@ fn work_as<R: Wait>(
     alloc: Global,
     directory: &SharedDirectory,
     pass: DirectoryPass,
-    thread: u32,
+    task: Task,
 ) -> Worked
     requires { IsPassOf (cell_id directory.now.cell) pass }
     ensures { IsPassOf (cell_id directory.now.cell) result.0 }
 {
     let mut desk = directory.desk(rt, pass);
-    let log = work(alloc, &mut desk, thread);
+    let log = perform(alloc, &mut desk, task);
     (desk.leave(), log)
 }
 
-fn work_in_two<R: Threads + Wait + Sync>(
+/// Two threads do this work. Gives the passes, and all that they tried.
+pub(crate) fn work_in_two<R: Threads + Wait + Sync>(
     rt: &R,
     alloc: Global,
     directory: &SharedDirectory,
     passes: Pair,
-    thread: u32,
+    task: Task,
 ) -> (Worked, Worked)
     requires { IsPassOf (cell_id directory.now.cell) passes.0
         × IsPassOf (cell_id directory.now.cell) passes.1 }
@@ -173,11 +186,11 @@ fn work_in_two<R: Threads + Wait + Sync>(
         || -> Worked
             requires { IsSync R.row × IsPassOf (cell_id directory.now.cell) first }
             ensures { IsPassOf (cell_id directory.entry.now.cell) result.0 }
-        { work_as(rt, alloc, directory, first, thread) },
+        { work_as(rt, alloc, directory, first, task) },
         || -> Worked
             requires { IsSync R.row × IsPassOf (cell_id directory.now.cell) second }
             ensures { IsPassOf (cell_id directory.entry.now.cell) result.0 }
-        { work_as(rt, alloc, directory, second, thread.wrapping_add(1)) },
+        { work_as(rt, alloc, directory, second, task.later(1)) },
     )
 }
 
@@ -186,7 +199,7 @@ fn work_in_four<R: Threads + Wait + Sync>(
     alloc: Global,
     directory: &SharedDirectory,
     passes: (Pair, Pair),
-    thread: u32,
+    task: Task,
 ) -> Four
     requires { ArePassesOf (cell_id directory.now.cell) passes }
     ensures { AreGivenBack (cell_id directory.now.cell) result }
@@ -199,13 +212,13 @@ fn work_in_four<R: Threads + Wait + Sync>(
                 × IsPassOf (cell_id directory.now.cell) lower.1 }
             ensures { IsPassOf (cell_id directory.entry.now.cell) result.0.0
                 × IsPassOf (cell_id directory.entry.now.cell) result.1.0 }
-        { work_in_two(rt, alloc, directory, lower, thread) },
+        { work_in_two(rt, alloc, directory, lower, task) },
         || -> (Worked, Worked)
             requires { IsSync R.row × IsPassOf (cell_id directory.now.cell) upper.0
                 × IsPassOf (cell_id directory.now.cell) upper.1 }
             ensures { IsPassOf (cell_id directory.entry.now.cell) result.0.0
                 × IsPassOf (cell_id directory.entry.now.cell) result.1.0 }
-        { work_in_two(rt, alloc, directory, upper, thread.wrapping_add(2)) },
+        { work_in_two(rt, alloc, directory, upper, task.later(2)) },
     )
 }
 
@@ -227,11 +240,11 @@ pub(crate) fn work_in_eight<R: Threads + Wait + Sync>(
         || -> Four
             requires { IsSync R.row × ArePassesOf (cell_id directory.now.cell) lower }
             ensures { AreGivenBack (cell_id directory.entry.now.cell) result }
-        { work_in_four(rt, alloc, directory, lower, 1) },
+        { work_in_four(rt, alloc, directory, lower, Task::new(Work::Calls, 1)) },
         || -> Four
             requires { IsSync R.row × ArePassesOf (cell_id directory.now.cell) upper }
             ensures { AreGivenBack (cell_id directory.entry.now.cell) result }
-        { work_in_four(rt, alloc, directory, upper, 5) },
+        { work_in_four(rt, alloc, directory, upper, Task::new(Work::Calls, 5)) },
     )
 }
 

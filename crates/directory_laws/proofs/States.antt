@@ -89,5 +89,5 @@ IsWithinLimits-state_of suffix history writes accepted few number =
     record {
       few = small.few;
       light = small.light;
-      unique_names = same_named-none (state_of history writes number) tree.ascends tree.apart;
+      unique_names = same_named-none (state_of history writes number) tree.ascends tree.unique_names;
     }

@@ -123,11 +123,11 @@ module _ (suffix : List (List TypeAndValue)) (entries : List Entry) (top : Entry
 
       by : Moves x ⊎ Stays x → Moves y ⊎ Stays y → x.uuid ≡ y.uuid
       by (inl one) (inl other) =
-          tree.apart x y in_x in_y (moved_apart x.dn y.dn top.dn name one.0 other.0
+          tree.unique_names x y in_x in_y (moved_apart x.dn y.dn top.dn name one.0 other.0
           (subst (λ at. AreEqual at (moved_name y.dn top.dn name)) one.1 (subst (λ at. AreEqual (step x).dn at) other.1 equal)))
       by (inl one) (inr other) = absurd (meet x y in_y one other equal)
       by (inr one) (inl other) = absurd (meet y x in_x other one (AreEqual-sym (step x).dn (step y).dn equal))
-      by (inr one) (inr other) = tree.apart x y in_x in_y (subst (λ (e : Entry). AreEqual e.dn y.dn) one.1 (subst (λ (e : Entry). AreEqual (step x).dn e.dn) other.1 equal))
+      by (inr one) (inr other) = tree.unique_names x y in_x in_y (subst (λ (e : Entry). AreEqual e.dn y.dn) one.1 (subst (λ (e : Entry). AreEqual (step x).dn e.dn) other.1 equal))
 
   -- the renamed entry is below the one that it was moved to
   top_held : HasParent (map step entries) name
@@ -189,7 +189,7 @@ module _ (suffix : List (List TypeAndValue)) (entries : List Entry) (top : Entry
   pub IsTree-moved : IsTree suffix (map (moved top name attrs csn) entries)
   IsTree-moved = record {
     ascends = ascends_mapped step (moved_keeps top name attrs csn) entries ∙ tree.ascends;
-    apart = λ a b in_a in_b equal. of_both a b (map_in step entries a in_a) (map_in step entries b in_b) equal;
+    unique_names = λ a b in_a in_b equal. of_both a b (map_in step entries a in_a) (map_in step entries b in_b) equal;
     rooted = λ e in_e. let found = map_in step entries e in_e in subst (λ (x : Entry). IsRooted suffix (map step entries) x.dn) (sym found.2) (rooted found.0 found.1);
   }
     where

@@ -25,14 +25,14 @@ pub record IsRooted (suffix : List (List TypeAndValue)) (entries : List Entry) (
 -- each entry but that of the suffix has its parent, and no two have one name
 pub record IsTree (suffix : List (List TypeAndValue)) (entries : List Entry) : Type 0 where
   pub ascends : ascends entries ≡ true
-  pub apart : (a b : Entry) → In a entries → In b entries → AreEqual a.dn b.dn → a.uuid ≡ b.uuid
+  pub unique_names : (a b : Entry) → In a entries → In b entries → AreEqual a.dn b.dn → a.uuid ≡ b.uuid
   pub rooted : (e : Entry) → In e entries → IsRooted suffix entries e.dn
 
 -- no entries are a tree
 pub IsTree-nil : (suffix : List (List TypeAndValue)) → IsTree suffix []
 IsTree-nil suffix = record {
   ascends = refl;
-  apart = λ a b in_a in_b equal. absurd in_a;
+  unique_names = λ a b in_a in_b equal. absurd in_a;
   rooted = λ e member. absurd member;
 }
 
@@ -101,7 +101,7 @@ pub IsTree-put : (suffix : List (List TypeAndValue)) (entries : List Entry) (e :
     → ((other : Entry) → In other entries → other.uuid ≢ e.uuid) → IsTree suffix entries → IsTree suffix (put e entries)
 IsTree-put suffix entries e placed free fresh tree = record {
   ascends = ascends_put e entries tree.ascends;
-  apart = λ a b in_a in_b equal. apart a b (put_in e entries a in_a) (put_in e entries b in_b) equal;
+  unique_names = λ a b in_a in_b equal. apart a b (put_in e entries a in_a) (put_in e entries b in_b) equal;
   rooted = λ x member. rooted_over suffix entries (put e entries) x.dn (λ p in_p child. (p, in_put e entries p in_p (fresh p in_p), child)) (rooted x (put_in e entries x member));
 }
   where
@@ -112,7 +112,7 @@ IsTree-put suffix entries e placed free fresh tree = record {
     apart a b (inl here) (inl there) equal = ap (λ (x : Entry). x.uuid) (here ∙ sym there)
     apart a b (inl here) (inr there) equal = absurd (new_name b there (AreEqual-sym e.dn b.dn (subst (λ (x : Entry). AreEqual x.dn b.dn) here equal)))
     apart a b (inr here) (inl there) equal = absurd (new_name a here (subst (λ (x : Entry). AreEqual a.dn x.dn) there equal))
-    apart a b (inr here) (inr there) equal = tree.apart a b here there equal
+    apart a b (inr here) (inr there) equal = tree.unique_names a b here there equal
 
     rooted : (x : Entry) → (x ≡ e) ⊎ In x entries → IsRooted suffix entries x.dn
     rooted x (inl here) = subst (λ (y : Entry). IsRooted suffix entries y.dn) (sym here) (IsRooted-placed suffix entries e.dn placed)
@@ -125,7 +125,7 @@ pub IsTree-without : (suffix : List (List TypeAndValue)) (entries : List Entry) 
     → IsTree suffix (filter (λ e. not (is_named name e)) entries)
 IsTree-without suffix entries name leaf tree = record {
   ascends = ascends_filter stays entries tree.ascends;
-  apart = λ a b in_a in_b equal. tree.apart a b (filter_in stays entries a in_a).0 (filter_in stays entries b in_b).0 equal;
+  unique_names = λ a b in_a in_b equal. tree.unique_names a b (filter_in stays entries a in_a).0 (filter_in stays entries b in_b).0 equal;
   rooted = λ e member. let parts = filter_in stays entries e member in rooted_over suffix entries (filter stays entries) e.dn (kept e parts.0 parts.1) (tree.rooted e parts.0);
 }
   where
@@ -153,7 +153,7 @@ pub IsTree-map : (f : Entry → Entry) (suffix : List (List TypeAndValue)) (entr
     → ((e : Entry) → In e entries → (f e).dn ≡ e.dn) → ascends (map f entries) ≡ true → IsTree suffix entries → IsTree suffix (map f entries)
 IsTree-map f suffix entries uuids named_same ascending tree = record {
   ascends = ascending;
-  apart = λ a b in_a in_b equal. let one = map_in f entries a in_a in let other = map_in f entries b in_b in apart a b one.0 other.0 one.1 other.1 one.2 other.2 equal;
+  unique_names = λ a b in_a in_b equal. let one = map_in f entries a in_a in let other = map_in f entries b in_b in apart a b one.0 other.0 one.1 other.1 one.2 other.2 equal;
   rooted = λ e member. let found = map_in f entries e member in rooted e found.0 found.1 found.2;
 }
   where
@@ -161,7 +161,7 @@ IsTree-map f suffix entries uuids named_same ascending tree = record {
     apart a b x y in_x in_y is_a is_b equal =
         let name_a : a.dn ≡ x.dn = ap (λ (e : Entry). e.dn) is_a ∙ named_same x in_x in
         let name_b : b.dn ≡ y.dn = ap (λ (e : Entry). e.dn) is_b ∙ named_same y in_y in
-        let at : x.uuid ≡ y.uuid = tree.apart x y in_x in_y (subst (λ name. AreEqual name y.dn) name_a (subst (λ name. AreEqual a.dn name) name_b equal)) in
+        let at : x.uuid ≡ y.uuid = tree.unique_names x y in_x in_y (subst (λ name. AreEqual name y.dn) name_a (subst (λ name. AreEqual a.dn name) name_b equal)) in
         ap (λ (e : Entry). e.uuid) is_a ∙ uuids x in_x ∙ at ∙ sym (uuids y in_y) ∙ sym (ap (λ (e : Entry). e.uuid) is_b)
 
     over : (name : List (List TypeAndValue)) (p : Entry) → In p entries → IsChild name p.dn → HasParent (map f entries) name

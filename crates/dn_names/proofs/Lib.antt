@@ -10,7 +10,7 @@ pub mod PathKeys
 pub mod PathPieces
 pub mod Pieces
 pub mod Rereading
-pub mod SignLists
+pub mod CharLists
 pub mod Sizes
 pub mod SortedLists
 pub mod Sums

@@ -13,9 +13,9 @@ use Rattle.dn_names.specs.Writing.{rdn_text}
 use Rattle.dn_names.specs.Sound.{has_key, is_rdn, IsName}
 use Rattle.dn_names.specs.declared.fault.NameFault.{NameFault}
 use Rattle.dn_names.specs.declared.fault.NameFault.TheVariants.{BadName, UnknownType, TooLong, NoMemory}
-use Rattle.dn_names.specs.declared.signs.Sign.{Sign}
-use Rattle.dn_names.specs.declared.signs.Sign.TheVariants.{Stray}
-use Rattle.dn_names.specs.Reading.{IsNameFault, and_then, with_first, or_bad, is_plain, pair_of, pair_at, pairs_of, type_of, value_of, value_signs, octets_of_signs, is_empty, first_rdn, rdns_of, after_comma, signs_width, sign_width, signs_of, rdn_of, checked_rdn, name_of_text}
+use Rattle.dn_names.specs.declared.name_chars.NameChar.{NameChar}
+use Rattle.dn_names.specs.declared.name_chars.NameChar.TheVariants.{Stray}
+use Rattle.dn_names.specs.Reading.{IsNameFault, and_then, with_first, or_bad, is_plain, pair_of, pair_at, pairs_of, type_of, value_of, value_chars, octets_of_chars, is_empty, first_rdn, rdns_of, after_comma, chars_width, char_width, chars_of, rdn_of, checked_rdn, name_of_text}
 use Rattle.dn_names.proofs.Cuts.{slice_split-some, slice_split-none, before_first-none}
 
 -- the items before what the rest is read as
@@ -39,22 +39,22 @@ filled : {A : Type 0} (parts : List A) → length parts ≢ 0 → not (is_empty 
 filled [] some = absurd (some refl)
 filled (part ∷ parts) some = refl
 
-split_filled : (signs : List Sign) → length (slice_split (is_plain 43) signs) ≢ 0
-split_filled signs = omega (arith, length-slice_split (is_plain 43) signs)
+split_filled : (chars : List NameChar) → length (slice_split (is_plain 43) chars) ≢ 0
+split_filled chars = omega (arith, length-slice_split (is_plain 43) chars)
 
-pairs_of-more : (place : ℕ) (ended : Bool) (signs : List Sign) → list_any (is_plain 43) signs ≡ true
-    → pairs_of place ended (slice_split (is_plain 43) signs)
-    ≡ and_then (pair_of place true (before_first (is_plain 43) signs)) (λ pair. with_first pair (pairs_of place ended (slice_split (is_plain 43) (after_first (is_plain 43) signs))))
-pairs_of-more place ended signs more =
-    rw (slice_split-some (is_plain 43) Stray signs more, filled (slice_split (is_plain 43) (after_first (is_plain 43) signs)) (split_filled (after_first (is_plain 43) signs)), or_right ended true refl) refl
+pairs_of-more : (place : ℕ) (ended : Bool) (chars : List NameChar) → list_any (is_plain 43) chars ≡ true
+    → pairs_of place ended (slice_split (is_plain 43) chars)
+    ≡ and_then (pair_of place true (before_first (is_plain 43) chars)) (λ pair. with_first pair (pairs_of place ended (slice_split (is_plain 43) (after_first (is_plain 43) chars))))
+pairs_of-more place ended chars more =
+    rw (slice_split-some (is_plain 43) Stray chars more, filled (slice_split (is_plain 43) (after_first (is_plain 43) chars)) (split_filled (after_first (is_plain 43) chars)), or_right ended true refl) refl
 
-pairs_of-last : (place : ℕ) (ended : Bool) (signs : List Sign) → list_any (is_plain 43) signs ≡ false
-    → pairs_of place ended (slice_split (is_plain 43) signs) ≡ and_then (pair_of place ended (before_first (is_plain 43) signs)) (λ pair. Ok (pair ∷ []))
-pairs_of-last place ended signs none = rw (slice_split-none (is_plain 43) signs none, or-false ended, before_first-none (is_plain 43) signs none) refl
+pairs_of-last : (place : ℕ) (ended : Bool) (chars : List NameChar) → list_any (is_plain 43) chars ≡ false
+    → pairs_of place ended (slice_split (is_plain 43) chars) ≡ and_then (pair_of place ended (before_first (is_plain 43) chars)) (λ pair. Ok (pair ∷ []))
+pairs_of-last place ended chars none = rw (slice_split-none (is_plain 43) chars none, or-false ended, before_first-none (is_plain 43) chars none) refl
 
 -- ---- a step of the loop over the pairs
 
-module _ (place : ℕ) (ended : Bool) (whole : Result (List TypeAndValue) NameFault) (pairs : List TypeAndValue) (rest : List Sign)
+module _ (place : ℕ) (ended : Bool) (whole : Result (List TypeAndValue) NameFault) (pairs : List TypeAndValue) (rest : List NameChar)
     (so_far : whole ≡ with_all pairs (pairs_of place ended (slice_split (is_plain 43) rest))) where
   -- a pair before a plus sign is read, and the pairs after it are left
   pub next_pair : list_any (is_plain 43) rest ≡ true → (pair : TypeAndValue) → pair_of place true (before_first (is_plain 43) rest) ≡ Ok pair
@@ -82,8 +82,8 @@ module _ (place : ℕ) (ended : Bool) (whole : Result (List TypeAndValue) NameFa
 
 -- ---- what was read has a key
 
-value_of-keyed : (kind : ℕ) (signs : List Sign) (value : List ℕ) → value_of kind signs ≡ Some value → is_some (key_of kind value) ≡ true
-value_of-keyed kind signs value read = checked (octets_of_signs signs) read
+value_of-keyed : (kind : ℕ) (chars : List NameChar) (value : List ℕ) → value_of kind chars ≡ Some value → is_some (key_of kind value) ≡ true
+value_of-keyed kind chars value read = checked (octets_of_chars chars) read
   where
     tested : (octets : List ℕ) (keyed : Bool) → is_some (key_of kind octets) ≡ keyed → (if keyed then Some octets else None) ≡ Some value → is_some (key_of kind value) ≡ true
     tested octets true is_keyed same = let one : octets ≡ value = (cc) in rw (← one) is_keyed
@@ -93,31 +93,31 @@ value_of-keyed kind signs value read = checked (octets_of_signs signs) read
     checked None same = (cc)
     checked (Some octets) same = tested octets (is_some (key_of kind octets)) refl same
 
-pair_at-keyed : (place : ℕ) (ended : Bool) (signs : List Sign) (pair : TypeAndValue) → pair_at place ended signs ≡ Ok pair → has_key pair ≡ true
-pair_at-keyed place ended signs pair read = typed (type_of place (before_first (is_plain 61) signs)) read
+pair_at-keyed : (place : ℕ) (ended : Bool) (chars : List NameChar) (pair : TypeAndValue) → pair_at place ended chars ≡ Ok pair → has_key pair ≡ true
+pair_at-keyed place ended chars pair read = typed (type_of place (before_first (is_plain 61) chars)) read
   where
-    valued : (kind : ℕ) (value : Option (List ℕ)) → value_of kind (value_signs ended (after_first (is_plain 61) signs)) ≡ value
+    valued : (kind : ℕ) (value : Option (List ℕ)) → value_of kind (value_chars ended (after_first (is_plain 61) chars)) ≡ value
         → and_then (or_bad place value) (λ v. Ok (record { kind = kind; value = v })) ≡ Ok pair → has_key pair ≡ true
     valued kind None is_value same = (cc)
     valued kind (Some value) is_value same =
         let one : (record { kind = kind; value = value }) ≡ pair = (cc) in
-        rw (← one) (value_of-keyed kind (value_signs ended (after_first (is_plain 61) signs)) value is_value)
+        rw (← one) (value_of-keyed kind (value_chars ended (after_first (is_plain 61) chars)) value is_value)
 
     typed : (kind : Result ℕ NameFault)
-        → and_then kind (λ k. and_then (or_bad place (value_of k (value_signs ended (after_first (is_plain 61) signs)))) (λ v. Ok (record { kind = k; value = v }))) ≡ Ok pair
+        → and_then kind (λ k. and_then (or_bad place (value_of k (value_chars ended (after_first (is_plain 61) chars)))) (λ v. Ok (record { kind = k; value = v }))) ≡ Ok pair
         → has_key pair ≡ true
     typed (Err fault) same = (cc)
-    typed (Ok kind) same = valued kind (value_of kind (value_signs ended (after_first (is_plain 61) signs))) refl same
+    typed (Ok kind) same = valued kind (value_of kind (value_chars ended (after_first (is_plain 61) chars))) refl same
 
-pair_of-keyed : (place : ℕ) (ended : Bool) (signs : List Sign) (pair : TypeAndValue) → pair_of place ended signs ≡ Ok pair → has_key pair ≡ true
-pair_of-keyed place ended signs pair read = cut (list_any (is_plain 61) signs) read
+pair_of-keyed : (place : ℕ) (ended : Bool) (chars : List NameChar) (pair : TypeAndValue) → pair_of place ended chars ≡ Ok pair → has_key pair ≡ true
+pair_of-keyed place ended chars pair read = cut (list_any (is_plain 61) chars) read
   where
-    cut : (some : Bool) → (if some then pair_at place ended signs else Err (BadName place)) ≡ Ok pair → has_key pair ≡ true
-    cut true same = pair_at-keyed place ended signs pair same
+    cut : (some : Bool) → (if some then pair_at place ended chars else Err (BadName place)) ≡ Ok pair → has_key pair ≡ true
+    cut true same = pair_at-keyed place ended chars pair same
     cut false same = (cc)
 
 -- each pair that was read has a key, and each part gave one
-first_keyed : (place : ℕ) (ended : Bool) (part : List Sign) (pairs : List TypeAndValue) (count : ℕ) (one : Result TypeAndValue NameFault) (rest : Result (List TypeAndValue) NameFault)
+first_keyed : (place : ℕ) (ended : Bool) (part : List NameChar) (pairs : List TypeAndValue) (count : ℕ) (one : Result TypeAndValue NameFault) (rest : Result (List TypeAndValue) NameFault)
     → pair_of place ended part ≡ one → ((more : List TypeAndValue) → rest ≡ Ok more → (list_all has_key more ≡ true) × (length more ≡ count))
     → and_then one (λ pair. with_first pair rest) ≡ Ok pairs → (list_all has_key pairs ≡ true) × (length pairs ≡ suc count)
 first_keyed place ended part pairs count (Err fault) rest is_one later same = (cc)
@@ -127,7 +127,7 @@ first_keyed place ended part pairs count (Ok pair) (Ok more) is_one later same =
     let rest = later more refl in
     rw (← all) (and_from (has_key pair) (list_all has_key more) (pair_of-keyed place ended part pair is_one) rest.0, ap suc rest.1)
 
-pub pairs_of-keyed : (place : ℕ) (ended : Bool) (parts : List (List Sign)) (pairs : List TypeAndValue) → pairs_of place ended parts ≡ Ok pairs
+pub pairs_of-keyed : (place : ℕ) (ended : Bool) (parts : List (List NameChar)) (pairs : List TypeAndValue) → pairs_of place ended parts ≡ Ok pairs
     → (list_all has_key pairs ≡ true) × (length pairs ≡ length parts)
 pairs_of-keyed place ended [] pairs read = let none : [] ≡ pairs = (cc) in rw (← none) (refl, refl)
 pairs_of-keyed place ended (part ∷ parts) pairs read =
@@ -137,27 +137,27 @@ pairs_of-keyed place ended (part ∷ parts) pairs read =
 -- ---- a step of the loop over the RDNs
 
 -- an RDN before a comma is the first of the name
-pub rdns_of-more : (room bytes : ℕ) (signs : List Sign) (rdn : List TypeAndValue) → list_any (is_plain 44) signs ≡ true → first_rdn bytes signs ≡ Ok rdn
-    → rdns_of (suc room) bytes signs ≡ with_first rdn (rdns_of room bytes (after_comma signs))
+pub rdns_of-more : (room bytes : ℕ) (chars : List NameChar) (rdn : List TypeAndValue) → list_any (is_plain 44) chars ≡ true → first_rdn bytes chars ≡ Ok rdn
+    → rdns_of (suc room) bytes chars ≡ with_first rdn (rdns_of room bytes (after_comma chars))
 unfolding rdns_of
-rdns_of-more room bytes signs rdn more read = rw (read, more) refl
+rdns_of-more room bytes chars rdn more read = rw (read, more) refl
 
 -- an RDN without a comma is all of the name
-pub rdns_of-last : (room bytes : ℕ) (signs : List Sign) (rdn : List TypeAndValue) → list_any (is_plain 44) signs ≡ false → first_rdn bytes signs ≡ Ok rdn
-    → rdns_of (suc room) bytes signs ≡ Ok (rdn ∷ [])
+pub rdns_of-last : (room bytes : ℕ) (chars : List NameChar) (rdn : List TypeAndValue) → list_any (is_plain 44) chars ≡ false → first_rdn bytes chars ≡ Ok rdn
+    → rdns_of (suc room) bytes chars ≡ Ok (rdn ∷ [])
 unfolding rdns_of
-rdns_of-last room bytes signs rdn none read = rw (read, none) refl
+rdns_of-last room bytes chars rdn none read = rw (read, none) refl
 
-rdns_of-full : (bytes : ℕ) (signs : List Sign) (rdn : List TypeAndValue) → first_rdn bytes signs ≡ Ok rdn → rdns_of 0 bytes signs ≡ Err (TooLong (bytes - signs_width signs))
+rdns_of-full : (bytes : ℕ) (chars : List NameChar) (rdn : List TypeAndValue) → first_rdn bytes chars ≡ Ok rdn → rdns_of 0 bytes chars ≡ Err (TooLong (bytes - chars_width chars))
 unfolding rdns_of
-rdns_of-full bytes signs rdn read = rw read refl
+rdns_of-full bytes chars rdn read = rw read refl
 
-rdns_of-fault : (room bytes : ℕ) (signs : List Sign) (fault : NameFault) → first_rdn bytes signs ≡ Err fault → rdns_of room bytes signs ≡ Err fault
+rdns_of-fault : (room bytes : ℕ) (chars : List NameChar) (fault : NameFault) → first_rdn bytes chars ≡ Err fault → rdns_of room bytes chars ≡ Err fault
 unfolding rdns_of
-rdns_of-fault zero bytes signs fault read = rw read refl
-rdns_of-fault (suc room) bytes signs fault read = rw read refl
+rdns_of-fault zero bytes chars fault read = rw read refl
+rdns_of-fault (suc room) bytes chars fault read = rw read refl
 
-module _ (bytes : ℕ) (whole : Result (List (List TypeAndValue)) NameFault) (rdns : List (List TypeAndValue)) (rest : List Sign)
+module _ (bytes : ℕ) (whole : Result (List (List TypeAndValue)) NameFault) (rdns : List (List TypeAndValue)) (rest : List NameChar)
     (so_far : whole ≡ with_all rdns (rdns_of (32 - length rdns) bytes rest)) where
   -- an RDN before a comma is read, and the RDNs after it are left
   pub next_rdn : (rdn : List TypeAndValue) (all : List (List TypeAndValue)) → all ≡ rdns ++ rdn ∷ [] → length rdns < 32 → list_any (is_plain 44) rest ≡ true
@@ -176,7 +176,7 @@ module _ (bytes : ℕ) (whole : Result (List (List TypeAndValue)) NameFault) (rd
       rw (is_all, so_far, before, rdns_of-last (31 - length rdns) bytes rest rdn none read) refl
 
   -- an RDN after the most that there may be is refused as too long
-  pub no_room : (rdn : List TypeAndValue) → 32 ≤ length rdns → first_rdn bytes rest ≡ Ok rdn → whole ≡ Err (TooLong (bytes - signs_width rest))
+  pub no_room : (rdn : List TypeAndValue) → 32 ≤ length rdns → first_rdn bytes rest ≡ Ok rdn → whole ≡ Err (TooLong (bytes - chars_width rest))
   no_room rdn full read =
       let before : 32 - length rdns ≡ 0 = omega arith in
       rw (so_far, before, rdns_of-full bytes rest rdn read) refl
@@ -190,26 +190,26 @@ module _ (bytes : ℕ) (whole : Result (List (List TypeAndValue)) NameFault) (rd
 -- ---- an RDN and its pairs
 
 -- an RDN that begins with a space is refused
-pub rdn_of-spaced : (place : ℕ) (ended : Bool) (signs : List Sign) → nat_lt 0 (prefix_len (is_plain 32) signs) ≡ true → rdn_of place ended signs ≡ Err (BadName place)
+pub rdn_of-spaced : (place : ℕ) (ended : Bool) (chars : List NameChar) → nat_lt 0 (prefix_len (is_plain 32) chars) ≡ true → rdn_of place ended chars ≡ Err (BadName place)
 unfolding rdn_of
-rdn_of-spaced place ended signs space = rw space refl
+rdn_of-spaced place ended chars space = rw space refl
 
 -- an RDN whose pairs are read is checked next
-pub rdn_of-pairs : (place : ℕ) (ended : Bool) (signs : List Sign) (pairs : List TypeAndValue) → nat_lt 0 (prefix_len (is_plain 32) signs) ≡ false
-    → pairs_of place ended (slice_split (is_plain 43) signs) ≡ Ok pairs → rdn_of place ended signs ≡ checked_rdn place pairs
+pub rdn_of-pairs : (place : ℕ) (ended : Bool) (chars : List NameChar) (pairs : List TypeAndValue) → nat_lt 0 (prefix_len (is_plain 32) chars) ≡ false
+    → pairs_of place ended (slice_split (is_plain 43) chars) ≡ Ok pairs → rdn_of place ended chars ≡ checked_rdn place pairs
 unfolding rdn_of
-rdn_of-pairs place ended signs pairs none read = rw (none, read) refl
+rdn_of-pairs place ended chars pairs none read = rw (none, read) refl
 
-rdn_of-fault : (place : ℕ) (ended : Bool) (signs : List Sign) (fault : NameFault) → nat_lt 0 (prefix_len (is_plain 32) signs) ≡ false
-    → pairs_of place ended (slice_split (is_plain 43) signs) ≡ Err fault → rdn_of place ended signs ≡ Err fault
+rdn_of-fault : (place : ℕ) (ended : Bool) (chars : List NameChar) (fault : NameFault) → nat_lt 0 (prefix_len (is_plain 32) chars) ≡ false
+    → pairs_of place ended (slice_split (is_plain 43) chars) ≡ Err fault → rdn_of place ended chars ≡ Err fault
 unfolding rdn_of
-rdn_of-fault place ended signs fault none read = rw (none, read) refl
+rdn_of-fault place ended chars fault none read = rw (none, read) refl
 
 -- an RDN with a pair that is refused is refused for it
-pub rdn_of-refused : (place : ℕ) (ended : Bool) (signs : List Sign) (fault : NameFault) → nat_lt 0 (prefix_len (is_plain 32) signs) ≡ false
-    → IsNameFault (pairs_of place ended (slice_split (is_plain 43) signs)) fault → IsNameFault (rdn_of place ended signs) fault
-rdn_of-refused place ended signs fault none refused =
-    IsFaultOf-along (pairs_of place ended (slice_split (is_plain 43) signs)) (rdn_of place ended signs) fault (λ f read. rdn_of-fault place ended signs f none read) refused
+pub rdn_of-refused : (place : ℕ) (ended : Bool) (chars : List NameChar) (fault : NameFault) → nat_lt 0 (prefix_len (is_plain 32) chars) ≡ false
+    → IsNameFault (pairs_of place ended (slice_split (is_plain 43) chars)) fault → IsNameFault (rdn_of place ended chars) fault
+rdn_of-refused place ended chars fault none refused =
+    IsFaultOf-along (pairs_of place ended (slice_split (is_plain 43) chars)) (rdn_of place ended chars) fault (λ f read. rdn_of-fault place ended chars f none read) refused
 
 -- an RDN with two pairs of one type and key is refused
 pub checked-double : (place : ℕ) (pairs : List TypeAndValue) → has_double pairs ≡ true → checked_rdn place pairs ≡ Err (BadName place)
@@ -224,20 +224,20 @@ pub checked-fine : (place : ℕ) (pairs : List TypeAndValue) → has_double pair
 checked-fine place pairs single fits = rw (single, le-ltb 1024 (length (rdn_text pairs)) fits) refl
 
 -- the pairs that are read and checked are an RDN
-pub read_is_rdn : (place : ℕ) (ended : Bool) (signs : List Sign) (pairs : List TypeAndValue) → pairs_of place ended (slice_split (is_plain 43) signs) ≡ Ok pairs
+pub read_is_rdn : (place : ℕ) (ended : Bool) (chars : List NameChar) (pairs : List TypeAndValue) → pairs_of place ended (slice_split (is_plain 43) chars) ≡ Ok pairs
     → has_double pairs ≡ false → length (rdn_text pairs) ≤ 1024 → is_rdn pairs ≡ true
-read_is_rdn place ended signs pairs read single fits =
-    let keyed = pairs_of-keyed place ended (slice_split (is_plain 43) signs) pairs read in
-    let some : length pairs ≢ 0 = omega (arith, keyed.1, length-slice_split (is_plain 43) signs) in
+read_is_rdn place ended chars pairs read single fits =
+    let keyed = pairs_of-keyed place ended (slice_split (is_plain 43) chars) pairs read in
+    let some : length pairs ≢ 0 = omega (arith, keyed.1, length-slice_split (is_plain 43) chars) in
     rw (ne_eqb (length pairs) 0 some, keyed.0, single, le-leb (length (rdn_text pairs)) 1024 fits) refl
 
 -- what follows the first comma is no wider than the whole
-pub width-after_comma : (signs : List Sign) → signs_width (after_comma signs) ≤ signs_width signs
-width-after_comma signs =
+pub width-after_comma : (chars : List NameChar) → chars_width (after_comma chars) ≤ chars_width chars
+width-after_comma chars =
     omega (
       arith,
-      sum_by-take-drop sign_width (after_first (is_plain 44) signs) (prefix_len (is_plain 32) (after_first (is_plain 44) signs)),
-      sum_by-take-drop sign_width signs (position_or_len (is_plain 44) signs + 1),
+      sum_by-take-drop char_width (after_first (is_plain 44) chars) (prefix_len (is_plain 32) (after_first (is_plain 44) chars)),
+      sum_by-take-drop char_width chars (position_or_len (is_plain 44) chars + 1),
     )
 
 -- a name with one more RDN is one, where it is not too long
@@ -255,6 +255,6 @@ unfolding name_of_text
 name_of_text-empty text none = rw none refl
 
 -- another text is read RDN by RDN
-pub name_of_text-rdns : (text : List ℕ) → nat_eq (length text) 0 ≡ false → name_of_text text ≡ rdns_of 32 (length text) (signs_of text)
+pub name_of_text-rdns : (text : List ℕ) → nat_eq (length text) 0 ≡ false → name_of_text text ≡ rdns_of 32 (length text) (chars_of text)
 unfolding name_of_text
 name_of_text-rdns text some = rw some refl

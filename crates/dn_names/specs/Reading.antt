@@ -13,8 +13,8 @@ use Rattle.dn_names.specs.Writing.{rdn_text}
 use Rattle.dn_names.specs.Sound.{most_rdns, most_bytes}
 use Rattle.dn_names.specs.declared.fault.NameFault.{NameFault}
 use Rattle.dn_names.specs.declared.fault.NameFault.TheVariants.{BadName, UnknownType, TooLong, NoMemory}
-use Rattle.dn_names.specs.declared.signs.Sign.{Sign}
-use Rattle.dn_names.specs.declared.signs.Sign.TheVariants.{Plain, Escaped, Hexadecimal, Stray}
+use Rattle.dn_names.specs.declared.name_chars.NameChar.{NameChar}
+use Rattle.dn_names.specs.declared.name_chars.NameChar.TheVariants.{Plain, Escaped, Hexadecimal, Stray}
 
 -- ---- faults
 
@@ -41,73 +41,73 @@ IsNameFault {A} read (UnknownType place) = read ≡ Err (UnknownType place)
 IsNameFault {A} read (TooLong place) = read ≡ Err (TooLong place)
 IsNameFault {A} read NoMemory = ⊤
 
--- ---- signs: a byte that stands for itself, or an escape
+-- ---- characters: a byte that stands for itself, or an escape
 
 -- pair = ESC ( ESC / special / hexpair ), where special = escaped / SPACE / SHARP / EQUALS
 abbrev pub is_escapable : ℕ → Bool
 is_escapable byte = list_any (nat_eq byte) (codes " \"#+,;<=>\\")
 
-abbrev pub hex_pair : Option ℕ → Option ℕ → Sign
+abbrev pub hex_pair : Option ℕ → Option ℕ → NameChar
 hex_pair (Some high) (Some low) = Hexadecimal (high * 16 + low)
 hex_pair (Some high) None = Stray
 hex_pair None low = Stray
 
--- the sign of a backslash and these bytes
-abbrev pub escape : List ℕ → Sign
+-- the character of a backslash and these bytes
+abbrev pub escape : List ℕ → NameChar
 escape [] = Stray
 escape (byte ∷ []) = if is_escapable byte then Escaped byte else Stray
 escape (byte ∷ next ∷ rest) =
     if is_escapable byte then Escaped byte
     else hex_pair (hex_digit_value byte) (hex_digit_value next)
 
--- the sign that begins with this byte, where these follow
-abbrev pub sign_of : ℕ → List ℕ → Sign
-sign_of byte rest = if byte == 92 then escape rest else Plain byte
+-- the character that begins with this byte, where these follow
+abbrev pub char_of : ℕ → List ℕ → NameChar
+char_of byte rest = if byte == 92 then escape rest else Plain byte
 
--- how many bytes a sign has
-abbrev pub sign_width : Sign → ℕ
-sign_width (Plain byte) = 1
-sign_width (Escaped byte) = 2
-sign_width (Hexadecimal byte) = 3
-sign_width Stray = 1
+-- how many bytes a character has
+abbrev pub char_width : NameChar → ℕ
+char_width (Plain byte) = 1
+char_width (Escaped byte) = 2
+char_width (Hexadecimal byte) = 3
+char_width Stray = 1
 
--- the signs of a text, of which the first bytes belong to the sign before
-abbrev pub signs_after : ℕ → List ℕ → List Sign
-signs_after skipped [] = []
-signs_after zero (byte ∷ rest) =
-    sign_of byte rest ∷ signs_after (sign_width (sign_of byte rest) - 1) rest
-signs_after (suc skipped) (byte ∷ rest) = signs_after skipped rest
+-- the characters of a text, of which the first bytes belong to the character before
+abbrev pub chars_after : ℕ → List ℕ → List NameChar
+chars_after skipped [] = []
+chars_after zero (byte ∷ rest) =
+    char_of byte rest ∷ chars_after (char_width (char_of byte rest) - 1) rest
+chars_after (suc skipped) (byte ∷ rest) = chars_after skipped rest
 
-unfoldable pub signs_of : List ℕ → List Sign
-signs_of text = signs_after 0 text
+unfoldable pub chars_of : List ℕ → List NameChar
+chars_of text = chars_after 0 text
 
--- how many bytes the signs have
-abbrev pub signs_width : List Sign → ℕ
-signs_width signs = sum_by sign_width signs
+-- how many bytes the characters have
+abbrev pub chars_width : List NameChar → ℕ
+chars_width chars = sum_by char_width chars
 
 -- an unescaped byte
-abbrev pub is_plain : ℕ → Sign → Bool
+abbrev pub is_plain : ℕ → NameChar → Bool
 is_plain byte (Plain b) = b == byte
 is_plain byte (Escaped b) = false
 is_plain byte (Hexadecimal b) = false
 is_plain byte Stray = false
 
-abbrev pub without_leading_spaces : List Sign → List Sign
-without_leading_spaces signs = drop (prefix_len (is_plain 32) signs) signs
+abbrev pub without_leading_spaces : List NameChar → List NameChar
+without_leading_spaces chars = drop (prefix_len (is_plain 32) chars) chars
 
-abbrev pub without_trailing_spaces : List Sign → List Sign
-without_trailing_spaces signs = take (length signs - suffix_len (is_plain 32) signs) signs
+abbrev pub without_trailing_spaces : List NameChar → List NameChar
+without_trailing_spaces chars = take (length chars - suffix_len (is_plain 32) chars) chars
 
-abbrev pub trimmed : List Sign → List Sign
-trimmed signs = without_trailing_spaces (without_leading_spaces signs)
+abbrev pub trimmed : List NameChar → List NameChar
+trimmed chars = without_trailing_spaces (without_leading_spaces chars)
 
--- what each sign gives, where each gives something
+-- what each character gives, where each gives something
 abbrev pub each_some : {A B : Type 0} → (A → Option B) → List A → Option (List B)
 each_some give [] = Some []
 each_some give (a ∷ as') =
     option_and_then (λ b. option_map (λ bs. b ∷ bs) (each_some give as')) (give a)
 
-abbrev pub plain_byte : Sign → Option ℕ
+abbrev pub plain_byte : NameChar → Option ℕ
 plain_byte (Plain byte) = Some byte
 plain_byte (Escaped byte) = None
 plain_byte (Hexadecimal byte) = None
@@ -140,9 +140,9 @@ known_type place name (Some kind) = if is_operational kind then Err (UnknownType
 known_type place name None = unknown_type place name
 
 -- attributeType = descr / numericoid
-abbrev pub type_of : ℕ → List Sign → Result ℕ NameFault
-type_of place signs =
-    and_then (or_bad place (each_some plain_byte (trimmed signs)))
+abbrev pub type_of : ℕ → List NameChar → Result ℕ NameFault
+type_of place chars =
+    and_then (or_bad place (each_some plain_byte (trimmed chars)))
     (λ name. known_type place name (type_named name))
 
 -- ---- values
@@ -152,7 +152,7 @@ abbrev pub is_refused : ℕ → Bool
 is_refused byte = (byte == 0) || list_any (nat_eq byte) (codes "\"+,;<>")
 
 -- string = [ ( leadchar / pair ) [ *( stringchar / pair ) ( trailchar / pair ) ] ]
-abbrev pub string_byte : Sign → Option ℕ
+abbrev pub string_byte : NameChar → Option ℕ
 string_byte (Plain byte) = if is_refused byte then None else Some byte
 string_byte (Escaped byte) = Some byte
 string_byte (Hexadecimal byte) = Some byte
@@ -186,48 +186,48 @@ string_body (tag ∷ []) = None
 string_body (tag ∷ count ∷ rest) = if is_string_tag tag then sized_body count rest else None
 
 -- hexstring = SHARP 1*hexpair, the octets of an element
-abbrev pub hex_value : List Sign → Option (List ℕ)
+abbrev pub hex_value : List NameChar → Option (List ℕ)
 hex_value digits =
     option_and_then (λ text. option_and_then string_body (result_ok (decode_of text)))
     (each_some plain_byte digits)
 
 -- attributeValue = string / hexstring
-abbrev pub octets_of_signs : List Sign → Option (List ℕ)
-octets_of_signs [] = Some []
-octets_of_signs (sign ∷ signs) =
-    if is_plain 35 sign then hex_value signs else each_some string_byte (sign ∷ signs)
+abbrev pub octets_of_chars : List NameChar → Option (List ℕ)
+octets_of_chars [] = Some []
+octets_of_chars (name_char ∷ chars) =
+    if is_plain 35 name_char then hex_value chars else each_some string_byte (name_char ∷ chars)
 
 -- a value that is of the type's syntax
-abbrev pub value_of : ℕ → List Sign → Option (List ℕ)
-value_of kind signs =
+abbrev pub value_of : ℕ → List NameChar → Option (List ℕ)
+value_of kind chars =
     option_and_then (λ value. if is_some (key_of kind value) then Some value else None)
-    (octets_of_signs signs)
+    (octets_of_chars chars)
 
 -- ---- pairs, RDNs and names
 
--- the signs of the value, without the spaces before a separator
-abbrev pub value_signs : Bool → List Sign → List Sign
-value_signs ended signs =
-    if ended then without_trailing_spaces (without_leading_spaces signs)
-    else without_leading_spaces signs
+-- the characters of the value, without the spaces before a separator
+abbrev pub value_chars : Bool → List NameChar → List NameChar
+value_chars ended chars =
+    if ended then without_trailing_spaces (without_leading_spaces chars)
+    else without_leading_spaces chars
 
-abbrev pub pair_at : ℕ → Bool → List Sign → Result TypeAndValue NameFault
-pair_at place ended signs =
-    and_then (type_of place (before_first (is_plain 61) signs)) (λ kind.
+abbrev pub pair_at : ℕ → Bool → List NameChar → Result TypeAndValue NameFault
+pair_at place ended chars =
+    and_then (type_of place (before_first (is_plain 61) chars)) (λ kind.
     and_then
-    (or_bad place (value_of kind (value_signs ended (after_first (is_plain 61) signs)))) (λ value.
+    (or_bad place (value_of kind (value_chars ended (after_first (is_plain 61) chars)))) (λ value.
     Ok (record { kind = kind; value = value })))
 
 -- attributeTypeAndValue = attributeType EQUALS attributeValue; a separator may follow
-abbrev pub pair_of : ℕ → Bool → List Sign → Result TypeAndValue NameFault
-pair_of place ended signs =
-    if list_any (is_plain 61) signs then pair_at place ended signs else Err (BadName place)
+abbrev pub pair_of : ℕ → Bool → List NameChar → Result TypeAndValue NameFault
+pair_of place ended chars =
+    if list_any (is_plain 61) chars then pair_at place ended chars else Err (BadName place)
 
 abbrev pub is_empty : {A : Type 0} → List A → Bool
 is_empty [] = true
 is_empty (a ∷ rest) = false
 
-abbrev pub pairs_of : ℕ → Bool → List (List Sign) → Result (List TypeAndValue) NameFault
+abbrev pub pairs_of : ℕ → Bool → List (List NameChar) → Result (List TypeAndValue) NameFault
 pairs_of place ended [] = Ok []
 pairs_of place ended (part ∷ parts) =
     and_then (pair_of place (ended || not (is_empty parts)) part)
@@ -241,39 +241,39 @@ checked_rdn place pairs =
     else Ok pairs
 
 -- relativeDistinguishedName = attributeTypeAndValue *( PLUS attributeTypeAndValue )
-unfoldable pub rdn_of : ℕ → Bool → List Sign → Result (List TypeAndValue) NameFault
-rdn_of place ended signs =
-    if nat_lt 0 (prefix_len (is_plain 32) signs) then Err (BadName place)
-    else and_then (pairs_of place ended (slice_split (is_plain 43) signs)) (checked_rdn place)
+unfoldable pub rdn_of : ℕ → Bool → List NameChar → Result (List TypeAndValue) NameFault
+rdn_of place ended chars =
+    if nat_lt 0 (prefix_len (is_plain 32) chars) then Err (BadName place)
+    else and_then (pairs_of place ended (slice_split (is_plain 43) chars)) (checked_rdn place)
 
 -- what stands after the first comma, without leading spaces
-abbrev pub after_comma : List Sign → List Sign
-after_comma signs = without_leading_spaces (after_first (is_plain 44) signs)
+abbrev pub after_comma : List NameChar → List NameChar
+after_comma chars = without_leading_spaces (after_first (is_plain 44) chars)
 
--- the RDN up to the first comma, at the place where these signs begin in a text of n bytes
-abbrev pub first_rdn : ℕ → List Sign → Result (List TypeAndValue) NameFault
-first_rdn bytes signs =
-    rdn_of (bytes - signs_width signs) (list_any (is_plain 44) signs)
-    (before_first (is_plain 44) signs)
+-- the RDN up to the first comma, at the place where these characters begin in a text of n bytes
+abbrev pub first_rdn : ℕ → List NameChar → Result (List TypeAndValue) NameFault
+first_rdn bytes chars =
+    rdn_of (bytes - chars_width chars) (list_any (is_plain 44) chars)
+    (before_first (is_plain 44) chars)
 
 -- distinguishedName = relativeDistinguishedName *( COMMA
 -- relativeDistinguishedName ), at most n
-unfoldable pub rdns_of : ℕ → ℕ → List Sign → Result (List (List TypeAndValue)) NameFault
-rdns_of zero bytes signs =
-    and_then (first_rdn bytes signs) (λ rdn. Err (TooLong (bytes - signs_width signs)))
-rdns_of (suc room) bytes signs =
-    and_then (first_rdn bytes signs) (λ rdn.
-    if list_any (is_plain 44) signs then with_first rdn (rdns_of room bytes (after_comma signs))
+unfoldable pub rdns_of : ℕ → ℕ → List NameChar → Result (List (List TypeAndValue)) NameFault
+rdns_of zero bytes chars =
+    and_then (first_rdn bytes chars) (λ rdn. Err (TooLong (bytes - chars_width chars)))
+rdns_of (suc room) bytes chars =
+    and_then (first_rdn bytes chars) (λ rdn.
+    if list_any (is_plain 44) chars then with_first rdn (rdns_of room bytes (after_comma chars))
     else Ok (rdn ∷ []))
 
 -- the name of a text, or the first refused RDN; the empty text is the empty name
 unfoldable pub name_of_text : List ℕ → Result (List (List TypeAndValue)) NameFault
 name_of_text text =
-    if length text == 0 then Ok [] else rdns_of most_rdns (length text) (signs_of text)
+    if length text == 0 then Ok [] else rdns_of most_rdns (length text) (chars_of text)
 
 -- the RDN of a text, which begins at its first byte
 unfoldable pub rdn_of_text : List ℕ → Result (List TypeAndValue) NameFault
-rdn_of_text text = rdn_of 0 false (signs_of text)
+rdn_of_text text = rdn_of 0 false (chars_of text)
 
 -- a name that was put together from names
 abbrev pub limited : List (List TypeAndValue) → Result (List (List TypeAndValue)) NameFault

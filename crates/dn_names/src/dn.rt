@@ -3,15 +3,15 @@ ghost use Rattle.std.specs.Prelude.{◌≡◌, ◌<◌, ◌↔◌, true, List, [
 ghost use Rattle.dn_names.specs.Keys.{name_key};
 ghost use Rattle.dn_names.specs.Names.{TypeAndValue, same_name, is_at_or_below, is_child_of, parent_of, moved_name};
 ghost use Rattle.dn_names.specs.Paths.{path_key, HasPath, ShowsNames};
-ghost use Rattle.dn_names.specs.Reading.{name_of_text, rdns_of, signs_width, limited, IsNameFault};
+ghost use Rattle.dn_names.specs.Reading.{name_of_text, rdns_of, chars_width, limited, IsNameFault};
 ghost use Rattle.dn_names.specs.Sound.{IsName, most_rdns};
 ghost use Rattle.dn_names.specs.Writing.{name_text};
 
 use crate::fault::NameFault;
 use crate::keys::append_rdn_key;
 use crate::name::Name;
+use crate::name_chars::{NameChar, chars_of, cut, width_of, without_leading_spaces};
 use crate::rdn::Rdn;
-use crate::signs::{Sign, cut, signs_of, width_of, without_leading_spaces};
 use crate::writing::{append_rdns, rdns_len};
 use ldap_ber::{NoMemory, Octets};
 use std::alloc::Global;
@@ -81,8 +81,8 @@ impl Dn {
         if text.is_empty() {
             return Ok(Dn::empty(alloc));
         }
-        let signs = signs_of(alloc, text)?;
-        let rdns = read_rdns(alloc, text.len(), signs.as_slice())?;
+        let chars = chars_of(alloc, text)?;
+        let rdns = read_rdns(alloc, text.len(), chars.as_slice())?;
         Ok(Dn::of(alloc, rdns)?)
     }
 
@@ -238,14 +238,14 @@ impl Dn {
 }
 
 /// Reads the RDNs of a text of n bytes.
-fn read_rdns(alloc: Global, bytes: usize, signs: &[Sign]) -> Result<Vec<Rdn>, NameFault>
-    requires { signs_width signs.now ≡ bytes }
-    ensures ok { IfOk result (λ rdns. rdns_of most_rdns bytes signs.now ≡ Ok rdns.items) }
-    ensures fault { IfErr result (IsNameFault (rdns_of most_rdns bytes signs.now)) }
+fn read_rdns(alloc: Global, bytes: usize, chars: &[NameChar]) -> Result<Vec<Rdn>, NameFault>
+    requires { chars_width chars.now ≡ bytes }
+    ensures ok { IfOk result (λ rdns. rdns_of most_rdns bytes chars.now ≡ Ok rdns.items) }
+    ensures fault { IfErr result (IsNameFault (rdns_of most_rdns bytes chars.now)) }
     ensures sound { IfOk result (λ rdns. IsName rdns.items) }
 {
     let mut rdns = Vec::new(alloc);
-    let mut rest = signs;
+    let mut rest = chars;
     'rdns: loop {
         let place = bytes - width_of(rest);
         let (first, beyond) = cut(rest, b',');

@@ -6,11 +6,11 @@ mod dn;
 mod fault;
 mod keys;
 mod name;
+mod name_chars;
 mod pair;
 mod paths;
 mod rdn;
 mod reading;
-mod signs;
 mod values;
 mod writing;
 

@@ -7,9 +7,9 @@ ghost use Rattle.dn_names.specs.Writing.{rdn_text};
 
 use crate::fault::NameFault;
 use crate::keys::has_double;
+use crate::name_chars::{NameChar, chars_of};
 use crate::pair::Pair;
 use crate::reading::read_pairs;
-use crate::signs::{Sign, signs_of};
 use crate::writing::append_pairs;
 use ldap_ber::{NoMemory, Octets};
 use std::alloc::Global;
@@ -46,8 +46,8 @@ impl Rdn {
         ensures ok { IfOk result (λ rdn. rdn_of_text text.now ≡ Ok rdn) }
         ensures fault { IfErr result (IsNameFault (rdn_of_text text.now)) }
     {
-        let signs = signs_of(alloc, text)?;
-        Rdn::read(alloc, 0, false, signs.as_slice())
+        let chars = chars_of(alloc, text)?;
+        Rdn::read(alloc, 0, false, chars.as_slice())
     }
 
     /// Reads an RDN that stands at this place; `ended` says that a comma follows.
@@ -55,20 +55,20 @@ impl Rdn {
         alloc: Global,
         place: usize,
         ended: bool,
-        signs: &[Sign],
+        chars: &[NameChar],
     ) -> Result<Rdn, NameFault>
-        ensures ok { IfOk result (λ rdn. rdn_of place ended signs.now ≡ Ok rdn) }
+        ensures ok { IfOk result (λ rdn. rdn_of place ended chars.now ≡ Ok rdn) }
         ensures sound { IfOk result (λ rdn. is_rdn rdn ≡ true) }
-        ensures fault { IfErr result (IsNameFault (rdn_of place ended signs.now)) }
+        ensures fault { IfErr result (IsNameFault (rdn_of place ended chars.now)) }
     {
-        if begins_with_space(signs) {
+        if begins_with_space(chars) {
             return Err(NameFault::BadName(place));
         }
-        let pairs = read_pairs(alloc, place, ended, signs)?;
+        let pairs = read_pairs(alloc, place, ended, chars)?;
         if has_double(alloc, pairs.as_slice())? {
             return Err(NameFault::BadName(place));
         }
-        let mut text = Vec::with_capacity(alloc, signs.len())?;
+        let mut text = Vec::with_capacity(alloc, chars.len())?;
         append_pairs(&mut text, pairs.as_slice())?;
         let length = text.len();
         if length > MOST_BYTES {
@@ -121,10 +121,10 @@ impl Rdn {
     }
 }
 
-fn begins_with_space(signs: &[Sign]) -> bool
-    ensures { result ≡ nat_lt 0 (prefix_len (is_plain 32) signs.now) }
+fn begins_with_space(chars: &[NameChar]) -> bool
+    ensures { result ≡ nat_lt 0 (prefix_len (is_plain 32) chars.now) }
 {
-    match signs {
+    match chars {
         [] => false,
         [first, ..] => first.is_plain(b' '),
     }

@@ -1,4 +1,4 @@
-//! RDNs and pairs read from signs (RFC 4514, section 3).
+//! RDNs and pairs read from characters (RFC 4514, section 3).
 ghost use Rattle.std.specs.Prelude.{◌≡◌, ◌==◌, false, Some, Ok, Err, IfOk, IfErr};
 ghost use Rattle.std.specs.List.{list_all, slice_split};
 ghost use Rattle.std.specs.Char.{is_ascii_digit};
@@ -7,8 +7,8 @@ ghost use Rattle.text_keys.specs.Integer as integer;
 ghost use Rattle.dn_names.specs.Reading as spec;
 
 use crate::fault::NameFault;
+use crate::name_chars::{NameChar, cut, without_leading_spaces, without_trailing_spaces};
 use crate::pair::Pair;
-use crate::signs::{Sign, cut, without_leading_spaces, without_trailing_spaces};
 use crate::values::{octets_of, plain_bytes};
 use ldap_ber::Octets;
 use schema_rules::{AttributeType, key_of};
@@ -20,15 +20,15 @@ pub(crate) fn read_pairs(
     alloc: Global,
     place: usize,
     ended: bool,
-    signs: &[Sign],
+    chars: &[NameChar],
 ) -> Result<Vec<Pair>, NameFault>
     ensures ok { IfOk result (λ pairs.
-        spec.pairs_of place ended (slice_split (spec.is_plain 43) signs.now) ≡ Ok pairs.items) }
+        spec.pairs_of place ended (slice_split (spec.is_plain 43) chars.now) ≡ Ok pairs.items) }
     ensures fault { IfErr result (spec.IsNameFault
-        (spec.pairs_of place ended (slice_split (spec.is_plain 43) signs.now))) }
+        (spec.pairs_of place ended (slice_split (spec.is_plain 43) chars.now))) }
 {
     let mut pairs = Vec::with_capacity(alloc, 1)?;
-    let mut rest = signs;
+    let mut rest = chars;
     'pairs: loop {
         let (part, more) = cut(rest, b'+');
         match more {
@@ -45,22 +45,27 @@ pub(crate) fn read_pairs(
 }
 
 /// Reads a pair; `ended` says that a separator follows.
-fn read_pair(alloc: Global, place: usize, ended: bool, signs: &[Sign]) -> Result<Pair, NameFault>
-    ensures ok { IfOk result (λ pair. spec.pair_of place ended signs.now ≡ Ok pair) }
-    ensures fault { IfErr result (spec.IsNameFault (spec.pair_of place ended signs.now)) }
+fn read_pair(
+    alloc: Global,
+    place: usize,
+    ended: bool,
+    chars: &[NameChar],
+) -> Result<Pair, NameFault>
+    ensures ok { IfOk result (λ pair. spec.pair_of place ended chars.now ≡ Ok pair) }
+    ensures fault { IfErr result (spec.IsNameFault (spec.pair_of place ended chars.now)) }
 {
-    let (name, Some(value)) = cut(signs, b'=') else {
+    let (name, Some(value)) = cut(chars, b'=') else {
         return Err(NameFault::BadName(place));
     };
     let kind = read_type(alloc, place, name)?;
-    read_value(alloc, place, kind, value_signs(ended, value))
+    read_value(alloc, place, kind, value_chars(ended, value))
 }
 
-/// The signs of a value, without the spaces that are dropped.
-fn value_signs(ended: bool, signs: &[Sign]) -> &[Sign]
-    ensures { result.now ≡ spec.value_signs ended signs.now }
+/// The characters of a value, without the spaces that are dropped.
+fn value_chars(ended: bool, chars: &[NameChar]) -> &[NameChar]
+    ensures { result.now ≡ spec.value_chars ended chars.now }
 {
-    let rest = without_leading_spaces(signs);
+    let rest = without_leading_spaces(chars);
     if ended {
         without_trailing_spaces(rest)
     } else {
@@ -69,12 +74,12 @@ fn value_signs(ended: bool, signs: &[Sign]) -> &[Sign]
 }
 
 /// Reads a type that is in the schema and not operational.
-fn read_type(alloc: Global, place: usize, signs: &[Sign]) -> Result<AttributeType, NameFault>
-    ensures ok { IfOk result (λ kind. spec.type_of place signs.now ≡ Ok kind) }
-    ensures fault { IfErr result (spec.IsNameFault (spec.type_of place signs.now)) }
+fn read_type(alloc: Global, place: usize, chars: &[NameChar]) -> Result<AttributeType, NameFault>
+    ensures ok { IfOk result (λ kind. spec.type_of place chars.now ≡ Ok kind) }
+    ensures fault { IfErr result (spec.IsNameFault (spec.type_of place chars.now)) }
     ensures known { IfOk result (λ kind. is_operational kind ≡ false) }
 {
-    let trimmed = without_trailing_spaces(without_leading_spaces(signs));
+    let trimmed = without_trailing_spaces(without_leading_spaces(chars));
     let Some(name) = plain_bytes(alloc, trimmed)? else {
         return Err(NameFault::BadName(place));
     };
@@ -159,15 +164,15 @@ fn read_value(
     alloc: Global,
     place: usize,
     kind: AttributeType,
-    signs: &[Sign],
+    chars: &[NameChar],
 ) -> Result<Pair, NameFault>
     requires { is_operational kind ≡ false }
     ensures ok { IfOk result (λ pair.
-        (pair.kind ≡ kind) × (spec.value_of kind signs.now ≡ Some pair.value)) }
+        (pair.kind ≡ kind) × (spec.value_of kind chars.now ≡ Some pair.value)) }
     ensures fault { IfErr result
-        (spec.IsNameFault (spec.or_bad place (spec.value_of kind signs.now))) }
+        (spec.IsNameFault (spec.or_bad place (spec.value_of kind chars.now))) }
 {
-    let Some(value) = octets_of(alloc, signs)? else {
+    let Some(value) = octets_of(alloc, chars)? else {
         return Err(NameFault::BadName(place));
     };
     match key_of(alloc, kind, value.as_slice()) {

@@ -5,36 +5,36 @@ ghost use Rattle.std.specs.Result.{result_ok};
 ghost use Rattle.hex.specs.Hex.{decode_of};
 ghost use Rattle.dn_names.specs.Reading as spec;
 
-use crate::signs::Sign;
+use crate::name_chars::NameChar;
 use hex::FromHexError;
 use ldap_ber::NoMemory;
 use std::alloc::{AllocError, Global};
 
-/// The octets of a value, or None where the signs are not a value.
-pub(crate) fn octets_of(alloc: Global, signs: &[Sign]) -> Result<Option<Vec<u8>>, NoMemory>
+/// The octets of a value, or None where the characters are not a value.
+pub(crate) fn octets_of(alloc: Global, chars: &[NameChar]) -> Result<Option<Vec<u8>>, NoMemory>
     ensures { IfOk result
-        (λ octets. option_map (λ v. v.items) octets ≡ spec.octets_of_signs signs.now) }
+        (λ octets. option_map (λ v. v.items) octets ≡ spec.octets_of_chars chars.now) }
 {
-    match signs {
+    match chars {
         [] => Ok(Some(Vec::new(alloc))),
         [first, digits @ ..] => {
             if first.is_plain(b'#') {
                 hex_value(alloc, digits)
             } else {
-                string_bytes(alloc, signs)
+                string_bytes(alloc, chars)
             }
         }
     }
 }
 
-/// The bytes of a string, or None where a sign has no place in one.
-fn string_bytes(alloc: Global, signs: &[Sign]) -> Result<Option<Vec<u8>>, NoMemory>
+/// The bytes of a string, or None where a character has no place in one.
+fn string_bytes(alloc: Global, chars: &[NameChar]) -> Result<Option<Vec<u8>>, NoMemory>
     ensures { IfOk result (λ octets.
-        option_map (λ v. v.items) octets ≡ spec.each_some spec.string_byte signs.now) }
+        option_map (λ v. v.items) octets ≡ spec.each_some spec.string_byte chars.now) }
 {
-    let mut bytes = Vec::with_capacity(alloc, signs.len())?;
-    for sign in signs {
-        match string_byte(*sign) {
+    let mut bytes = Vec::with_capacity(alloc, chars.len())?;
+    for name_char in chars {
+        match string_byte(*name_char) {
             Some(byte) => bytes.push(byte)?,
             None => return Ok(None),
         }
@@ -42,14 +42,14 @@ fn string_bytes(alloc: Global, signs: &[Sign]) -> Result<Option<Vec<u8>>, NoMemo
     Ok(Some(bytes))
 }
 
-/// The bytes of signs that all stand for themselves, or None.
-pub(crate) fn plain_bytes(alloc: Global, signs: &[Sign]) -> Result<Option<Vec<u8>>, NoMemory>
+/// The bytes of characters that all stand for themselves, or None.
+pub(crate) fn plain_bytes(alloc: Global, chars: &[NameChar]) -> Result<Option<Vec<u8>>, NoMemory>
     ensures { IfOk result (λ octets.
-        option_map (λ v. v.items) octets ≡ spec.each_some spec.plain_byte signs.now) }
+        option_map (λ v. v.items) octets ≡ spec.each_some spec.plain_byte chars.now) }
 {
-    let mut bytes = Vec::with_capacity(alloc, signs.len())?;
-    for sign in signs {
-        match plain_byte(*sign) {
+    let mut bytes = Vec::with_capacity(alloc, chars.len())?;
+    for name_char in chars {
+        match plain_byte(*name_char) {
             Some(byte) => bytes.push(byte)?,
             None => return Ok(None),
         }
@@ -57,25 +57,25 @@ pub(crate) fn plain_bytes(alloc: Global, signs: &[Sign]) -> Result<Option<Vec<u8
     Ok(Some(bytes))
 }
 
-fn string_byte(sign: Sign) -> Option<u8>
-    ensures { result ≡ spec.string_byte sign }
+fn string_byte(name_char: NameChar) -> Option<u8>
+    ensures { result ≡ spec.string_byte name_char }
 {
-    match sign {
-        Sign::Plain(byte) => { if is_refused(byte) { None } else { Some(byte) } }
-        Sign::Escaped(byte) => Some(byte),
-        Sign::Hexadecimal(byte) => Some(byte),
-        Sign::Stray => None,
+    match name_char {
+        NameChar::Plain(byte) => { if is_refused(byte) { None } else { Some(byte) } }
+        NameChar::Escaped(byte) => Some(byte),
+        NameChar::Hexadecimal(byte) => Some(byte),
+        NameChar::Stray => None,
     }
 }
 
-fn plain_byte(sign: Sign) -> Option<u8>
-    ensures { result ≡ spec.plain_byte sign }
+fn plain_byte(name_char: NameChar) -> Option<u8>
+    ensures { result ≡ spec.plain_byte name_char }
 {
-    match sign {
-        Sign::Plain(byte) => Some(byte),
-        Sign::Escaped(_) => None,
-        Sign::Hexadecimal(_) => None,
-        Sign::Stray => None,
+    match name_char {
+        NameChar::Plain(byte) => Some(byte),
+        NameChar::Escaped(_) => None,
+        NameChar::Hexadecimal(_) => None,
+        NameChar::Stray => None,
     }
 }
 
@@ -87,7 +87,7 @@ fn is_refused(byte: u8) -> bool
 }
 
 /// The body of the element that the digits give, or None where they give none.
-fn hex_value(alloc: Global, digits: &[Sign]) -> Result<Option<Vec<u8>>, NoMemory>
+fn hex_value(alloc: Global, digits: &[NameChar]) -> Result<Option<Vec<u8>>, NoMemory>
     ensures { IfOk result (λ octets. option_map (λ v. v.items) octets ≡ spec.hex_value digits.now) }
 {
     let Some(text) = plain_bytes(alloc, digits)? else {

@@ -134,7 +134,7 @@ module _ (old new : List Entry) where
   clear_is_held asc up apart clear =
       let few = le-ltb most_entries (length new) (few_after asc up clear) in
       let light = le-ltb most_weight (total_weight new) (light_after asc up clear) in
-      let names : same_named new ≡ None = none_where_distinct new up (distinct_after asc apart clear.free clear.apart) in
+      let names : same_named new ≡ None = none_where_distinct new up (distinct_after asc apart clear.free clear.unique_names) in
       λ i. not (few i || light i) && is_none (names i)
 
 -- entries after clear changes may be held
@@ -155,7 +155,7 @@ clear_by es changes taken put gone there few light free apart =
       few = omega (arith, few, before, after);
       light = omega (arith, light, lost, got);
       free = ap (list_all (has_free_name es changes)) (sym there) ∙ free;
-      apart = ap same_named (sym there) ∙ apart;
+      unique_names = ap same_named (sym there) ∙ apart;
     }
 
 -- what passes with one item more

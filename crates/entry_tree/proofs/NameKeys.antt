@@ -18,6 +18,7 @@ use Rattle.std.proofs.lemmas.Map.Text.{is_eq-slice_cmp}
 use Rattle.entry_tree.specs.NameIndex.{Names, found_at, listed, ids_at, stands_at, HasNoEmpty, IsLeast, lesser, Sets, Writes}
 use Rattle.entry_tree.proofs.Rising.{among, among-filter}
 
+-- the order of keys, by their octets
 abbrev pub key_cmp : Vec ℕ Global → Vec ℕ Global → Ordering
 key_cmp one other = slice_cmp nat_cmp one.items other.items
 

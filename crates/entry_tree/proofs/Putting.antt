@@ -42,11 +42,13 @@ all_higher u (x ∷ es) h =
 
 -- ---- after the first entry, in its place, or before it
 
+-- an entry of a higher identity than the first goes in after it
 pub put_after : (e x : Entry) (es : List Entry) → x.uuid < e.uuid → put e (x ∷ es) ≡ x ∷ put e es
 put_after e x es less =
     ap (λ b. cond b (x ∷ lower e.uuid es) (lower e.uuid es) ++ e ∷ higher e.uuid (x ∷ es)) (lt-ltb x.uuid e.uuid less)
     ∙ ap (λ b. (x ∷ lower e.uuid es) ++ e ∷ cond b (x ∷ higher e.uuid es) (higher e.uuid es)) (le-ltb e.uuid x.uuid (omega arith))
 
+-- an entry of the identity of the first stands in its place
 pub put_there : (e x : Entry) (es : List Entry) → x.uuid ≡ e.uuid → above x.uuid es ≡ true → put e (x ∷ es) ≡ e ∷ es
 put_there e x es same later =
     let far : above e.uuid es ≡ true = ap (λ n. above n es) (sym same) ∙ later in
@@ -55,6 +57,7 @@ put_there e x es same later =
     ∙ ap (λ xs. xs ++ e ∷ higher e.uuid es) (none_lower e.uuid es far)
     ∙ ap (λ xs. e ∷ xs) (all_higher e.uuid es far)
 
+-- an entry of a lower identity than all goes before them
 pub put_before : (e x : Entry) (es : List Entry) → e.uuid < x.uuid → above x.uuid es ≡ true → put e (x ∷ es) ≡ e ∷ x ∷ es
 put_before e x es less later =
     let far = above_all e.uuid x es less later in

@@ -1,4 +1,4 @@
--- A code of filters as trees, by which a proof reports values that hold them apart: signs
+-- A code of filters as trees, by which a proof reports values that hold them apart: instructions
 -- in the order in which a machine with two stacks, of filters and of lists of filters,
 -- builds the tree from them.
 use Rattle.std.specs.Prelude.{◌≡◌, ℕ, Option, None, List, [], ◌∷◌, ◌++◌, fold, refl, ◌==◌, if◌then◌else◌}
@@ -10,32 +10,34 @@ use Rattle.ldap_filter.specs.FilterTree.{FilterTree, Trees, all_of, any_of, nega
 abbrev bytes_code : Coded (List ℕ)
 bytes_code = coded_list coded_ℕ
 
--- what a sign does, and the texts that it holds
-abbrev Sign : Type 0
-Sign = ℕ × (List ℕ × (List ℕ × (Option (List ℕ) × (List (List ℕ) × Option (List ℕ)))))
+-- what a instruction does, and the texts that it holds
+abbrev Instruction : Type 0
+Instruction = ℕ × (List ℕ × (List ℕ × (Option (List ℕ) × (List (List ℕ) × Option (List ℕ)))))
 
-abbrev sign : ℕ → List ℕ → List ℕ → Sign
-sign what name value = (what, (name, (value, (None, ([], None)))))
+abbrev instruction : ℕ → List ℕ → List ℕ → Instruction
+instruction what name value = (what, (name, (value, (None, ([], None)))))
 
 abbrev Stacks : Type 0
 Stacks = List FilterTree × List Trees
 
 abbrev mutual
-  signs_of : FilterTree → List Sign
-  signs_of (all_of ts) = signs_of_list ts ++ sign 0 [] [] ∷ []
-  signs_of (any_of ts) = signs_of_list ts ++ sign 1 [] [] ∷ []
-  signs_of (negated t) = signs_of t ++ sign 2 [] [] ∷ []
-  signs_of (equal name value) = sign 3 name value ∷ []
-  signs_of (substrings name initial middle last) = (4, (name, ([], (initial, (middle, last))))) ∷ []
-  signs_of (at_least name value) = sign 5 name value ∷ []
-  signs_of (at_most name value) = sign 6 name value ∷ []
-  signs_of (present name) = sign 7 name [] ∷ []
-  signs_of (approx name value) = sign 8 name value ∷ []
-  signs_of (extensible body) = sign 9 body [] ∷ []
+  instructions_of : FilterTree → List Instruction
+  instructions_of (all_of ts) = instructions_of_list ts ++ instruction 0 [] [] ∷ []
+  instructions_of (any_of ts) = instructions_of_list ts ++ instruction 1 [] [] ∷ []
+  instructions_of (negated t) = instructions_of t ++ instruction 2 [] [] ∷ []
+  instructions_of (equal name value) = instruction 3 name value ∷ []
+  instructions_of (substrings name initial middle last) =
+      (4, (name, ([], (initial, (middle, last))))) ∷ []
+  instructions_of (at_least name value) = instruction 5 name value ∷ []
+  instructions_of (at_most name value) = instruction 6 name value ∷ []
+  instructions_of (present name) = instruction 7 name [] ∷ []
+  instructions_of (approx name value) = instruction 8 name value ∷ []
+  instructions_of (extensible body) = instruction 9 body [] ∷ []
 
-  signs_of_list : Trees → List Sign
-  signs_of_list no_trees = sign 10 [] [] ∷ []
-  signs_of_list (more_trees t ts) = signs_of t ++ (signs_of_list ts ++ sign 11 [] [] ∷ [])
+  instructions_of_list : Trees → List Instruction
+  instructions_of_list no_trees = instruction 10 [] [] ∷ []
+  instructions_of_list (more_trees t ts) =
+      instructions_of t ++ (instructions_of_list ts ++ instruction 11 [] [] ∷ [])
 
 -- a filter or a list of filters on top of its stack
 abbrev on_trees : FilterTree → Stacks → Stacks
@@ -76,31 +78,31 @@ act what name value initial middle last stacks =
     else if what == 10 then on_lists no_trees stacks
     else of_both stacks
 
-abbrev act_by : Stacks → Sign → Stacks
+abbrev act_by : Stacks → Instruction → Stacks
 act_by stacks s = act s.0 s.1.0 s.1.1.0 s.1.1.1.0 s.1.1.1.1.0 s.1.1.1.1.1 stacks
 
-abbrev built_by : Stacks → List Sign → Stacks
-built_by stacks signs = fold act_by stacks signs
+abbrev built_by : Stacks → List Instruction → Stacks
+built_by stacks instructions = fold act_by stacks instructions
 
 abbrev top : List FilterTree → FilterTree
 top [] = present []
 top (t ∷ trees) = t
 
-abbrev tree_by : List Sign → FilterTree
-tree_by signs = top (built_by ([], []) signs).0
+abbrev tree_by : List Instruction → FilterTree
+tree_by instructions = top (built_by ([], []) instructions).0
 
 mutual
   built_again :
-      (t : FilterTree) (stacks : Stacks) → built_by stacks (signs_of t) ≡ on_trees t stacks
+      (t : FilterTree) (stacks : Stacks) → built_by stacks (instructions_of t) ≡ on_trees t stacks
   built_again (all_of ts) stacks =
-      fold-append act_by stacks (signs_of_list ts) _
-      ∙ ap (λ s. built_by s (sign 0 [] [] ∷ [])) (list_built_again ts stacks)
+      fold-append act_by stacks (instructions_of_list ts) _
+      ∙ ap (λ s. built_by s (instruction 0 [] [] ∷ [])) (list_built_again ts stacks)
   built_again (any_of ts) stacks =
-      fold-append act_by stacks (signs_of_list ts) _
-      ∙ ap (λ s. built_by s (sign 1 [] [] ∷ [])) (list_built_again ts stacks)
+      fold-append act_by stacks (instructions_of_list ts) _
+      ∙ ap (λ s. built_by s (instruction 1 [] [] ∷ [])) (list_built_again ts stacks)
   built_again (negated t) stacks =
-      fold-append act_by stacks (signs_of t) _
-      ∙ ap (λ s. built_by s (sign 2 [] [] ∷ [])) (built_again t stacks)
+      fold-append act_by stacks (instructions_of t) _
+      ∙ ap (λ s. built_by s (instruction 2 [] [] ∷ [])) (built_again t stacks)
   built_again (equal name value) stacks = refl
   built_again (substrings name initial middle last) stacks = refl
   built_again (at_least name value) stacks = refl
@@ -110,23 +112,25 @@ mutual
   built_again (extensible body) stacks = refl
 
   list_built_again :
-      (ts : Trees) (stacks : Stacks) → built_by stacks (signs_of_list ts) ≡ on_lists ts stacks
+      (ts : Trees) (stacks : Stacks)
+      → built_by stacks (instructions_of_list ts) ≡ on_lists ts stacks
   list_built_again no_trees stacks = refl
   list_built_again (more_trees t ts) stacks =
-      fold-append act_by stacks (signs_of t) _
-      ∙ ap (λ s. built_by s (signs_of_list ts ++ sign 11 [] [] ∷ [])) (built_again t stacks)
-      ∙ fold-append act_by (on_trees t stacks) (signs_of_list ts) _
-      ∙ ap (λ s. built_by s (sign 11 [] [] ∷ [])) (list_built_again ts (on_trees t stacks))
+      fold-append act_by stacks (instructions_of t) _
+      ∙ ap (λ s. built_by s (instructions_of_list ts ++ instruction 11 [] [] ∷ []))
+      (built_again t stacks)
+      ∙ fold-append act_by (on_trees t stacks) (instructions_of_list ts) _
+      ∙ ap (λ s. built_by s (instruction 11 [] [] ∷ [])) (list_built_again ts (on_trees t stacks))
 
-pub same_tree_again : (t : FilterTree) → tree_by (signs_of t) ≡ t
+pub same_tree_again : (t : FilterTree) → tree_by (instructions_of t) ≡ t
 same_tree_again t = ap (λ (s : Stacks). top s.0) (built_again t ([], []))
 
 abbrev pub tree_code : Coded FilterTree
 tree_code =
-    code_by (List Sign)
+    code_by (List Instruction)
     (coded_list (coded× coded_ℕ
     (coded× bytes_code
     (coded× bytes_code
     (coded× (coded_option bytes_code)
     (coded× (coded_list bytes_code) (coded_option bytes_code)))))))
-    signs_of tree_by same_tree_again
+    instructions_of tree_by same_tree_again

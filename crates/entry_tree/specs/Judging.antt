@@ -36,4 +36,4 @@ pub record AreClear (entries : List Entry) (changes : List EntryChange) : Type 0
       total_weight entries + total_weight (puts_of changes)
       ≤ most_weight + total_weight (takes_of changes)
   pub free : list_all (has_free_name entries changes) (puts_of changes) ≡ true
-  pub apart : same_named (puts_of changes) ≡ None
+  pub unique_names : same_named (puts_of changes) ≡ None

@@ -54,23 +54,23 @@ impl Tree {
     }
 
     /// What differs after a commit, where the entries after it may be held, or else what
-    /// `check_commit` reports of it. Where no two entries have one name, as `apart` states, it is
-    /// judged by what it puts and drops, and all entries are looked at only where something may be
+    /// `check_commit` reports of it. Where no two entries have one name, as `unique_names` states, it
+    /// is judged by what it puts and drops, and all entries are looked at only where something may be
     /// against that.
     pub fn plan_commit(
         &self,
         puts: &[Entry],
         drops: &[u128],
-        apart: bool,
+        unique_names: bool,
     ) -> Result<Touched, CommitRefusal>
-        requires { IsTrue apart → state.same_named self.now ≡ None }
+        requires { IsTrue unique_names → state.same_named self.now ≡ None }
         ensures held { OnOk result
             (is_directory_content (committed self.now puts.now drops.now) ≡ true) }
         ensures plan { IfOk result (IsPlan self.now (committed self.now puts.now drops.now)) }
         ensures refused { IfErr result (IsCauseOf (committed self.now puts.now drops.now)) }
     {
         let entry_changes = self.changes(puts, drops)?;
-        self.check_changes(puts, drops, entry_changes.list(), apart)?;
+        self.check_changes(puts, drops, entry_changes.list(), unique_names)?;
         Ok(entry_changes)
     }
 
@@ -80,15 +80,15 @@ impl Tree {
         puts: &[Entry],
         drops: &[u128],
         changes: &[EntryChange],
-        apart: bool,
+        unique_names: bool,
     ) -> Result<(), CommitRefusal>
-        requires apart { IsTrue apart → state.same_named self.now ≡ None }
+        requires unique_names { IsTrue unique_names → state.same_named self.now ≡ None }
         requires exact { changes.now ≡ touched self.now (committed self.now puts.now drops.now) }
         ensures ok { OnOk result
             (is_directory_content (committed self.now puts.now drops.now) ≡ true) }
         ensures refused { IfErr result (IsCauseOf (committed self.now puts.now drops.now)) }
     {
-        if apart && self.is_clear(changes)? {
+        if unique_names && self.is_clear(changes)? {
             return Ok(());
         }
         self.check_commit(puts, drops)

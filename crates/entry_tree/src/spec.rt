@@ -60,9 +60,9 @@ impl Spec {
             && self.filter.same(&other.filter)
     }
 
-    /// Whether the entry is wanted.
-    pub(crate) fn takes(&self, alloc: Global, entry: &Entry) -> Result<bool, NoMemory>
-        ensures { IfOk result (λ takes. takes ≡ is_selected (search_of self.now) entry.now) }
+    /// Whether the specification selects the entry.
+    pub(crate) fn selects(&self, alloc: Global, entry: &Entry) -> Result<bool, NoMemory>
+        ensures { IfOk result (λ selects. selects ≡ is_selected (search_of self.now) entry.now) }
     {
         if !self.scope.has(&self.base, &entry.dn) {
             return Ok(false);

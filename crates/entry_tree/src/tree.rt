@@ -175,14 +175,14 @@ impl Tree {
     }
 }
 
-/// Those of the entries that are wanted.
+/// Those of the entries that the specification selects.
 fn taken(alloc: Global, entries: &[&Entry], spec: &Spec) -> Result<EntryList, NoMemory>
     ensures { IfOk result (λ found.
         found ≡ select (search_of spec.now) (map (λ e. e.now) entries.now)) }
 {
     let mut found = EntryList::new(alloc);
     for entry in entries {
-        if spec.takes(alloc, entry)? {
+        if spec.selects(alloc, entry)? {
             found.push(entry.copy()?)?;
         }
     }

@@ -118,12 +118,14 @@ read_is bytes m k (Refused at) e h = absurd cc
 read_is bytes m k Long e h = absurd cc
 read_is bytes m k (Held j) e h = in_held bytes m k j (whole_at place_of message_at (take j bytes)) refl h
 
+-- what is read of bytes is spelled by the first of them
 pub read_found : (bytes : List ℕ) (m : MessageValue) (k : ℕ) → read_of bytes ≡ message m k → Spells (take k bytes) m
 unfolding MessageForm read_of
 read_found bytes m k h =
     let r = read_is bytes m k (frame_at bytes) refl h in
     (whole_found place_of MessageForm message_at message_exact (take k bytes) m r.1, within_limit bytes k r.0)
 
+-- bytes that spell a message are read as it, whatever follows them
 pub read_only : (prefix after : List ℕ) (m : MessageValue) → Spells prefix m → read_of (prefix ++ after) ≡ message m (length prefix)
 unfolding MessageForm read_of
 read_only prefix after m h =

@@ -11,7 +11,7 @@ use Rattle.ldap_messages.specs.Search.{SearchBounds, SearchBoundsForm}
 use Rattle.ldap_messages.specs.Operation.{Operation, bind, unbind, search, modify, add, delete, rename, compare, abandon, extended, bind_response, entry, search_done, reference, modify_response, add_response, delete_response, rename_response, compare_response, extended_response, intermediate, OperationForm, IsOfGrammar}
 use Rattle.ldap_messages.specs.Whole.{MessageValue, message_value, MessageForm, HasSpelling}
 use Rattle.ldap_messages.specs.Frame.{HasMeaning, read_of}
-use Rattle.ldap_messages.proofs.OutcomeLemmas.{ldap_result_is, response_is}
+use Rattle.ldap_messages.proofs.LdapResultLemmas.{ldap_result_is, response_is}
 use Rattle.ldap_messages.proofs.FrameLemmas.{read_found}
 
 each_depth : (d : ℕ) → ((bytes : List ℕ) (t : FilterTree) (rest : List ℕ) → FilterIn d bytes t rest → depth t ≤ d) → (bytes : List ℕ) (ts : Trees) → Many (FilterIn d) bytes (listed ts) → deepest ts ≤ d

@@ -1,6 +1,6 @@
 pub mod SizeLemmas
 pub mod UriLemmas
-pub mod OutcomeLemmas
+pub mod LdapResultLemmas
 pub mod ModifyLemmas
 pub mod OperationLemmas
 pub mod OperationSpellings

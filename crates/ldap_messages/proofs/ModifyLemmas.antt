@@ -19,7 +19,7 @@ use Rattle.schema_rules.specs.declared.raw.How.TheVariants.{Add, Delete, Replace
 use Rattle.ldap_parts.specs.Faults.{place_of}
 use Rattle.ldap_parts.specs.Components.{number_at}
 use Rattle.ldap_parts.specs.Attributes.{AttributeForm, attribute_at, attribute_octets}
-use Rattle.ldap_parts.proofs.ComponentLemmas.{string_exact, number_exact}
+use Rattle.ldap_parts.proofs.ComponentLemmas.{octet_string_exact, number_exact}
 use Rattle.ldap_parts.proofs.StringLemmas.{all_sound}
 use Rattle.ldap_parts.proofs.AttributeLemmas.{attribute_exact, attribute_spelled}
 use Rattle.ldap_messages.specs.Modify.{how_number, IsHow, HowForm, edit_parts, edit_with, EditForm, ModifyForm, how_of, how_at, edit_at, modify_at, edit_octets, edits_octets, modify_octets}
@@ -56,7 +56,7 @@ edit_shortens bytes x rest h = Begins-shorter bytes 48 h.0 rest h.2
 
 pub modify_exact : Exact ModifyForm modify_at
 unfolding modify_at
-modify_exact = sequence_exact place_of 102 _ _ (both_exact _ _ _ _ (string_exact 4) (list_exact place_of 48 EditForm edit_at edit_exact edit_shortens))
+modify_exact = sequence_exact place_of 102 _ _ (both_exact _ _ _ _ (octet_string_exact 4) (list_exact place_of 48 EditForm edit_at edit_exact edit_shortens))
 
 edit_advances : Advances edit_at
 edit_advances = advances EditForm edit_at edit_exact edit_shortens

@@ -6,14 +6,14 @@ use Rattle.ldap_ber.specs.Reading.{Reading, made_at}
 use Rattle.ldap_ber.proofs.Steps.{chosen, guard_on}
 use Rattle.ldap_ber.proofs.ExactLemmas.{Exact, made_ok, both_exact, meaning_exact, sequence_exact}
 use Rattle.ldap_parts.specs.Faults.{place_of}
-use Rattle.ldap_parts.specs.Components.{string_at}
-use Rattle.ldap_parts.proofs.ComponentLemmas.{string_exact, number_exact, truth_exact, range_exact, option_exact}
+use Rattle.ldap_parts.specs.Components.{octet_string_at}
+use Rattle.ldap_parts.proofs.ComponentLemmas.{octet_string_exact, number_exact, boolean_value_exact, range_exact, option_exact}
 use Rattle.ldap_parts.proofs.StringLemmas.{strings_exact}
 use Rattle.ldap_parts.proofs.AttributeLemmas.{attributes_exact}
 use Rattle.ldap_parts.proofs.FilterLemmas.{assertion_exact, filter_exact, goes_by}
 use Rattle.ldap_messages.specs.declared.bind.Authentication.{Authentication}
 use Rattle.ldap_messages.specs.declared.bind.Authentication.TheVariants.{Simple, Sasl}
-use Rattle.ldap_messages.specs.Outcome.{ResponseForm, response_at}
+use Rattle.ldap_messages.specs.LdapResult.{ResponseForm, response_at}
 use Rattle.ldap_messages.specs.Bind.{BindForm, bind_at, BindResponseForm, bind_response_at, AuthenticationForm, authentication_at}
 use Rattle.ldap_messages.specs.Unbind.{UnbindForm, unbind_at, IsNull, null_of}
 use Rattle.ldap_messages.specs.Search.{SearchBoundsForm, search_bounds_at, SearchForm, search_at, EntryForm, entry_at, ReferenceForm, reference_at}
@@ -27,7 +27,7 @@ use Rattle.ldap_messages.specs.Extended.{ExtendedForm, extended_at, ExtendedResp
 use Rattle.ldap_messages.specs.Intermediate.{IntermediateForm, intermediate_at}
 use Rattle.ldap_messages.specs.Operation.{Operation, bind, unbind, search, modify, add, delete, rename, compare, abandon, extended, bind_response, entry, search_done, reference, modify_response, add_response, delete_response, rename_response, compare_response, extended_response, intermediate, OperationForm, other_response_at, write_response_at, search_response_at, session_response_at, write_request_at, entry_request_at, operation_at}
 use Rattle.ldap_messages.proofs.UriLemmas.{uris_exact}
-use Rattle.ldap_messages.proofs.OutcomeLemmas.{ldap_result_exact, response_exact}
+use Rattle.ldap_messages.proofs.LdapResultLemmas.{ldap_result_exact, response_exact}
 use Rattle.ldap_messages.proofs.ModifyLemmas.{modify_exact}
 
 -- ---- one by one
@@ -35,21 +35,21 @@ use Rattle.ldap_messages.proofs.ModifyLemmas.{modify_exact}
 authentication_found : (stop : ℕ) (bytes : List ℕ) (x : Authentication) (rest : List ℕ) → authentication_at stop bytes ≡ Ok (x, rest) → AuthenticationForm bytes x rest
 unfolding authentication_at
 authentication_found stop bytes x rest h = elim (chosen (has_tag 128 bytes) _ _ _ h) [
-  | inl s ↦ let m = made_ok Simple (string_at 128) stop bytes x rest s.1 in subst (λ (y : Authentication). AuthenticationForm bytes y rest) m.2 ((string_exact 128).found stop bytes m.0 rest m.1)
-  | inr s ↦ let m = made_ok Sasl (string_at 163) stop bytes x rest s.1 in subst (λ (y : Authentication). AuthenticationForm bytes y rest) m.2 ((string_exact 163).found stop bytes m.0 rest m.1)
+  | inl s ↦ let m = made_ok Simple (octet_string_at 128) stop bytes x rest s.1 in subst (λ (y : Authentication). AuthenticationForm bytes y rest) m.2 ((octet_string_exact 128).found stop bytes m.0 rest m.1)
+  | inr s ↦ let m = made_ok Sasl (octet_string_at 163) stop bytes x rest s.1 in subst (λ (y : Authentication). AuthenticationForm bytes y rest) m.2 ((octet_string_exact 163).found stop bytes m.0 rest m.1)
 ]
 
 authentication_only : (stop : ℕ) (bytes : List ℕ) (x : Authentication) (rest : List ℕ) → AuthenticationForm bytes x rest → authentication_at stop bytes ≡ Ok (x, rest)
 unfolding authentication_at
-authentication_only stop bytes (Simple o) rest h = goes_by (string_at 128) authentication_at stop bytes 128 o rest rest o (Simple o) h (λ more r. rw r refl) ((string_exact 128).only stop bytes o rest h)
-authentication_only stop bytes (Sasl o) rest h = goes_by (string_at 163) authentication_at stop bytes 163 o rest rest o (Sasl o) h (λ more r. rw r refl) ((string_exact 163).only stop bytes o rest h)
+authentication_only stop bytes (Simple o) rest h = goes_by (octet_string_at 128) authentication_at stop bytes 128 o rest rest o (Simple o) h (λ more r. rw r refl) ((octet_string_exact 128).only stop bytes o rest h)
+authentication_only stop bytes (Sasl o) rest h = goes_by (octet_string_at 163) authentication_at stop bytes 163 o rest rest o (Sasl o) h (λ more r. rw r refl) ((octet_string_exact 163).only stop bytes o rest h)
 
 authentication_exact : Exact AuthenticationForm authentication_at
 authentication_exact = record { found = authentication_found; only = authentication_only }
 
 bind_exact : Exact BindForm bind_at
 unfolding bind_at
-bind_exact = sequence_exact place_of 96 _ _ (both_exact _ _ _ _ (range_exact 1 127 2) (both_exact _ _ _ _ (string_exact 4) authentication_exact))
+bind_exact = sequence_exact place_of 96 _ _ (both_exact _ _ _ _ (range_exact 1 127 2) (both_exact _ _ _ _ (octet_string_exact 4) authentication_exact))
 
 bind_response_exact : Exact BindResponseForm bind_response_at
 unfolding bind_response_at
@@ -67,13 +67,13 @@ null_back place body u h = rw h refl
 
 unbind_exact : Exact UnbindForm unbind_at
 unfolding unbind_at
-unbind_exact = meaning_exact IsNull null_of (OctetString 66) (string_at 66) null_there null_back (string_exact 66)
+unbind_exact = meaning_exact IsNull null_of (OctetString 66) (octet_string_at 66) null_there null_back (octet_string_exact 66)
 
 search_bounds_exact : Exact SearchBoundsForm search_bounds_at
 unfolding search_bounds_at
 search_bounds_exact =
-    both_exact _ _ _ _ (string_exact 4) (both_exact _ _ _ _ (range_exact 0 2 10) (both_exact _ _ _ _ (range_exact 0 3 10) (both_exact _ _ _ _ (range_exact 0 2147483647 2)
-    (both_exact _ _ _ _ (range_exact 0 2147483647 2) truth_exact))))
+    both_exact _ _ _ _ (octet_string_exact 4) (both_exact _ _ _ _ (range_exact 0 2 10) (both_exact _ _ _ _ (range_exact 0 3 10) (both_exact _ _ _ _ (range_exact 0 2147483647 2)
+    (both_exact _ _ _ _ (range_exact 0 2147483647 2) boolean_value_exact))))
 
 search_exact : Exact SearchForm search_at
 unfolding search_at
@@ -81,26 +81,26 @@ search_exact = sequence_exact place_of 99 _ _ (both_exact _ _ _ _ search_bounds_
 
 entry_exact : Exact EntryForm entry_at
 unfolding entry_at
-entry_exact = sequence_exact place_of 100 _ _ (both_exact _ _ _ _ (string_exact 4) attributes_exact)
+entry_exact = sequence_exact place_of 100 _ _ (both_exact _ _ _ _ (octet_string_exact 4) attributes_exact)
 
 reference_exact : Exact ReferenceForm reference_at
 reference_exact = uris_exact 115
 
 add_exact : Exact AddForm add_at
 unfolding add_at
-add_exact = sequence_exact place_of 104 _ _ (both_exact _ _ _ _ (string_exact 4) attributes_exact)
+add_exact = sequence_exact place_of 104 _ _ (both_exact _ _ _ _ (octet_string_exact 4) attributes_exact)
 
 delete_exact : Exact DeleteForm delete_at
 unfolding delete_at
-delete_exact = string_exact 74
+delete_exact = octet_string_exact 74
 
 rename_exact : Exact RenameForm rename_at
 unfolding rename_at
-rename_exact = sequence_exact place_of 108 _ _ (both_exact _ _ _ _ (string_exact 4) (both_exact _ _ _ _ (string_exact 4) (both_exact _ _ _ _ truth_exact (option_exact 128))))
+rename_exact = sequence_exact place_of 108 _ _ (both_exact _ _ _ _ (octet_string_exact 4) (both_exact _ _ _ _ (octet_string_exact 4) (both_exact _ _ _ _ boolean_value_exact (option_exact 128))))
 
 compare_exact : Exact CompareForm compare_at
 unfolding compare_at
-compare_exact = sequence_exact place_of 110 _ _ (both_exact _ _ _ _ (string_exact 4) (assertion_exact 48))
+compare_exact = sequence_exact place_of 110 _ _ (both_exact _ _ _ _ (octet_string_exact 4) (assertion_exact 48))
 
 abandon_exact : Exact AbandonForm abandon_at
 unfolding abandon_at
@@ -108,7 +108,7 @@ abandon_exact = number_exact 80
 
 extended_exact : Exact ExtendedForm extended_at
 unfolding extended_at
-extended_exact = sequence_exact place_of 119 _ _ (both_exact _ _ _ _ (string_exact 128) (option_exact 129))
+extended_exact = sequence_exact place_of 119 _ _ (both_exact _ _ _ _ (octet_string_exact 128) (option_exact 129))
 
 extended_response_exact : Exact ExtendedResponseForm extended_response_at
 unfolding extended_response_at

@@ -14,7 +14,7 @@ use Rattle.ldap_parts.proofs.FilterSpellings.{assertion_spelled, filter_spelled}
 use Rattle.ldap_messages.specs.declared.bind.Authentication.{Authentication}
 use Rattle.ldap_messages.specs.declared.bind.Authentication.TheVariants.{Simple, Sasl}
 use Rattle.ldap_messages.specs.Uris.{HaveOne}
-use Rattle.ldap_messages.specs.Outcome.{LdapResultForm, ldap_result_octets}
+use Rattle.ldap_messages.specs.LdapResult.{LdapResultForm, ldap_result_octets}
 use Rattle.ldap_messages.specs.Bind.{AuthenticationForm, BindForm, BindResponseForm, authentication_octets, bind_octets, bind_response_octets}
 use Rattle.ldap_messages.specs.Unbind.{UnbindForm, unbind_octets}
 use Rattle.ldap_messages.specs.Search.{SearchBounds, SearchBoundsForm, SearchForm, EntryForm, ReferenceForm, search_bounds_octets, search_octets, entry_octets, reference_octets}
@@ -25,7 +25,7 @@ use Rattle.ldap_messages.specs.Extended.{ExtendedForm, ExtendedResponseForm, ext
 use Rattle.ldap_messages.specs.Intermediate.{IntermediateForm, intermediate_octets}
 use Rattle.ldap_messages.specs.Operation.{Operation, bind, unbind, search, modify, add, delete, rename, compare, abandon, extended, bind_response, entry, search_done, reference, modify_response, add_response, delete_response, rename_response, compare_response, extended_response, intermediate, OperationForm, operation_octets, IsOfGrammar, IsHeld}
 use Rattle.ldap_messages.proofs.UriLemmas.{uris_spelled}
-use Rattle.ldap_messages.proofs.OutcomeLemmas.{IsLdapResult, ldap_result_spelled, response_spelled}
+use Rattle.ldap_messages.proofs.LdapResultLemmas.{IsLdapResult, ldap_result_spelled, response_spelled}
 use Rattle.ldap_messages.proofs.ModifyLemmas.{modify_spelled}
 
 -- one component, and the other after it, whatever that is

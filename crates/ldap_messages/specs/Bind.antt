@@ -5,11 +5,11 @@ use Rattle.ldap_ber.specs.Form.{Form, OctetString, Both, Sequence}
 use Rattle.ldap_ber.specs.Reading.{Reading, both_at, made_at, sequence_at}
 use Rattle.ldap_ber.specs.Canonical.{element}
 use Rattle.ldap_parts.specs.Faults.{place_of}
-use Rattle.ldap_parts.specs.Components.{RangeForm, OptionForm, string_at, range_at, option_at, number_octets, string_octets}
+use Rattle.ldap_parts.specs.Components.{RangeForm, OptionForm, octet_string_at, range_at, option_at, number_octets, string_octets}
 use Rattle.ldap_messages.specs.declared.bind.Authentication.{Authentication}
 use Rattle.ldap_messages.specs.declared.bind.Authentication.TheVariants.{Simple, Sasl}
-use Rattle.ldap_messages.specs.declared.outcome.LdapResult.{LdapResult}
-use Rattle.ldap_messages.specs.Outcome.{LdapResultForm, ldap_result_at, ldap_result_octets}
+use Rattle.ldap_messages.specs.declared.ldap_result.LdapResult.{LdapResult}
+use Rattle.ldap_messages.specs.LdapResult.{LdapResultForm, ldap_result_at, ldap_result_octets}
 
 -- AuthenticationChoice
 abbrev pub AuthenticationForm : Form Authentication
@@ -24,13 +24,13 @@ BindResponseForm = Sequence 97 (Both LdapResultForm (OptionForm 135))
 
 unfoldable pub authentication_at : Reading ℕ Authentication
 authentication_at stop bytes =
-    if has_tag 128 bytes then made_at Simple (string_at 128) stop bytes else
-    made_at Sasl (string_at 163) stop bytes
+    if has_tag 128 bytes then made_at Simple (octet_string_at 128) stop bytes else
+    made_at Sasl (octet_string_at 163) stop bytes
 
 unfoldable pub bind_at : Reading ℕ (ℕ × (List ℕ × Authentication))
 bind_at stop bytes =
     sequence_at place_of 96
-    (both_at (range_at 1 127 2) (both_at (string_at 4) authentication_at)) stop bytes
+    (both_at (range_at 1 127 2) (both_at (octet_string_at 4) authentication_at)) stop bytes
 
 unfoldable pub bind_response_at : Reading ℕ (LdapResult × Option (List ℕ))
 bind_response_at stop bytes =

@@ -4,9 +4,9 @@ use Rattle.ldap_ber.specs.Form.{Form, OctetString, Both, Sequence}
 use Rattle.ldap_ber.specs.Reading.{Reading, both_at, sequence_at}
 use Rattle.ldap_ber.specs.Canonical.{element}
 use Rattle.ldap_parts.specs.Faults.{place_of}
-use Rattle.ldap_parts.specs.Components.{OptionForm, string_at, option_at, string_octets}
-use Rattle.ldap_messages.specs.declared.outcome.LdapResult.{LdapResult}
-use Rattle.ldap_messages.specs.Outcome.{LdapResultForm, ldap_result_at, ldap_result_octets}
+use Rattle.ldap_parts.specs.Components.{OptionForm, octet_string_at, option_at, string_octets}
+use Rattle.ldap_messages.specs.declared.ldap_result.LdapResult.{LdapResult}
+use Rattle.ldap_messages.specs.LdapResult.{LdapResultForm, ldap_result_at, ldap_result_octets}
 
 abbrev pub ExtendedForm : Form (List ℕ × Option (List ℕ))
 ExtendedForm = Sequence 119 (Both (OctetString 128) (OptionForm 129))
@@ -16,7 +16,7 @@ ExtendedResponseForm = Sequence 120 (Both LdapResultForm (Both (OptionForm 138) 
 
 unfoldable pub extended_at : Reading ℕ (List ℕ × Option (List ℕ))
 extended_at stop bytes =
-    sequence_at place_of 119 (both_at (string_at 128) (option_at 129)) stop bytes
+    sequence_at place_of 119 (both_at (octet_string_at 128) (option_at 129)) stop bytes
 
 unfoldable pub extended_response_at : Reading ℕ (LdapResult × (Option (List ℕ) × Option (List ℕ)))
 extended_response_at stop bytes =

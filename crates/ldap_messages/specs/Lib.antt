@@ -1,5 +1,5 @@
 pub mod Uris
-pub mod Outcome
+pub mod LdapResult
 pub mod Bind
 pub mod Unbind
 pub mod Search

@@ -10,7 +10,7 @@ use Rattle.schema_rules.specs.declared.raw.RawEdit.{RawEdit}
 use Rattle.schema_rules.specs.declared.raw.How.{How}
 use Rattle.schema_rules.specs.declared.raw.How.TheVariants.{Add, Delete, Replace}
 use Rattle.ldap_parts.specs.Faults.{place_of}
-use Rattle.ldap_parts.specs.Components.{string_at, number_at}
+use Rattle.ldap_parts.specs.Components.{octet_string_at, number_at}
 use Rattle.ldap_parts.specs.Attributes.{AttributeForm, attribute_at, attribute_octets}
 
 abbrev pub how_number : How → ℤ
@@ -55,7 +55,7 @@ abbrev pub edits_at : Reading ℕ (List RawEdit)
 edits_at = list_at place_of 48 edit_at
 
 unfoldable pub modify_at : Reading ℕ (List ℕ × List RawEdit)
-modify_at stop bytes = sequence_at place_of 102 (both_at (string_at 4) edits_at) stop bytes
+modify_at stop bytes = sequence_at place_of 102 (both_at (octet_string_at 4) edits_at) stop bytes
 
 unfoldable pub edit_octets : RawEdit → List ℕ
 edit_octets edit =

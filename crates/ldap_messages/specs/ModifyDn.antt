@@ -4,7 +4,7 @@ use Rattle.ldap_ber.specs.Form.{Form, OctetString, Boolean, Both, Sequence}
 use Rattle.ldap_ber.specs.Reading.{Reading, both_at, sequence_at}
 use Rattle.ldap_ber.specs.Canonical.{element, boolean_octets}
 use Rattle.ldap_parts.specs.Faults.{place_of}
-use Rattle.ldap_parts.specs.Components.{OptionForm, string_at, truth_at, option_at, string_octets}
+use Rattle.ldap_parts.specs.Components.{OptionForm, octet_string_at, boolean_value_at, option_at, string_octets}
 
 -- the name, its new first part, whether the values of the old one go, and the new superior
 abbrev pub Rename : Type 0
@@ -17,7 +17,8 @@ RenameForm =
 unfoldable pub rename_at : Reading ℕ Rename
 rename_at stop bytes =
     sequence_at place_of 108
-    (both_at (string_at 4) (both_at (string_at 4) (both_at truth_at (option_at 128)))) stop bytes
+    (both_at (octet_string_at 4)
+    (both_at (octet_string_at 4) (both_at boolean_value_at (option_at 128)))) stop bytes
 
 abbrev pub rename_octets : Rename → List ℕ
 rename_octets parts =

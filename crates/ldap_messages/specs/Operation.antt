@@ -11,11 +11,11 @@ use Rattle.schema_rules.specs.declared.raw.Change.TheVariants.{Add, Delete, Modi
 use Rattle.ldap_filter.specs.FilterTree.{tree_of, depth}
 use Rattle.ldap_parts.specs.Filters.{have_piece}
 use Rattle.ldap_messages.specs.declared.bind.Authentication.{Authentication}
-use Rattle.ldap_messages.specs.declared.outcome.LdapResult.{LdapResult}
+use Rattle.ldap_messages.specs.declared.ldap_result.LdapResult.{LdapResult}
 use Rattle.ldap_messages.specs.declared.protocol.Protocol.{Protocol}
 use Rattle.ldap_messages.specs.declared.protocol.Protocol.TheVariants.{BindRequest, BindResponse, UnbindRequest, SearchRequest, SearchResultEntry, SearchResultDone, Write, ModifyResponse, AddResponse, DelResponse, ModifyDnResponse, CompareRequest, CompareResponse, AbandonRequest, SearchResultReference, ExtendedRequest, ExtendedResponse, IntermediateResponse}
 use Rattle.ldap_messages.specs.Uris.{HaveOne}
-use Rattle.ldap_messages.specs.Outcome.{HasReferral, ResponseForm, response_at, response_octets}
+use Rattle.ldap_messages.specs.LdapResult.{HasReferral, ResponseForm, response_at, response_octets}
 use Rattle.ldap_messages.specs.Bind.{BindForm, bind_at, bind_octets, BindResponseForm, bind_response_at, bind_response_octets}
 use Rattle.ldap_messages.specs.Unbind.{UnbindForm, unbind_at, unbind_octets}
 use Rattle.ldap_messages.specs.Search.{SearchForm, search_at, search_octets, EntryForm, entry_at, entry_octets, ReferenceForm, reference_at, reference_octets, SearchParts, scope_number}
@@ -62,10 +62,16 @@ unfoldable pub operation_of : Protocol → Operation
 operation_of (BindRequest version name authentication) = bind (version, (name, authentication))
 operation_of (BindResponse result sasl) = bind_response (result, sasl)
 operation_of UnbindRequest = unbind tt
-operation_of (SearchRequest base scope deref size_limit time_limit types_only filter attributes) =
+operation_of (SearchRequest asked) =
     search (
-      (base, (scope_number scope, (deref, (size_limit, (time_limit, types_only))))),
-      (tree_of filter, attributes),
+      (
+        asked.base,
+        (
+          scope_number asked.scope,
+          (asked.deref, (asked.size_limit, (asked.time_limit, asked.types_only))),
+        ),
+      ),
+      (tree_of asked.filter, asked.attributes),
     )
 operation_of (SearchResultEntry name attributes) = entry (name, attributes)
 operation_of (SearchResultDone result) = search_done result

@@ -6,7 +6,7 @@ use Rattle.ldap_ber.specs.Canonical.{element, boolean_octets}
 use Rattle.schema_rules.specs.declared.raw.RawAttribute.{RawAttribute}
 use Rattle.ldap_filter.specs.FilterTree.{FilterTree}
 use Rattle.ldap_parts.specs.Faults.{place_of}
-use Rattle.ldap_parts.specs.Components.{RangeForm, StringsForm, string_at, truth_at, range_at, strings_at, number_octets, strings_octets}
+use Rattle.ldap_parts.specs.Components.{RangeForm, StringsForm, octet_string_at, boolean_value_at, range_at, strings_at, number_octets, strings_octets}
 use Rattle.ldap_parts.specs.Attributes.{AttributesForm, attributes_at, attributes_octets}
 use Rattle.ldap_parts.specs.Filters.{FilterIn, filter_in, filter_octets}
 use Rattle.ldap_messages.specs.declared.search.SearchScope.{SearchScope}
@@ -48,10 +48,10 @@ scope_at = range_at 0 2 10
 
 unfoldable pub search_bounds_at : Reading ℕ SearchBounds
 search_bounds_at stop bytes =
-    both_at (string_at 4)
+    both_at (octet_string_at 4)
     (both_at scope_at
     (both_at (range_at 0 3 10)
-    (both_at (range_at 0 2147483647 2) (both_at (range_at 0 2147483647 2) truth_at)))) stop
+    (both_at (range_at 0 2147483647 2) (both_at (range_at 0 2147483647 2) boolean_value_at)))) stop
     bytes
 
 unfoldable pub search_at : Reading ℕ SearchParts
@@ -60,7 +60,8 @@ search_at stop bytes =
     (both_at search_bounds_at (both_at (filter_in 32) (strings_at 48))) stop bytes
 
 unfoldable pub entry_at : Reading ℕ (List ℕ × List RawAttribute)
-entry_at stop bytes = sequence_at place_of 100 (both_at (string_at 4) attributes_at) stop bytes
+entry_at stop bytes =
+    sequence_at place_of 100 (both_at (octet_string_at 4) attributes_at) stop bytes
 
 abbrev pub reference_at : Reading ℕ (List (List ℕ))
 reference_at = uris_at 115

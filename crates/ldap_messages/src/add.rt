@@ -20,7 +20,7 @@ ghost use Rattle.ldap_messages.specs.Operation.{operation_of, add};
 
 use crate::protocol::Protocol;
 use ldap_ber::{NoMemory, Octets, Reader, Writer};
-use ldap_parts::{ComponentFault, attributes_of, put_attributes, string_of};
+use ldap_parts::{ComponentFault, attributes_of, octet_string_of, put_attributes};
 use schema_rules::{Change, RawAttribute};
 use std::alloc::Global;
 
@@ -33,7 +33,7 @@ pub(crate) fn add_of(alloc: Global, reader: &mut Reader) -> Result<Protocol, Com
 {
     let whole = reader.expect(0x68)?;
     let mut inner = Reader::inside(&whole);
-    let name = string_of(alloc, &mut inner, 0x04)?;
+    let name = octet_string_of(alloc, &mut inner, 0x04)?;
     let attributes = attributes_of(alloc, &mut inner)?;
     inner.skip()?;
     Ok(Protocol::Write(Change::Add(name, attributes)))

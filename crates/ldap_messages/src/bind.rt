@@ -26,10 +26,10 @@ ghost use Rattle.ldap_parts.specs.Faults.{ComponentFails};
 ghost use Rattle.ldap_messages.specs.Bind.{authentication_at, bind_at, bind_response_at, authentication_octets, bind_octets, bind_response_octets};
 ghost use Rattle.ldap_messages.specs.Operation.{operation_of, bind, bind_response};
 
-use crate::outcome::{LdapResult, ldap_result_of, put_ldap_result};
+use crate::ldap_result::{LdapResult, ldap_result_of, put_ldap_result};
 use crate::protocol::Protocol;
 use ldap_ber::{NoMemory, Octets, Reader, Writer};
-use ldap_parts::{ComponentFault, option_of, put_number, put_option, range_of, string_of};
+use ldap_parts::{ComponentFault, octet_string_of, option_of, put_number, put_option, range_of};
 use std::alloc::Global;
 
 /// How a client shows who it is.
@@ -51,7 +51,7 @@ pub(crate) fn bind_of(alloc: Global, reader: &mut Reader) -> Result<Protocol, Co
     let whole = reader.expect(0x60)?;
     let mut inner = Reader::inside(&whole);
     let version = range_of(&mut inner, 0x02, 1, 127)?;
-    let name = string_of(alloc, &mut inner, 0x04)?;
+    let name = octet_string_of(alloc, &mut inner, 0x04)?;
     let authentication = authentication_of(alloc, &mut inner)?;
     inner.skip()?;
     Ok(Protocol::BindRequest {
@@ -69,9 +69,9 @@ fn authentication_of(alloc: Global, reader: &mut Reader) -> Result<Authenticatio
     ensures stop { reader.new.stop ≡ reader.old.stop }
 {
     if reader.has(0x80) {
-        return Ok(Authentication::Simple(string_of(alloc, reader, 0x80)?));
+        return Ok(Authentication::Simple(octet_string_of(alloc, reader, 0x80)?));
     }
-    Ok(Authentication::Sasl(string_of(alloc, reader, 0xA3)?))
+    Ok(Authentication::Sasl(octet_string_of(alloc, reader, 0xA3)?))
 }
 
 /// The BindResponse that comes next.

@@ -18,7 +18,7 @@ ghost use Rattle.ldap_messages.specs.Operation.{operation_of, compare};
 
 use crate::protocol::Protocol;
 use ldap_ber::{NoMemory, Octets, Reader, Writer};
-use ldap_parts::{ComponentFault, assertion_of, put_assertion, string_of};
+use ldap_parts::{ComponentFault, assertion_of, octet_string_of, put_assertion};
 use std::alloc::Global;
 
 /// The CompareRequest that comes next.
@@ -30,7 +30,7 @@ pub(crate) fn compare_of(alloc: Global, reader: &mut Reader) -> Result<Protocol,
 {
     let whole = reader.expect(0x6E)?;
     let mut inner = Reader::inside(&whole);
-    let entry = string_of(alloc, &mut inner, 0x04)?;
+    let entry = octet_string_of(alloc, &mut inner, 0x04)?;
     let (name, value) = assertion_of(alloc, &mut inner, 0x30)?;
     inner.skip()?;
     Ok(Protocol::CompareRequest { entry, name, value })

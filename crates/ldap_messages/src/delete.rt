@@ -15,7 +15,7 @@ ghost use Rattle.ldap_messages.specs.Operation.{operation_of, delete};
 
 use crate::protocol::Protocol;
 use ldap_ber::Reader;
-use ldap_parts::{ComponentFault, string_of};
+use ldap_parts::{ComponentFault, octet_string_of};
 use schema_rules::Change;
 use std::alloc::Global;
 
@@ -26,6 +26,6 @@ pub(crate) fn delete_of(alloc: Global, reader: &mut Reader) -> Result<Protocol, 
         (made_at delete delete_at reader.old.stop reader.old.left) }
     ensures stop { reader.new.stop ≡ reader.old.stop }
 {
-    let name = string_of(alloc, reader, 0x4A)?;
+    let name = octet_string_of(alloc, reader, 0x4A)?;
     Ok(Protocol::Write(Change::Delete(name)))
 }

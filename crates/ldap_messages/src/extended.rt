@@ -20,10 +20,10 @@ ghost use Rattle.ldap_parts.specs.Faults.{ComponentFails};
 ghost use Rattle.ldap_messages.specs.Extended.{extended_at, extended_response_at, extended_octets, extended_response_octets};
 ghost use Rattle.ldap_messages.specs.Operation.{operation_of, extended, extended_response};
 
-use crate::outcome::{LdapResult, ldap_result_of, put_ldap_result};
+use crate::ldap_result::{LdapResult, ldap_result_of, put_ldap_result};
 use crate::protocol::Protocol;
 use ldap_ber::{NoMemory, Octets, Reader, Writer};
-use ldap_parts::{ComponentFault, option_of, put_option, string_of};
+use ldap_parts::{ComponentFault, octet_string_of, option_of, put_option};
 use std::alloc::Global;
 
 /// The ExtendedRequest that comes next.
@@ -35,7 +35,7 @@ pub(crate) fn extended_of(alloc: Global, reader: &mut Reader) -> Result<Protocol
 {
     let whole = reader.expect(0x77)?;
     let mut inner = Reader::inside(&whole);
-    let name = string_of(alloc, &mut inner, 0x80)?;
+    let name = octet_string_of(alloc, &mut inner, 0x80)?;
     let value = option_of(alloc, &mut inner, 0x81)?;
     inner.skip()?;
     Ok(Protocol::ExtendedRequest { name, value })

@@ -25,7 +25,7 @@ ghost use Rattle.ldap_messages.specs.Operation.{operation_of, modify};
 
 use crate::protocol::Protocol;
 use ldap_ber::{NoMemory, Octets, Reader, Writer};
-use ldap_parts::{ComponentFault, attribute_of, number_of, put_attribute, string_of};
+use ldap_parts::{ComponentFault, attribute_of, number_of, octet_string_of, put_attribute};
 use schema_rules::{Change, EditList, How, RawEdit};
 use std::alloc::Global;
 
@@ -38,7 +38,7 @@ pub(crate) fn modify_of(alloc: Global, reader: &mut Reader) -> Result<Protocol, 
 {
     let whole = reader.expect(0x66)?;
     let mut inner = Reader::inside(&whole);
-    let name = string_of(alloc, &mut inner, 0x04)?;
+    let name = octet_string_of(alloc, &mut inner, 0x04)?;
     let edits = edits_of(alloc, &mut inner)?;
     inner.skip()?;
     Ok(Protocol::Write(Change::Modify(name, edits)))

@@ -20,7 +20,7 @@ ghost use Rattle.ldap_messages.specs.Operation.{operation_of, rename};
 
 use crate::protocol::Protocol;
 use ldap_ber::{NoMemory, Octets, Reader, Writer};
-use ldap_parts::{ComponentFault, option_of, put_option, string_of, truth_of};
+use ldap_parts::{ComponentFault, boolean_of, octet_string_of, option_of, put_option};
 use schema_rules::Change;
 use std::alloc::Global;
 
@@ -33,9 +33,9 @@ pub(crate) fn rename_of(alloc: Global, reader: &mut Reader) -> Result<Protocol, 
 {
     let whole = reader.expect(0x6C)?;
     let mut inner = Reader::inside(&whole);
-    let name = string_of(alloc, &mut inner, 0x04)?;
-    let rdn = string_of(alloc, &mut inner, 0x04)?;
-    let goes = truth_of(&mut inner)?;
+    let name = octet_string_of(alloc, &mut inner, 0x04)?;
+    let rdn = octet_string_of(alloc, &mut inner, 0x04)?;
+    let goes = boolean_of(&mut inner)?;
     let superior = option_of(alloc, &mut inner, 0x80)?;
     inner.skip()?;
     Ok(Protocol::Write(Change::Rename(name, rdn, goes, superior)))

@@ -39,15 +39,12 @@ use crate::compare::{compare_of, put_compare};
 use crate::delete::delete_of;
 use crate::extended::{extended_of, extended_response_of, put_extended, put_extended_response};
 use crate::intermediate::{intermediate_of, put_intermediate};
+use crate::ldap_result::{LdapResult, put_response, response_of};
 use crate::modify::{modify_of, put_modify};
 use crate::modify_dn::{put_rename, rename_of};
-use crate::outcome::{LdapResult, put_response, response_of};
-use crate::search::{
-    SearchFields, SearchScope, entry_of, put_entry, put_search, reference_of, search_of,
-};
+use crate::search::{SearchRequest, entry_of, put_entry, put_search, reference_of, search_of};
 use crate::unbind::{put_unbind, unbind_of};
 use ldap_ber::{NoMemory, Octets, OctetsList, Reader, Writer};
-use ldap_filter::Filter;
 use ldap_parts::{ComponentFault, put_strings};
 use schema_rules::{Change, RawList};
 use std::alloc::Global;
@@ -66,19 +63,7 @@ pub enum Protocol {
         sasl: Option<Octets>,
     },
     UnbindRequest,
-    SearchRequest {
-        base: Octets,
-        scope: SearchScope,
-        /// How aliases are followed, 0 to 3.
-        deref: u8,
-        /// At most 2,147,483,647 entries, or 0 for any number.
-        size_limit: u32,
-        /// At most 2,147,483,647 seconds, or 0 for any number.
-        time_limit: u32,
-        types_only: bool,
-        filter: Filter,
-        attributes: OctetsList,
-    },
+    SearchRequest(SearchRequest),
     SearchResultEntry {
         name: Octets,
         attributes: RawList,
@@ -258,28 +243,7 @@ pub(crate) fn put_operation(writer: &mut Writer, op: &Protocol) -> Result<(), No
             authentication,
         } => put_bind(writer, *version, name, authentication),
         Protocol::UnbindRequest => put_unbind(writer),
-        Protocol::SearchRequest {
-            base,
-            scope,
-            deref,
-            size_limit,
-            time_limit,
-            types_only,
-            filter,
-            attributes,
-        } => put_search(
-            writer,
-            &SearchFields {
-                base,
-                scope: *scope,
-                deref: *deref,
-                size_limit: *size_limit,
-                time_limit: *time_limit,
-                types_only: *types_only,
-                filter,
-                attributes,
-            },
-        ),
+        Protocol::SearchRequest(asked) => put_search(writer, asked),
         Protocol::Write(change) => put_change(writer, change),
         Protocol::CompareRequest { entry, name, value } => put_compare(writer, entry, name, value),
         Protocol::AbandonRequest(id) => writer.integer(0x50, *id),

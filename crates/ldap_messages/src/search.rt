@@ -46,8 +46,8 @@ use crate::uris::uris_of;
 use ldap_ber::{NoMemory, Octets, OctetsList, Reader, Writer};
 use ldap_filter::Filter;
 use ldap_parts::{
-    ComponentFault, attributes_of, filter_of, put_attributes, put_filter, put_number, put_strings,
-    range_of, string_of, strings_of, truth_of,
+    ComponentFault, attributes_of, boolean_of, filter_of, octet_string_of, put_attributes,
+    put_filter, put_number, put_strings, range_of, strings_of,
 };
 use schema_rules::RawAttribute;
 use std::alloc::Global;
@@ -77,17 +77,20 @@ struct SearchBounds {
     types_only: bool,
 }
 
-/// A SearchRequest that is held elsewhere.
-#[derive(Clone, Copy)]
-pub(crate) struct SearchFields<'a> {
-    pub(crate) base: &'a Octets,
-    pub(crate) scope: SearchScope,
-    pub(crate) deref: u8,
-    pub(crate) size_limit: u32,
-    pub(crate) time_limit: u32,
-    pub(crate) types_only: bool,
-    pub(crate) filter: &'a Filter,
-    pub(crate) attributes: &'a OctetsList,
+/// What a SearchRequest asks for.
+#[derive(Drop)]
+pub struct SearchRequest {
+    pub base: Octets,
+    pub scope: SearchScope,
+    /// How aliases are followed, 0 to 3.
+    pub deref: u8,
+    /// At most 2,147,483,647 entries, or 0 for any number.
+    pub size_limit: u32,
+    /// At most 2,147,483,647 seconds, or 0 for any number.
+    pub time_limit: u32,
+    pub types_only: bool,
+    pub filter: Filter,
+    pub attributes: OctetsList,
 }
 
 /// The SearchRequest that comes next.
@@ -103,7 +106,7 @@ pub(crate) fn search_of(alloc: Global, reader: &mut Reader) -> Result<Protocol, 
     let filter = filter_of(alloc, &mut inner, LEVELS)?;
     let attributes = strings_of(alloc, &mut inner, 0x30)?;
     inner.skip()?;
-    Ok(Protocol::SearchRequest {
+    Ok(Protocol::SearchRequest(SearchRequest {
         base: search_bounds.base,
         scope: search_bounds.scope,
         deref: search_bounds.deref,
@@ -112,7 +115,7 @@ pub(crate) fn search_of(alloc: Global, reader: &mut Reader) -> Result<Protocol, 
         types_only: search_bounds.types_only,
         filter,
         attributes,
-    })
+    }))
 }
 
 /// The components in front of the filter, which come next.
@@ -134,12 +137,12 @@ fn search_bounds_of(alloc: Global, reader: &mut Reader) -> Result<SearchBounds, 
         (search_bounds_at reader.old.stop reader.old.left) }
     ensures stop { reader.new.stop ≡ reader.old.stop }
 {
-    let base = string_of(alloc, reader, 0x04)?;
+    let base = octet_string_of(alloc, reader, 0x04)?;
     let scope = scope_of(reader)?;
     let deref = range_of(reader, 0x0A, 0, 3)?;
     let size_limit = range_of(reader, 0x02, 0, MOST)?;
     let time_limit = range_of(reader, 0x02, 0, MOST)?;
-    let types_only = truth_of(reader)?;
+    let types_only = boolean_of(reader)?;
     Ok(SearchBounds {
         base,
         scope,
@@ -172,7 +175,7 @@ pub(crate) fn entry_of(alloc: Global, reader: &mut Reader) -> Result<Protocol, C
 {
     let whole = reader.expect(0x64)?;
     let mut inner = Reader::inside(&whole);
-    let name = string_of(alloc, &mut inner, 0x04)?;
+    let name = octet_string_of(alloc, &mut inner, 0x04)?;
     let attributes = attributes_of(alloc, &mut inner)?;
     inner.skip()?;
     Ok(Protocol::SearchResultEntry { name, attributes })
@@ -189,10 +192,10 @@ pub(crate) fn reference_of(alloc: Global, reader: &mut Reader) -> Result<Protoco
     Ok(Protocol::SearchResultReference(uris))
 }
 
-pub(crate) fn put_search(writer: &mut Writer, asked: &SearchFields) -> Result<(), NoMemory>
+pub(crate) fn put_search(writer: &mut Writer, asked: &SearchRequest) -> Result<(), NoMemory>
     ensures ok { OnOk result (writer.new ≡ after_bytes writer.old (search_octets (
       (
-        asked.now.base.now,
+        asked.now.base,
         (
           scope_number asked.now.scope,
           (
@@ -201,23 +204,23 @@ pub(crate) fn put_search(writer: &mut Writer, asked: &SearchFields) -> Result<()
           ),
         ),
       ),
-      (tree_of asked.now.filter.now, asked.now.attributes.now),
+      (tree_of asked.now.filter, asked.now.attributes),
     ))) }
-    ensures pieces { OnOk result (have_piece (tree_of asked.now.filter.now) ≡ true) }
+    ensures pieces { OnOk result (have_piece (tree_of asked.now.filter) ≡ true) }
     ensures scope { OnOk result (scope_number asked.now.scope ≤ 2) }
 {
     writer.begin(0x63)?;
     put_search_bounds(writer, asked)?;
-    put_filter(writer, asked.filter)?;
+    put_filter(writer, &asked.filter)?;
     put_strings(writer, 0x30, asked.attributes.list())?;
     writer.end()
 }
 
 /// Writes the components in front of the filter.
 #[tactic(auto, unfolding(crate::specs::Search::search_bounds_octets))]
-fn put_search_bounds(writer: &mut Writer, asked: &SearchFields) -> Result<(), NoMemory>
+fn put_search_bounds(writer: &mut Writer, asked: &SearchRequest) -> Result<(), NoMemory>
     ensures ok { OnOk result (writer.new ≡ after_bytes writer.old (search_bounds_octets (
-      asked.now.base.now,
+      asked.now.base,
       (
         scope_number asked.now.scope,
         (

@@ -1,7 +1,6 @@
 -- Attributes: their reading is exact, and their canonical spelling is a spelling.
-use Rattle.std.proofs.Common.{◌≡◌, ℕ, ◌<◌, ◌^◌, List, [], ◌∷◌, ◌++◌, length, Result, Ok, Err, refl, arith}
-use Rattle.std.specs.List.{AllByRecursion}
-use Rattle.ldap_ber.specs.Form.{OctetString, Both, MadeOf, Sequence}
+use Rattle.std.proofs.Common.{◌≡◌, ℕ, ◌<◌, List, [], ◌∷◌, ◌++◌, length, Ok, Err, refl, arith}
+use Rattle.ldap_ber.specs.Form.{OctetString, Both, Sequence}
 use Rattle.ldap_ber.specs.Reading.{many_at, both_at, sequence_at}
 use Rattle.ldap_ber.specs.Canonical.{element}
 use Rattle.ldap_ber.proofs.ManyLemmas.{Advances, with_prefix, many_goes_on, many_fails, many_ended}
@@ -10,9 +9,9 @@ use Rattle.ldap_ber.proofs.ExactLemmas.{Exact, Shortens, both_exact, sequence_ex
 use Rattle.ldap_ber.proofs.CanonicalLemmas.{Spelled, Anything, Always, octets_spelled, both_spelled, sequence_spelled, list_spelled, made_spelled}
 use Rattle.schema_rules.specs.declared.raw.RawAttribute.{RawAttribute}
 use Rattle.ldap_parts.specs.Faults.{place_of}
-use Rattle.ldap_parts.specs.Components.{StringsForm, string_at, strings_at, strings_octets}
+use Rattle.ldap_parts.specs.Components.{StringsForm, octet_string_at, strings_at, strings_octets}
 use Rattle.ldap_parts.specs.Attributes.{attribute_parts, attribute_with, AttributeForm, AttributesForm, attribute_at, attributes_at, attribute_octets, attributes_octets}
-use Rattle.ldap_parts.proofs.ComponentLemmas.{string_exact}
+use Rattle.ldap_parts.proofs.ComponentLemmas.{octet_string_exact}
 use Rattle.ldap_parts.proofs.StringLemmas.{strings_exact, strings_spelled, all_sound}
 
 -- ---- read
@@ -20,8 +19,8 @@ use Rattle.ldap_parts.proofs.StringLemmas.{strings_exact, strings_spelled, all_s
 -- an attribute is read exactly where it is encoded so
 pub attribute_exact : Exact AttributeForm attribute_at
 unfolding attribute_at
-attribute_exact = made_exact attribute_parts attribute_with (Sequence 48 (Both (OctetString 4) (StringsForm 49))) (sequence_at place_of 48 (both_at (string_at 4) (strings_at 49)))
-    (λ x. refl) (λ y. refl) (sequence_exact place_of 48 _ _ (both_exact _ _ _ _ (string_exact 4) (strings_exact 49)))
+attribute_exact = made_exact attribute_parts attribute_with (Sequence 48 (Both (OctetString 4) (StringsForm 49))) (sequence_at place_of 48 (both_at (octet_string_at 4) (strings_at 49)))
+    (λ x. refl) (λ y. refl) (sequence_exact place_of 48 _ _ (both_exact _ _ _ _ (octet_string_exact 4) (strings_exact 49)))
 
 pub attribute_shortens : Shortens AttributeForm
 attribute_shortens bytes x rest h = Begins-shorter bytes 48 h.0 rest h.2

@@ -1,4 +1,4 @@
--- Octet strings, numbers and truth values: their reading is exact, and their canonical spelling is a spelling.
+-- Octet strings, numbers and Booleans: their reading is exact, and their canonical spelling is a spelling.
 use Rattle.std.proofs.Common.{◌≡◌, ◌≢◌, ℕ, ◌<◌, ◌≤◌, ◌%◌, ◌^◌, true, false, leb, ◌&&◌, List, ◌++◌, Option, Some, None, Ok, ℤ, pos, negsuc, refl, ap, arith, FitsSigned}
 use Rattle.std.specs.Int.{w64}
 use Rattle.std.proofs.lemmas.Bool.Decides.{nat_tests}
@@ -11,13 +11,13 @@ use Rattle.ldap_ber.proofs.ExactLemmas.{Exact, Shortens, reworded_exact, octets_
 use Rattle.ldap_ber.proofs.CanonicalLemmas.{Spelled, Anything, Always, Lacks, octets_spelled, optional_spelled, meaning_spelled, begins_with, option_sound}
 use Rattle.ldap_ber.proofs.IntegerLemmas.{integer_spelled}
 use Rattle.ldap_parts.specs.Faults.{place_of}
-use Rattle.ldap_parts.specs.Components.{IsInRange, RangeForm, FlagForm, OptionForm, string_at, number_at, truth_at, flag_at, within, range_at, option_at, number_octets, string_octets}
+use Rattle.ldap_parts.specs.Components.{IsInRange, RangeForm, FlagForm, OptionForm, octet_string_at, number_at, boolean_value_at, flag_at, within, range_at, option_at, number_octets, string_octets}
 
 -- ---- read
 
 -- an octet string is read exactly where it is encoded so
-pub string_exact : (tag : ℕ) → Exact (OctetString tag) (string_at tag)
-string_exact tag = reworded_exact place_of (OctetString tag) (octets_at tag) (octets_exact tag)
+pub octet_string_exact : (tag : ℕ) → Exact (OctetString tag) (octet_string_at tag)
+octet_string_exact tag = reworded_exact place_of (OctetString tag) (octets_at tag) (octets_exact tag)
 
 pub string_shortens : (tag : ℕ) → Shortens (OctetString tag)
 string_shortens tag bytes x rest h = Begins-shorter bytes tag x rest h
@@ -27,8 +27,8 @@ pub number_exact : (tag : ℕ) → Exact (Integer tag) (number_at tag)
 number_exact tag = reworded_exact place_of (Integer tag) (integer_at tag) (integer_exact tag)
 
 -- so is a Boolean
-pub truth_exact : Exact (Boolean 1) truth_at
-truth_exact = reworded_exact place_of (Boolean 1) (boolean_at 1) (boolean_exact 1)
+pub boolean_value_exact : Exact (Boolean 1) boolean_value_at
+boolean_value_exact = reworded_exact place_of (Boolean 1) (boolean_at 1) (boolean_exact 1)
 
 pub flag_exact : Exact FlagForm flag_at
 flag_exact = reworded_exact place_of FlagForm (default_at 1 false (boolean_at 1)) (default_exact 1 false (Boolean 1) (boolean_at 1) (boolean_exact 1))
@@ -53,7 +53,7 @@ range_exact least most tag = meaning_exact (IsInRange least most) (within least 
 
 -- so is an octet string that may be absent
 pub option_exact : (tag : ℕ) → Exact (OptionForm tag) (option_at tag)
-option_exact tag = optional_exact tag (OctetString tag) (string_at tag) (string_exact tag)
+option_exact tag = optional_exact tag (OctetString tag) (octet_string_at tag) (octet_string_exact tag)
 
 -- ---- written
 

@@ -1,7 +1,7 @@
 -- Controls: their reading is exact, and their canonical spelling is a spelling.
-use Rattle.std.proofs.Common.{◌≡◌, ℕ, ◌<◌, ◌^◌, Bool, true, false, List, [], ◌∷◌, ◌++◌, length, Option, Result, Ok, Err, refl, inl, inr, arith}
-use Rattle.std.specs.List.{flat_map, AllByRecursion}
-use Rattle.ldap_ber.specs.Form.{OctetString, Both, MadeOf, Sequence, ListOf}
+use Rattle.std.proofs.Common.{◌≡◌, ℕ, ◌<◌, ◌^◌, Bool, false, List, [], ◌∷◌, ◌++◌, length, Option, Ok, Err, refl, inl, inr, arith}
+use Rattle.std.specs.List.{flat_map}
+use Rattle.ldap_ber.specs.Form.{OctetString, Both, Sequence, ListOf}
 use Rattle.ldap_ber.specs.Reading.{many_at, both_at, sequence_at, list_at}
 use Rattle.ldap_ber.specs.Canonical.{element, flag_octets}
 use Rattle.ldap_ber.proofs.ManyLemmas.{Advances, with_prefix, many_goes_on, many_fails, many_ended}
@@ -10,17 +10,17 @@ use Rattle.ldap_ber.proofs.ExactLemmas.{Exact, Shortens, both_exact, sequence_ex
 use Rattle.ldap_ber.proofs.CanonicalLemmas.{Spelled, Anything, Always, Lacks, octets_spelled, both_spelled, flag_spelled, sequence_spelled, list_spelled, made_spelled, begins_with, none_next}
 use Rattle.ldap_parts.specs.declared.control.Control.{Control}
 use Rattle.ldap_parts.specs.Faults.{place_of}
-use Rattle.ldap_parts.specs.Components.{FlagForm, OptionForm, string_at, flag_at, option_at, string_octets}
+use Rattle.ldap_parts.specs.Components.{FlagForm, OptionForm, octet_string_at, flag_at, option_at, string_octets}
 use Rattle.ldap_parts.specs.Controls.{control_parts, control_with, ControlForm, ControlsForm, control_at, controls_at, control_octets, controls_octets}
-use Rattle.ldap_parts.proofs.ComponentLemmas.{string_exact, flag_exact, option_exact, option_spelled, option_lacks}
+use Rattle.ldap_parts.proofs.ComponentLemmas.{octet_string_exact, flag_exact, option_exact, option_spelled, option_lacks}
 use Rattle.ldap_parts.proofs.StringLemmas.{all_sound}
 
 -- ---- read
 
 pub control_exact : Exact ControlForm control_at
 unfolding control_at
-control_exact = made_exact control_parts control_with (Sequence 48 (Both (OctetString 4) (Both FlagForm (OptionForm 4)))) (sequence_at place_of 48 (both_at (string_at 4) (both_at flag_at (option_at 4))))
-    (λ x. refl) (λ y. refl) (sequence_exact place_of 48 _ _ (both_exact _ _ _ _ (string_exact 4) (both_exact _ _ _ _ flag_exact (option_exact 4))))
+control_exact = made_exact control_parts control_with (Sequence 48 (Both (OctetString 4) (Both FlagForm (OptionForm 4)))) (sequence_at place_of 48 (both_at (octet_string_at 4) (both_at flag_at (option_at 4))))
+    (λ x. refl) (λ y. refl) (sequence_exact place_of 48 _ _ (both_exact _ _ _ _ (octet_string_exact 4) (both_exact _ _ _ _ flag_exact (option_exact 4))))
 
 control_shortens : Shortens ControlForm
 control_shortens bytes x rest h = Begins-shorter bytes 48 h.0 rest h.2

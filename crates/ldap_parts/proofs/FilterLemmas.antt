@@ -1,11 +1,10 @@
 -- Filters: their reading is exact, at each depth.
-use Rattle.std.proofs.Common.{◌≡◌, ◌≢◌, ℕ, zero, suc, ◌-◌, ◌<◌, ◌≤◌, Bool, true, false, List, [], ◌∷◌, ◌++◌, length, map, Option, Result, Ok, Err, refl, sym, ap, subst, ◌∙◌, inl, inr, arith, eq-eqb}
-use Rattle.std.proofs.lemmas.Bool.{ne_eqb}
+use Rattle.std.proofs.Common.{◌≡◌, ℕ, zero, suc, ◌-◌, ◌<◌, true, false, List, [], ◌∷◌, ◌++◌, length, map, Result, Ok, Err, refl, sym, ap, subst, ◌∙◌, inl, inr}
 use Rattle.std.proofs.lemmas.List.{map_push}
 use Rattle.ldap_ber.specs.Element.{Begins}
 use Rattle.ldap_ber.specs.Reader.{has_tag}
-use Rattle.ldap_ber.specs.Form.{Form, OctetString, Both, Tagged, ListOf}
-use Rattle.ldap_ber.specs.Reading.{Reading, both_at, many_at, made_at, tagged_at, list_at}
+use Rattle.ldap_ber.specs.Form.{OctetString, Both, Tagged, ListOf}
+use Rattle.ldap_ber.specs.Reading.{Reading, many_at, tagged_at, list_at}
 use Rattle.ldap_ber.proofs.Steps.{chosen, guard_on, ok_is}
 use Rattle.ldap_ber.proofs.SkipLemmas.{Begins-shorter}
 use Rattle.ldap_ber.proofs.ManyLemmas.{Advances, with_prefix, many_goes_on, many_fails, many_ended}
@@ -16,30 +15,30 @@ use Rattle.ldap_filter.specs.FilterTree.{FilterTree, Trees, all_of, any_of, nega
 use Rattle.ldap_parts.specs.declared.fault.ComponentFault.{ComponentFault}
 use Rattle.ldap_parts.specs.declared.fault.ComponentFault.TheVariants.{Refused, NoMemory}
 use Rattle.ldap_parts.specs.Faults.{ComponentFails, place_of}
-use Rattle.ldap_parts.specs.Components.{OptionForm, string_at, option_at}
+use Rattle.ldap_parts.specs.Components.{OptionForm, octet_string_at}
 use Rattle.ldap_parts.specs.Filters.{listed, While, while_at, Parts, ArePieces, PiecesForm, SubstringsForm, AssertionForm, FilterIn, pieces_of, parts_at, pieces_at, substrings_at, assertion_at, all_with, any_with, substrings_with, equal_with, at_least_with, at_most_with, approx_with, item_at, filter_in}
-use Rattle.ldap_parts.proofs.ComponentLemmas.{string_exact, string_shortens, option_exact}
+use Rattle.ldap_parts.proofs.ComponentLemmas.{octet_string_exact, string_shortens, option_exact}
 use Rattle.ldap_parts.proofs.WhileLemmas.{and_prefix, while_goes_on, while_fails, while_ended, while_exact}
 
 -- ---- the pieces of a substring filter
 
-piece_advances : Advances (string_at 129)
-piece_advances = advances (OctetString 129) (string_at 129) (string_exact 129) (string_shortens 129)
+piece_advances : Advances (octet_string_at 129)
+piece_advances = advances (OctetString 129) (octet_string_at 129) (octet_string_exact 129) (string_shortens 129)
 
 pub middle_begins : (read : Result (List (List ℕ) × List ℕ) ℕ) → and_prefix [] read ≡ read
 middle_begins (Ok xs) = refl
 middle_begins (Err e) = refl
 
-pub middle_goes_on : (prefix next : List (List ℕ)) (stop after : ℕ) (bytes : List ℕ) (x : List ℕ) (rest : List ℕ) (all : Result (List (List ℕ) × List ℕ) ℕ) → true ≡ has_tag 129 bytes → string_at 129 stop bytes ≡ Ok (x, rest)
-    → next ≡ prefix ++ x ∷ [] → after ≡ stop → and_prefix prefix (while_at 129 (string_at 129) stop bytes) ≡ all → and_prefix next (while_at 129 (string_at 129) after rest) ≡ all
-middle_goes_on prefix next stop after bytes x rest all here h n a e = rw (n, a) (while_goes_on 129 (string_at 129) piece_advances prefix stop bytes x rest (sym here) h ∙ e)
+pub middle_goes_on : (prefix next : List (List ℕ)) (stop after : ℕ) (bytes : List ℕ) (x : List ℕ) (rest : List ℕ) (all : Result (List (List ℕ) × List ℕ) ℕ) → true ≡ has_tag 129 bytes → octet_string_at 129 stop bytes ≡ Ok (x, rest)
+    → next ≡ prefix ++ x ∷ [] → after ≡ stop → and_prefix prefix (while_at 129 (octet_string_at 129) stop bytes) ≡ all → and_prefix next (while_at 129 (octet_string_at 129) after rest) ≡ all
+middle_goes_on prefix next stop after bytes x rest all here h n a e = rw (n, a) (while_goes_on 129 (octet_string_at 129) piece_advances prefix stop bytes x rest (sym here) h ∙ e)
 
-pub middle_fails : (prefix : List (List ℕ)) (stop : ℕ) (bytes : List ℕ) (fault : ComponentFault) (all : Result (List (List ℕ) × List ℕ) ℕ) → true ≡ has_tag 129 bytes → ComponentFails fault (string_at 129 stop bytes) → and_prefix prefix (while_at 129 (string_at 129) stop bytes) ≡ all → ComponentFails fault all
-middle_fails prefix stop bytes (Refused place) all here h e = sym e ∙ while_fails 129 (string_at 129) piece_advances prefix stop bytes place (sym here) h
+pub middle_fails : (prefix : List (List ℕ)) (stop : ℕ) (bytes : List ℕ) (fault : ComponentFault) (all : Result (List (List ℕ) × List ℕ) ℕ) → true ≡ has_tag 129 bytes → ComponentFails fault (octet_string_at 129 stop bytes) → and_prefix prefix (while_at 129 (octet_string_at 129) stop bytes) ≡ all → ComponentFails fault all
+middle_fails prefix stop bytes (Refused place) all here h e = sym e ∙ while_fails 129 (octet_string_at 129) piece_advances prefix stop bytes place (sym here) h
 middle_fails prefix stop bytes NoMemory all here h e = tt
 
-pub middle_ends : (prefix : List (List ℕ)) (stop : ℕ) (bytes : List ℕ) (all : Result (List (List ℕ) × List ℕ) ℕ) → false ≡ has_tag 129 bytes → and_prefix prefix (while_at 129 (string_at 129) stop bytes) ≡ all → all ≡ Ok (prefix, bytes)
-middle_ends prefix stop bytes all none e = sym e ∙ while_ended 129 (string_at 129) prefix stop bytes (sym none)
+pub middle_ends : (prefix : List (List ℕ)) (stop : ℕ) (bytes : List ℕ) (all : Result (List (List ℕ) × List ℕ) ℕ) → false ≡ has_tag 129 bytes → and_prefix prefix (while_at 129 (octet_string_at 129) stop bytes) ≡ all → all ≡ Ok (prefix, bytes)
+middle_ends prefix stop bytes all none e = sym e ∙ while_ended 129 (octet_string_at 129) prefix stop bytes (sym none)
 
 pieces_there : (place : ℕ) (read pieces : Parts) → pieces_of place read ≡ Ok pieces → ArePieces read pieces
 pieces_there place read pieces h =
@@ -51,14 +50,14 @@ pieces_back place read pieces h = rw h.1 (ap (λ (p : Parts). Ok p) h.0)
 
 pieces_exact : Exact PiecesForm pieces_at
 pieces_exact = meaning_exact ArePieces pieces_of (Tagged 48 (Both (OptionForm 128) (Both (While 129 (OctetString 129)) (OptionForm 130)))) (tagged_at place_of 48 parts_at) pieces_there pieces_back
-    (tagged_exact place_of 48 _ parts_at (both_exact _ _ _ _ (option_exact 128) (both_exact _ _ _ _ (while_exact 129 (OctetString 129) (string_at 129) (string_exact 129) (string_shortens 129)) (option_exact 130))))
+    (tagged_exact place_of 48 _ parts_at (both_exact _ _ _ _ (option_exact 128) (both_exact _ _ _ _ (while_exact 129 (OctetString 129) (octet_string_at 129) (octet_string_exact 129) (string_shortens 129)) (option_exact 130))))
 
 substrings_exact : Exact SubstringsForm substrings_at
-substrings_exact = sequence_exact place_of 164 _ _ (both_exact _ _ _ _ (string_exact 4) pieces_exact)
+substrings_exact = sequence_exact place_of 164 _ _ (both_exact _ _ _ _ (octet_string_exact 4) pieces_exact)
 
 -- a type with a value is read exactly where it is encoded so
 pub assertion_exact : (tag : ℕ) → Exact (AssertionForm tag) (assertion_at tag)
-assertion_exact tag = sequence_exact place_of tag _ _ (both_exact _ _ _ _ (string_exact 4) (string_exact 4))
+assertion_exact tag = sequence_exact place_of tag _ _ (both_exact _ _ _ _ (octet_string_exact 4) (octet_string_exact 4))
 
 -- ---- items
 
@@ -76,10 +75,10 @@ item_found d stop bytes x rest h = elim (chosen (has_tag 163 bytes) _ _ _ h) [
       | inr u ↦ elim (chosen (has_tag 166 bytes) _ _ _ u.1) [
         | inl v ↦ let m = made_ok at_most_with (assertion_at 166) stop bytes x rest v.1 in of_this (suc d) bytes (at_most_with m.0) x rest m.2 ((assertion_exact 166).found stop bytes m.0 rest m.1)
         | inr v ↦ elim (chosen (has_tag 135 bytes) _ _ _ v.1) [
-          | inl w ↦ let m = made_ok present (string_at 135) stop bytes x rest w.1 in of_this (suc d) bytes (present m.0) x rest m.2 ((string_exact 135).found stop bytes m.0 rest m.1)
+          | inl w ↦ let m = made_ok present (octet_string_at 135) stop bytes x rest w.1 in of_this (suc d) bytes (present m.0) x rest m.2 ((octet_string_exact 135).found stop bytes m.0 rest m.1)
           | inr w ↦ elim (chosen (has_tag 168 bytes) _ _ _ w.1) [
             | inl a ↦ let m = made_ok approx_with (assertion_at 168) stop bytes x rest a.1 in of_this (suc d) bytes (approx_with m.0) x rest m.2 ((assertion_exact 168).found stop bytes m.0 rest m.1)
-            | inr a ↦ let m = made_ok extensible (string_at 169) stop bytes x rest a.1 in of_this (suc d) bytes (extensible m.0) x rest m.2 ((string_exact 169).found stop bytes m.0 rest m.1)
+            | inr a ↦ let m = made_ok extensible (octet_string_at 169) stop bytes x rest a.1 in of_this (suc d) bytes (extensible m.0) x rest m.2 ((octet_string_exact 169).found stop bytes m.0 rest m.1)
           ]
         ]
       ]
@@ -151,9 +150,9 @@ filter_only d p stop bytes (equal n v) rest h = goes_by (assertion_at 163) (filt
 filter_only d p stop bytes (substrings n i m l) rest h = goes_by substrings_at (filter_in (suc d)) stop bytes 164 h.0 rest rest (n, (i, (m, l))) (substrings n i m l) h.2 (λ more r. rw r refl) (substrings_exact.only stop bytes (n, (i, (m, l))) rest h)
 filter_only d p stop bytes (at_least n v) rest h = goes_by (assertion_at 165) (filter_in (suc d)) stop bytes 165 h.0 rest rest (n, v) (at_least n v) h.2 (λ more r. rw r refl) ((assertion_exact 165).only stop bytes (n, v) rest h)
 filter_only d p stop bytes (at_most n v) rest h = goes_by (assertion_at 166) (filter_in (suc d)) stop bytes 166 h.0 rest rest (n, v) (at_most n v) h.2 (λ more r. rw r refl) ((assertion_exact 166).only stop bytes (n, v) rest h)
-filter_only d p stop bytes (present n) rest h = goes_by (string_at 135) (filter_in (suc d)) stop bytes 135 n rest rest n (present n) h (λ more r. rw r refl) ((string_exact 135).only stop bytes n rest h)
+filter_only d p stop bytes (present n) rest h = goes_by (octet_string_at 135) (filter_in (suc d)) stop bytes 135 n rest rest n (present n) h (λ more r. rw r refl) ((octet_string_exact 135).only stop bytes n rest h)
 filter_only d p stop bytes (approx n v) rest h = goes_by (assertion_at 168) (filter_in (suc d)) stop bytes 168 h.0 rest rest (n, v) (approx n v) h.2 (λ more r. rw r refl) ((assertion_exact 168).only stop bytes (n, v) rest h)
-filter_only d p stop bytes (extensible v) rest h = goes_by (string_at 169) (filter_in (suc d)) stop bytes 169 v rest rest v (extensible v) h (λ more r. rw r refl) ((string_exact 169).only stop bytes v rest h)
+filter_only d p stop bytes (extensible v) rest h = goes_by (octet_string_at 169) (filter_in (suc d)) stop bytes 169 v rest rest v (extensible v) h (λ more r. rw r refl) ((octet_string_exact 169).only stop bytes v rest h)
 
 no_level : Exact (FilterIn zero) (filter_in zero)
 unfolding FilterIn filter_in

@@ -8,44 +8,44 @@ use Rattle.ldap_ber.proofs.ManyLemmas.{Advances, with_prefix, many_next, many_no
 use Rattle.ldap_ber.proofs.ExactLemmas.{Exact, list_exact, advances}
 use Rattle.ldap_ber.proofs.CanonicalLemmas.{Spelled, Anything, Always, octets_spelled, list_spelled}
 use Rattle.ldap_parts.specs.Faults.{place_of}
-use Rattle.ldap_parts.specs.Components.{StringsForm, string_at, strings_at, strings_from_first, strings_octets}
-use Rattle.ldap_parts.proofs.ComponentLemmas.{string_exact, string_shortens}
+use Rattle.ldap_parts.specs.Components.{StringsForm, octet_string_at, strings_at, strings_from_first, strings_octets}
+use Rattle.ldap_parts.proofs.ComponentLemmas.{octet_string_exact, string_shortens}
 
 -- a list of octet strings is read exactly where it is encoded so
 pub strings_exact : (tag : ℕ) → Exact (StringsForm tag) (strings_at tag)
-strings_exact tag = list_exact place_of tag (OctetString 4) (string_at 4) (string_exact 4) (string_shortens 4)
+strings_exact tag = list_exact place_of tag (OctetString 4) (octet_string_at 4) (octet_string_exact 4) (string_shortens 4)
 
-string_advances : Advances (string_at 4)
-string_advances = advances (OctetString 4) (string_at 4) (string_exact 4) (string_shortens 4)
+string_advances : Advances (octet_string_at 4)
+string_advances = advances (OctetString 4) (octet_string_at 4) (octet_string_exact 4) (string_shortens 4)
 
-pub strings_go_on : (prefix : List (List ℕ)) (stop : ℕ) (bytes : List ℕ) (x : List ℕ) (rest : List ℕ) → 0 < length bytes → string_at 4 stop bytes ≡ Ok (x, rest)
-    → with_prefix (prefix ++ x ∷ []) (many_at (string_at 4) stop rest) ≡ with_prefix prefix (many_at (string_at 4) stop bytes)
-strings_go_on prefix stop bytes x rest some h = many_goes_on (string_at 4) string_advances prefix stop bytes x rest some h
+pub strings_go_on : (prefix : List (List ℕ)) (stop : ℕ) (bytes : List ℕ) (x : List ℕ) (rest : List ℕ) → 0 < length bytes → octet_string_at 4 stop bytes ≡ Ok (x, rest)
+    → with_prefix (prefix ++ x ∷ []) (many_at (octet_string_at 4) stop rest) ≡ with_prefix prefix (many_at (octet_string_at 4) stop bytes)
+strings_go_on prefix stop bytes x rest some h = many_goes_on (octet_string_at 4) string_advances prefix stop bytes x rest some h
 
-pub strings_fail : (prefix : List (List ℕ)) (stop : ℕ) (bytes : List ℕ) (e : ℕ) → 0 < length bytes → string_at 4 stop bytes ≡ Err e → with_prefix prefix (many_at (string_at 4) stop bytes) ≡ Err e
-strings_fail prefix stop bytes e some h = many_fails (string_at 4) string_advances prefix stop bytes e some h
+pub strings_fail : (prefix : List (List ℕ)) (stop : ℕ) (bytes : List ℕ) (e : ℕ) → 0 < length bytes → octet_string_at 4 stop bytes ≡ Err e → with_prefix prefix (many_at (octet_string_at 4) stop bytes) ≡ Err e
+strings_fail prefix stop bytes e some h = many_fails (octet_string_at 4) string_advances prefix stop bytes e some h
 
 -- the first string and the others
-pub strings_first : (stop : ℕ) (bytes : List ℕ) (x : List ℕ) (rest : List ℕ) → 0 < length bytes → string_at 4 stop bytes ≡ Ok (x, rest)
-    → many_at (string_at 4) stop bytes ≡ strings_from_first x stop rest
+pub strings_first : (stop : ℕ) (bytes : List ℕ) (x : List ℕ) (rest : List ℕ) → 0 < length bytes → octet_string_at 4 stop bytes ≡ Ok (x, rest)
+    → many_at (octet_string_at 4) stop bytes ≡ strings_from_first x stop rest
 strings_first stop [] x rest some h = absurd (omega arith)
-strings_first stop (b ∷ bytes) x rest some h = rw (many_next (string_at 4) string_advances stop b bytes, h) refl
+strings_first stop (b ∷ bytes) x rest some h = rw (many_next (octet_string_at 4) string_advances stop b bytes, h) refl
 
-pub strings_refused : (stop : ℕ) (bytes : List ℕ) (e : ℕ) → 0 < length bytes → string_at 4 stop bytes ≡ Err e → many_at (string_at 4) stop bytes ≡ Err e
+pub strings_refused : (stop : ℕ) (bytes : List ℕ) (e : ℕ) → 0 < length bytes → octet_string_at 4 stop bytes ≡ Err e → many_at (octet_string_at 4) stop bytes ≡ Err e
 strings_refused stop [] e some h = absurd (omega arith)
-strings_refused stop (b ∷ bytes) e some h = rw (many_next (string_at 4) string_advances stop b bytes, h) refl
+strings_refused stop (b ∷ bytes) e some h = rw (many_next (octet_string_at 4) string_advances stop b bytes, h) refl
 
-pub strings_none : (stop : ℕ) (bytes : List ℕ) → length bytes ≡ 0 → many_at (string_at 4) stop bytes ≡ Ok []
-strings_none stop [] none = many_none (string_at 4) stop
+pub strings_none : (stop : ℕ) (bytes : List ℕ) → length bytes ≡ 0 → many_at (octet_string_at 4) stop bytes ≡ Ok []
+strings_none stop [] none = many_none (octet_string_at 4) stop
 strings_none stop (b ∷ bytes) none = absurd (omega arith)
 
 -- the first string where no byte is left after it
-pub strings_only : (stop : ℕ) (bytes : List ℕ) (x : List ℕ) (rest : List ℕ) → 0 < length bytes → string_at 4 stop bytes ≡ Ok (x, rest) → length rest ≡ 0
-    → many_at (string_at 4) stop bytes ≡ Ok (x ∷ [])
+pub strings_only : (stop : ℕ) (bytes : List ℕ) (x : List ℕ) (rest : List ℕ) → 0 < length bytes → octet_string_at 4 stop bytes ≡ Ok (x, rest) → length rest ≡ 0
+    → many_at (octet_string_at 4) stop bytes ≡ Ok (x ∷ [])
 strings_only stop bytes x rest some h none = strings_first stop bytes x rest some h ∙ rw (strings_none stop rest none) refl
 
-pub strings_end : (prefix : List (List ℕ)) (stop : ℕ) (bytes : List ℕ) → length bytes ≡ 0 → with_prefix prefix (many_at (string_at 4) stop bytes) ≡ Ok prefix
-strings_end prefix stop bytes none = many_ended (string_at 4) prefix stop bytes none
+pub strings_end : (prefix : List (List ℕ)) (stop : ℕ) (bytes : List ℕ) → length bytes ≡ 0 → with_prefix prefix (many_at (octet_string_at 4) stop bytes) ≡ Ok prefix
+strings_end prefix stop bytes none = many_ended (octet_string_at 4) prefix stop bytes none
 
 -- what holds of each value holds of all values of a list
 pub all_sound : {X : Type 0} (F : X → Type 0) → ((x : X) → F x) → (xs : List X) → AllByRecursion F xs

@@ -6,7 +6,7 @@ use Rattle.ldap_ber.specs.Reading.{Reading, both_at, made_at, sequence_at, list_
 use Rattle.ldap_ber.specs.Canonical.{element}
 use Rattle.schema_rules.specs.declared.raw.RawAttribute.{RawAttribute}
 use Rattle.ldap_parts.specs.Faults.{place_of}
-use Rattle.ldap_parts.specs.Components.{StringsForm, string_at, strings_at, strings_octets}
+use Rattle.ldap_parts.specs.Components.{StringsForm, octet_string_at, strings_at, strings_octets}
 
 abbrev pub attribute_parts : RawAttribute → List ℕ × List (List ℕ)
 attribute_parts attribute = (attribute.name, attribute.values)
@@ -25,7 +25,7 @@ AttributesForm = ListOf 48 AttributeForm
 unfoldable pub attribute_at : Reading ℕ RawAttribute
 attribute_at stop bytes =
     made_at attribute_with
-    (sequence_at place_of 48 (both_at (string_at 4) (strings_at 49))) stop bytes
+    (sequence_at place_of 48 (both_at (octet_string_at 4) (strings_at 49))) stop bytes
 
 abbrev pub attributes_at : Reading ℕ (List RawAttribute)
 attributes_at = list_at place_of 48 attribute_at

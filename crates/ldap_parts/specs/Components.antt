@@ -30,14 +30,14 @@ StringsForm tag = ListOf tag (OctetString 4)
 
 -- ---- how they are read
 
-abbrev pub string_at : ℕ → Reading ℕ (List ℕ)
-string_at tag stop bytes = reworded place_of (octets_at tag stop bytes)
+abbrev pub octet_string_at : ℕ → Reading ℕ (List ℕ)
+octet_string_at tag stop bytes = reworded place_of (octets_at tag stop bytes)
 
 abbrev pub number_at : ℕ → Reading ℕ ℤ
 number_at tag stop bytes = reworded place_of (integer_at tag stop bytes)
 
-abbrev pub truth_at : Reading ℕ Bool
-truth_at stop bytes = reworded place_of (boolean_at 1 stop bytes)
+abbrev pub boolean_value_at : Reading ℕ Bool
+boolean_value_at stop bytes = reworded place_of (boolean_at 1 stop bytes)
 
 abbrev pub flag_at : Reading ℕ Bool
 flag_at stop bytes = reworded place_of (default_at 1 false (boolean_at 1) stop bytes)
@@ -52,15 +52,15 @@ abbrev pub range_at : ℕ → ℕ → ℕ → Reading ℕ ℕ
 range_at least most tag = meaning_at (within least most) (number_at tag)
 
 abbrev pub option_at : ℕ → Reading ℕ (Option (List ℕ))
-option_at tag = optional_at tag (string_at tag)
+option_at tag = optional_at tag (octet_string_at tag)
 
 abbrev pub strings_at : ℕ → Reading ℕ (List (List ℕ))
-strings_at tag = list_at place_of tag (string_at 4)
+strings_at tag = list_at place_of tag (octet_string_at 4)
 
 -- a first string and any number of strings after it
 abbrev pub strings_from_first : List ℕ → ℕ → List ℕ → Result (List (List ℕ)) ℕ
 strings_from_first first stop bytes =
-    many_at (string_at 4) stop bytes >>= λ strings. Ok (first ∷ strings)
+    many_at (octet_string_at 4) stop bytes >>= λ strings. Ok (first ∷ strings)
 
 -- ---- how they are written
 

@@ -6,7 +6,7 @@ use Rattle.ldap_ber.specs.Reading.{Reading, both_at, made_at, default_at, sequen
 use Rattle.ldap_ber.specs.Canonical.{element, flag_octets}
 use Rattle.ldap_parts.specs.declared.control.Control.{Control}
 use Rattle.ldap_parts.specs.Faults.{place_of}
-use Rattle.ldap_parts.specs.Components.{FlagForm, OptionForm, string_at, flag_at, option_at, string_octets}
+use Rattle.ldap_parts.specs.Components.{FlagForm, OptionForm, octet_string_at, flag_at, option_at, string_octets}
 
 abbrev pub control_parts : Control → List ℕ × (Bool × Option (List ℕ))
 control_parts control = (control.name, (control.critical, control.value))
@@ -26,7 +26,8 @@ ControlsForm = Default 160 [] (ListOf 160 ControlForm)
 unfoldable pub control_at : Reading ℕ Control
 control_at stop bytes =
     made_at control_with
-    (sequence_at place_of 48 (both_at (string_at 4) (both_at flag_at (option_at 4)))) stop bytes
+    (sequence_at place_of 48 (both_at (octet_string_at 4) (both_at flag_at (option_at 4))))
+    stop bytes
 
 abbrev pub controls_at : Reading ℕ (List Control)
 controls_at = default_at 160 [] (list_at place_of 160 control_at)

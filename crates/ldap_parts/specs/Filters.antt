@@ -1,5 +1,5 @@
 -- Filters of searches (RFC 4511, section 4.5.1.7; RFC 4526).
-use Rattle.std.specs.Prelude.{◌≡◌, ℕ, zero, suc, ◌-◌, List, [], ◌∷◌, ◌++◌, length, Bool, true, ◌&&◌, if◌then◌else◌, Option, Some, None, Result, Ok, Err}
+use Rattle.std.specs.Prelude.{◌≡◌, ℕ, zero, suc, ◌-◌, List, [], ◌∷◌, ◌++◌, length, Bool, true, ◌&&◌, if◌then◌else◌, Option, Some, Result, Ok, Err}
 use Rattle.std.specs.List.{flat_map}
 use Rattle.ldap_ber.specs.Reader.{◌>>=◌, tag_at, has_tag}
 use Rattle.ldap_ber.specs.Form.{Form, OctetString, Both, Meaning, Tagged, Sequence, ListOf}
@@ -8,7 +8,7 @@ use Rattle.ldap_ber.specs.Canonical.{element}
 use Rattle.ldap_filter.specs.FilterTree.{FilterTree, Trees, all_of, any_of, negated, equal, substrings, at_least, at_most, present, approx, extensible, no_trees, more_trees, trees}
 use Rattle.ldap_filter.specs.Pieces.{has_piece}
 use Rattle.ldap_parts.specs.Faults.{place_of}
-use Rattle.ldap_parts.specs.Components.{OptionForm, string_at, option_at, string_octets}
+use Rattle.ldap_parts.specs.Components.{OptionForm, octet_string_at, option_at, string_octets}
 
 abbrev pub listed : Trees → List FilterTree
 listed no_trees = []
@@ -77,16 +77,16 @@ abbrev pub pieces_of : ℕ → Parts → Result Parts ℕ
 pieces_of place pieces = if has_piece pieces.0 pieces.1.0 pieces.1.1 then Ok pieces else Err place
 
 abbrev pub parts_at : Reading ℕ Parts
-parts_at = both_at (option_at 128) (both_at (while_at 129 (string_at 129)) (option_at 130))
+parts_at = both_at (option_at 128) (both_at (while_at 129 (octet_string_at 129)) (option_at 130))
 
 abbrev pub pieces_at : Reading ℕ Parts
 pieces_at = meaning_at pieces_of (tagged_at place_of 48 parts_at)
 
 abbrev pub substrings_at : Reading ℕ (List ℕ × Parts)
-substrings_at = sequence_at place_of 164 (both_at (string_at 4) pieces_at)
+substrings_at = sequence_at place_of 164 (both_at (octet_string_at 4) pieces_at)
 
 abbrev pub assertion_at : ℕ → Reading ℕ (List ℕ × List ℕ)
-assertion_at tag = sequence_at place_of tag (both_at (string_at 4) (string_at 4))
+assertion_at tag = sequence_at place_of tag (both_at (octet_string_at 4) (octet_string_at 4))
 
 abbrev pub all_with : List FilterTree → FilterTree
 all_with parts = all_of (trees parts)
@@ -116,9 +116,9 @@ item_at stop bytes =
     if has_tag 164 bytes then made_at substrings_with substrings_at stop bytes else
     if has_tag 165 bytes then made_at at_least_with (assertion_at 165) stop bytes else
     if has_tag 166 bytes then made_at at_most_with (assertion_at 166) stop bytes else
-    if has_tag 135 bytes then made_at present (string_at 135) stop bytes else
+    if has_tag 135 bytes then made_at present (octet_string_at 135) stop bytes else
     if has_tag 168 bytes then made_at approx_with (assertion_at 168) stop bytes else
-    made_at extensible (string_at 169) stop bytes
+    made_at extensible (octet_string_at 169) stop bytes
 
 unfoldable pub filter_in : ℕ → Reading ℕ FilterTree
 filter_in zero stop bytes = Err (stop - length bytes)

@@ -19,7 +19,7 @@ ghost use Rattle.ldap_parts.specs.Faults.{ComponentFails};
 ghost use Rattle.ldap_parts.specs.Components.{strings_octets};
 ghost use Rattle.ldap_parts.specs.Attributes.{attribute_at, attributes_at, attribute_octets, attributes_octets};
 
-use crate::component::string_of;
+use crate::component::octet_string_of;
 use crate::fault::ComponentFault;
 use crate::lists::{put_strings, strings_of};
 use ldap_ber::{NoMemory, Reader, Writer};
@@ -40,7 +40,7 @@ pub fn attribute_of(alloc: Global, reader: &mut Reader) -> Result<RawAttribute, 
     let mut ahead = reader.copy();
     let whole = ahead.expect(0x30)?;
     let mut inner = Reader::inside(&whole);
-    let name = string_of(alloc, &mut inner, 0x04)?;
+    let name = octet_string_of(alloc, &mut inner, 0x04)?;
     let values = strings_of(alloc, &mut inner, 0x31)?;
     inner.skip()?;
     *reader = ahead;

@@ -1,4 +1,4 @@
-//! Octet strings, numbers and truth values.
+//! Octet strings, numbers and Booleans.
 //!
 //! ```text
 //! MessageID ::= INTEGER (0 .. maxInt)
@@ -19,7 +19,7 @@ ghost use Rattle.std.specs.Prelude.{◌≡◌, ◌<◌, ◌≤◌, length, Ok, I
 ghost use Rattle.ldap_ber.specs.Writer.{after_bytes};
 ghost use Rattle.ldap_ber.specs.Gives.{Gives};
 ghost use Rattle.ldap_parts.specs.Faults.{ComponentFails};
-ghost use Rattle.ldap_parts.specs.Components.{string_at, number_at, truth_at, range_at, option_at, number_octets, string_octets};
+ghost use Rattle.ldap_parts.specs.Components.{octet_string_at, number_at, boolean_value_at, range_at, option_at, number_octets, string_octets};
 
 use crate::fault::ComponentFault;
 use ldap_ber::{NoMemory, Octets, Reader, Writer};
@@ -28,9 +28,13 @@ use std::alloc::Global;
 /// The octet string with this tag that comes next. Else it is `Refused` with the place of the first
 /// element that is not so, or `NoMemory`, and the reader is as before.
 #[inline(always)]
-pub fn string_of(alloc: Global, reader: &mut Reader, tag: u8) -> Result<Octets, ComponentFault>
+pub fn octet_string_of(
+    alloc: Global,
+    reader: &mut Reader,
+    tag: u8,
+) -> Result<Octets, ComponentFault>
     ensures exact { Gives ComponentFails (λ string. Ok (string, reader.new.left)) result
-        (string_at tag reader.old.stop reader.old.left) }
+        (octet_string_at tag reader.old.stop reader.old.left) }
     ensures stop { reader.new.stop ≡ reader.old.stop }
     ensures shorter { OnOk result (length reader.new.left < length reader.old.left) }
     ensures err { OnErr result (reader.new ≡ reader.old) }
@@ -54,7 +58,7 @@ pub fn option_of(
     ensures err { OnErr result (reader.new ≡ reader.old) }
 {
     if reader.has(tag) {
-        return Ok(Some(string_of(alloc, reader, tag)?));
+        return Ok(Some(octet_string_of(alloc, reader, tag)?));
     }
     Ok(None)
 }
@@ -71,16 +75,16 @@ pub fn number_of(reader: &mut Reader, tag: u8) -> Result<i64, ComponentFault>
     Ok(number)
 }
 
-/// The truth value that comes next. Else it is `Refused` with its place, and the reader is as
+/// The Boolean that comes next. Else it is `Refused` with its place, and the reader is as
 /// before.
-pub fn truth_of(reader: &mut Reader) -> Result<bool, ComponentFault>
-    ensures exact { Gives ComponentFails (λ truth. Ok (truth, reader.new.left)) result
-        (truth_at reader.old.stop reader.old.left) }
+pub fn boolean_of(reader: &mut Reader) -> Result<bool, ComponentFault>
+    ensures exact { Gives ComponentFails (λ value. Ok (value, reader.new.left)) result
+        (boolean_value_at reader.old.stop reader.old.left) }
     ensures stop { reader.new.stop ≡ reader.old.stop }
     ensures err { OnErr result (reader.new ≡ reader.old) }
 {
-    let truth = reader.boolean(0x01)?;
-    Ok(truth)
+    let value = reader.boolean(0x01)?;
+    Ok(value)
 }
 
 /// The integer with this tag that comes next, which has to be within these bounds. Else it is

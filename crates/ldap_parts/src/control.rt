@@ -19,7 +19,7 @@ ghost use Rattle.ldap_parts.specs.Faults.{ComponentFails};
 ghost use Rattle.ldap_parts.specs.Components.{string_octets};
 ghost use Rattle.ldap_parts.specs.Controls.{control_at, controls_at, control_octets, controls_octets};
 
-use crate::component::{option_of, put_option, string_of};
+use crate::component::{octet_string_of, option_of, put_option};
 use crate::fault::ComponentFault;
 use ldap_ber::{NoMemory, Octets, Reader, Writer};
 use std::alloc::Global;
@@ -129,7 +129,7 @@ fn control_of(alloc: Global, reader: &mut Reader) -> Result<Control, ComponentFa
 {
     let whole = reader.expect(0x30)?;
     let mut inner = Reader::inside(&whole);
-    let name = string_of(alloc, &mut inner, 0x04)?;
+    let name = octet_string_of(alloc, &mut inner, 0x04)?;
     let critical = inner.boolean_or(0x01, false)?;
     let value = option_of(alloc, &mut inner, 0x04)?;
     inner.skip()?;

@@ -32,10 +32,10 @@ ghost use Rattle.ldap_ber.specs.Reading.{many_at, list_at, made_at, tagged_at};
 ghost use Rattle.ldap_filter.specs.FilterTree.{tree_of, parts_of};
 ghost use Rattle.ldap_ber.specs.Gives.{Gives};
 ghost use Rattle.ldap_parts.specs.Faults.{ComponentFails, place_of};
-ghost use Rattle.ldap_parts.specs.Components.{string_at};
+ghost use Rattle.ldap_parts.specs.Components.{octet_string_at};
 ghost use Rattle.ldap_parts.specs.Filters.{while_at, pieces_at, substrings_at, substrings_with, assertion_at, item_at, filter_in};
 
-use crate::component::{option_of, string_of};
+use crate::component::{octet_string_of, option_of};
 use crate::fault::ComponentFault;
 use ldap_ber::{Octets, OctetsList, Reader};
 use ldap_filter::{Filter, FilterList, Pieces};
@@ -159,13 +159,13 @@ fn item_of(alloc: Global, reader: &mut Reader) -> Result<Filter, ComponentFault>
         return Ok(Filter::AtMost(name, value));
     }
     if reader.has(0x87) {
-        return Ok(Filter::Present(string_of(alloc, reader, 0x87)?));
+        return Ok(Filter::Present(octet_string_of(alloc, reader, 0x87)?));
     }
     if reader.has(0xA8) {
         let (name, value) = assertion_of(alloc, reader, 0xA8)?;
         return Ok(Filter::Approx(name, value));
     }
-    Ok(Filter::Extensible(string_of(alloc, reader, 0xA9)?))
+    Ok(Filter::Extensible(octet_string_of(alloc, reader, 0xA9)?))
 }
 
 /// The type and the value of the element with this tag that comes next (RFC 4511, section 4.1.6).
@@ -185,8 +185,8 @@ pub fn assertion_of(
     let mut ahead = reader.copy();
     let whole = ahead.expect(tag)?;
     let mut inner = Reader::inside(&whole);
-    let name = string_of(alloc, &mut inner, 0x04)?;
-    let value = string_of(alloc, &mut inner, 0x04)?;
+    let name = octet_string_of(alloc, &mut inner, 0x04)?;
+    let value = octet_string_of(alloc, &mut inner, 0x04)?;
     inner.skip()?;
     *reader = ahead;
     Ok((name, value))
@@ -203,7 +203,7 @@ fn substrings_of(alloc: Global, reader: &mut Reader) -> Result<Filter, Component
     let mut ahead = reader.copy();
     let whole = ahead.expect(0xA4)?;
     let mut inner = Reader::inside(&whole);
-    let name = string_of(alloc, &mut inner, 0x04)?;
+    let name = octet_string_of(alloc, &mut inner, 0x04)?;
     let pieces = pieces_of(alloc, &mut inner)?;
     inner.skip()?;
     *reader = ahead;
@@ -238,12 +238,12 @@ fn pieces_of(alloc: Global, reader: &mut Reader) -> Result<Pieces, ComponentFaul
 #[tactic(auto, using(crate::proofs::FilterLemmas::middle_begins, crate::proofs::FilterLemmas::middle_goes_on, crate::proofs::FilterLemmas::middle_fails, crate::proofs::FilterLemmas::middle_ends))]
 fn middle_of(alloc: Global, reader: &mut Reader) -> Result<OctetsList, ComponentFault>
     ensures exact { Gives ComponentFails (λ pieces. Ok (pieces, reader.new.left)) result
-        (while_at 129 (string_at 129) reader.old.stop reader.old.left) }
+        (while_at 129 (octet_string_at 129) reader.old.stop reader.old.left) }
     ensures stop { reader.new.stop ≡ reader.old.stop }
 {
     let mut pieces = OctetsList::new(alloc);
     while reader.has(0x81) {
-        let piece = string_of(alloc, reader, 0x81)?;
+        let piece = octet_string_of(alloc, reader, 0x81)?;
         pieces.push(piece)?;
     }
     Ok(pieces)

@@ -7,9 +7,9 @@ ghost use Rattle.ldap_ber.specs.Canonical.{element};
 ghost use Rattle.ldap_ber.specs.Writer.{after_bytes};
 ghost use Rattle.ldap_ber.specs.Gives.{Gives};
 ghost use Rattle.ldap_parts.specs.Faults.{ComponentFails};
-ghost use Rattle.ldap_parts.specs.Components.{string_at, strings_at, strings_from_first, strings_octets};
+ghost use Rattle.ldap_parts.specs.Components.{octet_string_at, strings_at, strings_from_first, strings_octets};
 
-use crate::component::string_of;
+use crate::component::octet_string_of;
 use crate::fault::ComponentFault;
 use ldap_ber::{NoMemory, Octets, OctetsList, Reader, Writer};
 use std::alloc::Global;
@@ -36,12 +36,12 @@ pub fn strings_of(alloc: Global, reader: &mut Reader, tag: u8) -> Result<OctetsL
 #[tactic(auto, using(crate::proofs::StringLemmas::strings_first, crate::proofs::StringLemmas::strings_only, crate::proofs::StringLemmas::strings_refused, crate::proofs::StringLemmas::strings_none))]
 fn strings_in(alloc: Global, reader: &mut Reader) -> Result<OctetsList, ComponentFault>
     ensures { Gives ComponentFails (λ strings. Ok strings) result
-        (many_at (string_at 4) reader.old.stop reader.old.left) }
+        (many_at (octet_string_at 4) reader.old.stop reader.old.left) }
 {
     if reader.is_empty() {
         return Ok(OctetsList::new(alloc));
     }
-    let first = string_of(alloc, reader, 0x04)?;
+    let first = octet_string_of(alloc, reader, 0x04)?;
     if reader.is_empty() {
         return Ok(OctetsList::of_one(alloc, first));
     }
@@ -64,7 +64,7 @@ fn strings_after(
     let mut strings = Vec::with_capacity(alloc, room.saturating_add(1))?;
     strings.push(first)?;
     while !reader.is_empty() {
-        let string = string_of(alloc, reader, 0x04)?;
+        let string = octet_string_of(alloc, reader, 0x04)?;
         strings.push(string)?;
     }
     Ok(strings)

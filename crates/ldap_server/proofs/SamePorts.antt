@@ -29,9 +29,11 @@ pub record IsSamePort (old new : PortState) : Type 0 where
   pub number : new.number ≡ old.number
   pub ports : new.ports ≡ old.ports
 
+-- a port is the same as itself
 pub same_here : (p : PortState) → IsSamePort p p
 same_here p = record { number = refl; ports = refl }
 
+-- a port that is the same as one that is the same
 pub same_then : (a b c : PortState) → IsSamePort a b → IsSamePort b c → IsSamePort a c
 same_then a b c first later = record { number = later.number ∙ first.number; ports = later.ports ∙ first.ports }
 

@@ -1,5 +1,5 @@
 -- A session over a link.
-use Rattle.std.specs.Prelude.{◌≡◌, ◌≢◌, ℕ, List, [], Option, Some, None}
+use Rattle.std.specs.Prelude.{◌≡◌, ◌≢◌, ◌⊎◌, ℕ, List, [], ◌∷◌, ◌++◌, Option, Some, None}
 use Rattle.std.specs.List.{flat_map}
 use Rattle.std.specs.Io.KnownBytes.{Appends, Consumes, IsAtEnd, Keeps}
 use Rattle.sync_io.specs.Sink.{AppendsPrefix}
@@ -41,6 +41,24 @@ Takes old left read left' read' (Some out) new =
 abbrev pub IsEndOf : Ended → Connected → Type 0
 IsEndOf ended new = ended ≢ ReadFault → ended ≢ WriteFault → new.ended ≡ Some ended
 
+-- the last of these events came to a session that had not ended
+pub record EndsLive
+    (old : Connected) (events : List Event) (sent : List ℕ) (new : Connected) : Type 0 where
+  pub earlier : List Event
+  pub last : Event
+  pub events_are : events ≡ earlier ++ last ∷ []
+  pub between : Connected
+  pub before : List ℕ
+  pub after : List ℕ
+  pub sent_is : sent ≡ before ++ after
+  pub runs : Runs old earlier before between
+  pub live : between.ended ≡ None
+  pub heeds : Heeds between last after new.ended new
+
+-- no event comes after the one that ends a session
+abbrev pub IsPrompt : Connected → List Event → List ℕ → Connected → Type 0
+IsPrompt old events sent new = (new.ended ≡ None) ⊎ EndsLive old events sent new
+
 -- Some events came: their bytes are what was read, and what was written is what the session sent
 -- for them, or a prefix of it where a write failed. The input ended only where no byte was left.
 pub record Serves
@@ -55,3 +73,4 @@ pub record Serves
   pub whole : ended ≢ WriteFault → Appends before.held after.held sent
   pub end : IsEndOf ended new
   pub at_end : old.ended ≡ None → ended ≡ EndOfInput → IsAtEnd after.left
+  pub prompt : old.ended ≡ None → IsPrompt old events sent new

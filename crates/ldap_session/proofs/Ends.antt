@@ -25,6 +25,7 @@ until-on (x ∷ xs) ys none = step (end_of x) (until-on xs ys) none
     step None later none = ap (λ (acts : List Act). x ∷ acts) (later none)
     step (Some first) later none = absurd cc
 
+-- the first end stands, whatever is done after it
 pub end-over : (xs ys : List Act) (ended : Ended) → end_among xs ≡ Some ended → end_among (xs ++ ys) ≡ Some ended
 end-over [] ys ended is = absurd cc
 end-over (x ∷ xs) ys ended is = step (end_of x) (end-over xs ys ended) is
@@ -33,6 +34,7 @@ end-over (x ∷ xs) ys ended is = step (end_of x) (end-over xs ys ended) is
     step None later is = later is
     step (Some first) later is = is
 
+-- acts without an end leave it to those after them
 pub end-on : (xs ys : List Act) → end_among xs ≡ None → end_among (xs ++ ys) ≡ end_among ys
 end-on [] ys none = refl
 end-on (x ∷ xs) ys none = step (end_of x) (end-on xs ys) none
@@ -46,6 +48,7 @@ pub hands_on : end_of HandsOut ≡ None
 unfolding end_of
 hands_on = refl
 
+-- who leaves ends the session, as at the end of the input
 pub leaves_end : end_of Leaves ≡ Some EndOfInput
 unfolding end_of
 leaves_end = refl

@@ -24,9 +24,11 @@ frame_is bytes whole count is =
     let there = subst (λ (xs : List ℕ). read_of xs ≡ message whole (length (take count bytes))) (take-append-drop count bytes) again in
     ap count_of (sym is ∙ there)
 
+-- a message takes no more octets than there are
 pub frame_within : (bytes : List ℕ) (whole : MessageValue) (count : ℕ) → read_of bytes ≡ message whole count → count ≤ length bytes
 frame_within bytes whole count is = omega (arith, frame_is bytes whole count is, length-take count bytes)
 
+-- a message takes one octet at least
 pub frame_some : (bytes : List ℕ) (whole : MessageValue) (count : ℕ) → read_of bytes ≡ message whole count → 0 < count
 frame_some bytes whole zero is =
     let again = read_only [] [] whole (read_found bytes whole zero is) in
@@ -97,24 +99,30 @@ rest_once bytes = rest_enough (length bytes) (suc (length bytes)) bytes (omega a
 rest_by : (bytes : List ℕ) (read : Read) → read_of bytes ≡ read → rest_of bytes ≡ rest_then (rest_within (length bytes)) bytes read
 rest_by bytes read is = rest_once bytes ∙ ap (λ (r : Read). rest_then (rest_within (length bytes)) bytes r) is
 
+-- of bytes that are no whole message, none comes in
 pub incoming_none : (bytes : List ℕ) → read_of bytes ≡ partial → incoming_in bytes ≡ []
 incoming_none bytes is = incoming_by bytes partial is
 
+-- of bytes that are no whole message, all are left
 pub rest_none : (bytes : List ℕ) → read_of bytes ≡ partial → rest_of bytes ≡ bytes
 rest_none bytes is = rest_by bytes partial is
 
+-- at a refused octet something wrong comes in, and nothing after it
 pub incoming_refused : (bytes : List ℕ) (place : ℕ) → read_of bytes ≡ refused place → incoming_in bytes ≡ Wrong place ∷ []
 incoming_refused bytes place is = incoming_by bytes (refused place) is
 
+-- a message that is too long is wrong at its beginning
 pub incoming_long : (bytes : List ℕ) → read_of bytes ≡ long → incoming_in bytes ≡ Wrong 0 ∷ []
 incoming_long bytes is = incoming_by bytes long is
 
+-- a message that is read comes in, and then what is in the bytes after it
 pub incoming_more : (bytes : List ℕ) (whole : MessageValue) (count : ℕ) → read_of bytes ≡ message whole count → incoming_in bytes ≡ Arrived whole ∷ incoming_in (drop count bytes)
 unfolding incoming_in
 incoming_more bytes whole count is =
     incoming_by bytes (message whole count) is
     ∙ ap (λ (more : List Incoming). Arrived whole ∷ more) (incoming_enough (length bytes) (length (drop count bytes)) (drop count bytes) (omega (arith, length-drop count bytes)) (omega arith))
 
+-- what is left after a message is what is left of the bytes after it
 pub rest_more : (bytes : List ℕ) (whole : MessageValue) (count : ℕ) → read_of bytes ≡ message whole count → rest_of bytes ≡ rest_of (drop count bytes)
 unfolding rest_of
 rest_more bytes whole count is =

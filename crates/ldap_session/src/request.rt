@@ -58,21 +58,13 @@ pub fn request_of(op: Protocol) -> Request
         } => Request::Bind(version, name, authentication),
         Protocol::UnbindRequest => Request::Unbind,
         Protocol::Write(change) => Request::Write(change),
-        Protocol::SearchRequest {
-            base,
-            scope,
-            size_limit,
-            types_only,
-            filter,
-            attributes,
-            ..
-        } => Request::Search(SearchParameters {
-            base,
-            scope,
-            size_limit,
-            types_only,
-            filter,
-            selectors: attributes,
+        Protocol::SearchRequest(asked) => Request::Search(SearchParameters {
+            base: asked.base,
+            scope: asked.scope,
+            size_limit: asked.size_limit,
+            types_only: asked.types_only,
+            filter: asked.filter,
+            selectors: asked.attributes,
         }),
         Protocol::CompareRequest { entry, name, value } => Request::Compare(entry, name, value),
         Protocol::AbandonRequest(target) => Request::Abandon(target),

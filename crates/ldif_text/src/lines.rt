@@ -174,8 +174,8 @@ fn continues_at(text: &[u8], cursor: Cursor) -> bool
     false
 }
 
-/// The line with those at the place that continue it, and the place after them. Where none does,
-/// it is the line itself.
+/// The line with those at the place that continue it, put together, and the place after them.
+/// Where none does, it is the line itself.
 fn continued(
     alloc: Global,
     line: Line,
@@ -189,26 +189,9 @@ fn continued(
     ensures later { IfOk result (λ x. cursor.at ≤ x.1.at) }
     ensures within { IfOk result (λ x. x.1.at ≤ length text.now) }
 {
-    if continues_at(text, cursor) {
-        return joined(alloc, line, text, cursor);
+    if !continues_at(text, cursor) {
+        return Ok((line, cursor));
     }
-    Ok((line, cursor))
-}
-
-/// The line with those at the place that continue it, put together, and the place after them.
-fn joined(
-    alloc: Global,
-    line: Line,
-    text: &[u8],
-    cursor: Cursor,
-) -> Result<(Line, Cursor), NoMemory>
-    requires place { cursor.at ≤ length text.now }
-    requires filled { spec.is_empty line.text ≡ false }
-    ensures line { IfOk result (λ x.
-        spec.onto line (spec.left_at text.now cursor) ≡ x.0 ∷ spec.left_at text.now x.1) }
-    ensures later { IfOk result (λ x. cursor.at ≤ x.1.at) }
-    ensures within { IfOk result (λ x. x.1.at ≤ length text.now) }
-{
     let mut whole = Vec::from_slice(alloc, line.text.as_slice())?;
     let mut last = line.last;
     let mut place = cursor;

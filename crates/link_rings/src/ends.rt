@@ -1,4 +1,4 @@
-ghost use Rattle.std.specs.Prelude.{◌≡◌, ◌+◌, ◌<◌, ◌≤◌, [], ◌∷◌, ◌++◌, length, IsOk, IsSome, IfOk, IfErr, IfSome, IfNone, OnOk, OnErr};
+ghost use Rattle.std.specs.Prelude.{◌≡◌, ◌+◌, ◌<◌, ◌≤◌, ◌↔◌, [], ◌∷◌, ◌++◌, length, IsTrue, IsOk, IsSome, IfOk, IfErr, IfSome, IfNone, OnOk, OnErr};
 ghost use mathlib.Core.List.{IsPrefix};
 ghost use Rattle.link_rings.specs.Ends.{offered, known_slots, taken, known_items, AreOneRing, IsSameProducer, IsSameConsumer};
 
@@ -53,6 +53,19 @@ impl Producer {
             Ok(()) => Ok(()),
             Err(PushError::Full(item)) => Err(Full(item)),
         }
+    }
+
+    /// Whether the next item that is offered finds a free slot. Takes no memory.
+    ///
+    /// The producer asks the ring only where it knows of no free slot.
+    pub fn has_room(&mut self) -> bool
+        ensures room { IsTrue result ↔ 0 < known_slots self.new }
+
+        ensures ring { IsSameProducer self.old self.new }
+        ensures offered { offered self.new ≡ offered self.old }
+        ensures slots { known_slots self.old ≤ known_slots self.new }
+    {
+        !self.end.is_full()
     }
 }
 

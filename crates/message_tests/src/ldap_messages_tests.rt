@@ -76,7 +76,7 @@ fn filter_text(alloc: Global, bytes: &[u8]) -> Result<Option<Octets>, MessageFau
 /// The text of a search's filter, none where there is none or no memory.
 fn text_of(alloc: Global, op: &Protocol) -> Option<Octets> {
     match op {
-        Protocol::SearchRequest { filter, .. } => filter.write_text(alloc).ok(),
+        Protocol::SearchRequest(asked) => asked.filter.write_text(alloc).ok(),
         _ => None,
     }
 }
@@ -251,24 +251,15 @@ fn without_request<'a>(all: Expected<'a>, op: &Protocol) -> Expected<'a> {
             authentication,
         ),
         Protocol::UnbindRequest => all.number(0x42),
-        Protocol::SearchRequest {
-            base,
-            scope,
-            deref,
-            size_limit,
-            time_limit,
-            types_only,
-            filter: _,
-            attributes,
-        } => all
+        Protocol::SearchRequest(asked) => all
             .number(0x63)
-            .string(base)
-            .number(scope_of(*scope))
-            .number(*deref as i64)
-            .number(*size_limit as i64)
-            .number(*time_limit as i64)
-            .number(*types_only as i64)
-            .list(attributes.list()),
+            .string(&asked.base)
+            .number(scope_of(asked.scope))
+            .number(asked.deref as i64)
+            .number(asked.size_limit as i64)
+            .number(asked.time_limit as i64)
+            .number(asked.types_only as i64)
+            .list(asked.attributes.list()),
         Protocol::Write(change) => without_change(all, change),
         Protocol::CompareRequest { entry, name, value } => {
             all.number(0x6E).string(entry).string(name).string(value)

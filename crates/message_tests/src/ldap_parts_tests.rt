@@ -9,9 +9,10 @@ use crate::assertions::assert_same_of;
 use ldap_ber::{NoMemory, Octets, OctetsList, Reader, Writer, discard};
 use ldap_filter::Filter;
 use ldap_parts::{
-    ComponentFault, Control, ControlList, assertion_of, attribute_of, attributes_of, controls_of,
-    filter_of, number_of, option_of, put_assertion, put_attribute, put_attributes, put_controls,
-    put_filter, put_number, put_option, put_strings, range_of, string_of, strings_of, truth_of,
+    ComponentFault, Control, ControlList, assertion_of, attribute_of, attributes_of, boolean_of,
+    controls_of, filter_of, number_of, octet_string_of, option_of, put_assertion, put_attribute,
+    put_attributes, put_controls, put_filter, put_number, put_option, put_strings, range_of,
+    strings_of,
 };
 use schema_rules::{RawAttribute, RawList};
 use std::alloc::Global;
@@ -82,7 +83,7 @@ fn read_assertion(alloc: Global, reader: &mut Reader) -> Result<Component, Compo
 }
 
 fn read_names(alloc: Global, reader: &mut Reader) -> Result<Component, ComponentFault> {
-    let name = string_of(alloc, reader, 0x04)?;
+    let name = octet_string_of(alloc, reader, 0x04)?;
     let superior = option_of(alloc, reader, 0x80)?;
     Ok(Component::Names(name, superior))
 }
@@ -90,7 +91,7 @@ fn read_names(alloc: Global, reader: &mut Reader) -> Result<Component, Component
 fn read_numbers(reader: &mut Reader) -> Result<Component, ComponentFault> {
     let code = number_of(reader, 0x0A)?;
     let version = range_of(reader, 0x02, 1, 127)?;
-    Ok(Component::Numbers(code, version, truth_of(reader)?))
+    Ok(Component::Numbers(code, version, boolean_of(reader)?))
 }
 
 fn read_next(alloc: Global, kind: Kind, reader: &mut Reader) -> Result<Component, ComponentFault> {

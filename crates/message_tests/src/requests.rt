@@ -63,13 +63,9 @@ fn is_plain_search(operation: &Protocol) -> bool
     ensures { IsTrue result → IsOfGrammar (operation_of operation.now) }
 {
     match operation {
-        Protocol::SearchRequest {
-            deref,
-            size_limit,
-            time_limit,
-            filter,
-            ..
-        } => are_zero(*deref, *size_limit, *time_limit) && is_presence(filter),
+        Protocol::SearchRequest(asked) => {
+            are_zero(asked.deref, asked.size_limit, asked.time_limit) && is_presence(&asked.filter)
+        }
         _ => false,
     }
 }

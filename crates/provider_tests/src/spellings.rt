@@ -2,7 +2,7 @@
 //! element, apart from this program.
 ghost use Rattle.std.specs.Prelude.{◌≡◌, IsTrue};
 ghost use Rattle.ldap_messages.specs.Operation.{IsOfGrammar, operation_of};
-ghost use Rattle.ldap_messages.specs.Outcome.{HasReferral};
+ghost use Rattle.ldap_messages.specs.LdapResult.{HasReferral};
 
 use crate::rows::{number, push_word};
 use ldap_ber::discard;

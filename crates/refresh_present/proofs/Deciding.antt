@@ -1,12 +1,11 @@
 -- What a present phase reports, and in which order.
 use Rattle.std.proofs.Common.{◌≡◌, refl, sym, ap, ◌∙◌, ℕ, Bool, true, false, cond, Option, List, [], ◌∷◌, ◌++◌, subst}
-use Rattle.std.specs.Prelude.{map, filter, not, Some, None, if◌then◌else◌}
+use Rattle.std.specs.Prelude.{map, not, Some, None, if◌then◌else◌}
 use Rattle.std.specs.List.{flat_map, filter_map, cons_option}
 use Rattle.std.specs.List.Sorted.{IsStrictlySortedBy}
 use Rattle.std.specs.Ordering.{nat_cmp}
 use Rattle.std.proofs.lemmas.List.Elements.{filter_map-append}
 use Rattle.refresh_present.specs.declared.item.Item.{Item}
-use Rattle.refresh_present.specs.declared.decision.Decision.{Decision}
 use Rattle.refresh_present.specs.declared.decision.Decision.TheVariants.{Send, Present}
 use Rattle.refresh_present.specs.Item.{identities, selected_of}
 use Rattle.refresh_present.specs.Decision.{identity_of}

@@ -30,16 +30,16 @@ const BIND_UNBIND_BIND: &[u8] =
     b"\x30\x0c\x02\x01\x01\x60\x07\x02\x01\x03\x04\x00\x80\x00\x30\x05\x02\x01\x02\x42\x00\x30\x0c\x02\x01\x01\x60\x07\x02\x01\x03\x04\x00\x80\x00";
 
 /// The add of `dc=x`, and its answer.
-const ADD: &[u8] =
+pub(crate) const ADD: &[u8] =
     b"\x30\x4b\x02\x01\x01\x68\x46\x04\x04dc=x\x30\x3e\x30\x27\x04\x0bobjectClass\x31\x18\x04\x0corganization\x04\x08dcObject\x30\x08\x04\x01o\x31\x03\x04\x01X\x30\x09\x04\x02dc\x31\x03\x04\x01x";
 
-const ADDED: &[u8] = b"\x30\x0c\x02\x01\x01\x69\x07\x0a\x01\x00\x04\x00\x04\x00";
+pub(crate) const ADDED: &[u8] = b"\x30\x0c\x02\x01\x01\x69\x07\x0a\x01\x00\x04\x00\x04\x00";
 
 /// A search of `dc=x` alone for its user attributes, its entry and its end.
-const SEARCH: &[u8] =
+pub(crate) const SEARCH: &[u8] =
     b"\x30\x29\x02\x01\x02\x63\x24\x04\x04dc=x\x0a\x01\x00\x0a\x01\x00\x02\x01\x00\x02\x01\x00\x01\x01\x00\x87\x0bobjectClass\x30\x00";
 
-const FOUND: &[u8] =
+pub(crate) const FOUND: &[u8] =
     b"\x30\x4b\x02\x01\x02\x64\x46\x04\x04dc=x\x30\x3e\x30\x27\x04\x0bobjectClass\x31\x18\x04\x0corganization\x04\x08dcObject\x30\x08\x04\x01o\x31\x03\x04\x01X\x30\x09\x04\x02dc\x31\x03\x04\x01x\x30\x0c\x02\x01\x02\x65\x07\x0a\x01\x00\x04\x00\x04\x00";
 
 /// The same for types alone.
@@ -292,11 +292,25 @@ const NAMED: [Row; 5] = [
     ),
 ];
 
-/// A session over a directory with the suffix `dc=x` and no entries.
-pub(crate) fn session(alloc: Global, access: Access) -> Result<Connection<Provider>, Fail> {
+/// How many octets the value of a long request has.
+const LONG_VALUE: u32 = 1_048_576;
+
+/// What stands before that value: an extended operation `1.2`, as message 1.
+const LONG_REQUEST: &[u8] = b"\x30\x84\x00\x10\x00\x14\x02\x01\x01\x77\x84\x00\x10\x00\x0b\
+    \x80\x031.2\x81\x84\x00\x10\x00\x00";
+
+/// Its answer: protocolError, since no such operation is known.
+const UNKNOWN_OPERATION: &[u8] = b"\x30\x0c\x02\x01\x01\x78\x07\x0a\x01\x02\x04\x00\x04\x00";
+
+/// A directory with the suffix `dc=x` and no entries.
+pub(crate) fn provider(alloc: Global) -> Result<Provider, Fail> {
     let suffix = Dn::parse(alloc, b"dc=x").map_err(|_| Fail::from("no name"))?;
-    let provider = Provider::new(alloc, suffix, 1, 1, Kind::Root)?;
-    match Connection::new(alloc, provider, access) {
+    Ok(Provider::new(alloc, suffix, 1, 1, Kind::Root)?)
+}
+
+/// A session over such a directory.
+pub(crate) fn session(alloc: Global, access: Access) -> Result<Connection<Provider>, Fail> {
+    match Connection::new(alloc, provider(alloc)?, access) {
         Ok(connection) => Ok(connection),
         Err((_, provider)) => {
             discard(provider);
@@ -370,5 +384,25 @@ fn a_port_comes_back(rt: HostRuntime) -> Result<(), Fail> {
     let writes = provider.writes();
     discard(provider);
     assert!(rt; writes == 1);
+    Ok(())
+}
+
+/// A long message that comes an octet at a time is read once, when it is whole. If what has come
+/// were read again at each octet, the test would not end in its time.
+#[test]
+fn a_long_message_by_octets(rt: HostRuntime) -> Result<(), Fail> {
+    let mut session = session(rt.alloc(), Access::Free)?;
+    for octet in LONG_REQUEST {
+        let out = session.on_bytes(&[*octet], 0);
+        assert_out(&rt, "before the value", out, NOTHING, None);
+    }
+    for _ in 1..LONG_VALUE {
+        let out = session.on_bytes(b"x", 0);
+        assert_out(&rt, "in the value", out, NOTHING, None);
+    }
+    let out = session.on_bytes(b"x", 0);
+    let answer = Sent::Exactly(UNKNOWN_OPERATION);
+    assert_out(&rt, "the last octet", out, answer, None);
+    discard(session);
     Ok(())
 }

@@ -74,6 +74,7 @@ module _ (v : JournalledProvider) where
       → IsNumbered (record { provider = v; first = n; numbers = numbers; openers = replicate 65 0 })
   counted_numbered n numbers counted none is = subst IsNumbered (sym (first_is n numbers counted none)) (first_numbered is)
 
+  -- the journal of the first port is the one that the provider had
   pub first_journal : port_journal (first_state v) ≡ j
   first_journal =
       (λ i. take_all (length j) j all_of i ++ numbered_with no_openers (none_later i) []) ∙ append-nil j

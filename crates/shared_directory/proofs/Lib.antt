@@ -5,3 +5,4 @@ pub mod Seen
 pub mod Turns
 pub mod Passing
 pub mod First
+pub mod Sent

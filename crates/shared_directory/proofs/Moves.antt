@@ -6,7 +6,7 @@ use Rattle.std.proofs.lemmas.List.{take-append-le, drop-append-le}
 use Rattle.entry_tree.specs.declared.op.Write.{Write}
 use Rattle.sync_provider.specs.Journal.{JournalledProvider, port_state}
 use Rattle.sync_provider.specs.Opened.{SearchOpening}
-use Rattle.sync_provider.specs.Ports.{FollowedSearch, PortState, is_open, followed_after, noted, opened_in, handed_in, ended_in}
+use Rattle.sync_provider.specs.Ports.{Journal, FollowedSearch, PortState, is_open, followed_after, noted, opened_in, handed_in, ended_in}
 use Rattle.sync_provider.specs.declared.journal_note.ClosedSearch.{ClosedSearch}
 use Rattle.sync_provider.specs.declared.journal_note.JournalNote.{JournalNote}
 use Rattle.sync_provider.specs.declared.journal_note.JournalNote.TheVariants.{Wrote, Opened, Closed}
@@ -147,6 +147,67 @@ module _ (number : ℕ) (d : NumberedState) (is : IsNumbered d) (v : JournalledP
         (λ i. openers_of no_openers (later_kept i) (nums i))
         ∙ openers-kept note 0 number no_openers (later_in d) d.numbers is.kept takes
 
+  -- ---- what a port knows, by its journal and by the searches that it follows
+
+  port_is : (changed : PortState) → new ≡ changed → (entries : Journal) → port_journal after ≡ entries
+      → (m ports : ℕ) (followed : ℕ → Option FollowedSearch)
+      → ((n : ℕ) → cond (nat_eq (slice_index openers n) m) (changed.followed n) None ≡ followed n)
+      → port_in m ports after ≡ record {
+        number = m;
+        ports = ports;
+        kind = changed.kind;
+        directory = changed.directory;
+        queue_limit = changed.queue_limit;
+        journal = entries;
+        followed = followed;
+      }
+  port_is changed is_new entries journal m ports followed follows = λ i. record {
+    number = m;
+    ports = ports;
+    kind = (is_new i).kind;
+    directory = (is_new i).directory;
+    queue_limit = (is_new i).queue_limit;
+    journal = journal i;
+    followed = followed_now i;
+  }
+    where
+      followed_now : ◌≡◌ {A = ℕ → Option FollowedSearch} (λ n. cond (nat_eq (slice_index openers n) m) (new.followed n) None) followed
+      followed_now = (λ i n. cond (nat_eq (slice_index openers n) m) ((is_new i).followed n) None) ∙ (λ i n. follows n i)
+
+  -- The search under k is changed, which this port opened, as the openers are now.
+  module _ (k : ℕ) (fresh : Option FollowedSearch) (entries port_entries : Journal)
+      (is_new : new ≡ record old { journal = entries; followed = λ n. cond (nat_eq n k) fresh (old.followed n) })
+      (journal : port_journal after ≡ port_entries) (opener : slice_index openers k ≡ number)
+      (others : (n : ℕ) → n ≢ k → slice_index openers n ≡ slice_index d.openers n) where
+    abbrev changed : PortState
+    changed = record old { journal = entries; followed = λ n. cond (nat_eq n k) fresh (old.followed n) }
+
+    -- at this port
+    changed_here : (ports : ℕ) → port_in number ports after
+        ≡ record (port_in number ports d) {
+          journal = port_entries;
+          followed = λ n. cond (nat_eq n k) fresh (cond (nat_eq (slice_index d.openers n) number) (old.followed n) None);
+        }
+    changed_here ports =
+        port_is changed is_new port_entries journal number ports
+        (λ n. cond (nat_eq n k) fresh (cond (nat_eq (slice_index d.openers n) number) (old.followed n) None))
+        (λ n. changed_own k number d.openers openers opener others fresh old.followed n)
+
+    -- at another one, which does not follow it
+    changed_elsewhere : (m : ℕ) → m ≢ number → cond (nat_eq (slice_index d.openers k) m) (old.followed k) None ≡ None
+        → (ports : ℕ) → port_in m ports after ≡ record (port_in m ports d) { journal = port_entries }
+    changed_elsewhere m differs none ports =
+        port_is changed is_new port_entries journal m ports
+        (λ n. cond (nat_eq (slice_index d.openers n) m) (old.followed n) None)
+        (λ n. changed_other k number d.openers openers opener others fresh old.followed m differs none n)
+
+  -- A search that this port opened is followed by no other one.
+  followed_here : (k : ℕ) → slice_index d.openers k ≡ number
+      → (m : ℕ) → m ≢ number → cond (nat_eq (slice_index d.openers k) m) (old.followed k) None ≡ None
+  followed_here k opener m differs =
+      ap (λ o. cond (nat_eq o m) (old.followed k) None) opener
+      ∙ ap (λ b. cond b (old.followed k) None) (ne_eqb number m (λ same. differs (sym same)))
+
   -- ---- a write
 
   module _ (w : Write) (is_new : new ≡ noted old (Wrote w) 0) (nums : numbers ≡ d.numbers ++ number ∷ []) (ops : openers ≡ d.openers) where
@@ -156,22 +217,13 @@ module _ (number : ℕ) (d : NumberedState) (is : IsNumbered d) (v : JournalledP
     abbrev after_write : FollowedSearch → FollowedSearch
     after_write = followed_after old.queue_limit old.directory w
 
-    wrote_followed : (m : ℕ) → ◌≡◌ {A = ℕ → Option FollowedSearch} (λ n. cond (nat_eq (slice_index openers n) m) (new.followed n) None)
-        (λ n. option_map after_write (cond (nat_eq (slice_index d.openers n) m) (old.followed n) None))
-    wrote_followed m =
-        (λ i n. cond (nat_eq (slice_index (ops i) n) m) ((is_new i).followed n) None)
-        ∙ (λ i n. cond_map after_write (nat_eq (slice_index d.openers n) m) (old.followed n) i)
-
     wrote_port : (m ports : ℕ) → port_in m ports after ≡ noted (port_in m ports d) (Wrote w) number
-    wrote_port m ports = λ i. record {
-      number = m;
-      ports = ports;
-      kind = (is_new i).kind;
-      directory = (is_new i).directory;
-      queue_limit = (is_new i).queue_limit;
-      journal = journal_kept (Wrote w) (λ os ns. refl) refl wrote_journal nums i;
-      followed = wrote_followed m i;
-    }
+    wrote_port m ports =
+        port_is (noted old (Wrote w) 0) is_new (port_journal d ++ (Wrote w, number) ∷ [])
+        (journal_kept (Wrote w) (λ os ns. refl) refl wrote_journal nums) m ports
+        (λ n. option_map after_write (cond (nat_eq (slice_index d.openers n) m) (old.followed n) None))
+        (λ n. ap (λ os. cond (nat_eq (slice_index os n) m) (option_map after_write (old.followed n)) None) ops
+        ∙ cond_map after_write (nat_eq (slice_index d.openers n) m) (old.followed n))
 
     pub wrote_moves : Moves number d after (λ p. noted p (Wrote w) p.number)
     wrote_moves = record {
@@ -213,44 +265,22 @@ module _ (number : ℕ) (d : NumberedState) (is : IsNumbered d) (v : JournalledP
         by None none = refl
         by (Some x) none = absurd (false≢true (sym none))
 
+    opened_port : port_journal after ≡ port_journal d ++ (Opened o, number) ∷ []
+    opened_port = journal_kept (Opened o) (λ os ns. refl) refl opened_journal nums
+
     opened_own : (ports : ℕ) → port_in number ports after ≡ opened_in (port_in number ports d) o
-    opened_own ports = λ i. record {
-      number = number;
-      ports = ports;
-      kind = (is_new i).kind;
-      directory = (is_new i).directory;
-      queue_limit = (is_new i).queue_limit;
-      journal = journal_kept (Opened o) (λ os ns. refl) refl opened_journal nums i;
-      followed = followed i;
-    }
-      where
-        followed : ◌≡◌ {A = ℕ → Option FollowedSearch} (λ n. cond (nat_eq (slice_index openers n) number) (new.followed n) None)
-            (λ n. cond (nat_eq n o.number) fresh (cond (nat_eq (slice_index d.openers n) number) (old.followed n) None))
-        followed =
-            (λ i n. cond (nat_eq (slice_index openers n) number) ((is_new i).followed n) None)
-            ∙ (λ i n. changed_own o.number number d.openers openers opener others fresh old.followed n i)
+    opened_own =
+        changed_here o.number fresh (old.journal ++ (Opened o, 0) ∷ []) (port_journal d ++ (Opened o, number) ∷ []) is_new opened_port opener others
 
     opened_other : (m : ℕ) → m ≢ number → (ports : ℕ) → port_in m ports after ≡ noted (port_in m ports d) (Opened o) number
-    opened_other m differs ports = λ i. record {
-      number = m;
-      ports = ports;
-      kind = (is_new i).kind;
-      directory = (is_new i).directory;
-      queue_limit = (is_new i).queue_limit;
-      journal = journal_kept (Opened o) (λ os ns. refl) refl opened_journal nums i;
-      followed = followed i;
-    }
+    opened_other m differs =
+        changed_elsewhere o.number fresh (old.journal ++ (Opened o, 0) ∷ []) (port_journal d ++ (Opened o, number) ∷ []) is_new opened_port opener others
+        m differs none
       where
         none : cond (nat_eq (slice_index d.openers o.number) m) (old.followed o.number) None ≡ None
         none =
             ap (λ x. cond (nat_eq (slice_index d.openers o.number) m) x None) not_followed
             ∙ cond_none (nat_eq (slice_index d.openers o.number) m)
-
-        followed : ◌≡◌ {A = ℕ → Option FollowedSearch} (λ n. cond (nat_eq (slice_index openers n) m) (new.followed n) None)
-            (λ n. cond (nat_eq (slice_index d.openers n) m) (old.followed n) None)
-        followed =
-            (λ i n. cond (nat_eq (slice_index openers n) m) ((is_new i).followed n) None)
-            ∙ (λ i n. changed_other o.number number d.openers openers opener others fresh old.followed m differs none n i)
 
     pub opened_moves : Moves number d after (λ p. opened_in p o)
     opened_moves = record {
@@ -271,7 +301,7 @@ module _ (number : ℕ) (d : NumberedState) (is : IsNumbered d) (v : JournalledP
       called = record {
         added = (Opened o, number) ∷ [];
         own = (refl, tt);
-        journal = journal_kept (Opened o) (λ os ns. refl) refl opened_journal nums;
+        journal = opened_port;
         others = opened_other;
       };
       own = opened_own;
@@ -287,45 +317,18 @@ module _ (number : ℕ) (d : NumberedState) (is : IsNumbered d) (v : JournalledP
     handed_journal : new.journal ≡ old.journal
     handed_journal = ap (λ p. p.journal) is_new
 
-    handed_own : (ports : ℕ) → port_in number ports after ≡ handed_in (port_in number ports d) k f
-    handed_own ports = λ i. record {
-      number = number;
-      ports = ports;
-      kind = (is_new i).kind;
-      directory = (is_new i).directory;
-      queue_limit = (is_new i).queue_limit;
-      journal = same_journal handed_journal nums ops i;
-      followed = followed i;
-    }
-      where
-        followed : ◌≡◌ {A = ℕ → Option FollowedSearch} (λ n. cond (nat_eq (slice_index openers n) number) (new.followed n) None)
-            (λ n. cond (nat_eq n k) handed (cond (nat_eq (slice_index d.openers n) number) (old.followed n) None))
-        followed =
-            (λ i n. cond (nat_eq (slice_index (ops i) n) number) ((is_new i).followed n) None)
-            ∙ (λ i n. changed_own k number d.openers d.openers opener (λ m apart. refl) handed old.followed n i)
+    handed_port : port_journal after ≡ port_journal d
+    handed_port = same_journal handed_journal nums ops
 
-    -- another port does not follow this search
-    others_own : (m : ℕ) → m ≢ number → cond (nat_eq (slice_index d.openers k) m) (old.followed k) None ≡ None
-    others_own m differs =
-        ap (λ o. cond (nat_eq o m) (old.followed k) None) opener
-        ∙ ap (λ b. cond b (old.followed k) None) (ne_eqb number m (λ same. differs (sym same)))
+    handed_own : (ports : ℕ) → port_in number ports after ≡ handed_in (port_in number ports d) k f
+    handed_own =
+        changed_here k handed old.journal (port_journal d) is_new handed_port (ap (λ os. slice_index os k) ops ∙ opener)
+        (λ n apart. ap (λ os. slice_index os n) ops)
 
     handed_other : (m : ℕ) → m ≢ number → (ports : ℕ) → port_in m ports after ≡ port_in m ports d
-    handed_other m differs ports = λ i. record {
-      number = m;
-      ports = ports;
-      kind = (is_new i).kind;
-      directory = (is_new i).directory;
-      queue_limit = (is_new i).queue_limit;
-      journal = same_journal handed_journal nums ops i;
-      followed = followed i;
-    }
-      where
-        followed : ◌≡◌ {A = ℕ → Option FollowedSearch} (λ n. cond (nat_eq (slice_index openers n) m) (new.followed n) None)
-            (λ n. cond (nat_eq (slice_index d.openers n) m) (old.followed n) None)
-        followed =
-            (λ i n. cond (nat_eq (slice_index (ops i) n) m) ((is_new i).followed n) None)
-            ∙ (λ i n. changed_other k number d.openers d.openers opener (λ o apart. refl) handed old.followed m differs (others_own m differs) n i)
+    handed_other m differs =
+        changed_elsewhere k handed old.journal (port_journal d) is_new handed_port (ap (λ os. slice_index os k) ops ∙ opener)
+        (λ n apart. ap (λ os. slice_index os n) ops) m differs (followed_here k opener m differs)
 
     handed_some : (n : ℕ) → is_some (new.followed n) ≡ is_some (old.followed n)
     handed_some n =
@@ -341,7 +344,7 @@ module _ (number : ℕ) (d : NumberedState) (is : IsNumbered d) (v : JournalledP
       called = record {
         added = [];
         own = tt;
-        journal = same_journal handed_journal nums ops ∙ sym (append-nil (port_journal d));
+        journal = handed_port ∙ sym (append-nil (port_journal d));
         others = handed_other;
       };
       own = handed_own;
@@ -370,43 +373,14 @@ module _ (number : ℕ) (d : NumberedState) (is : IsNumbered d) (v : JournalledP
         ∙ ap (λ m. port_journal d ++ (Closed end, m) ∷ []) by_opener
 
     ended_own : (ports : ℕ) → port_in number ports after ≡ ended_in (port_in number ports d) k end
-    ended_own ports = λ i. record {
-      number = number;
-      ports = ports;
-      kind = (is_new i).kind;
-      directory = (is_new i).directory;
-      queue_limit = (is_new i).queue_limit;
-      journal = port_ended i;
-      followed = followed i;
-    }
-      where
-        followed : ◌≡◌ {A = ℕ → Option FollowedSearch} (λ n. cond (nat_eq (slice_index openers n) number) (new.followed n) None)
-            (λ n. cond (nat_eq n k) None (cond (nat_eq (slice_index d.openers n) number) (old.followed n) None))
-        followed =
-            (λ i n. cond (nat_eq (slice_index (ops i) n) number) ((is_new i).followed n) None)
-            ∙ (λ i n. changed_own k number d.openers d.openers opener (λ m apart. refl) None old.followed n i)
+    ended_own =
+        changed_here k None (old.journal ++ (Closed end, 0) ∷ []) (port_journal d ++ (Closed end, number) ∷ []) is_new port_ended
+        (ap (λ os. slice_index os k) ops ∙ opener) (λ n apart. ap (λ os. slice_index os n) ops)
 
     ended_other : (m : ℕ) → m ≢ number → (ports : ℕ) → port_in m ports after ≡ noted (port_in m ports d) (Closed end) number
-    ended_other m differs ports = λ i. record {
-      number = m;
-      ports = ports;
-      kind = (is_new i).kind;
-      directory = (is_new i).directory;
-      queue_limit = (is_new i).queue_limit;
-      journal = port_ended i;
-      followed = followed i;
-    }
-      where
-        none : cond (nat_eq (slice_index d.openers k) m) (old.followed k) None ≡ None
-        none =
-            ap (λ o. cond (nat_eq o m) (old.followed k) None) opener
-            ∙ ap (λ b. cond b (old.followed k) None) (ne_eqb number m (λ same. differs (sym same)))
-
-        followed : ◌≡◌ {A = ℕ → Option FollowedSearch} (λ n. cond (nat_eq (slice_index openers n) m) (new.followed n) None)
-            (λ n. cond (nat_eq (slice_index d.openers n) m) (old.followed n) None)
-        followed =
-            (λ i n. cond (nat_eq (slice_index (ops i) n) m) ((is_new i).followed n) None)
-            ∙ (λ i n. changed_other k number d.openers d.openers opener (λ o apart. refl) None old.followed m differs none n i)
+    ended_other m differs =
+        changed_elsewhere k None (old.journal ++ (Closed end, 0) ∷ []) (port_journal d ++ (Closed end, number) ∷ []) is_new port_ended
+        (ap (λ os. slice_index os k) ops ∙ opener) (λ n apart. ap (λ os. slice_index os n) ops) m differs (followed_here k opener m differs)
 
     pub ended_moves : Moves number d after (λ p. ended_in p k end)
     ended_moves = record {

@@ -2,11 +2,11 @@
 
 ghost use Rattle.std.specs.Prelude.{◌≡◌, ◌<◌, ◌≤◌, true, length, map, set, slice_get, is_some, IfOk, IfErr};
 ghost use Rattle.turn_cell.specs.Rule.{Grows};
-ghost use Rattle.shared_directory.specs.Desks.{first_held, entries_of, left_by, HaveCome, IsTurnOf};
+ghost use Rattle.shared_directory.specs.Desks.{first_held, first_state, entries_of, left_by, HaveCome, IsTurnOf};
 
 use crate::calls::Call;
 use crate::numbered::NumberedProvider;
-use std::alloc::Global;
+use std::alloc::{AllocError, Global};
 use std::marker::Model;
 use std::snapshot::Snapshot;
 use sync_provider::{JournalNote, NoMemory, Provider};
@@ -14,9 +14,11 @@ use turn_cell::Journalled;
 
 /// What the cell of a shared directory has: the provider, and for proofs alone as what each pass
 /// left it. Snapshots take no memory.
+///
+/// The provider has memory of its own, since what a cell has is moved twice in each turn.
 #[derive(Drop)]
 pub struct HeldDirectory {
-    now: NumberedProvider,
+    now: Box<NumberedProvider>,
     /// By the numbers of the passes, the first of which is 1.
     last: Vec<Snapshot<NumberedProvider>>,
 }
@@ -32,12 +34,12 @@ impl Model for HeldDirectory {
     ghost coded = { Prim.hlevel (codes, tree_code) };
 
     ghost view = { λ h. record {
-      now = h.now;
+      now = h.now.value;
       last = map (λ s. s.value) h.last.items;
     } };
 
     ghost invariant = { λ h. HaveCome (record {
-      now = h.now;
+      now = h.now.value;
       last = map (λ s. s.value) h.last.items;
     }) };
 }
@@ -52,7 +54,7 @@ impl Journalled for HeldDirectory {
     ghost share = { left_by };
 
     fn count(&self) -> u64 {
-        self.now.journal_len()
+        self.now.as_ref().journal_len()
     }
 }
 
@@ -71,9 +73,12 @@ impl HeldDirectory {
             Ok(last) => last,
             Err(fault) => return Err((fault, provider)),
         };
-        let now = NumberedProvider::new(alloc, provider);
+        let now = match boxed(alloc, provider) {
+            Ok(now) => now,
+            Err(refused) => return Err(refused),
+        };
         for _place in 0..seats + 1 {
-            last.push_reserved(Snapshot::of(&now));
+            last.push_reserved(Snapshot::of(now.as_ref()));
         }
         Ok(HeldDirectory { now, last })
     }
@@ -84,7 +89,7 @@ impl HeldDirectory {
         ensures come { HaveCome self }
     {
         let HeldDirectory { now, last: _ } = self;
-        now.into_provider()
+        Box::into_inner(now).into_provider()
     }
 
     /// A turn of the pass with this number, which makes one call.
@@ -93,9 +98,21 @@ impl HeldDirectory {
         ensures grows { Grows entries_of left_by number self.old self.new }
         ensures turn { IsTurnOf number self.old self.new (C.replies call result) }
     {
-        let answer = call.make(number, &mut self.now);
-        remember(&mut self.last, number, &self.now);
+        let answer = call.make(number, self.now.as_mut());
+        remember(&mut self.last, number, self.now.as_ref());
         answer
+    }
+}
+
+/// A provider that no port has called yet, in memory of its own.
+fn boxed(alloc: Global, provider: Provider) -> Result<Box<NumberedProvider>, (NoMemory, Provider)>
+    ensures ok { IfOk result (λ now. now.value ≡ first_state provider) }
+    ensures err { IfErr result (λ refused. refused.1 ≡ provider) }
+{
+    let now = NumberedProvider::new(alloc, provider);
+    match Box::new(alloc, now) {
+        Ok(made) => Ok(made),
+        Err(failed) => Err((AllocError, failed.value.into_provider())),
     }
 }
 

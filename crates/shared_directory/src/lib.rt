@@ -7,6 +7,7 @@
 #![tactic(auto)]
 
 mod calls;
+mod crossing;
 mod desk;
 mod directory;
 mod held;
@@ -14,6 +15,7 @@ mod numbered;
 mod port;
 mod turning;
 
+pub use crossing::{desks_are_sent, directories_are_shared, passes_are_sent};
 pub use desk::{Desk, journal_seen};
 pub use directory::{DirectoryCell, DirectoryPass, SharedDirectory};
 pub use held::HeldDirectory;

@@ -1,5 +1,9 @@
 -- What nodes hold.
-use Rattle.std.specs.Prelude.{ℕ, ◌+◌, Bool, List, [], ◌∷◌, ◌++◌, if◌then◌else◌}
+use Rattle.std.specs.Prelude.{◌≡◌, ℕ, ◌+◌, Bool, List, [], ◌∷◌, ◌++◌, length, if◌then◌else◌, Result, IfOk, OnOk, OnErr}
+use Rattle.std.specs.BTreeMap.{insert_entry}
+use Rattle.std.specs.List.Sorted.{IsStrictlySortedBy}
+use Rattle.std.specs.Map.{keys_of}
+use Rattle.std.specs.declared.cmp.Ordering.{Ordering}
 use Rattle.shared_map.specs.declared.nodes.Nodes.{Nodes}
 use Rattle.shared_map.specs.declared.nodes.Nodes.TheVariants.{Nothing, Fork'}
 use Rattle.shared_map.specs.declared.nodes.Node.{Node}
@@ -25,3 +29,12 @@ pairs_beside node = pairs node.lower ++ pairs node.higher
 -- how many pairs there are after one is put in, whose key is new or was there
 abbrev pub count_with : Bool → ℕ → ℕ
 count_with is_new count = if is_new then count + 1 else count
+
+-- what becomes of pairs among which one is put in: where their keys ascend, its value stands at its
+-- key; there is one more where its key is new; and where memory runs out, all are as before
+pub record InsertsPair {K V E : Type 0} (cmp : K → K → Ordering) (pair : Pair K V)
+    (before after : List (K × V)) (answer : Result Bool E) : Type 0 where
+  pub ok : IsStrictlySortedBy cmp (keys_of before) → OnOk answer
+      (after ≡ insert_entry cmp before pair.key.value pair.value.value)
+  pub count : IfOk answer (λ is_new. length after ≡ count_with is_new (length before))
+  pub err : OnErr answer (after ≡ before)

@@ -1,9 +1,6 @@
 //! How a pair is put in where its way down stands, as far as no other map shares the nodes.
-ghost use Rattle.std.specs.Prelude.{◌≡◌, length, IfOk, OnErr, OnOk};
-ghost use Rattle.std.specs.BTreeMap.{insert_entry};
-ghost use Rattle.std.specs.List.Sorted.{IsStrictlySortedBy};
-ghost use Rattle.std.specs.Map.{keys_of};
-ghost use Rattle.shared_map.specs.Nodes.{count_with, pairs, pairs_of};
+ghost use Rattle.std.specs.Prelude.{◌≡◌, IfOk};
+ghost use Rattle.shared_map.specs.Nodes.{InsertsPair, pairs, pairs_of};
 
 use crate::balance::balanced;
 use crate::nodes::{Node, Nodes, Pair};
@@ -23,11 +20,7 @@ pub(crate) fn put_into<K: Ord + Drop, V: Drop>(
     nodes: Nodes<K, V>,
     pair: Pair<K, V>,
 ) -> (Nodes<K, V>, Result<bool, AllocError>)
-    ensures ok { IsStrictlySortedBy K.cmp (keys_of (pairs nodes)) → OnOk result.1
-        (pairs result.0 ≡ insert_entry K.cmp (pairs nodes) pair.key.value pair.value.value) }
-    ensures count { IfOk result.1 (λ is_new.
-        length (pairs result.0) ≡ count_with is_new (length (pairs nodes))) }
-    ensures err { OnErr result.1 (pairs result.0 ≡ pairs nodes) }
+    ensures { InsertsPair K.cmp pair (pairs nodes) (pairs result.0) result.1 }
 {
     if levels == 0 {
         return put_anew(alloc, nodes, pair);
@@ -46,12 +39,7 @@ fn put_into_node<K: Ord + Drop, V: Drop>(
     mut shared: Arc<Node<K, V>>,
     pair: Pair<K, V>,
 ) -> (Nodes<K, V>, Result<bool, AllocError>)
-    ensures ok { IsStrictlySortedBy K.cmp (keys_of (pairs_of shared.value)) → OnOk result.1
-        (pairs result.0
-        ≡ insert_entry K.cmp (pairs_of shared.value) pair.key.value pair.value.value) }
-    ensures count { IfOk result.1 (λ is_new.
-        length (pairs result.0) ≡ count_with is_new (length (pairs_of shared.value))) }
-    ensures err { OnErr result.1 (pairs result.0 ≡ pairs_of shared.value) }
+    ensures { InsertsPair K.cmp pair (pairs_of shared.value) (pairs result.0) result.1 }
 {
     let Some(node) = Arc::get_mut(&mut shared) else {
         return put_anew(alloc, Nodes::Fork(shared), pair);
@@ -68,12 +56,7 @@ fn put_below<K: Ord + Drop, V: Drop>(
     node: &mut Node<K, V>,
     pair: Pair<K, V>,
 ) -> Result<bool, AllocError>
-    ensures ok { IsStrictlySortedBy K.cmp (keys_of (pairs_of node.old)) → OnOk result
-        (pairs_of node.new
-        ≡ insert_entry K.cmp (pairs_of node.old) pair.key.value pair.value.value) }
-    ensures count { IfOk result (λ is_new.
-        length (pairs_of node.new) ≡ count_with is_new (length (pairs_of node.old))) }
-    ensures err { OnErr result (pairs_of node.new ≡ pairs_of node.old) }
+    ensures { InsertsPair K.cmp pair (pairs_of node.old) (pairs_of node.new) result }
 {
     let key = &*pair.key;
     match key.cmp(&node.pair.key) {
@@ -102,11 +85,7 @@ fn put_anew<K: Ord + Drop, V: Drop>(
     nodes: Nodes<K, V>,
     pair: Pair<K, V>,
 ) -> (Nodes<K, V>, Result<bool, AllocError>)
-    ensures ok { IsStrictlySortedBy K.cmp (keys_of (pairs nodes)) → OnOk result.1
-        (pairs result.0 ≡ insert_entry K.cmp (pairs nodes) pair.key.value pair.value.value) }
-    ensures count { IfOk result.1 (λ is_new.
-        length (pairs result.0) ≡ count_with is_new (length (pairs nodes))) }
-    ensures err { OnErr result.1 (pairs result.0 ≡ pairs nodes) }
+    ensures { InsertsPair K.cmp pair (pairs nodes) (pairs result.0) result.1 }
 {
     match with_pair(alloc, &nodes, pair) {
         Ok((after, is_new)) => (after, Ok(is_new)),

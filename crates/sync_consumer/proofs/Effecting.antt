@@ -11,7 +11,7 @@ use Rattle.entry_tree.proofs.Putting.{total_put}
 use Rattle.sync_model.specs.Copy.{Stage, effected, put_or_dropped, puts_of, slot}
 use Rattle.sync_model.specs.Within.{against}
 use Rattle.sync_model.proofs.Taking.{IsOwn, IsKeyed, ascends-effected}
-use Rattle.sync_consumer.specs.Holding.{IsDirectoryContent, HeldNames, IsEntryMap}
+use Rattle.sync_consumer.specs.Holding.{IsConsumerContent, HeldNames, IsEntryMap}
 use Rattle.sync_consumer.specs.Staging.{change_of, changes_in, rises}
 use Rattle.sync_consumer.specs.declared.stage.StagedChange.{StagedChange}
 use Rattle.sync_consumer.specs.declared.stage.StagedChange.TheVariants.{AddOrModify, Delete}
@@ -22,11 +22,11 @@ abbrev weight : Entry → ℕ
 weight e = weight_of e.attrs
 
 -- no entries may be held
-pub nothing_held : IsDirectoryContent []
+pub nothing_held : IsConsumerContent []
 nothing_held = (refl, refl)
 
 -- what a stage leaves may be held where no limit refuses it
-pub after_held : (held after : List Entry) (stage : Stage) → ascends held ≡ true → against (effected held stage) ≡ None → after ≡ effected held stage → IsDirectoryContent after
+pub after_held : (held after : List Entry) (stage : Stage) → ascends held ≡ true → against (effected held stage) ≡ None → after ≡ effected held stage → IsConsumerContent after
 after_held held after stage up within is = (ap (λ es. ascends es) is ∙ ascends-effected stage held up, ap (λ es. against es) is ∙ within)
 
 -- ---- with their names

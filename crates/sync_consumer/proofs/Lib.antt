@@ -5,6 +5,7 @@ pub mod Effecting
 pub mod Fits
 pub mod Heeding
 pub mod Indexing
+pub mod KeptPuts
 pub mod Keyed
 pub mod Naming
 pub mod Noting

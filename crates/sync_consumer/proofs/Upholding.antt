@@ -24,7 +24,7 @@ use Rattle.sync_consumer.specs.declared.fault.Refusal.TheVariants as refusal
 use Rattle.sync_consumer.specs.declared.held.HeldContent.{HeldContent}
 use Rattle.sync_consumer.specs.declared.session.SyncSession as own
 use Rattle.sync_consumer.specs.Committing.{HaveUniqueNames, IsCommit, CanBeCommitted, IsReady, IsReadyOn, stage_in}
-use Rattle.sync_consumer.specs.Holding.{IsDirectoryContent}
+use Rattle.sync_consumer.specs.Holding.{IsConsumerContent}
 use Rattle.sync_consumer.specs.SyncSession.{copy_with}
 use Rattle.sync_consumer.specs.Taking.{PutsFit, Takes, KeepsEntries, KeepsCookie, refusal_of, taken_commit, answer_taken, taken_refusal, without_search, taken_as, taken_by, taken_of}
 use Rattle.sync_consumer.proofs.Fits.{Leaves, AnswerFits, Says, none_ready, taking_fits, says_operation}
@@ -34,8 +34,8 @@ use Rattle.sync_consumer.proofs.Takings.{takes_keeps}
 
 -- ---- without a search, and where one begins
 
-held_same : (before after : List Entry) → after ≡ before → IsDirectoryContent before → IsDirectoryContent after
-held_same before after same held = subst (λ (es : List Entry). IsDirectoryContent es) (sym same) held
+held_same : (before after : List Entry) → after ≡ before → IsConsumerContent before → IsConsumerContent after
+held_same before after same held = subst (λ (es : List Entry). IsConsumerContent es) (sym same) held
 
 -- a consumer without entries keeps its invariant
 pub nothing_kept : (entries : List Entry) → entries ≡ [] → IsReadyOn entries []
@@ -58,7 +58,7 @@ same_kept entries entries' session session' is same kept =
 
 -- ---- the entries may be held
 
-held_effected : (before after : Copy) (commit : model.Commit) → IsEffected before after commit → against after.held ≡ None → IsDirectoryContent before.held → IsDirectoryContent after.held
+held_effected : (before after : Copy) (commit : model.Commit) → IsEffected before after commit → against after.held ≡ None → IsConsumerContent before.held → IsConsumerContent after.held
 held_effected before after commit is none held =
     after_held before.held after.held is.stage held.0 (ap (λ es. against es) (sym is.held) ∙ none) is.held
 
@@ -66,7 +66,7 @@ nothing_against : (crowded : Bool) (found : Option model.Fault) → cond crowded
 nothing_against true found none = absurd (cc)
 nothing_against false found none = none
 
-answer_held : (puts : Bool) (before after : Copy) (given : model.Answer) → Keeps before after given → limit_fault puts after given ≡ None → IsDirectoryContent before.held → IsDirectoryContent after.held
+answer_held : (puts : Bool) (before after : Copy) (given : model.Answer) → Keeps before after given → limit_fault puts after given ≡ None → IsConsumerContent before.held → IsConsumerContent after.held
 answer_held puts before after answer.Staged keeps none held = held_same before.held after.held keeps.held held
 answer_held puts before after (answer.Stored commit) keeps none held =
     held_effected before after commit keeps.0 (nothing_against (puts && exceeds_limits commit.puts) (against after.held) none) held
@@ -76,12 +76,12 @@ answer_held puts before after (answer.Over code) keeps none held = held_same bef
 answer_held puts before after (answer.Refused found) keeps none held = held_same before.held after.held (ap (λ (c : Copy). c.held) keeps) held
 
 limits_held : (puts : Bool) (before : Copy) (found : Option model.Fault) (outcome : Copy × model.Answer) → limit_fault puts outcome.0 outcome.1 ≡ found
-    → Keeps before (refused_by found before outcome).0 (refused_by found before outcome).1 → IsDirectoryContent before.held → IsDirectoryContent (refused_by found before outcome).0.held
+    → Keeps before (refused_by found before outcome).0 (refused_by found before outcome).1 → IsConsumerContent before.held → IsConsumerContent (refused_by found before outcome).0.held
 limits_held puts before None outcome is keeps held = answer_held puts before outcome.0 outcome.1 keeps is held
 limits_held puts before (Some found) outcome is keeps held = held
 
 -- what a copy holds after a message may be held
-pub message_held : (id : ℕ) (copy : Copy) (message : SyncMessage) → IsDirectoryContent copy.held → IsDirectoryContent (taken_within id copy message).0.held
+pub message_held : (id : ℕ) (copy : Copy) (message : SyncMessage) → IsConsumerContent copy.held → IsConsumerContent (taken_within id copy message).0.held
 message_held id copy message held =
     limits_held (puts_entry message) copy (limit_fault (puts_entry message) (taken id copy message).0 (taken id copy message).1) (taken id copy message) refl
     (taking_keeps id copy message) held
@@ -89,18 +89,18 @@ message_held id copy message held =
 -- ---- and what takes effect can be committed
 
 record Upholds (before : Copy) (outcome : Copy × Taken) : Type 0 where
-  pub kept : IsDirectoryContent before.held → IsReadyOn outcome.0.held (stage_in outcome.0.session)
+  pub kept : IsConsumerContent before.held → IsReadyOn outcome.0.held (stage_in outcome.0.session)
   pub fit : PutsFit outcome.1
-  pub committed : IsDirectoryContent before.held → CanBeCommitted before outcome.0 outcome.1
+  pub committed : IsConsumerContent before.held → CanBeCommitted before outcome.0 outcome.1
 
-commit_is : (before after : List Entry) (commit : model.Commit) → Leaves before after commit → IsDirectoryContent before → IsDirectoryContent after → IsCommit before after (taken_commit commit)
+commit_is : (before after : List Entry) (commit : model.Commit) → Leaves before after commit → IsConsumerContent before → IsConsumerContent after → IsCommit before after (taken_commit commit)
 commit_is before after commit leaves held held' = record {
   fits = and_from (list_all is_within_entry_limit commit.puts) (is_directory_content (committed before commit.puts commit.drops)) leaves.0.light (ap (λ es. is_directory_content es) (leaves.1 held.0) ∙ held_allowed after held'.1);
   leaves = leaves.1 held.0;
 }
 
 answered_upholds : (tag : ℕ) (before after : Copy) (given : model.Answer) → IsReady (stage_in after.session) → AnswerFits before.held after.held given
-    → (IsDirectoryContent before.held → IsDirectoryContent after.held) → Upholds before (after, answer_taken tag given)
+    → (IsConsumerContent before.held → IsConsumerContent after.held) → Upholds before (after, answer_taken tag given)
 answered_upholds tag before after answer.Staged ready fit held = record { kept = λ h. record { held = held h; staged = ready }; fit = tt; committed = λ h. tt }
 answered_upholds tag before after (answer.Stored commit) ready fit held =
     record { kept = λ h. record { held = held h; staged = ready }; fit = fit.0; committed = λ h. commit_is before.held after.held commit fit h (held h) }

@@ -96,14 +96,14 @@ up_to_last es u weight is last = by (slice_get (values_of es) (length (values_of
         ap (λ n. up_to n (values_of es)) (sym same) ∙ all_prefix (values_of es) e is.ordered at
 
 -- without a last entry there is none
-pub none_last : (es : Pairs) → slice_get es (length es - 1) ≡ None → es ≡ []
+pub none_last : {X : Type 0} (es : List X) → slice_get es (length es - 1) ≡ None → es ≡ []
 none_last [] none = refl
-none_last (e ∷ es) none = absurd (some (e ∷ es) e (length es) (omega arith) (ap (slice_get (e ∷ es)) place ∙ none))
+none_last {X} (e ∷ es) none = absurd (some (e ∷ es) e (length es) (omega arith) (ap (slice_get (e ∷ es)) place ∙ none))
   where
     place : length es ≡ length (e ∷ es) - 1
     place = omega arith
 
-    some : (xs : Pairs) (x : ℕ × Entry) (k : ℕ) → k < length xs → slice_get xs k ≡ None → ⊥
+    some : (xs : List X) (x : X) (k : ℕ) → k < length xs → slice_get xs k ≡ None → ⊥
     some [] x k low none = omega (arith, low)
     some (y ∷ xs) x zero low none = cc
     some (y ∷ xs) x (suc k) low none = some xs x k (omega (arith, low)) none

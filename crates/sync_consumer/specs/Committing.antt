@@ -8,7 +8,7 @@ use Rattle.entry_tree.specs.Fitting.{fits}
 use Rattle.entry_tree.specs.declared.entry.Entry.{Entry}
 use Rattle.entry_tree.specs.declared.op.Op.TheVariants as write
 use Rattle.sync_model.specs.Copy as model
-use Rattle.sync_consumer.specs.Holding.{IsDirectoryContent}
+use Rattle.sync_consumer.specs.Holding.{IsConsumerContent}
 use Rattle.sync_consumer.specs.Staging.{rises}
 use Rattle.sync_consumer.specs.Taking.{AreFit}
 use Rattle.sync_consumer.specs.declared.commit.Commit.{Commit}
@@ -62,5 +62,5 @@ pub record IsReady (stage : model.Stage) : Type 0 where
 
 -- the entries may be held, and what is staged is ready to take effect
 pub record IsReadyOn (entries : List Entry) (stage : model.Stage) : Type 0 where
-  pub held : IsDirectoryContent entries
+  pub held : IsConsumerContent entries
   pub staged : IsReady stage

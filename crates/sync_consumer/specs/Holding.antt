@@ -1,5 +1,5 @@
 -- Entries that are held, what they weigh, and the identities of their names.
-use Rattle.std.specs.Prelude.{◌≡◌, ◌<◌, ◌^◌, ℕ, Bool, true, false, ◌==◌, cond, is_some, bytes_eq, IfSome, List, Option, Some, None, Vec}
+use Rattle.std.specs.Prelude.{◌≡◌, ◌<◌, ◌^◌, ℕ, Bool, true, false, ◌==◌, cond, is_some, bytes_eq, filter_map, map, option_map, IfSome, List, Option, Some, None, Vec}
 use Rattle.std.proofs.Common.{Global, ◌⊎◌}
 use Rattle.std.specs.Bool.{MatchBool}
 use Rattle.std.specs.BTreeMap.{is_at}
@@ -13,10 +13,13 @@ use Rattle.entry_tree.specs.State.{ascends, entry_at, total_weight}
 use Rattle.entry_tree.specs.Touched.{identities}
 use Rattle.sync_model.specs.Copy.{Stage, slot}
 use Rattle.sync_model.specs.Within.{against}
+use Rattle.sync_consumer.specs.declared.stage.StagedChange.{StagedChange}
+use Rattle.sync_consumer.specs.declared.stage.StagedChange.TheVariants.{AddOrModify}
+use Rattle.sync_consumer.specs.Staging.{change_of}
 
 -- entries that a consumer may hold: they ascend by identity, and nothing rejects them
-abbrev pub IsDirectoryContent : List Entry → Type 0
-IsDirectoryContent entries = (ascends entries ≡ true) × (against entries ≡ None)
+abbrev pub IsConsumerContent : List Entry → Type 0
+IsConsumerContent entries = (ascends entries ≡ true) × (against entries ≡ None)
 
 -- each entry is kept by its own identity, in ascending order, with what all of them weigh, which is
 -- a number of 64 bits
@@ -25,6 +28,23 @@ pub record IsWeighed (entries : List (ℕ × Entry)) (weight : ℕ) : Type 0 whe
   pub ordered : ascends (values_of entries) ≡ true
   pub weighed : weight ≡ total_weight (values_of entries)
   pub small : weight < 2 ^ 64
+
+-- each entry as the change that puts it, at the same key
+abbrev pub as_puts : List (ℕ × Entry) → List (ℕ × StagedChange)
+as_puts entries = map (λ (entry : ℕ × Entry). (entry.0, AddOrModify entry.1)) entries
+
+-- the entries that changes put, at the same keys
+abbrev pub entries_put : List (ℕ × StagedChange) → List (ℕ × Entry)
+entries_put changes =
+    filter_map
+    (λ (change : ℕ × StagedChange).
+    option_map (λ (entry : Entry). (change.0, entry)) (change_of change.1).1)
+    changes
+
+-- each change puts an entry, and these are kept and weighed so
+pub record AreWeighedPuts (changes : List (ℕ × StagedChange)) (weight : ℕ) : Type 0 where
+  pub puts : changes ≡ as_puts (entries_put changes)
+  pub weighed : IsWeighed (entries_put changes) weight
 
 -- ---- identities by the path keys of names
 
@@ -61,7 +81,7 @@ pub record IsIndexOf (names : HeldNames) (entries : List Entry) : Type 0 where
 
 -- entries that may be held, with their names
 pub record IsEntryMap (entries : List Entry) (names : HeldNames) : Type 0 where
-  pub held : IsDirectoryContent entries
+  pub held : IsConsumerContent entries
   pub index : IsIndexOf names entries
 
 -- ---- names that changes take away and bring

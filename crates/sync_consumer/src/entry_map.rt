@@ -12,7 +12,7 @@ ghost use Rattle.sync_consumer.specs.Staging.{higher, up_to};
 use crate::fault::Refusal;
 use crate::names::{Names, names_after};
 use crate::stage::{MOST_ENTRIES, MOST_WEIGHT, Stage};
-use crate::weighed::{WeighedEntries, entries_after};
+use crate::weighed::{WeighedEntries, entries_with};
 use entry_tree::{Entry, check_content};
 use ldap_ber::NoMemory;
 use shared_map::SharedMap;
@@ -121,14 +121,14 @@ impl EntryMap {
     }
 
     /// These entries with the stage in effect, where a directory may have them. They are shared
-    /// with this map and the stage.
+    /// with this map and the stage, and where this one is empty so is what they are kept in.
     pub(crate) fn with(&self, stage: &Stage) -> Result<EntryMap, Refusal>
         ensures value { IfOk result (λ map. map ≡ effected self.now stage.now) }
         ensures within { OnOk result (against (effected self.now stage.now) ≡ None) }
         ensures fault { IfErr result (RefusesBy (against (effected self.now stage.now))) }
     {
         let changes = stage.list()?;
-        let entries = entries_after(&self.entries, &changes)?;
+        let entries = entries_with(&self.entries, stage, &changes)?;
         let (names, has_unique_names) = names_after(&self.names, &self.entries, &changes)?;
         check(self.alloc, &entries, has_unique_names)?;
         Ok(EntryMap {

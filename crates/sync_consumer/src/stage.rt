@@ -1,15 +1,16 @@
 //! What a search has sent and what has not taken effect yet.
 
-ghost use Rattle.std.specs.Prelude.{◌≡◌, ◌+◌, ◌≤◌, [], Some, None, true, false, not, length, IfOk, OnOk, OnErr};
+ghost use Rattle.std.specs.Prelude.{◌≡◌, ◌+◌, ◌≤◌, [], Some, None, true, false, not, length, IfOk, IfSome, OnOk, OnErr};
 ghost use Rattle.std.specs.Map.{keys_of};
 ghost use Rattle.std.specs.Option.{option_copied};
 ghost use Rattle.entry_tree.specs.State.{found_weight, most_weight, total_weight};
 ghost use Rattle.sync_model.specs.Copy as model;
-ghost use Rattle.sync_model.specs.Copy.{puts_of, staged};
+ghost use Rattle.sync_model.specs.Copy.{effected, puts_of, staged};
 ghost use Rattle.sync_model.specs.Within.{exceeds_limits};
 ghost use Rattle.sync_consumer.specs.Staging as spec;
 ghost use Rattle.sync_consumer.specs.Staging.{change_of, changes_in, entry_staged, rises};
 
+use crate::weighed::WeighedEntries;
 use entry_tree::Entry;
 use ldap_ber::NoMemory;
 use shared_map::SharedMap;
@@ -39,7 +40,7 @@ impl StagedChange {
         }
     }
 
-    fn entry(&self) -> Option<&Entry>
+    pub(crate) fn entry(&self) -> Option<&Entry>
         ensures { option_copied result ≡ (change_of self.now).1 }
     {
         match self {
@@ -109,6 +110,18 @@ impl Stage {
         ensures light { total_weight (puts_of self.now) ≤ most_weight }
     {
         self.changes.values()
+    }
+
+    /// The entries that take effect where none are held, unless an identity is staged without one.
+    /// They share what they are kept in with the stage.
+    pub(crate) fn entries_alone(&self) -> Result<Option<WeighedEntries>, NoMemory>
+        ensures { IfOk result (λ found. IfSome found (λ entries. entries ≡ effected [] self.now)) }
+    {
+        if self.load.count != self.changes.len() {
+            return Ok(None);
+        }
+        let changes = self.changes.copy()?;
+        Ok(Some(WeighedEntries::of(changes, self.load.weight)))
     }
 
     /// Whether an entry of the identity is staged.

@@ -19,7 +19,7 @@ pub trait Dial {
     ghost use Rattle.sync_io.specs.Faults.{CountHasRisen, one_more};
     ghost use Rattle.sync_io.specs.Dial.{Dialled, dials, hangs_up};
     ghost use Rattle.sync_io.specs.Links.{HasNoFaults, IsUnused};
-    ghost use Rattle.sync_io.specs.ToCome.{IsNext};
+    ghost use Rattle.sync_io.specs.ToCome.{IsNextToCome};
 
     /// What it was asked, what came of it and what is still to come, where it reports that.
     ghost dialled: { Self → Option (Dialled Self.Link) };
@@ -31,15 +31,15 @@ pub trait Dial {
     fn faults(&self) -> u64
         ensures { result ≡ dial_fault_count self.now };
 
-    /// Gives a link to this address. Where it reports what is to come, that is the next link, and it
-    /// fails only where none is left.
+    /// Gives a link to this address. Where it reports what is to come, that is the next link, and
+    /// it fails only where none is left.
     fn connect(&mut self, address: &str) -> Result<Self::Link, NetFault>
         ensures asked { ¬ (IsErrOf result NetFault.NoMemory)
             → dialled self.new ≡ option_map (dials address.now (is_ok result)) (dialled self.old) }
         ensures unasked { IsErrOf result NetFault.NoMemory → dialled self.new ≡ dialled self.old }
 
         ensures next { IfOk result (λ link. IfSome (dialled self.old) (λ d.
-            IsNext link d.to_come)) }
+            IsNextToCome link d.to_come)) }
         ensures spent { IsErrOf result NetFault.Failed
             → IfSome (dialled self.old) (λ d. d.to_come ≡ []) }
 

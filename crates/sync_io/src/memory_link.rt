@@ -84,8 +84,8 @@ impl Source for MemoryLink {
         self.source.read_faults()
     }
 
-    /// A read plays the first of the steps that are left. One that finds no memory to keep its bytes
-    /// fails, and leaves the steps.
+    /// A read plays the first of the steps that are left. One that finds no memory to keep its
+    /// bytes fails, and leaves the steps.
     fn read(&mut self, buffer: &mut [u8]) -> Piece
         requires room { 0 < length buffer.old }
 

@@ -22,7 +22,7 @@ pub trait Net {
       lets_go,
     };
     ghost use Rattle.sync_io.specs.Links.{HasNoFaults, IsUnused};
-    ghost use Rattle.sync_io.specs.ToCome.{IsNext};
+    ghost use Rattle.sync_io.specs.ToCome.{IsNextToCome};
 
     /// What it was asked, what came of it and what is still to come, where it reports that.
     ghost served: { Self → Option (Served Self.Link Self.Caller Self.Caller.Link) };
@@ -47,13 +47,13 @@ pub trait Net {
             → net_fault_count self.new ≡ net_fault_count self.old }
         ensures later { net_fault_count self.old ≤ net_fault_count self.new };
 
-    /// Gives the next link that someone asked for at this door. It may wait for one. Where it reports
-    /// what is to come, it fails only where no link is left.
+    /// Gives the next link that someone asked for at this door. It may wait for one. Where it
+    /// reports what is to come, it fails only where no link is left.
     fn accept(&mut self, door: &mut Self::Door) -> Result<Self::Link, NetFault>
         ensures served { served self.new ≡ option_map (accepts (is_ok result)) (served self.old) }
 
         ensures next { IfOk result (λ link. IfSome (served self.old) (λ s.
-            IsNext link s.links_to_come)) }
+            IsNextToCome link s.links_to_come)) }
         ensures spent { IsErrOf result NetFault.Failed
             → IfSome (served self.old) (λ s. s.links_to_come ≡ []) }
 
@@ -75,13 +75,13 @@ pub trait Net {
         ensures served { served self.new ≡ option_map (releases link) (served self.old) }
         ensures faults { net_fault_count self.new ≡ net_fault_count self.old };
 
-    /// Gives a caller. Where it reports what is to come, that is the next one, and it fails only where
-    /// none is left.
+    /// Gives a caller. Where it reports what is to come, that is the next one, and it fails only
+    /// where none is left.
     fn caller(&mut self) -> Result<Self::Caller, NetFault>
         ensures served { served self.new ≡ option_map (calls (is_ok result)) (served self.old) }
 
         ensures next { IfOk result (λ caller. IfSome (served self.old) (λ s.
-            IsNext (Self.Caller.dialled caller) s.callers_to_come)) }
+            IsNextToCome (Self.Caller.dialled caller) s.callers_to_come)) }
         ensures spent { IsErrOf result NetFault.Failed
             → IfSome (served self.old) (λ s. s.callers_to_come ≡ []) }
 

@@ -29,8 +29,8 @@ pub trait Shelf {
     fn faults(&self) -> u64
         ensures { result ≡ shelf_fault_count self.now };
 
-    /// Gives the file of this name, from its first byte on. Where the shelf reports its files, it fails
-    /// only where it has none of this name.
+    /// Gives the file of this name, from its first byte on. Where the shelf reports its files, it
+    /// fails only where it has none of this name.
     fn fetch(&mut self, name: &str) -> Result<Self::File, ShelfFault>
         ensures file { IfOk result (λ file. IfSome (files self.old) (λ bytes_of. IsFile
             (bytes_of name.now) (Self.File.bytes_left file) (Self.File.waits file))) }

@@ -4,10 +4,10 @@ ghost use Rattle.std.specs.Io.{ReadsAtMost};
 
 use crate::faults::count_fault;
 use crate::{Link, Piece, Put, Sink, Source};
-use std::io;
 use std::io::{ErrorKind, Read, Write};
 use std::net::TcpStream;
 use std::time::Duration;
+use std::{io, mem};
 
 /// How many milliseconds a read waits at most, and how many after a write: whoever was just
 /// answered mostly has more to ask, and a search that stays mostly has more to send.
@@ -15,12 +15,17 @@ const WAIT: u64 = 20;
 
 const WAIT_AFTER_WRITE: u64 = 1;
 
+/// After this many bytes a read does not wait: a system's clock may make eight milliseconds of one,
+/// and what was written together was mostly not all.
+const LARGE: usize = 4_096;
+
 /// A link over TCP. It reports none of its bytes. A read waits for a moment, and is then quiet.
 #[derive(Drop)]
 pub struct TcpLink {
     stream: TcpStream,
     wait: u64,
-    has_written: bool,
+    /// How many bytes were written since the last read.
+    written: usize,
     read_faults: u64,
     write_faults: u64,
 }
@@ -35,7 +40,7 @@ impl TcpLink {
         TcpLink {
             stream,
             wait: 0,
-            has_written: false,
+            written: 0,
             read_faults: 0,
             write_faults: 0,
         }
@@ -47,18 +52,29 @@ impl TcpLink {
         ensures read_faults { self.new.read_faults ≡ self.old.read_faults }
         ensures write_faults { self.new.write_faults ≡ self.old.write_faults }
     {
-        let wait = if self.has_written {
-            WAIT_AFTER_WRITE
-        } else {
-            WAIT
-        };
+        let written = mem::replace(&mut self.written, 0);
+        if LARGE <= written {
+            return self.read_at_once(buffer);
+        }
+        let wait = if written == 0 { WAIT } else { WAIT_AFTER_WRITE };
         if wait != self.wait {
             self.stream
                 .set_read_timeout(Some(Duration::from_millis(wait)))?;
             self.wait = wait;
         }
-        self.has_written = false;
         self.stream.read(buffer)
+    }
+
+    /// Reads what has come.
+    fn read_at_once(&mut self, buffer: &mut [u8]) -> io::Result<usize>
+        ensures bound { ReadsAtMost result buffer.new }
+        ensures read_faults { self.new.read_faults ≡ self.old.read_faults }
+        ensures write_faults { self.new.write_faults ≡ self.old.write_faults }
+    {
+        self.stream.set_nonblocking(true)?;
+        let found = self.stream.read(buffer);
+        self.stream.set_nonblocking(false)?;
+        found
     }
 }
 
@@ -115,7 +131,7 @@ impl Sink for TcpLink {
     }
 
     fn write(&mut self, piece: &[u8]) -> Put {
-        self.has_written = true;
+        self.written = self.written.saturating_add(piece.len());
         match self.stream.write(piece) {
             Ok(0) | Err(_) => {
                 count_fault(&mut self.write_faults);

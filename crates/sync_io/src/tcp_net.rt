@@ -9,24 +9,33 @@ use std::net::{TcpListener, TcpStream};
 use std::{io, net};
 
 /// A net over TCP. An address is that of a host and a port, as `localhost:389`. It reports nothing
-/// of what it was asked.
-pub struct TcpNet<'a, R: net::Net<Listener = TcpListener, Stream = TcpStream> + Sync> {
+/// of what it was asked. Where it listens it says on standard error.
+pub struct TcpNet<'a, R: net::Net<Listener = TcpListener, Stream = TcpStream> + Eprint + Sync> {
     rt: &'a R,
     faults: u64,
 }
 
-impl<R: net::Net<Listener = TcpListener, Stream = TcpStream> + Sync> Drop for TcpNet<'_, R> {
+impl<R: net::Net<Listener = TcpListener, Stream = TcpStream> + Eprint + Sync> Drop
+    for TcpNet<'_, R> {
     fn drop(self) {
         let Self { rt: _, faults: _ } = self;
     }
 }
 
-impl<'a, R: net::Net<Listener = TcpListener, Stream = TcpStream> + Sync> TcpNet<'a, R> {
+impl<'a, R: net::Net<Listener = TcpListener, Stream = TcpStream> + Eprint + Sync> TcpNet<'a, R> {
     /// A net that was asked nothing yet.
     pub fn new(rt: &'a R) -> TcpNet<'a, R>
         ensures faults { result.faults ≡ 0 }
     {
         TcpNet { rt, faults: 0 }
+    }
+}
+
+/// Says where a door is, with the port that the system chose where the address left that open. A
+/// line that can't be written is passed over.
+fn announce<R: Eprint>(rt: &R, door: &TcpListener) {
+    if let Ok(address) = door.local_addr() {
+        let _ = eprintln!(rt; "syncrepl: listening on {address}");
     }
 }
 
@@ -49,7 +58,8 @@ fn is_passed_over(error: &io::Error) -> bool {
     )
 }
 
-impl<'a, R: net::Net<Listener = TcpListener, Stream = TcpStream> + Sync> Net for TcpNet<'a, R> {
+impl<'a, R: net::Net<Listener = TcpListener, Stream = TcpStream> + Eprint + Sync> Net
+    for TcpNet<'a, R> {
     type Door = TcpListener;
 
     type Link = TcpLink;
@@ -66,7 +76,10 @@ impl<'a, R: net::Net<Listener = TcpListener, Stream = TcpStream> + Sync> Net for
 
     fn listen(&mut self, address: &str) -> Result<TcpListener, NetFault> {
         match TcpListener::bind(self.rt, address) {
-            Ok(door) => Ok(door),
+            Ok(door) => {
+                announce(self.rt, &door);
+                Ok(door)
+            }
             Err(error) => Err(net_fault(error, &mut self.faults)),
         }
     }

@@ -1,5 +1,5 @@
 -- Lemmas of the crate.
-pub mod Bare
+pub mod WithoutCookie
 pub mod Examples
 pub mod FewNames
 pub mod Fitting

@@ -6,7 +6,7 @@ use Rattle.std.specs.BTreeSet.{insert_key}
 use Rattle.std.specs.Ordering.{nat_cmp}
 use Rattle.entry_tree.specs.declared.entry.Entry.{Entry}
 use Rattle.entry_tree.specs.State.{entry_at, is_identified}
-use Rattle.entry_tree.specs.Touched.{identities, joined}
+use Rattle.entry_tree.specs.Touched.{joined}
 use Rattle.entry_tree.proofs.Rising.{among-insert}
 use Rattle.sync_model.specs.Stream.{among}
 use Rattle.sync_model.specs.Copy.{Stage, slot, staged, all_dropped}

@@ -1,5 +1,5 @@
 -- What a copy makes of each message within the limits of a directory.
-use Rattle.std.specs.Prelude.{ℕ, Bool, true, false, cond, ◌&&◌, ◌||◌, nat_lt, List, [], ◌∷◌, length, Option, Some, None, option_map}
+use Rattle.std.specs.Prelude.{ℕ, Bool, true, false, cond, ◌&&◌, List, [], ◌∷◌, Option, Some, None, option_map}
 use Rattle.entry_tree.specs.declared.entry.Entry.{Entry}
 pub use Rattle.entry_tree.specs.State.{exceeds_limits, same_named}
 use Rattle.sync_model.specs.Message.{SyncMessage}

@@ -1,5 +1,5 @@
 -- What commits make of a provider, one after another.
-use Rattle.std.proofs.Common.{◌≡◌, ℕ, ◌+◌, List, [], ◌∷◌, ◌++◌, Option, Some, None, map, refl, ap, sym, subst, ◌∙◌}
+use Rattle.std.proofs.Common.{◌≡◌, ℕ, List, [], ◌∷◌, ◌++◌, Option, Some, None, map, refl, ap, sym, subst, ◌∙◌}
 use Rattle.std.specs.Prelude.{Ok, option_map}
 use Rattle.std.specs.Option.{option_or}
 use Rattle.csn_cookie.specs.Cookie.{cookie_text}

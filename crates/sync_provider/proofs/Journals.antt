@@ -168,6 +168,7 @@ open_append : (n : ℕ) (b : Bool) (xs ys : Journal) → open_from n b (xs ++ ys
 open_append n b [] ys = refl
 open_append n b (x ∷ xs) ys = open_append n (open_after n b x.0) xs ys
 
+-- whether a search is open after one more entry of the journal
 pub open_more : (journal : Journal) (note : JournalNote) (n : ℕ) → is_open (journal ++ (note, 0) ∷ []) n ≡ open_after n (is_open journal n) note
 open_more journal note n = open_append n false journal ((note, 0) ∷ [])
 

@@ -1,9 +1,8 @@
 -- A list of calls with their answers, and the calls that count.
-use Rattle.std.proofs.Common.{◌≡◌, ◌≢◌, ℕ, true, false, cond, List, [], ◌∷◌, ◌++◌, Some, None, refl, ap, sym, subst, ◌∙◌, inl, inr, ◌⊎◌, arith, nat_eq, eqb-true, eq-eqb}
+use Rattle.std.proofs.Common.{◌≡◌, ℕ, true, false, cond, List, [], ◌∷◌, refl, ap, sym, ◌∙◌, inl, inr, ◌⊎◌, arith, nat_eq, eqb-true, eq-eqb}
 use Rattle.std.specs.Prelude.{Bool, flat_map, Result, Ok, Err}
 use Rattle.std.proofs.lemmas.Bool.{cases_eq, false≢true}
 use Rattle.ldap_constants.specs.declared.result_codes.TheConstants.{SUCCESS, OTHER}
-use Rattle.entry_tree.specs.declared.entry.Entry.{Entry}
 use Rattle.entry_tree.specs.declared.op.Op.{Op}
 use Rattle.entry_tree.specs.declared.op.Write.{Write}
 use Rattle.directory_writes.specs.Directory.{code_of_judged}
@@ -11,7 +10,7 @@ use Rattle.sync_provider.specs.Accepting as accepting
 use Rattle.sync_provider.specs.HandingOut as handing
 use Rattle.sync_provider.specs.Answering.{WriteLeaves, AcceptLeaves, HandOutLeaves, Answered, MayLeave, Leads, calls_of, calls_of_accepted, calls_of_handed}
 use Rattle.sync_provider.specs.Answering.Answered.{Wrote, Committed, CommittedEach, Accepts, HandedOut, Skipped, Dropped, LimitedLog, LimitedQueue}
-use Rattle.sync_provider.specs.Machine.{ProviderState, ProviderCall, after_judged, judged_by, wrote, run}
+use Rattle.sync_provider.specs.Machine.{ProviderState, after_judged, judged_by, run}
 use Rattle.sync_provider.specs.Machine.{ProviderCall as calls}
 use Rattle.sync_provider.specs.declared.handed.Handed.{Handed}
 use Rattle.sync_provider.specs.declared.handed.Handed.TheVariants as handed

@@ -1,10 +1,9 @@
 -- Operations without where they lie in memory.
-use Rattle.std.proofs.Common.{◌≡◌, ℕ, Bool, List, Option, refl}
+use Rattle.std.proofs.Common.{◌≡◌, ℕ, List, Option, refl}
 use Rattle.schema_rules.specs.declared.raw.RawAttribute.{RawAttribute}
-use Rattle.ldap_filter.specs.declared.filter.Filter.{Filter}
 use Rattle.ldap_filter.specs.FilterTree.{tree_of}
-use Rattle.ldap_messages.specs.declared.outcome.LdapResult.{LdapResult}
-use Rattle.ldap_messages.specs.declared.search.SearchScope.{SearchScope}
+use Rattle.ldap_messages.specs.declared.ldap_result.LdapResult.{LdapResult}
+use Rattle.ldap_messages.specs.declared.search.SearchRequest.{SearchRequest}
 use Rattle.ldap_messages.specs.declared.protocol.Protocol.TheVariants as op
 use Rattle.ldap_messages.specs.Operation as operation
 use Rattle.ldap_messages.specs.Search.{scope_number}
@@ -21,11 +20,10 @@ unfolding operation_of
 entry_operation name raws = refl
 
 -- the operation of a SearchRequest
-pub search_operation : (base : List ℕ) (scope : SearchScope) (deref size_limit time_limit : ℕ) (types_only : Bool) (filter : Filter) (attributes : List (List ℕ))
-    → operation_of (op.SearchRequest base scope deref size_limit time_limit types_only filter attributes)
-    ≡ operation.search ((base, (scope_number scope, (deref, (size_limit, (time_limit, types_only))))), (tree_of filter, attributes))
+pub search_operation : (asked : SearchRequest) → operation_of (op.SearchRequest asked)
+    ≡ operation.search ((asked.base, (scope_number asked.scope, (asked.deref, (asked.size_limit, (asked.time_limit, asked.types_only))))), (tree_of asked.filter, asked.attributes))
 unfolding operation_of
-search_operation base scope deref size_limit time_limit types_only filter attributes = refl
+search_operation asked = refl
 
 -- the operation of an IntermediateResponse
 pub info_operation : (name value : Option (List ℕ)) → operation_of (op.IntermediateResponse name value) ≡ operation.intermediate (name, value)

@@ -86,9 +86,7 @@ operation_said persisting controls (op.SearchResultDone result) =
 operation_said persisting controls (op.BindRequest version name authentication) = Err OutOfPlace
 operation_said persisting controls (op.BindResponse result sasl) = Err OutOfPlace
 operation_said persisting controls op.UnbindRequest = Err OutOfPlace
-operation_said persisting controls
-    (op.SearchRequest base scope deref size_limit time_limit types_only filter attributes) =
-    Err OutOfPlace
+operation_said persisting controls (op.SearchRequest asked) = Err OutOfPlace
 operation_said persisting controls (op.Write change) = Err OutOfPlace
 operation_said persisting controls (op.ModifyResponse result) = Err OutOfPlace
 operation_said persisting controls (op.AddResponse result) = Err OutOfPlace

@@ -17,7 +17,7 @@ abbrev pub tag_of : Protocol → ℕ
 tag_of (BindRequest version name authentication) = 96
 tag_of (BindResponse result sasl) = 97
 tag_of UnbindRequest = 66
-tag_of (SearchRequest base scope deref size_limit time_limit types_only filter attributes) = 99
+tag_of (SearchRequest asked) = 99
 tag_of (SearchResultEntry name attributes) = 100
 tag_of (SearchResultDone result) = 101
 tag_of (Write change) = tag_of_change change

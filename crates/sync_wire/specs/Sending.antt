@@ -18,7 +18,7 @@ use Rattle.sync_messages.specs.Done.{done_octets}
 use Rattle.sync_messages.specs.Info.{info_octets}
 use Rattle.sync_messages.specs.State.{state_octets}
 use Rattle.ldap_parts.specs.declared.control.Control.{Control}
-use Rattle.ldap_messages.specs.declared.outcome.LdapResult.{LdapResult}
+use Rattle.ldap_messages.specs.declared.ldap_result.LdapResult.{LdapResult}
 use Rattle.ldap_messages.specs.Operation as operation
 use Rattle.ldap_messages.specs.Operation.{Operation}
 use Rattle.ldap_messages.specs.Whole.{MessageValue}

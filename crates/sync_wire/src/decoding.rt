@@ -77,7 +77,7 @@ pub fn decode(alloc: Global, message: &Message, persisting: bool) -> Result<Sync
         Protocol::BindRequest { .. }
         | Protocol::BindResponse { .. }
         | Protocol::UnbindRequest
-        | Protocol::SearchRequest { .. }
+        | Protocol::SearchRequest(_)
         | Protocol::Write(_)
         | Protocol::ModifyResponse(_)
         | Protocol::AddResponse(_)

@@ -14,7 +14,7 @@ pub fn tag_of(operation: &Protocol) -> u8
         Protocol::BindRequest { .. } => 0x60,
         Protocol::BindResponse { .. } => 0x61,
         Protocol::UnbindRequest => 0x42,
-        Protocol::SearchRequest { .. } => 0x63,
+        Protocol::SearchRequest(_) => 0x63,
         Protocol::SearchResultEntry { .. } => 0x64,
         Protocol::SearchResultDone(_) => 0x65,
         Protocol::Write(change) => tag_of_change(change),

@@ -10,7 +10,7 @@ ghost use Rattle.sync_wire.specs.Requesting as spec;
 use entry_tree::{Scope, Spec};
 use ldap_ber::{NoMemory, Octets, OctetsList};
 use ldap_constants::SYNC_REQUEST;
-use ldap_messages::{Control, ControlList, Message, Protocol, SearchScope};
+use ldap_messages::{Control, ControlList, Message, Protocol, SearchRequest, SearchScope};
 use std::alloc::Global;
 use sync_messages::SyncRequest;
 
@@ -36,7 +36,7 @@ pub fn search_request(
     let controls = sync_control(alloc, sync)?;
     Ok(Message {
         id,
-        op: Protocol::SearchRequest {
+        op: Protocol::SearchRequest(SearchRequest {
             base,
             scope: scope_of(wanted.scope),
             deref: 0,
@@ -45,7 +45,7 @@ pub fn search_request(
             types_only: false,
             filter,
             attributes,
-        },
+        }),
         controls,
     })
 }

@@ -1,3 +1,5 @@
 pub mod Ending
-pub mod SyncSession
+pub mod Forms
+pub mod ServedReady
 pub mod Statuses
+pub mod SyncSession

@@ -1,2 +1,3 @@
 pub mod Cascade
+pub mod Serve
 pub mod Texts

@@ -1,9 +1,13 @@
-//! `syncrepl`: an LDAP directory with replication by content synchronisation, driven by a script.
+//! `syncrepl`: an LDAP directory with replication by content synchronisation, driven by a script or
+//! served over a net.
 #![tactic(auto)]
 
 #[cfg(test)]
 mod cut_tests;
 mod run;
+mod serve;
+#[cfg(test)]
+mod serve_tests;
 #[cfg(test)]
 mod tests;
 
@@ -12,7 +16,7 @@ use run::run;
 use std::alloc::AllocError;
 use std::process::ExitCode;
 use std::{env, io};
-use sync_io::{Reading, Sink, Writing, write_whole};
+use sync_io::{DrawnWords, FileShelf, Reading, Sink, SystemClock, TcpNet, Writing, write_whole};
 
 /// The status when out of memory.
 const NO_MEMORY: u8 = 6;
@@ -32,6 +36,10 @@ fn main(rt: HostRuntime) -> ExitCode {
         &mut input,
         &mut output,
         &mut errors,
+        &mut FileShelf::new(&rt),
+        &mut TcpNet::new(&rt),
+        &mut SystemClock::new(&rt),
+        &mut DrawnWords::draw(&rt),
     );
     match status {
         Ok(status) => ExitCode::from(status.code),

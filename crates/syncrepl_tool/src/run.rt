@@ -1,18 +1,23 @@
-ghost use Rattle.std.specs.Prelude.{◌≡◌, ◌↔◌, ◌≢◌, ◌≤◌, false, IfOk, IfSome, IsOk, IsTrue, OnErr, ℕ, []};
+ghost use Rattle.std.specs.Fmt.{decimal};
+ghost use Rattle.std.specs.Prelude.{◌≡◌, ◌↔◌, ◌≢◌, ◌≤◌, ◌++◌, false, IfNone, IfOk, IfSome, IsOk, IsTrue, OnErr, ℕ, List, []};
 ghost use Rattle.sync_io.specs.Faults.{CountHasRisen};
 ghost use Rattle.cascade_script.specs.Reader.{reader_of};
 ghost use Rattle.cascade_world.specs.World.{no_nodes};
 ghost use Rattle.std.specs.String.{string_bytes};
 ghost use Rattle.cascade_script.specs.declared.fault.Cause.TheVariants.{NoMemory};
 ghost use Rattle.syncrepl_tool.specs.Texts.{Says, usage_text, read_fault_text, write_fault_text, refusal_text, cause_text, limit_text, later_cookie_text};
-ghost use Rattle.syncrepl_tool.specs.Cascade.{WritesPrefix, status_of, Ends, RunEnds, IsInput, OnCode, Decides, IsCascade, IsStatus, IsCascadeStatus, streams, MayEndWith};
+ghost use Rattle.syncrepl_tool.specs.Cascade.{WritesPrefix, status_of, Ends, RunEnds, IsInput, OnCode, Decides, IsCascade, IsForm, IsStatus, IsCascadeStatus, streams, MayEndWith};
+ghost use Rattle.ldap_listener.specs.Sessions.{seen_by};
+ghost use Rattle.syncrepl_tool.specs.Serve.{EndsServing, IsServe, outside};
 
+use crate::serve::serve_with;
 use cascade_world::{Cause, NoMemory, Script, ScriptFault, World, read_event};
 use ldap_ber::Octets;
+use ldap_server::OpenGate;
 use std::alloc::{AllocError, Global};
 use std::sync::Wait;
 use std::thread::Threads;
-use sync_io::{Piece, Sink, Source, write_whole};
+use sync_io::{Clock, Net, Piece, Shelf, Sink, Source, Words, write_whole};
 
 /// The most bytes of a script.
 const MOST_BYTES: usize = 67_108_864;
@@ -20,20 +25,33 @@ const MOST_BYTES: usize = 67_108_864;
 /// How a run ended.
 #[derive(Clone, Copy, Debug, PartialEq, Eq)]
 pub struct Status {
-    /// 0 done, 2 other words, 3 a refused script, 4 a read fault, 5 a write fault, 8 a script that
-    /// passes a limit.
+    /// 0 done, 2 other words, 3 a refused text, 4 a read fault, 5 a write fault, 7 a net fault, 8 a
+    /// text that passes a limit.
     pub code: u8,
 }
 
 /// Does what the words say. They leave out the program's name.
-pub fn run<R: Threads + Wait + Sync, I: Source, O: Sink, E: Sink>(
-    _rt: &R,
+pub fn run<
+    R: Threads + Wait + Sync,
+    I: Source,
+    O: Sink,
+    E: Sink,
+    F: Shelf,
+    N: Net,
+    K: Clock + Sync,
+    W: Words,
+>(
+    rt: &R,
     alloc: Global,
     words: &[String],
     world: &mut World,
     input: &mut I,
     output: &mut O,
     errors: &mut E,
+    shelf: &mut F,
+    net: &mut N,
+    clock: &mut K,
+    random: &mut W,
 ) -> Result<Status, NoMemory>
     requires fresh { world.old ≡ no_nodes }
     requires prompt { I.waits input.old ≡ false }
@@ -47,7 +65,7 @@ pub fn run<R: Threads + Wait + Sync, I: Source, O: Sink, E: Sink>(
     ensures headline { IfSome (I.bytes_left input.old) (λ text.
         WritesPrefix (reader_of text) (O.bytes_held output.old) (O.bytes_held output.new)) }
 
-    ensures answer { IfOk result (MayEndWith
+    ensures answer { IsCascade words.now → IfOk result (MayEndWith
         (streams (I.bytes_left input.old) (I.read_fault_count input.old)
         (O.bytes_held output.old) (O.write_fault_count output.old)
         (E.bytes_held errors.old) (E.write_fault_count errors.old))
@@ -56,14 +74,34 @@ pub fn run<R: Threads + Wait + Sync, I: Source, O: Sink, E: Sink>(
         (E.bytes_held errors.new) (E.write_fault_count errors.new))
         world.new) }
 
-    ensures usage { IfOk result (λ status. (status.code ≡ 2) ↔ (IsCascade words.now → ⊥)) }
+    // The directory of a configuration is served to each connection, by its own session of LDAP.
+    ensures serves { (name : List ℕ) → IsServe words.now name → EndsServing
+        (seen_by N.Link.bytes_left N.Link.bytes_read N.Link.bytes_held
+        N.Link.read_fault_count N.Link.write_fault_count)
+        name
+        (outside (E.bytes_held errors.old) (E.write_fault_count errors.old)
+        (F.files shelf.old) (F.shelf_fault_count shelf.old)
+        (N.served net.old) (N.net_fault_count net.old) (W.word_fault_count random.old))
+        (outside (E.bytes_held errors.new) (E.write_fault_count errors.new)
+        (F.files shelf.new) (F.shelf_fault_count shelf.new)
+        (N.served net.new) (N.net_fault_count net.new) (W.word_fault_count random.new))
+        result }
+    // What is served reads no input and writes no report.
+    ensures apart { (name : List ℕ) → IsServe words.now name
+        → (world.new ≡ world.old) × (input.new ≡ input.old) × (output.new ≡ output.old) }
+    // A script is run without files, a net and random words.
+    ensures alone { IsCascade words.now
+        → (shelf.new ≡ shelf.old) × (net.new ≡ net.old) × (random.new ≡ random.old) }
+
+    ensures usage { IfOk result (λ status. (status.code ≡ 2) ↔ (IsForm words.now → ⊥)) }
     ensures usage_reported { IfOk result (OnCode 2 (Says usage_text
         (E.bytes_held errors.old) (E.bytes_held errors.new)
         (E.write_fault_count errors.old) (E.write_fault_count errors.new))) }
     // Other words are answered whether there is memory or not, and nothing is read, done or
     // reported.
-    ensures other { (IsCascade words.now → ⊥) → IsOk result
-        × (world.new ≡ world.old) × (input.new ≡ input.old) × (output.new ≡ output.old) }
+    ensures other { (IsForm words.now → ⊥) → IsOk result
+        × (world.new ≡ world.old) × (input.new ≡ input.old) × (output.new ≡ output.old)
+        × (shelf.new ≡ shelf.old) × (net.new ≡ net.old) }
 
     // Where there is no memory nothing was said.
     ensures unsaid { OnErr result (errors.new ≡ errors.old) }
@@ -78,13 +116,37 @@ pub fn run<R: Threads + Wait + Sync, I: Source, O: Sink, E: Sink>(
     if is_cascade(words) {
         return run_cascade(alloc, world, input, output, errors);
     }
-    Ok(usage(errors))
+    match served_file(words) {
+        Some(name) => serve_with(
+            rt, alloc, name, errors, shelf, net, *clock, random, &OpenGate,
+        ),
+        None => Ok(usage(errors)),
+    }
 }
 
 fn is_cascade(words: &[String]) -> bool
     ensures { IsTrue result ↔ IsCascade words.now }
 {
     words.len() == 1 && words[0].as_str() == "cascade"
+}
+
+/// The name of the file whose directory is to be served.
+#[tactic(auto, using(crate::proofs::Forms::serve_words))]
+fn served_file(words: &[String]) -> Option<&str>
+    ensures some { IfSome result (λ name. IsServe words.now name.now) }
+    ensures none { IfNone result ((name : List ℕ) → IsServe words.now name → ⊥) }
+{
+    if words.len() != 2 {
+        return None;
+    }
+    if words[0].as_str() != "serve" {
+        return None;
+    }
+    let name = words[1].as_str();
+    if name.as_bytes().starts_with(b"-") {
+        return None;
+    }
+    Some(name)
 }
 
 /// Says how the program is called.
@@ -95,23 +157,26 @@ fn usage<E: Sink>(errors: &mut E) -> Status
         (E.bytes_held errors.old) (E.bytes_held errors.new)
         (E.write_fault_count errors.old) (E.write_fault_count errors.new) }
 {
-    say(
+    end_with(
         errors,
         b"usage: syncrepl cascade | drill SEED WRITERS CONSUMERS SIZE | serve FILE | search ADDRESS BASE SCOPE FILTER [COUNT]\n",
-    );
-    Status { code: 2 }
+        2,
+    )
 }
 
-/// Writes a text of the program's own. Where that fails nothing else is done.
-fn say<E: Sink>(errors: &mut E, text: &[u8])
-    ensures { Says text.now
+/// Says a text of the program's own, and ends with this status. Where it can't be written nothing
+/// else is done.
+pub(crate) fn end_with<E: Sink>(errors: &mut E, text: &[u8], code: u8) -> Status
+    ensures code { result.code ≡ code }
+    ensures says { Says text.now
         (E.bytes_held errors.old) (E.bytes_held errors.new)
         (E.write_fault_count errors.old) (E.write_fault_count errors.new) }
 {
     let _ = write_whole(errors, text);
+    Status { code }
 }
 
-/// Runs the script of the input in a world without nodes.
+/// Runs the script of the input in a world without nodes. It is `NoMemory` where memory runs out.
 pub fn run_cascade<I: Source, O: Sink, E: Sink>(
     alloc: Global,
     world: &mut World,
@@ -152,14 +217,13 @@ pub fn run_cascade<I: Source, O: Sink, E: Sink>(
 }
 
 #[tactic(auto, unfolding(crate::specs::Texts::read_fault_text))]
-fn read_fault<E: Sink>(errors: &mut E) -> Status
+pub(crate) fn read_fault<E: Sink>(errors: &mut E) -> Status
     ensures code { result.code ≡ 4 }
     ensures says { Says read_fault_text
         (E.bytes_held errors.old) (E.bytes_held errors.new)
         (E.write_fault_count errors.old) (E.write_fault_count errors.new) }
 {
-    say(errors, b"syncrepl: read fault\n");
-    Status { code: 4 }
+    end_with(errors, b"syncrepl: read fault\n", 4)
 }
 
 #[tactic(auto, unfolding(crate::specs::Texts::write_fault_text))]
@@ -169,8 +233,7 @@ fn write_fault<E: Sink>(errors: &mut E) -> Status
         (E.bytes_held errors.old) (E.bytes_held errors.new)
         (E.write_fault_count errors.old) (E.write_fault_count errors.new) }
 {
-    say(errors, b"syncrepl: write fault\n");
-    Status { code: 5 }
+    end_with(errors, b"syncrepl: write fault\n", 5)
 }
 
 /// Says at which line the script is refused, and why.
@@ -182,10 +245,7 @@ fn refuse<E: Sink>(alloc: Global, errors: &mut E, fault: ScriptFault) -> Result<
     ensures unsaid { OnErr result (errors.new ≡ errors.old) }
 {
     let text = refusal_text(alloc, &fault)?;
-    say(errors, &text);
-    Ok(Status {
-        code: status_of(&fault.cause),
-    })
+    Ok(end_with(errors, &text, status_of(&fault.cause)))
 }
 
 /// The status of a refusal.
@@ -233,8 +293,17 @@ fn cause_text(alloc: Global, cause: &Cause) -> Result<Vec<u8>, NoMemory>
 fn limit_text(alloc: Global, number: u64) -> Result<Vec<u8>, NoMemory>
     ensures { IfOk result (λ text. text.items ≡ limit_text number) }
 {
-    let text = format!(in alloc; "LimitReached {number}")?;
-    text.as_bytes().to_vec(alloc)
+    with_number(alloc, b"LimitReached ", number)
+}
+
+/// A name, and then a number.
+pub(crate) fn with_number(alloc: Global, name: &[u8], number: u64) -> Result<Vec<u8>, NoMemory>
+    ensures { IfOk result (λ text. text.items ≡ name.now ++ decimal number) }
+{
+    let digits = format!(in alloc; "{number}")?;
+    let mut text = name.to_vec(alloc)?;
+    text.extend_from_slice(digits.as_bytes())?;
+    Ok(text)
 }
 
 /// `LaterCookie HELD GIVEN`, where `-` stands for no cookie.

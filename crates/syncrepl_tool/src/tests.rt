@@ -3,6 +3,7 @@
 //! and `rows`, and `checks/rows` compares them.
 ghost use Rattle.std.specs.Prelude.{◌≡◌, false};
 
+use crate::cut_tests::last_lines;
 use crate::run::{run, run_cascade};
 use cascade_world::World;
 use ldap_ber::{NoMemory, Octets, discard};
@@ -12,7 +13,10 @@ use std::process::Abort;
 use std::sync::Wait;
 use std::test::Fail;
 use std::thread::Threads;
-use sync_io::{FaultySink, FaultySource, MemorySink, MemorySource, Sink, Source, Step};
+use sync_io::{
+    FaultySink, FaultySource, FixedClock, FixedWords, MemoryNet, MemoryShelf, MemorySink,
+    MemorySource, Sink, Source, Step,
+};
 
 /// A provider, a consumer of it, and the entry of the suffix.
 const START: &[u8] =
@@ -45,6 +49,10 @@ fn ran<R: Threads + Wait + Sync, I: Source, O: Sink>(
         input,
         output,
         &mut errors,
+        &mut MemoryShelf::new(Vec::new(alloc)),
+        &mut MemoryNet::new(alloc, Vec::new(alloc), Vec::new(alloc)),
+        &mut FixedClock { micros: 0 },
+        &mut FixedWords::new(Vec::new(alloc)),
     );
     discard(world);
     Ok((status?.code, errors))
@@ -114,6 +122,35 @@ fn run_cascade_does_a_script(rt: HostRuntime) -> Result<(), Fail> {
     assert_same(&rt, "errors", &errors.bytes(), &b"".as_slice());
     assert_same(&rt, "output", &output.bytes(), &SETTLED);
     assert_same(&rt, "status", &status?.code, &0);
+    Ok(())
+}
+
+/// What a `show` prints after the start and a settling.
+const HELD: &[u8] = b"dn: dc=x
+objectClass: organization
+objectClass: dcObject
+o: X
+dc: x
+entryUUID: 00000000-0001-8000-8000-000000000001
+entryCSN: 19700101000000.000000Z#000001#001#000000
+
+";
+
+/// The world that is handed in has what the events of a script made: its consumer is there, with
+/// the entry that it took.
+#[test]
+fn events_are_done_in_the_world_that_is_handed_in(rt: HostRuntime) -> Result<(), Fail> {
+    let script = started(rt.alloc(), b"settle c\n")?;
+    let mut input = MemorySource::new(Octets::from(script));
+    let mut output = MemorySink::new(rt.alloc());
+    let mut errors = MemorySink::new(rt.alloc());
+    let mut world = World::new(rt.alloc())?;
+    let status = run_cascade(rt.alloc(), &mut world, &mut input, &mut output, &mut errors);
+    let held = last_lines(rt.alloc(), &mut world, b"show c\n");
+    discard(world);
+    let held = held?;
+    assert_same(&rt, "status", &status?.code, &0);
+    assert_same(&rt, "entries", &held.as_slice(), &HELD);
     Ok(())
 }
 

@@ -202,13 +202,13 @@ const EXAMPLE: &str = r#"
 listen = "localhost:3890"
 suffix = "dc=example,dc=org"
 sid = 1
-ldif = "first.ldif"
+ldif = "examples/serve.ldif"
 log_limit = 10000
 queue_limit = 4000
 bind_name = "cn=admin,dc=example,dc=org"
 bind_password = "secret"
 seats = 32
-connections = 1000
+connections = 0
 "#;
 
 /// Texts, and all that is read of them.
@@ -225,8 +225,8 @@ const READ: [Row; 4] = [
     ),
     (
         EXAMPLE,
-        "localhost:3890 dc=example,dc=org 1 first.ldif 10000 4000 cn=admin,dc=example,dc=org \
-         secret 32 1000",
+        "localhost:3890 dc=example,dc=org 1 examples/serve.ldif 10000 4000 \
+         cn=admin,dc=example,dc=org secret 32 0",
     ),
 ];
 

@@ -13,6 +13,7 @@ module _ {X : Type 0} where
   every-drop P (suc n) [] all = tt
   every-drop P (suc n) (x ∷ xs) all = every-drop P n xs all.1
 
+  -- what holds of each in two lists holds of each in both together
   pub every-append : (P : X → Type 0) (xs ys : List X) → Every P xs → Every P ys → Every P (xs ++ ys)
   every-append P [] ys all more = more
   every-append P (x ∷ xs) ys all more = (all.0, every-append P xs ys all.1 more)
@@ -22,14 +23,17 @@ module _ {X : Type 0} where
   every-left P [] ys all = tt
   every-left P (x ∷ xs) ys all = (all.0, every-left P xs ys all.1)
 
+  -- what holds of each holds of one at any place
   pub every-at : (P : X → Type 0) (xs ys : List X) (x : X) → Every P (xs ++ x ∷ ys) → P x
   every-at P [] ys x all = all.0
   every-at P (y ∷ xs) ys x all = every-at P xs ys x all.1
 
+  -- what follows from what holds of each holds of each
   pub every-weaker : (P Q : X → Type 0) (xs : List X) → ((x : X) → P x → Q x) → Every P xs → Every Q xs
   every-weaker P Q [] step all = tt
   every-weaker P Q (x ∷ xs) step all = (step x all.0, every-weaker P Q xs step all.1)
 
+  -- so does what follows from two things that hold of each
   pub every-both : (P Q R : X → Type 0) (xs : List X) → ((x : X) → P x → Q x → R x)
       → Every P xs → Every Q xs → Every R xs
   every-both P Q R [] step all also = tt

@@ -10,5 +10,6 @@ pub mod Counting
 pub mod Raise
 pub mod Dealt
 pub mod Merged
+pub mod Shown
 pub mod Ends
 pub mod Passing

@@ -1,13 +1,25 @@
 -- What each kind of step leaves its seat with.
-use Rattle.std.specs.Prelude.{◌≡◌, ◌≢◌, ℕ, ◌%◌, ◌^◌, List, [], ◌∷◌, ◌++◌, map, take, drop, Option, Some, None}
+use Rattle.std.specs.Prelude.{◌≡◌, ◌≢◌, ℕ, ◌%◌, ◌^◌, List, [], ◌∷◌, ◌++◌, map, take, drop, length, Option, Some, None}
 use Rattle.atomic_table.specs.Table.{Me, Step}
 use Rattle.turn_cell.specs.declared.table.PassView.{PassView}
 use Rattle.turn_cell.specs.declared.table.SeatView.{SeatView}
-use Rattle.turn_cell.specs.Rule.{idle, waiting, in_turn, ticket_of, HaveSeen}
+use Rattle.turn_cell.specs.Journals.{Every}
+use Rattle.turn_cell.specs.Rule.{idle, waiting, in_turn, ticket_of, HasSeen, HaveSeen}
 
 -- a seat as a step finds and leaves it: its view, and the slots that are out with it
 abbrev pub SeatState : Type 0 → Type 0 → Type 0 → Type 0
 SeatState D N X = Me (Option D) (SeatView D N X)
+
+module _ {N X : Type 0} where
+  -- the first of these passes has seen this journal, the others what they had seen
+  abbrev pub first_shown : List (N × ℕ) → List (PassView N X) → List (PassView N X)
+  first_shown journal [] = []
+  first_shown journal (pass ∷ passes) = record {
+    number = pass.number;
+    seats = pass.seats;
+    seen = journal;
+    share = pass.share;
+  } ∷ passes
 
 module _ {D N X : Type 0} where
   -- ---- splitting and joining seats
@@ -46,6 +58,19 @@ module _ {D N X : Type 0} where
   -- the turn is over
   abbrev pub Raises : Step (Option D) → SeatState D N X → ℕ → SeatState D N X → Type 0
   Raises step seat found after = after ≡ (idle seat.0.passes, [])
+
+  -- The first pass of a seat has seen the journal, whose length is read. It goes on from what each
+  -- of the seat's passes had seen.
+  pub record IsShown (before : SeatState D N X) (found : ℕ) (after : SeatState D N X)
+      : Type 0 where
+    pub journal : List (N × ℕ)
+    pub count : found ≡ length journal
+    pub seat : after ≡ (idle (first_shown journal before.0.passes), before.1)
+    pub seen : Every (λ pass. HasSeen journal pass.share pass) before.0.passes
+
+  -- the length of the journal is read
+  abbrev pub Meets : Step (Option D) → SeatState D N X → ℕ → SeatState D N X → Type 0
+  Meets step seat found after = IsShown seat found after
 
 module _ {D N X : Type 0} (journal : D → List (N × ℕ)) (share : D → ℕ → List X) where
   -- a seat in turn, whose slot has the value
@@ -91,3 +116,16 @@ module _ {D N X : Type 0} (journal : D → List (N × ℕ)) (share : D → ℕ �
       (after : SeatState D N X) : Type 0 where
     pub seat : after ≡ (in_turn before.passes (ticket_of before.ticket) value, (0, None) ∷ [])
     pub seen : HaveSeen journal share value before.passes
+
+-- ---- two passes that meet
+
+-- Two seats of one pass each. The first one was shown the journal, whose length is read; it goes on
+-- from what each of them had seen.
+pub record HaveMet {D N X : Type 0} (pass other : PassView N X) (found : ℕ)
+    (mine theirs : SeatState D N X) : Type 0 where
+  pub journal : List (N × ℕ)
+  pub count : found ≡ length journal
+  pub mine_is : mine ≡ (idle (first_shown journal (pass ∷ [])), [])
+  pub theirs_is : theirs ≡ (idle (other ∷ []), [])
+  pub seen : HasSeen journal pass.share pass
+  pub seen_beside : HasSeen journal other.share other

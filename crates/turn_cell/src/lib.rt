@@ -7,7 +7,8 @@
 //!
 //! [`TurnCell::new`] makes a cell with its passes, which may go to different threads.
 //! [`TurnCell::enter`] waits for the pass's turn, [`TurnAt::state`] lends the value, and
-//! [`TurnAt::leave`] ends the turn. [`TurnCell::close`] gives the value back.
+//! [`TurnAt::leave`] ends the turn. By [`TurnCell::meet`] a pass learns the journal without a turn.
+//! [`TurnCell::close`] gives the value back.
 #![tactic(auto)]
 
 mod cell;
@@ -18,6 +19,7 @@ mod journalled;
 mod leaving;
 mod lending;
 mod making;
+mod meeting;
 mod moves;
 mod pass;
 mod table;

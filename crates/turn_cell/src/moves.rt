@@ -2,8 +2,9 @@
 //!
 //! In a turn a seat draws a ticket, reads the word of the ticket that is served until that is its
 //! own, takes the value out of the slot, puts it back, counts its new entries, and raises the word
-//! to the next ticket. Two more kinds split a seat and join two. To take the value and to put it
-//! back changes no view, so these two need no name here.
+//! to the next ticket. Two more kinds split a seat and join two, and by one more a seat of two
+//! passes shows its first one the journal. To take the value and to put it back changes no view, so
+//! these two need no name here.
 use crate::journalled::Journalled;
 use crate::table::SeatView;
 use atomic_table::{Join, Play, Split};
@@ -42,6 +43,15 @@ impl<D: Journalled> Play<Option<D>, SeatView<D, D::Note, D::Item>> for Raise {
     ghost use Rattle.turn_cell.specs.Steps.{Raises};
 
     ghost then = { Raises };
+}
+
+/// The journal's length is read, and the first pass of the seat has then seen the journal.
+pub(crate) struct Meet;
+
+impl<D: Journalled> Play<Option<D>, SeatView<D, D::Note, D::Item>> for Meet {
+    ghost use Rattle.turn_cell.specs.Steps.{Meets};
+
+    ghost then = { Meets };
 }
 
 /// A seat is split: the new one gets its first pass.

@@ -9,23 +9,25 @@ use std::test::Fail;
 use std::thread::{Threads, join};
 use turn_cell::{CloseFault, Pass, TurnCell, seen};
 
-/// Three passes: one adds two pairs, one adds none, and one takes no turn.
+/// Three passes: one adds two pairs, one adds none, and one takes no turn, but meets the first.
 #[test]
 fn a_turn_counts_what_it_added(rt: HostRuntime) -> Result<(), Fail> {
     let Ok((cell, mut passes)) = TurnCell::new(rt.alloc(), Pairs::new(rt.alloc()), 3) else {
         panic!(rt; "out of memory")
     };
-    let third = passes.pop().unwrap();
+    let mut third = passes.pop().unwrap();
     let second = passes.pop().unwrap();
     let first = passes.pop().unwrap();
     let mut turn = cell.enter(&rt, first);
     let number = turn.number();
     let ten = turn.state().add(number, 10);
     let eleven = turn.state().add(number, 11);
-    let (first, two) = turn.leave();
+    let (mut first, two) = turn.leave();
     let (second, none) = look(&rt, &cell, second);
     assert!(rt; number == 1 && ten && eleven && two == 2 && none == 0);
     assert!(rt; seen(&first) == 2 && seen(&second) == 2 && seen(&third) == 0);
+    cell.meet(&mut third, &mut first);
+    assert!(rt; seen(&first) == 2 && seen(&third) == 2);
     passes.push(first)?;
     passes.push(second)?;
     let Err((fault, cell, mut passes)) = cell.close(passes) else {

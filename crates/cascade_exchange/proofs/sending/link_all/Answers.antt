@@ -1,4 +1,3 @@
-use Rattle.std.specs.Prelude.{Ok, Err}
 use Rattle.std.proofs.Common.{arith}
 use Rattle.std.proofs.lemmas.Result.{err_from_is_err_and}
 use Rattle.cascade_exchange.specs.Exchange.{agreement_of, sent}

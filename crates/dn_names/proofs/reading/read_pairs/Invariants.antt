@@ -7,7 +7,7 @@ use Rattle.dn_names.proofs.reading.read_pairs.Given as goal
 -- the pairs so far, and what the rest is read as
 abbrev pub invariant-pairs : goal.invariant-pairs
 invariant-pairs l =
-    spec.pairs_of l.place l.ended (slice_split (spec.is_plain 43) l.signs)
+    spec.pairs_of l.place l.ended (slice_split (spec.is_plain 43) l.chars)
     ≡ with_all l.pairs.items (spec.pairs_of l.place l.ended (slice_split (spec.is_plain 43) l.rest))
 
 abbrev pub decreases-pairs : goal.decreases-pairs

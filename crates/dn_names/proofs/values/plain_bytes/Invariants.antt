@@ -3,7 +3,7 @@ use Rattle.dn_names.specs.Reading as spec
 use Rattle.dn_names.proofs.values.plain_bytes.Given as goal
 
 -- the bytes so far, and those of the rest
-abbrev pub invariant-loop-sign : goal.invariant-loop-sign
-invariant-loop-sign l =
-    spec.each_some spec.plain_byte l.signs
-    ≡ option_map (λ bytes. l.bytes.items ++ bytes) (spec.each_some spec.plain_byte (drop l.sign-index l.signs))
+abbrev pub invariant-loop-name_char : goal.invariant-loop-name_char
+invariant-loop-name_char l =
+    spec.each_some spec.plain_byte l.chars
+    ≡ option_map (λ bytes. l.bytes.items ++ bytes) (spec.each_some spec.plain_byte (drop l.name_char-index l.chars))

@@ -1,5 +1,5 @@
 -- One more entry is moved.
-use Rattle.std.proofs.Common.{◌≡◌, ◌≤◌, ◌<◌, ◌∙◌, ◌&&◌, ℕ, Bool, true, false, cond, Bor, List, [], ◌∷◌, ◌++◌, Some, None, length, map, nat_lt, get_or, take, refl, ap, sym, arith}
+use Rattle.std.proofs.Common.{◌≡◌, ◌<◌, ◌∙◌, ◌&&◌, ℕ, Bool, true, false, cond, Bor, List, [], ◌∷◌, ◌++◌, Some, None, length, map, nat_lt, get_or, take, refl, ap, sym, arith}
 use Rattle.std.specs.List.{filter, list_any}
 use Rattle.std.proofs.lemmas.Bool.{or_from}
 use Rattle.std.proofs.lemmas.List.{get_or-map, length-map, take_all}

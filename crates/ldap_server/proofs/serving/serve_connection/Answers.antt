@@ -1,7 +1,7 @@
 use Rattle.std.proofs.Common.{Some, ap, arith, refl, sym, ◌∙◌}
 use Rattle.ldap_server.proofs.Events.{none_by, not_read_fault, not_write_fault}
-use Rattle.ldap_server.proofs.Linking.{linked_none, rose_later, serves_ended, sink_same, source_same}
-use Rattle.ldap_server.proofs.Rounds.{round, unread, unwritten}
+use Rattle.ldap_server.proofs.Linking.{linked_none, rose_later, sink_same, source_same}
+use Rattle.ldap_server.proofs.Rounds.{over, round, unread, unwritten}
 use Rattle.ldap_server.proofs.serving.serve_connection.Goals as goal
 
 pub loop-init : goal.loop-init
@@ -14,7 +14,7 @@ pub returns-in_default-clause-serves : goal.returns-in_default-clause-serves
 returns-in_default-clause-serves g c =
     let link = g.met.L.Link g.world.𝓛 g.world.𝓜 g.world.𝓡 ((λ s x. x), (λ x. x), (λ x. x), λ x. x) in
     unread g.L.Source.bytes_left g.L.Source.bytes_read g.L.Sink.bytes_held g.L.Source.waits g.L.Source.read_fault_count g.L.Sink.write_fault_count g.L.Sink.source_side g.L.Source.sink_side
-    link.reads_apart link.writes_apart _ _ _ _ _ _ c.loop.invariant.linked (rw c.in_default.is at c.take_next-next.ensures.takes) c.take_next-next.ensures.apart
+    link.reads_apart link.writes_apart _ _ _ _ _ _ c.loop.invariant.linked c.loop.invariant.live (rw c.in_default.is at c.take_next-next.ensures.takes) c.take_next-next.ensures.apart
 
 pub returns-in_default-clause-read_failed : goal.returns-in_default-clause-read_failed
 returns-in_default-clause-read_failed g c = λ live fault. rose_later _ _ _ c.loop.invariant.read_later (rw c.in_default.is at c.take_next-next.ensures.failed refl)
@@ -26,7 +26,7 @@ pub returns-then-not-write_whole-clause-serves : goal.returns-then-not-write_who
 returns-then-not-write_whole-clause-serves g c =
     let link = g.met.L.Link g.world.𝓛 g.world.𝓜 g.world.𝓡 ((λ s x. x), (λ x. x), (λ x. x), λ x. x) in
     unwritten g.L.Source.bytes_left g.L.Source.bytes_read g.L.Sink.bytes_held g.L.Source.waits g.L.Source.read_fault_count g.L.Sink.write_fault_count g.L.Sink.source_side g.L.Source.sink_side
-    link.reads_apart link.writes_apart _ _ _ _ _ _ _ c.in-Some-next.out c.loop.invariant.linked (rw c.in-Some-next.is at c.take_next-next.ensures.takes) c.take_next-next.ensures.apart
+    link.reads_apart link.writes_apart _ _ _ _ _ _ _ c.in-Some-next.out c.loop.invariant.linked c.loop.invariant.live (rw c.in-Some-next.is at c.take_next-next.ensures.takes) c.take_next-next.ensures.apart
     c.write_whole.ensures.apart (rw c.as_slice.ensures at c.write_whole.ensures.prefix)
 
 pub returns-then-not-write_whole-clause-write_failed : goal.returns-then-not-write_whole-clause-write_failed
@@ -42,11 +42,9 @@ pub returns-in-Some-ended-clause-serves : goal.returns-in-Some-ended-clause-serv
 returns-in-Some-ended-clause-serves g c =
     let link = g.met.L.Link g.world.𝓛 g.world.𝓜 g.world.𝓡 ((λ s x. x), (λ x. x), (λ x. x), λ x. x) in
     let takes = rw c.in-Some-next.is at c.take_next-next.ensures.takes in
-    let linked =
-    round g.L.Source.bytes_left g.L.Source.bytes_read g.L.Sink.bytes_held g.L.Source.waits g.L.Source.read_fault_count g.L.Sink.write_fault_count g.L.Sink.source_side g.L.Source.sink_side
-    link.reads_apart link.writes_apart _ _ _ _ _ _ _ c.in-Some-next.out c.loop.invariant.linked c.loop.invariant.live takes c.take_next-next.ensures.apart
-    c.write_whole.ensures.apart (rw c.as_slice.ensures at c.if-not-write_whole.ensures.whole) in
-    serves_ended _ _ _ _ c.in-Some-ended.ended linked (sym takes.1.ended_is ∙ c.in-Some-ended.is)
+    over g.L.Source.bytes_left g.L.Source.bytes_read g.L.Sink.bytes_held g.L.Source.waits g.L.Source.read_fault_count g.L.Sink.write_fault_count g.L.Sink.source_side g.L.Source.sink_side
+    link.reads_apart link.writes_apart _ _ _ _ _ _ _ c.in-Some-next.out c.in-Some-ended.ended c.loop.invariant.linked c.loop.invariant.live takes c.take_next-next.ensures.apart
+    c.write_whole.ensures.apart (rw c.as_slice.ensures at c.if-not-write_whole.ensures.whole) (sym takes.1.ended_is ∙ c.in-Some-ended.is)
 
 -- a session that has not ended is not ended by a fault
 

@@ -1,4 +1,4 @@
-use Rattle.std.proofs.Common.{◌≡◌, sym, ap, ◌∙◌, subst, ◌≤◌, ◌+◌, ◌<◌, length, ◌∷◌, arith}
+use Rattle.std.proofs.Common.{◌≡◌, sym, ap, ◌∙◌, subst, ◌+◌, ◌<◌, length, ◌∷◌, arith}
 use Rattle.std.specs.Prelude.{max}
 use Rattle.std.specs.VecDeque.{deque_len}
 use Rattle.session_log.specs.Log.{last_of, before_last, greatest}

@@ -2,7 +2,7 @@ use Rattle.std.proofs.Common.{refl, ap}
 use Rattle.std.proofs.lemmas.Result.{on_err_weaker}
 use Rattle.cascade_exchange.specs.Exchange.{is_stepwise, moves_searches}
 use Rattle.cascade_exchange.proofs.Performing.{in_steps, owes_nothing}
-use Rattle.cascade_exchange.proofs.Giving.{lost_does, given_does}
+use Rattle.cascade_exchange.proofs.Giving.{loses_cookie_does, sets_cookie_does}
 use Rattle.cascade_exchange.proofs.exchange.Exchange.perform.Goals as goal
 
 pub returns-in-Open-clause-does : goal.returns-in-Open-clause-does
@@ -12,10 +12,10 @@ pub returns-in-Settle-clause-does : goal.returns-in-Settle-clause-does
 returns-in-Settle-clause-does c = rw c.in-Settle.is c.settle.ensures.does
 
 pub returns-in-LoseCookie-clause-does : goal.returns-in-LoseCookie-clause-does
-returns-in-LoseCookie-clause-does c = rw c.in-LoseCookie.is (lost_does c.args.out.now.lineage c.args.provider.now c.args.consumer_node.now c.lose_cookie.new.consumer_node _ c.lose_cookie.ensures)
+returns-in-LoseCookie-clause-does c = rw c.in-LoseCookie.is (loses_cookie_does c.args.out.now.lineage c.args.provider.now c.args.consumer_node.now c.lose_cookie.new.consumer_node _ c.lose_cookie.ensures)
 
 pub returns-in-SetCookie-clause-does : goal.returns-in-SetCookie-clause-does
-returns-in-SetCookie-clause-does c = rw c.in-SetCookie.is (given_does c.args.out.now.lineage c.args.provider.now c.args.consumer_node.now c.set_cookie.new.consumer_node c.in-SetCookie.text _ c.set_cookie.result c.set_cookie.ensures.gives)
+returns-in-SetCookie-clause-does c = rw c.in-SetCookie.is (sets_cookie_does c.args.out.now.lineage c.args.provider.now c.args.consumer_node.now c.set_cookie.new.consumer_node c.in-SetCookie.text _ c.set_cookie.result c.set_cookie.ensures.gives)
 
 -- ---- exchanges in steps
 

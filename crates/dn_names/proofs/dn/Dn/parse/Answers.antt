@@ -11,9 +11,9 @@ pub returns-in_err-rdns-clause-fault : goal.returns-in_err-rdns-clause-fault
 returns-in_err-rdns-clause-fault c =
     let p = err_from_is_err_and c.from_residual-in_err-rdns.result c.from_residual-in_err-rdns.ensures.1 in
     rw (p.1, p.2, name_of_text-rdns c.args.text.now (sym c.is_empty.ensures ∙ c.if-is_empty.false))
-    (rw (c.as_slice.ensures.value, c.in_ok-signs.ensures.value) at c.in_err-rdns.ensures.fault)
+    (rw (c.as_slice.ensures.value, c.in_ok-chars.ensures.value) at c.in_err-rdns.ensures.fault)
 
 pub returns-clause-ok : goal.returns-clause-ok
 returns-clause-ok c =
     rw c.in_ok-of.ensures (name_of_text-rdns c.args.text.now (sym c.is_empty.ensures ∙ c.if-is_empty.false)
-    ∙ rw (c.as_slice.ensures.value, c.in_ok-signs.ensures.value) at c.in_ok-rdns.ensures.ok)
+    ∙ rw (c.as_slice.ensures.value, c.in_ok-chars.ensures.value) at c.in_ok-rdns.ensures.ok)

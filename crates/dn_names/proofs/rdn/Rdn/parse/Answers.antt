@@ -1,4 +1,4 @@
--- The RDN of a text is that of its signs.
+-- The RDN of a text is that of its characters.
 use Rattle.std.proofs.Common.{rules}
 use Rattle.dn_names.specs.Reading.{rdn_of_text}
 use Rattle.dn_names.proofs.rdn.Rdn.parse.Goals as goal

@@ -11,4 +11,4 @@ returns-then-branch-clause-ok c =
     let drops = c.args.drops.now in
     let asc = c.in_ok-is_clear.ensures.ascends in
     held_clear es (committed es puts drops) c.args.changes.now asc (ascends_committed es puts drops asc)
-    (c.requires.apart c.if-apart.true) c.requires.exact (c.in_ok-is_clear.ensures.clear c.if-branch.true)
+    (c.requires.unique_names c.if-unique_names.true) c.requires.exact (c.in_ok-is_clear.ensures.clear c.if-branch.true)

@@ -1,5 +1,5 @@
 -- The innermost element ends, within another one or as the outermost.
-use Rattle.std.proofs.Common.{◌≡◌, ℕ, ◌-◌, length, vec_len, take, reverse, subst, ap, ◌∙◌, arith}
+use Rattle.std.proofs.Common.{◌-◌, length, vec_len, take, reverse, subst, ap, ◌∙◌, arith}
 use Rattle.ldap_ber.specs.Writer.{Written, after_end, EndsSmall}
 use Rattle.ldap_ber.proofs.UnfinishedLemmas.{ends_small, ends_inner, ends_short}
 use Rattle.ldap_ber.proofs.writer.Writer.end.Goals as goal

@@ -15,8 +15,9 @@ invariant_of-self g c =
     let now = c.make-answer.new.provider in
     let replies = g.C.Call.replies c.args.call c.make-answer.result in
     turn_kept c.args.number c.args.self.now now (map (λ s. s.value) c.remember.new.last.items) replies c.requires
-    (subst (λ h. IsAnswered c.args.number h.now now replies) c.self.view_is c.make-answer.ensures)
-    (c.remember.ensures ∙ ap (λ h. set h.last c.args.number now) c.self.view_is)
+    (subst (λ d. IsAnswered c.args.number d now replies) (c.as_mut.ensures.value ∙ ap (λ h. h.now) c.self.view_is) c.make-answer.ensures)
+    (c.remember.ensures ∙ ap (set (map (λ s. s.value) c.self.inside.last.items) c.args.number) c.as_ref.ensures
+    ∙ ap (λ h. set h.last c.args.number now) c.self.view_is)
     (subst HaveCome c.self.view_is c.self.invariant)
 
 pub returns-clause-grows : goal.returns-clause-grows
@@ -24,14 +25,16 @@ returns-clause-grows g c =
     let now = c.make-answer.new.provider in
     let replies = g.C.Call.replies c.args.call c.make-answer.result in
     turn_grows c.args.number c.args.self.now now (map (λ s. s.value) c.remember.new.last.items) replies c.requires
-    (subst (λ h. IsAnswered c.args.number h.now now replies) c.self.view_is c.make-answer.ensures)
-    (c.remember.ensures ∙ ap (λ h. set h.last c.args.number now) c.self.view_is)
+    (subst (λ d. IsAnswered c.args.number d now replies) (c.as_mut.ensures.value ∙ ap (λ h. h.now) c.self.view_is) c.make-answer.ensures)
+    (c.remember.ensures ∙ ap (set (map (λ s. s.value) c.self.inside.last.items) c.args.number) c.as_ref.ensures
+    ∙ ap (λ h. set h.last c.args.number now) c.self.view_is)
 
 pub returns-clause-turn : goal.returns-clause-turn
 returns-clause-turn g c =
     let now = c.make-answer.new.provider in
     let replies = g.C.Call.replies c.args.call c.make-answer.result in
     turn_is c.args.number c.args.self.now now (map (λ s. s.value) c.remember.new.last.items) replies c.requires
-    (subst (λ h. IsAnswered c.args.number h.now now replies) c.self.view_is c.make-answer.ensures)
-    (c.remember.ensures ∙ ap (λ h. set h.last c.args.number now) c.self.view_is)
+    (subst (λ d. IsAnswered c.args.number d now replies) (c.as_mut.ensures.value ∙ ap (λ h. h.now) c.self.view_is) c.make-answer.ensures)
+    (c.remember.ensures ∙ ap (set (map (λ s. s.value) c.self.inside.last.items) c.args.number) c.as_ref.ensures
+    ∙ ap (λ h. set h.last c.args.number now) c.self.view_is)
     (subst HaveCome c.self.view_is c.self.invariant)

@@ -13,12 +13,10 @@ invariant_of-self-2 g c =
     let key = c.in_ok-new.field-0.value in
     let value = c.in_ok-new-2.field-0.value in
     let is_new = c.in_ok-is_new.is_new in
-    let put = rw (c.replace-root.ensures.value, c.in_ok-is_new.was) at c.put_into-root.ensures.ok in
-    let count = rw (c.replace-root.ensures.value, c.in_ok-is_new.was) at
-    c.put_into-root.ensures.count in (
-      subst (λ es. IsStrictlySortedBy cmp (keys_of es)) (sym (put c.self.invariant.0))
+    let put = rw (c.replace-root.ensures.value, c.in_ok-is_new.was) at c.put_into-root.ensures in (
+      subst (λ es. IsStrictlySortedBy cmp (keys_of es)) (sym (put.ok c.self.invariant.0))
           (ascends-insert_entry g.met.K.Ord.total key value es c.self.invariant.0),
-      c.count_with-self-inside.ensures ∙ ap (count_with is_new) c.self.invariant.1 ∙ sym count,
+      c.count_with-self-inside.ensures ∙ ap (count_with is_new) c.self.invariant.1 ∙ sym put.count,
       omega (
         arith,
         c.count_with-self-inside.ensures,
@@ -30,9 +28,8 @@ invariant_of-self-2 g c =
 pub invariant_of-self : goal.invariant_of-self
 invariant_of-self g c =
     let cmp = g.K.Ord.cmp in
-    let kept = rw (c.replace-root.ensures.value, c.in_err-is_new.was) at
-    c.put_into-root.ensures.err in (
-      subst (λ es. IsStrictlySortedBy cmp (keys_of es)) (sym kept) c.self.invariant.0,
-      c.self.invariant.1 ∙ ap length (sym kept),
+    let put = rw (c.replace-root.ensures.value, c.in_err-is_new.was) at c.put_into-root.ensures in (
+      subst (λ es. IsStrictlySortedBy cmp (keys_of es)) (sym put.err) c.self.invariant.0,
+      c.self.invariant.1 ∙ ap length (sym put.err),
       c.self.invariant.2,
     )

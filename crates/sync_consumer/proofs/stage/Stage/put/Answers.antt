@@ -1,8 +1,7 @@
 -- One entry more is staged.
-use Rattle.std.proofs.Common.{◌≡◌, ◌∙◌, ℕ, List, Some, ap, sym, refl}
+use Rattle.std.proofs.Common.{◌∙◌, Some, ap, sym, refl}
 use Rattle.std.proofs.lemmas.Result.{err_from_is_err_and}
 use Rattle.sync_model.specs.Copy.{staged}
-use Rattle.sync_consumer.specs.declared.stage.StagedChange.{StagedChange}
 use Rattle.sync_consumer.specs.declared.stage.StagedChange.TheVariants.{AddOrModify}
 use Rattle.sync_consumer.specs.Staging.{changes_kept}
 use Rattle.sync_consumer.proofs.Stages.{kept_insert, more_staged}

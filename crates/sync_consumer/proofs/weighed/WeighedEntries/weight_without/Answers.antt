@@ -6,7 +6,7 @@ use Rattle.sync_consumer.proofs.weighed.WeighedEntries.weight_without.Goals as g
 
 pub overflow_sub-result : goal.overflow_sub-result
 overflow_sub-result c =
-    let all = c.self.invariant.weighed ∙ ap total_weight c.self.view_is in
+    let all = c.self.invariant.weighed.weighed ∙ ap total_weight c.self.view_is in
     let one = weight_at c.args.self.now c.args.uuid in
     let its = ap found_weight c.in-Some.ensures in
     let own = c.weight.ensures in
@@ -14,8 +14,8 @@ overflow_sub-result c =
 
 pub returns-in-Some : goal.returns-in-Some
 returns-in-Some c =
-    let small = c.self.invariant.small in
-    let all = c.self.invariant.weighed ∙ ap total_weight c.self.view_is in
+    let small = c.self.invariant.weighed.small in
+    let all = c.self.invariant.weighed.weighed ∙ ap total_weight c.self.view_is in
     let one = weight_at c.args.self.now c.args.uuid in
     let its = ap found_weight c.in-Some.ensures in
     let own = c.weight.ensures in
@@ -23,6 +23,6 @@ returns-in-Some c =
 
 pub returns-in-None : goal.returns-in-None
 returns-in-None c =
-    let all = c.self.invariant.weighed ∙ ap total_weight c.self.view_is in
+    let all = c.self.invariant.weighed.weighed ∙ ap total_weight c.self.view_is in
     let its = ap found_weight c.in-None.ensures in
     omega (arith, all, its)

@@ -1,6 +1,0 @@
-use Rattle.std.proofs.Common.{◌≡◌}
-use Rattle.desk_tests.proofs.adding.add_fifty.Given as goal
-
--- it is a port of the same directory
-abbrev pub invariant-loop-unit : goal.invariant-loop-unit
-invariant-loop-unit g l = g.P.Port.home l.port ≡ g.P.Port.home l.initial.port

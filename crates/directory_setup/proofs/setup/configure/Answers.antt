@@ -1,0 +1,32 @@
+use Rattle.std.proofs.Common.{inl, inr, refl, sym}
+use Rattle.directory_setup.proofs.setup.configure.Goals as goal
+
+pub returns-in-Failed-clause-failed : goal.returns-in-Failed-clause-failed
+returns-in-Failed-clause-failed g c = λ _. c.in_ok-found.ensures.failed c.in-Failed.is
+
+pub returns-in-Some-clause-configures : goal.returns-in-Some-clause-configures
+returns-in-Some-clause-configures g c = (
+  c.in-Text.text,
+  rw c.in-Text.is at c.in_ok-found.ensures.text,
+  inl (record {
+    line = c.in-Some.passed.line;
+    limit = c.in-Some.passed.limit;
+    passed = sym (rw c.as_slice-bytes.ensures at c.in-Some.ensures);
+    refusal_is = refl;
+  }),
+)
+
+pub returns-in-Ok-clause-configures : goal.returns-in-Ok-clause-configures
+returns-in-Ok-clause-configures g c = record {
+  text = c.in-Text.text;
+  file = rw c.in-Text.is at c.in_ok-found.ensures.text;
+  short = sym (rw c.as_slice-bytes.ensures at c.in_default.ensures);
+  read = rw c.as_slice-bytes.ensures at c.in-Ok.ensures.ok;
+}
+
+pub returns-clause-configures : goal.returns-clause-configures
+returns-clause-configures g c = (
+  c.in-Text.text,
+  rw c.in-Text.is at c.in_ok-found.ensures.text,
+  inr (c.in-Err.fault, rw c.as_slice-bytes.ensures at c.in-Err.ensures.fault, refl),
+)

@@ -1,0 +1,8 @@
+use Rattle.directory_setup.proofs.Setups.{empty_made}
+use Rattle.directory_setup.proofs.setup.first_of.Goals as goal
+
+pub returns-clause-first : goal.returns-clause-first
+returns-clause-first g c =
+    let words = c.in-Some.ensures.words in
+    empty_made c.args.suffix c.args.sid c.args.limits c.in_ok-provider.provider c.set_log_limit.new.self c.set_queue_limit.new.self c.in-Some.history words.0 words.1
+    c.in_ok-provider.ensures.state c.in_ok-provider.ensures.journal words.2 c.set_log_limit.ensures c.set_queue_limit.ensures

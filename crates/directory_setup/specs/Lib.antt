@@ -1,0 +1,4 @@
+-- What a served directory begins with.
+pub mod Texts
+pub mod Filling
+pub mod Setup

@@ -1,0 +1,190 @@
+-- What a served directory begins with, by its configuration.
+use Rattle.std.specs.Prelude.{◌≡◌, ◌⊎◌, ℕ, ◌+◌, ◌*◌, ◌^◌, ◌≤◌, List, [], Option, Some, None, Ok, false}
+use Rattle.dn_names.specs.Names.{TypeAndValue}
+use Rattle.ldap_session.specs.declared.access.Access.{Access}
+use Rattle.ldap_session.specs.declared.access.Access.TheVariants.{Free, Named}
+use Rattle.ldif_text.specs.Lines.{text_lines}
+use Rattle.ldif_text.specs.Reader.{RecordReader}
+use Rattle.sync_config.specs.Settings.{IsReadAs, Refuses}
+use Rattle.sync_config.specs.declared.config.Config.{Config}
+use Rattle.sync_config.specs.declared.fault.ConfigFault.{ConfigFault}
+use Rattle.sync_io.specs.Faults.{CountHasRisen}
+use Rattle.sync_provider.specs.Journal.{JournalledProvider, journal_in, port_state}
+use Rattle.sync_provider.specs.Machine as machine
+use Rattle.sync_provider.specs.Ports.{PortState}
+use Rattle.sync_provider.specs.declared.provider.Kind.TheVariants.{Root}
+use Rattle.directory_setup.specs.Filling.{FillsUp}
+use Rattle.directory_setup.specs.Texts.{IsRead, too_long}
+use Rattle.directory_setup.specs.declared.filling.Filling.TheVariants as filling
+use Rattle.directory_setup.specs.declared.refusal.Refusal.{Refusal}
+use Rattle.directory_setup.specs.declared.refusal.Refusal.TheVariants.{InConfig, AtLine}
+use Rattle.directory_setup.specs.declared.refusal.LineCause.{LineCause}
+use Rattle.directory_setup.specs.declared.refusal.LineCause.TheVariants.{LimitReached}
+use Rattle.directory_setup.specs.declared.setup.QueueLimits.{QueueLimits}
+use Rattle.directory_setup.specs.declared.setup.ReadyDirectory.{ReadyDirectory}
+use Rattle.directory_setup.specs.declared.setup.Configured.{Configured}
+use Rattle.directory_setup.specs.declared.setup.Configured.TheVariants as configured
+use Rattle.directory_setup.specs.declared.setup.Loading.{Loading}
+use Rattle.directory_setup.specs.declared.setup.Loading.TheVariants.{Loaded, RefusedAt, NotRead}
+use Rattle.directory_setup.specs.declared.setup.Setup as code
+use Rattle.directory_setup.specs.declared.setup.Setup.TheVariants.{Ready, Refused, ReadFault}
+use Rattle.directory_setup.specs.declared.text_file.FileText.{FileText}
+use Rattle.directory_setup.specs.declared.text_file.FileText.TheVariants as found
+
+-- the bytes under the names of a shelf
+abbrev pub Files : Type 0
+Files = List ℕ → Option (List ℕ)
+
+-- who may write
+abbrev pub access_by : Option (List (List TypeAndValue)) → Option (List ℕ) → Access
+access_by None password = Free
+access_by (Some name) None = Free
+access_by (Some name) (Some password) = Named name password
+
+-- an empty directory, whose history is two random words
+abbrev pub first_of : List (List TypeAndValue) → (sid : ℕ) → QueueLimits → (first second : ℕ)
+    → machine.ProviderState
+first_of suffix sid limits first second =
+    machine.queue_limited
+    (machine.log_limited (machine.fresh suffix sid (first * 2 ^ 64 + second) Root) limits.log)
+    limits.queue
+
+pub record IsEmpty
+    (suffix : List (List TypeAndValue)) (sid : ℕ) (limits : QueueLimits)
+    (first : JournalledProvider) : Type 0 where
+  pub one : ℕ
+  pub other : ℕ
+  pub first_is : first.state ≡ first_of suffix sid limits one other
+  pub unused : journal_in first ≡ []
+
+-- the text of a file is refused: it is too long
+pub record IsTooLong (text : List ℕ) (refusal : Refusal) : Type 0 where
+  pub line : ℕ
+  pub limit : ℕ
+  pub passed : too_long text ≡ Some (record { line = line; limit = limit })
+  pub refusal_is : refusal ≡ AtLine line (LimitReached limit)
+
+-- the file of this name was read, where the shelf reports its files
+abbrev pub IsTextOf : Option Files → List ℕ → List ℕ → Type 0
+IsTextOf None name text = Unit {0}
+IsTextOf (Some files) name text = (bytes : List ℕ) × (files name ≡ Some bytes) × IsRead bytes text
+
+-- the same, unless a read failed
+abbrev pub IsReadFrom : Option Files → List ℕ → FileText → Type 0
+IsReadFrom files name (found.Text text) = IsTextOf files name text
+IsReadFrom files name found.Failed = Unit {0}
+
+-- why the text of a configuration is refused
+abbrev pub IsRefusedConfig : List ℕ → Refusal → Type 0
+IsRefusedConfig text refusal =
+    IsTooLong text refusal
+    ⊎ ((fault : ConfigFault) × Refuses text fault × (refusal ≡ InConfig fault))
+
+-- the text of a file that is read as this configuration
+pub record IsConfig (files : Option Files) (name : List ℕ) (config : Config) : Type 0 where
+  pub text : List ℕ
+  pub file : IsTextOf files name text
+  pub short : too_long text ≡ None
+  pub read : IsReadAs text (Ok config)
+
+-- some text is read as this configuration
+abbrev pub IsReadConfig : Config → Type 0
+IsReadConfig config = (text : List ℕ) × IsReadAs text (Ok config)
+
+-- a configuration, or why there is none
+abbrev pub Configures : Option Files → List ℕ → Configured → Type 0
+Configures files name (configured.Config config) = IsConfig files name config
+Configures files name (configured.Refused refusal) =
+    (text : List ℕ) × IsTextOf files name text × IsRefusedConfig text refusal
+Configures files name configured.ReadFault = Unit {0}
+
+-- the empty directory of a configuration
+pub record IsFirst (config : Config) (first : JournalledProvider) : Type 0 where
+  pub suffix : List (List TypeAndValue)
+  pub suffix_is : config.suffix ≡ Some suffix
+  pub empty :
+      IsEmpty suffix config.sid
+      (record { log = config.log_limit; queue = config.queue_limit })
+      first
+
+-- the entries of an LDIF file, from its first line on
+abbrev pub reader_of : List ℕ → RecordReader
+reader_of text = record { lines = text_lines 1 text; line = 1; begun = false }
+
+-- the directory has the entries of the file, if the configuration names one
+abbrev pub IsFilledBy : Option Files → Option (List ℕ) → PortState → PortState → Type 0
+IsFilledBy files None first new = new ≡ first
+IsFilledBy files (Some name) first new =
+    (text : List ℕ) × IsTextOf files name text × (too_long text ≡ None)
+    × FillsUp (reader_of text) first filling.Filled new
+
+-- a record of the file is refused, or its text is too long
+abbrev pub IsRefusedFile : Option Files → Option (List ℕ) → PortState → Refusal → Type 0
+IsRefusedFile files None first refusal = ⊥
+IsRefusedFile files (Some name) first refusal =
+    (text : List ℕ) × IsTextOf files name text
+    × (IsTooLong text refusal
+    ⊎ ((line : ℕ) × (why : LineCause) × (new : PortState)
+    × FillsUp (reader_of text) first (filling.Refused line why) new
+    × (refusal ≡ AtLine line why)))
+
+-- the file is loaded into the directory, or is refused
+abbrev pub Loads : Option Files → Option (List ℕ) → PortState → Loading → PortState → Type 0
+Loads files name first Loaded new = IsFilledBy files name first new
+Loads files name first (RefusedAt line why) new =
+    IsRefusedFile files name first (AtLine line why)
+Loads files name first NotRead new = Unit {0}
+
+-- what is served: the directory of the configuration with its entries, at its address, for those
+-- who may write, with its limits
+pub record IsMade (files : Option Files) (config : Config) (ready : ReadyDirectory) : Type 0 where
+  pub first : JournalledProvider
+  pub begins : IsFirst config first
+  pub filled : IsFilledBy files config.ldif (port_state first) (port_state ready.provider)
+  pub listen : ready.listen ≡ config.listen
+  pub access : ready.access ≡ access_by config.bind_name config.bind_password
+  pub seats : ready.seats ≡ config.seats
+  pub connections : ready.connections ≡ config.connections
+
+-- what it leads to that a file was loaded into a directory, or was not
+abbrev pub setup_of : Loading → ReadyDirectory → code.Setup
+setup_of Loaded ready = Ready ready
+setup_of (RefusedAt line why) ready = Refused (AtLine line why)
+setup_of NotRead ready = ReadFault
+
+-- what a configuration leads to
+abbrev pub Makes : Option Files → Config → code.Setup → Type 0
+Makes files config (Ready ready) = IsMade files config ready
+Makes files config (Refused refusal) =
+    (first : JournalledProvider) × IsFirst config first
+    × IsRefusedFile files config.ldif (port_state first) refusal
+Makes files config ReadFault = Unit {0}
+
+abbrev pub IsReady : Option Files → List ℕ → ReadyDirectory → Type 0
+IsReady files name ready =
+    (config : Config) × IsConfig files name config × IsMade files config ready
+
+-- the configuration is refused, or the file that it names
+abbrev pub IsRefusedSetup : Option Files → List ℕ → Refusal → Type 0
+IsRefusedSetup files name refusal =
+    Configures files name (configured.Refused refusal)
+    ⊎ ((config : Config) × IsConfig files name config × Makes files config (Refused refusal))
+
+-- what the files of a shelf lead to
+abbrev pub SetsUp : Option Files → List ℕ → code.Setup → Type 0
+SetsUp files name (Ready ready) = IsReady files name ready
+SetsUp files name (Refused refusal) = IsRefusedSetup files name refusal
+SetsUp files name ReadFault = Unit {0}
+
+-- what is served has 1 to 64 seats
+abbrev pub HasSeats : code.Setup → Type 0
+HasSeats (Ready ready) = (1 ≤ ready.seats) × (ready.seats ≤ 64)
+HasSeats (Refused refusal) = Unit {0}
+HasSeats ReadFault = Unit {0}
+
+-- a file or the source of random words failed
+abbrev pub FailsOn : code.Setup → (shelf shelf' words words' : ℕ) → Type 0
+FailsOn (Ready ready) shelf shelf' words words' = Unit {0}
+FailsOn (Refused refusal) shelf shelf' words words' = Unit {0}
+FailsOn ReadFault shelf shelf' words words' =
+    CountHasRisen shelf shelf' ⊎ CountHasRisen words words'

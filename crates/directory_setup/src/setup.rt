@@ -1,0 +1,307 @@
+//! What a served directory begins with.
+
+ghost use Rattle.std.specs.Prelude.{◌≡◌, ◌<◌, ◌≤◌, ℕ, ◌+◌, ◌*◌, ◌^◌, IfOk, IfSome, IsNone};
+ghost use Rattle.directory_setup.specs.Setup.{
+  Configures,
+  FailsOn,
+  HasSeats,
+  IsEmpty,
+  IsReadConfig,
+  Loads,
+  Makes,
+  SetsUp,
+  access_by,
+  setup_of,
+};
+ghost use Rattle.sync_io.specs.Faults.{CountHasRisen};
+ghost use Rattle.sync_provider.specs.Journal.{port_state};
+
+use crate::filling::{Filling, fill};
+use crate::refusal::{LineCause, Refusal};
+use crate::text_file::{FileText, read_file};
+use crate::text_limits::too_long;
+use dn_names::Dn;
+use ldap_ber::{NoMemory, Octets, discard};
+use ldap_session::Access;
+use std::alloc::{AllocError, Global};
+use std::sync::Wait;
+use sync_config::{Config, ConfigFault, Text};
+use sync_io::{Clock, Shelf, Words};
+use sync_provider::{Kind, Provider};
+
+/// A directory that is to be served.
+#[derive(Drop)]
+pub struct ReadyDirectory {
+    pub provider: Provider,
+    /// The address at which it is served.
+    pub listen: Text,
+    /// Who may write.
+    pub access: Access,
+    /// How many connections are served at once.
+    pub seats: u32,
+    /// How many connections are served in all, or 0 without end.
+    pub connections: u64,
+}
+
+/// What a configuration led to.
+#[derive(Drop)]
+pub enum Setup {
+    Ready(ReadyDirectory),
+    Refused(Refusal),
+    /// A file could not be read, or no random word came.
+    ReadFault,
+}
+
+/// A configuration, or why there is none.
+#[derive(Drop)]
+pub(crate) enum Configured {
+    Config(Config),
+    Refused(Refusal),
+    ReadFault,
+}
+
+/// What became of the file of a configuration.
+#[derive(Clone, Copy, Debug, PartialEq, Eq)]
+pub(crate) enum Loading {
+    /// There is none, or its entries were added.
+    Loaded,
+    /// Its text is refused at this line.
+    RefusedAt(u64, LineCause),
+    NotRead,
+}
+
+/// How many words of 64 bits there are.
+const WORDS: u128 = 18_446_744_073_709_551_616;
+
+/// How many touches of entries a session log keeps, and how many messages a search may have
+/// pending.
+#[derive(Clone, Copy, Debug)]
+pub(crate) struct QueueLimits {
+    pub(crate) log: u64,
+    pub(crate) queue: u64,
+}
+
+/// Who may write by a configuration.
+fn access_of(alloc: Global, name: Option<Dn>, password: &Option<Text>) -> Result<Access, NoMemory>
+    ensures { IfOk result (λ access. access ≡ access_by name password.now) }
+{
+    let Some(name) = name else {
+        return Ok(Access::Free);
+    };
+    match password {
+        Some(password) => {
+            let password = Octets::from_slice(alloc, password.as_str().as_bytes())?;
+            Ok(Access::Named(name, password))
+        }
+        None => Ok(Access::Free),
+    }
+}
+
+/// Reads the configuration of this name.
+fn configure<R: Wait, F: Shelf>(
+    rt: &R,
+    alloc: Global,
+    shelf: &mut F,
+    name: &str,
+) -> Result<Configured, NoMemory>
+    ensures files { F.files shelf.new ≡ F.files shelf.old }
+    ensures configures { IfOk result (Configures (F.files shelf.old) name.now) }
+    ensures failed { IfOk result (λ found. found ≡ Configured.ReadFault
+        → CountHasRisen (F.shelf_fault_count shelf.old) (F.shelf_fault_count shelf.new)) }
+    ensures later { F.shelf_fault_count shelf.old ≤ F.shelf_fault_count shelf.new }
+{
+    let found = read_file(rt, alloc, shelf, name)?;
+    let text = match found {
+        FileText::Text(text) => text,
+        FileText::Failed => return Ok(Configured::ReadFault),
+    };
+    let bytes = text.as_slice();
+    if let Some(passed) = too_long(bytes) {
+        let cause = LineCause::LimitReached(passed.limit);
+        return Ok(Configured::Refused(Refusal::AtLine(passed.line, cause)));
+    }
+    match Config::read(alloc, bytes) {
+        Ok(config) => Ok(Configured::Config(config)),
+        Err(ConfigFault::NoMemory) => Err(AllocError),
+        Err(fault) => Ok(Configured::Refused(Refusal::InConfig(fault))),
+    }
+}
+
+/// A history that no other directory has: two random words, or None where one did not come.
+fn history_of<W: Words>(random: &mut W) -> Option<u128>
+    ensures words { IfSome result (λ history. (first : ℕ) × (second : ℕ)
+        × (history ≡ first * 2 ^ 64 + second)) }
+    ensures failed { IsNone result
+        → CountHasRisen (W.word_fault_count random.old) (W.word_fault_count random.new) }
+    ensures later { W.word_fault_count random.old ≤ W.word_fault_count random.new }
+{
+    let Some(first) = random.next_word() else {
+        return None;
+    };
+    let Some(second) = random.next_word() else {
+        return None;
+    };
+    Some(u128::from(first) * WORDS + u128::from(second))
+}
+
+/// Loads the file of this name, where there is one, into a directory.
+fn load<R: Wait, F: Shelf, K: Clock>(
+    rt: &R,
+    alloc: Global,
+    provider: &mut Provider,
+    shelf: &mut F,
+    name: &Option<Text>,
+    clock: &mut K,
+) -> Result<Loading, NoMemory>
+    ensures files { F.files shelf.new ≡ F.files shelf.old }
+    ensures loads { IfOk result (λ loading. Loads (F.files shelf.old) name.now
+        (port_state provider.old) loading (port_state provider.new)) }
+    ensures failed { IfOk result (λ loading. loading ≡ Loading.NotRead
+        → CountHasRisen (F.shelf_fault_count shelf.old) (F.shelf_fault_count shelf.new)) }
+    ensures later { F.shelf_fault_count shelf.old ≤ F.shelf_fault_count shelf.new }
+{
+    let Some(name) = name else {
+        return Ok(Loading::Loaded);
+    };
+    let found = read_file(rt, alloc, shelf, name.as_str())?;
+    let text = match found {
+        FileText::Text(text) => text,
+        FileText::Failed => return Ok(Loading::NotRead),
+    };
+    let bytes = text.as_slice();
+    if let Some(passed) = too_long(bytes) {
+        let cause = LineCause::LimitReached(passed.limit);
+        return Ok(Loading::RefusedAt(passed.line, cause));
+    }
+    let filling = fill(alloc, provider, bytes, clock)?;
+    match filling {
+        Filling::Filled => Ok(Loading::Loaded),
+        Filling::Refused(line, cause) => Ok(Loading::RefusedAt(line, cause)),
+    }
+}
+
+/// The empty directory of a configuration, or None where no random word came.
+fn first_of<W: Words>(
+    alloc: Global,
+    suffix: Dn,
+    sid: u16,
+    limits: QueueLimits,
+    random: &mut W,
+) -> Result<Option<Provider>, NoMemory>
+    requires { sid < 4096 }
+    ensures first { IfOk result (λ found. IfSome found (IsEmpty suffix sid limits)) }
+    ensures failed { IfOk result (λ found. IsNone found
+        → CountHasRisen (W.word_fault_count random.old) (W.word_fault_count random.new)) }
+    ensures later { W.word_fault_count random.old ≤ W.word_fault_count random.new }
+{
+    let Some(history) = history_of(random) else {
+        return Ok(None);
+    };
+    let mut provider = Provider::new(alloc, suffix, sid, history, Kind::Root)?;
+    provider.set_log_limit(limits.log);
+    provider.set_queue_limit(limits.queue);
+    Ok(Some(provider))
+}
+
+/// Makes the directory of a configuration, with the entries of its LDIF file.
+fn make<R: Wait, F: Shelf, K: Clock, W: Words>(
+    rt: &R,
+    alloc: Global,
+    config: Config,
+    shelf: &mut F,
+    clock: &mut K,
+    random: &mut W,
+) -> Result<Setup, NoMemory>
+    requires { IsReadConfig config }
+    ensures files { F.files shelf.new ≡ F.files shelf.old }
+    ensures makes { IfOk result (Makes (F.files shelf.old) config) }
+    ensures seats { IfOk result HasSeats }
+    ensures failed { IfOk result (λ setup. FailsOn setup
+        (F.shelf_fault_count shelf.old) (F.shelf_fault_count shelf.new)
+        (W.word_fault_count random.old) (W.word_fault_count random.new)) }
+    ensures shelf_later { F.shelf_fault_count shelf.old ≤ F.shelf_fault_count shelf.new }
+    ensures words_later { W.word_fault_count random.old ≤ W.word_fault_count random.new }
+{
+    let Config {
+        listen,
+        suffix,
+        sid,
+        ldif,
+        log_limit,
+        queue_limit,
+        bind_name,
+        bind_password,
+        seats,
+        connections,
+    } = config;
+    let Some(suffix) = suffix else { unreachable!() };
+    let access = access_of(alloc, bind_name, &bind_password)?;
+    let limits = QueueLimits {
+        log: log_limit,
+        queue: queue_limit,
+    };
+    let first = first_of(alloc, suffix, sid, limits, random)?;
+    let Some(mut provider) = first else {
+        return Ok(Setup::ReadFault);
+    };
+    match load(rt, alloc, &mut provider, shelf, &ldif, clock) {
+        Ok(loading) => {
+            let ready = ReadyDirectory {
+                provider,
+                listen,
+                access,
+                seats,
+                connections,
+            };
+            Ok(setup_of(loading, ready))
+        }
+        Err(_) => {
+            discard(provider);
+            Err(AllocError)
+        }
+    }
+}
+
+/// What it leads to that a file was loaded into a directory, or was not.
+fn setup_of(loading: Loading, ready: ReadyDirectory) -> Setup
+    ensures { result ≡ setup_of loading ready }
+{
+    match loading {
+        Loading::Loaded => Setup::Ready(ready),
+        Loading::RefusedAt(line, cause) => {
+            discard(ready);
+            Setup::Refused(Refusal::AtLine(line, cause))
+        }
+        Loading::NotRead => {
+            discard(ready);
+            Setup::ReadFault
+        }
+    }
+}
+
+/// Makes the directory of the configuration of this name, with the entries of its LDIF file. It is
+/// `NoMemory` where memory runs out.
+pub fn set_up<R: Wait, F: Shelf, K: Clock, W: Words>(
+    rt: &R,
+    alloc: Global,
+    name: &str,
+    shelf: &mut F,
+    clock: &mut K,
+    random: &mut W,
+) -> Result<Setup, NoMemory>
+    ensures files { F.files shelf.new ≡ F.files shelf.old }
+    ensures sets_up { IfOk result (SetsUp (F.files shelf.old) name.now) }
+    ensures seats { IfOk result HasSeats }
+    ensures failed { IfOk result (λ setup. FailsOn setup
+        (F.shelf_fault_count shelf.old) (F.shelf_fault_count shelf.new)
+        (W.word_fault_count random.old) (W.word_fault_count random.new)) }
+    ensures shelf_later { F.shelf_fault_count shelf.old ≤ F.shelf_fault_count shelf.new }
+    ensures words_later { W.word_fault_count random.old ≤ W.word_fault_count random.new }
+{
+    let configured = configure(rt, alloc, shelf, name)?;
+    match configured {
+        Configured::Config(config) => make(rt, alloc, config, shelf, clock, random),
+        Configured::Refused(refusal) => Ok(Setup::Refused(refusal)),
+        Configured::ReadFault => Ok(Setup::ReadFault),
+    }
+}

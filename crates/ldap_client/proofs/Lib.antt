@@ -1,0 +1,8 @@
+-- Lemmas of the crate.
+pub mod Messages
+pub mod Waiting
+pub mod Given
+pub mod Taking
+pub mod Sides
+pub mod RoundSteps
+pub mod Asking

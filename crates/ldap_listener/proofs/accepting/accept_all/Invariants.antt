@@ -1,0 +1,17 @@
+use Rattle.std.proofs.Common.{◌≡◌, ◌<◌, ◌≤◌, ℕ, map}
+use Rattle.shared_directory.specs.Passes.{directory_id}
+use Rattle.ldap_listener.specs.Seats.{KeepsAccounts}
+use Rattle.ldap_listener.specs.SeatsOfCode.{seat_of}
+use Rattle.ldap_listener.specs.Sessions.{seen_by}
+use Rattle.ldap_listener.proofs.accepting.accept_all.Given as goal
+
+-- k links were accepted; that is the number of the last one, unless there is no end
+abbrev pub invariant-loop : goal.invariant-loop
+invariant-loop g l = record {
+  k : ℕ;
+  keeps :
+      KeepsAccounts (seen_by g.N.Link.Source.bytes_left g.N.Link.Source.bytes_read g.N.Link.Sink.bytes_held g.N.Link.Source.read_fault_count g.N.Link.Sink.write_fault_count)
+      l.host.access.now (directory_id l.host.directory.now) k (g.N.Net.served l.fn.net) (map seat_of l.fn.seats) (g.N.Net.served l.net) (map seat_of l.seats);
+  number : 0 < l.connections → (k ≡ l.number) × (l.number ≤ l.connections);
+  faults : g.N.Net.net_fault_count l.net ≡ g.N.Net.net_fault_count l.fn.net;
+}
